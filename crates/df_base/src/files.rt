@@ -1,0 +1,53 @@
+//! Files, as the program reads them.
+
+ghost use Rattle.std.specs.Prelude.{◌≡◌, ◌≢◌, None, ℕ, ◌+◌, ◌<◌, ◌≤◌, List, Option, Some, length, vec_len, IfOk, IfSome, Err};
+ghost use Rattle.df_base.specs.Outside.{Contents, bytes_of, HasCause};
+ghost use Rattle.df_base.specs.declared.files.LoadFault.TheVariants.{Failed, Large};
+
+use std::alloc::Global;
+use thiserror::Error;
+
+/// Why a file was not loaded.
+#[derive(Debug, Drop, Error)]
+pub enum LoadFault {
+    /// A read failed, or no such file is there: the count of faults rose.
+    #[error("cannot read")]
+    Failed,
+    /// The file holds more bytes than the limit, which is one less than this number.
+    #[error("longer than the limit: {0} bytes or more")]
+    Large(u64),
+    #[error("out of memory")]
+    Memory,
+}
+
+/// A place that files are read from.
+pub trait Files {
+    /// The files that it holds, or none where it does not tell.
+    ghost holds: { Self → Option Contents };
+
+    /// How many faults it has met.
+    ghost fault_count: { Self → ℕ };
+
+    /// The names that may be loaded. No call changes them.
+    ghost allowed: { Self → List ℕ → Type 0 };
+
+    /// How many faults it has met: it never falls.
+    fn faults(&self) -> u64
+        ensures { result ≡ fault_count self.now };
+
+    /// All bytes of the file of this name, where they are not more than the limit.
+    fn load(&mut self, alloc: Global, name: &str, limit: u64) -> Result<Vec<u8>, LoadFault>
+        requires { allowed self.old name.now }
+        // The bytes are the file's, and within the limit.
+        ensures loaded { IfOk result (λ bytes. IfSome (holds self.old) (λ files. bytes_of files name.now ≡ Some bytes.items)) }
+        ensures within { IfOk result (λ bytes. vec_len bytes ≤ limit) }
+        // It is too large just where no read failed and the file is longer than the limit.
+        ensures large { (n : ℕ) → result ≡ Err (Large n) → n ≡ limit + 1 }
+        ensures longer { (n : ℕ) → result ≡ Err (Large n) → IfSome (holds self.old) (λ files. IfSome (bytes_of files name.now) (λ bytes. limit < length bytes)) }
+        ensures there { (n : ℕ) → result ≡ Err (Large n) → IfSome (holds self.old) (λ files. bytes_of files name.now ≢ None) }
+        // A failure is a counted fault.
+        ensures cause { HasCause (fault_count self.old) (fault_count self.new) (result ≡ Err Failed) }
+        // What it holds and allows stays.
+        ensures held { holds self.new ≡ holds self.old }
+        ensures allows { (other : List ℕ) → allowed self.old other → allowed self.new other };
+}

@@ -1,0 +1,20 @@
+//! What every layer of `dfy` stands on: names, positions, refusals, statuses,
+//! and the traits of the outside with their implementations.
+#![tactic(auto)]
+
+mod files;
+mod memory;
+mod name;
+mod pos;
+mod refusal;
+mod sink;
+mod status;
+
+pub use files::{Files, LoadFault};
+pub use memory::Memory;
+pub use name::{Name, Names};
+pub use pos::Pos;
+pub use refusal::{Code, Detail, Refusal, Stop};
+pub use sink::{Sink, SinkFault};
+pub use status::Status;
+pub use std::alloc::Global;
