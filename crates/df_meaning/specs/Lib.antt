@@ -1,0 +1,9 @@
+pub use Rattle.df_types.specs.Interval
+pub use Rattle.df_types.specs.Program
+pub use Rattle.df_types.specs.Typing
+pub use Rattle.df_types.specs.View
+pub mod Value
+pub mod Outcome
+pub mod Evaluation
+pub mod Execution
+pub mod Run

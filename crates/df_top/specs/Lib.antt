@@ -1,0 +1,3 @@
+pub use Rattle.df_base.specs.Outside
+pub use Rattle.df_meaning.specs.Run
+pub mod Gives

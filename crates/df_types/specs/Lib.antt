@@ -1,0 +1,4 @@
+pub mod Interval
+pub mod Program
+pub mod Typing
+pub mod View
