@@ -34,6 +34,10 @@ impl Model for Names {
     ghost Value = { List (List ℕ) };
 
     ghost view = { λ n. map string_bytes n.texts.keys };
+
+    ghost use Rattle.df_base.specs.Names.{IsDistinct};
+
+    ghost invariant = { λ n. IsDistinct (map string_bytes n.texts.keys) };
 }
 
 impl Names {
@@ -63,6 +67,14 @@ impl Names {
         Ok(Name {
             number: number as u32,
         })
+    }
+
+    /// How many names there are.
+    pub fn len(&self) -> usize
+        ensures len { result ≡ length self.now }
+        ensures distinct { IsDistinct self.now }
+    {
+        self.texts.len()
     }
 
     /// The text of a name.
