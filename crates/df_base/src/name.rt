@@ -56,6 +56,9 @@ impl Names {
     /// The name of a text: the one that it has, or the next number.
     pub fn intern(&mut self, text: &str) -> Result<Name, Memory>
         requires { length self.old < 2 ^ 32 }
+        ensures name { IfOk result (λ name. slice_get self.new name ≡ Some text.now) }
+        ensures names { OnOk result (self.new ≡ with_text self.old text.now) }
+        ensures distinct { IsDistinct self.new }
         ensures err { OnErr result (self.new ≡ self.old) }
     {
         if let Some(number) = self.texts.get_index_of(text) {

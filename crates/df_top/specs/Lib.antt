@@ -1,3 +1,9 @@
 pub use Rattle.df_base.specs.Outside
 pub use Rattle.df_meaning.specs.Run
 pub mod Gives
+pub mod Elaboration
+pub mod Elaborating
+pub mod Bounds
+pub mod Source
+pub mod Command
+pub mod Answer

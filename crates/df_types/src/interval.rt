@@ -1,4 +1,4 @@
-ghost use Rattle.std.specs.Prelude.{◌≡◌, ◌≤ℤ◌, ◌↔◌, IsTrue, IsSome, IfSome};
+ghost use Rattle.std.specs.Prelude.{◌≡◌, ◌&&◌, int_le, ◌≤ℤ◌, ◌↔◌, IsTrue, IsSome, IfSome};
 
 /// The whole numbers from `low` to `high`, both inside.
 #[derive(Clone, Copy, Debug, PartialEq, Eq)]
@@ -25,7 +25,8 @@ impl Interval {
 
     /// Whether the number lies in the interval.
     pub fn holds(&self, number: i128) -> bool
-        ensures { IsTrue result ↔ IsWithin self.now.low self.now.high number }
+        ensures within { IsTrue result ↔ IsWithin self.now.low self.now.high number }
+        ensures test { result ≡ (int_le self.now.low number && int_le number self.now.high) }
     {
         self.low <= number && number <= self.high
     }

@@ -1,0 +1,6 @@
+pub mod All
+pub mod Statements
+pub mod Some
+pub mod Sound
+pub mod Typed
+pub mod Complete
