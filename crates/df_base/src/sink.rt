@@ -4,6 +4,17 @@ ghost use Rattle.std.specs.Prelude.{◌≡◌, ℕ, Bool, IsTrue, List, Option, 
 ghost use Rattle.df_base.specs.Outside.{HasCause, Appends, AppendsPrefix};
 ghost use Rattle.df_base.specs.declared.sink.SinkFault.TheVariants.{Failed, Memory};
 
+mod host;
+mod mem;
+mod sure;
+mod write;
+
+pub use host::HostSink;
+pub use mem::MemSink;
+pub use sure::SureSink;
+pub use write::write_all;
+
+use std::alloc::AllocError;
 use thiserror::Error;
 
 /// Why bytes were not taken.
@@ -15,6 +26,14 @@ pub enum SinkFault {
     /// Memory was refused, and nothing was taken.
     #[error("out of memory")]
     Memory,
+}
+
+impl From<AllocError> for SinkFault {
+    ghost from_gives = { λ _ fault. fault ≡ Memory };
+
+    fn from(_error: AllocError) -> SinkFault {
+        SinkFault::Memory
+    }
 }
 
 /// A place that bytes are written to.
