@@ -13,9 +13,8 @@ mod sure;
 pub use host::HostFiles;
 pub use mem::MemFiles;
 pub use read::read_all;
-pub use sure::SureFiles;
-
 use std::alloc::{AllocError, Global};
+pub use sure::SureFiles;
 use thiserror::Error;
 
 /// Why a file was not loaded.

@@ -9,6 +9,8 @@ mod pos;
 mod refusal;
 mod sink;
 mod status;
+#[cfg(test)]
+mod tests;
 
 pub use files::{Files, HostFiles, LoadFault, MemFiles, SureFiles, read_all};
 pub use memory::Memory;

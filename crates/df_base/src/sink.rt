@@ -11,11 +11,10 @@ mod write;
 
 pub use host::HostSink;
 pub use mem::MemSink;
-pub use sure::SureSink;
-pub use write::write_all;
-
 use std::alloc::AllocError;
+pub use sure::SureSink;
 use thiserror::Error;
+pub use write::write_all;
 
 /// Why bytes were not taken.
 #[derive(Debug, Drop, Error)]

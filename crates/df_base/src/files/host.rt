@@ -54,7 +54,13 @@ impl<R: rt::Files> Files for HostFiles<R> {
         self.faults
     }
 
-    fn load(&mut self, alloc: Global, name: &str, limit: u64) -> Result<Vec<u8>, LoadFault> {
+    fn load(&mut self, alloc: Global, name: &str, limit: u64) -> Result<Vec<u8>, LoadFault>
+        ensures within { IfOk result (λ bytes. vec_len bytes ≤ limit) }
+        ensures large { (n : ℕ) → result ≡ Err (Large n) → n ≡ limit + 1 }
+        // The count rises just at a failure.
+        ensures cause { HasCause self.old.faults self.new.faults (result ≡ Err Failed) }
+        ensures quiet { result ≢ Err Failed → self.new.faults ≡ self.old.faults }
+    {
         let result = load_file(&self.rt, alloc, name, limit);
         if let Err(LoadFault::Failed) = &result {
             self.faults = self.faults.saturating_add(1);

@@ -25,6 +25,13 @@ impl<W: Write> HostSink<W> {
     {
         HostSink { writer, faults: 0 }
     }
+
+    /// The writer.
+    pub fn writer(&self) -> &W
+        ensures { result.now ≡ self.now.writer }
+    {
+        &self.writer
+    }
 }
 
 impl<W: Write> Sink for HostSink<W> {
@@ -40,6 +47,7 @@ impl<W: Write> Sink for HostSink<W> {
 
     fn put(&mut self, bytes: &[u8]) -> Result<(), SinkFault>
         ensures cause { HasCause self.old.faults self.new.faults (result ≡ Err Failed) }
+        ensures quiet { result ≢ Err Failed → self.new.faults ≡ self.old.faults }
         ensures from_memory { result ≢ Err Memory }
         // Where the writer tells what it holds, that grew by the bytes, or on a failure by a prefix.
         ensures written { OnOk result (Appends (W.contents self.old.writer) (W.contents self.new.writer) bytes.now) }
