@@ -3,3 +3,6 @@
 
 ghost use Rattle.std.specs.Prelude.{◌≡◌, ℕ};
 ghost use Rattle.df_top.specs.Gives.{Gives};
+
+mod execution;
+mod silent;
