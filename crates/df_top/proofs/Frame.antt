@@ -1,15 +1,11 @@
 -- What is printed before does not change how a run goes on: it stands before what is printed then.
-use Rattle.std.proofs.Common.{◌≡◌, ℕ, ◌+◌, ◌<◌, ℤ, ◌+ℤ◌, List, [], ◌∷◌, ◌++◌, map, drop, take, length, get_or, Option, Some, None, Result, Ok, Err, refl, ap, sym, subst, ◌∙◌, append_assoc}
-use Rattle.std.proofs.lemmas.List.{drop_more}
-use Rattle.df_base.specs.declared.pos.Pos.{Pos}
-use Rattle.df_base.specs.Outside.{Appends, AppendsPrefix}
+use Rattle.std.proofs.Common.{◌≡◌, ℕ, ◌+ℤ◌, List, [], ◌∷◌, ◌++◌, refl, ap, ◌∙◌, append_assoc}
 use Rattle.df_types.specs.declared.program.Member.{Member}
 use Rattle.df_types.specs.declared.program.Member.TheVariants as members
 use Rattle.df_types.specs.declared.program.Plus.{Plus}
 use Rattle.df_types.specs.Program.{Newtype, Operand, Stmt, Var, Print, Expr}
 use Rattle.df_types.specs.Program as program
-use Rattle.df_meaning.specs.declared.kind.Kind.{Kind}
-use Rattle.df_meaning.specs.Value.{Value, Number, number_of, text_of}
+use Rattle.df_meaning.specs.Value.{Value, number_of, text_of}
 use Rattle.df_meaning.specs.Outcome.{State, Evaluated, Known, Undefined, OutOfDepth, Outcome, Next, Return, Break, Wrong, TooDeep, NoChoice, with_value, after_value, after_stmt}
 use Rattle.df_meaning.specs.Evaluation.{evaluate_member, evaluate_rest, evaluate, in_range}
 use Rattle.df_meaning.specs.Execution.{evaluate_operand, print_all, printed, declare, execute, execute_all}
@@ -88,7 +84,7 @@ execute_all_shifts n t s (stmt ∷ others) =
 pub print_first : (n : Newtype) (s : State) (o : Operand) (os : List Operand) → print_all 0 n s (o ∷ os) ≡ after_stmt (print_all 0 n s (o ∷ [])) (λ next. print_all 0 n next os)
 print_first n s o os = by_cases (evaluate_operand 0 n s o)
   where
-  by_cases : (r : Evaluated) → after_value r (λ v. print_all 0 n (printed s v) os) ≡ after_stmt (after_value r (λ v. Next (printed s v))) (λ next. print_all 0 n next os)
-  by_cases (Known v) = refl
-  by_cases (Undefined p k) = refl
-  by_cases OutOfDepth = refl
+    by_cases : (r : Evaluated) → after_value r (λ v. print_all 0 n (printed s v) os) ≡ after_stmt (after_value r (λ v. Next (printed s v))) (λ next. print_all 0 n next os)
+    by_cases (Known v) = refl
+    by_cases (Undefined p k) = refl
+    by_cases OutOfDepth = refl

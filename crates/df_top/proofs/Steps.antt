@@ -1,13 +1,13 @@
 -- The steps of the loops that print and execute, and of what is put.
-use Rattle.std.proofs.Common.{◌≡◌, ℕ, ◌+◌, ◌<◌, ℤ, List, [], ◌∷◌, ◌++◌, map, drop, take, length, get_or, Option, Some, None, Result, Ok, Err, refl, ap, sym, subst, ◌∙◌, append_assoc, append-nil, take-append-drop, ◌⊎◌, inl, inr}
-use Rattle.std.proofs.lemmas.List.{drop_more, take_at}
+use Rattle.std.proofs.Common.{◌≡◌, ℕ, ◌+◌, ◌<◌, ℤ, List, [], ◌∷◌, ◌++◌, map, drop, take, length, get_or, Option, Some, None, Result, Err, refl, ap, sym, subst, ◌∙◌, append_assoc, append-nil, take-append-drop}
+use Rattle.std.proofs.lemmas.List.{drop_more}
 use Rattle.df_base.specs.Outside.{Appends, AppendsPrefix}
 use Rattle.df_types.specs.declared.program.Operand as declared_operand
 use Rattle.df_types.specs.declared.program.Stmt as declared_stmt
 use Rattle.df_types.specs.Program.{Newtype, Operand, Stmt, operand_of, stmt_of}
-use Rattle.df_meaning.specs.Value.{Number}
 use Rattle.df_meaning.specs.Outcome.{State, Outcome, Next, Return, Break, Wrong, TooDeep, NoChoice, after_stmt}
 use Rattle.df_meaning.specs.Execution.{print_all, execute, execute_all}
+use Rattle.df_meaning.specs.Run.{begin}
 use Rattle.df_top.specs.declared.execution.halt.Halt.{Halt}
 use Rattle.df_top.specs.declared.execution.halt.Halt.TheVariants as halts
 use Rattle.df_top.specs.Running.{state_with, state_at, PutsAll, PutsPart, PutSoFar, Does}
@@ -45,14 +45,16 @@ as_grown s = ap (λ (text : List ℕ). let next : State = record { locals = s.lo
 print_grows : (n : Newtype) (os : List Operand) → Grows (λ s. print_all 0 n s os)
 print_grows n os = record {
   grows = λ s w e.
-    let bare : State = record { locals = s.locals; text = [] } in
-    grown_next s.text (print_all 0 n bare os) w (sym (ap (λ (x : State). print_all 0 n x os) (as_grown s) ∙ print_shifts n s.text bare os) ∙ e) }
+      let bare : State = record { locals = s.locals; text = [] } in
+      grown_next s.text (print_all 0 n bare os) w (sym (ap (λ (x : State). print_all 0 n x os) (as_grown s) ∙ print_shifts n s.text bare os) ∙ e);
+}
 
 execute_grows : (n : Newtype) (stmts : List Stmt) → Grows (λ s. execute_all 0 n s stmts)
 execute_grows n stmts = record {
   grows = λ s w e.
-    let bare : State = record { locals = s.locals; text = [] } in
-    grown_next s.text (execute_all 0 n bare stmts) w (sym (ap (λ (x : State). execute_all 0 n x stmts) (as_grown s) ∙ execute_all_shifts n s.text bare stmts) ∙ e) }
+      let bare : State = record { locals = s.locals; text = [] } in
+      grown_next s.text (execute_all 0 n bare stmts) w (sym (ap (λ (x : State). execute_all 0 n x stmts) (as_grown s) ∙ execute_all_shifts n s.text bare stmts) ∙ e);
+}
 
 -- a step that goes on
 goes_on : (ls after : List ℤ) (old mid new : Option (List ℕ)) (step go : State → Outcome) (whole : Outcome)
@@ -63,8 +65,9 @@ goes_on : (ls after : List ℤ) (old mid new : Option (List ℕ)) (step go : Sta
 goes_on ls after old mid new step go whole shifts so_far puts = record {
   text = so_far.text ++ puts.text;
   goes =
-    sym (ap (λ o. after_stmt o go) (ap step (with_text ls so_far.text) ∙ shifts so_far.text ∙ ap (shifted so_far.text) puts.ends)) ∙ so_far.goes;
-  puts = Appends-more old mid new so_far.text puts.text so_far.puts puts.puts }
+      sym (ap (λ o. after_stmt o go) (ap step (with_text ls so_far.text) ∙ shifts so_far.text ∙ ap (shifted so_far.text) puts.ends)) ∙ so_far.goes;
+  puts = Appends-more old mid new so_far.text puts.text so_far.puts puts.puts;
+}
 
 -- a step that is wrong
 is_wrong : (ls : List ℤ) (old mid : Option (List ℕ)) (step go : State → Outcome) (whole : Outcome) (place : _) (kind : _)
@@ -81,9 +84,9 @@ prefix_more old mid new t u more a b =
     let part : List ℕ = take b.0 u in
     let rest : List ℕ = drop b.0 u ++ more in
     let whole : (t ++ part) ++ rest ≡ (t ++ u) ++ more =
-      append_assoc t part rest ∙ ap (λ x. t ++ x) (sym (append_assoc part (drop b.0 u) more) ∙ ap (λ x. x ++ more) (take-append-drop b.0 u)) ∙ sym (append_assoc t u more) in
+    append_assoc t part rest ∙ ap (λ x. t ++ x) (sym (append_assoc part (drop b.0 u) more) ∙ ap (λ x. x ++ more) (take-append-drop b.0 u)) ∙ sym (append_assoc t u more) in
     let e : t ++ part ≡ take (length (t ++ part)) ((t ++ u) ++ more) =
-      sym (take_front (t ++ part) rest) ∙ ap (take (length (t ++ part))) whole in
+    sym (take_front (t ++ part) rest) ∙ ap (take (length (t ++ part))) whole in
     (length (t ++ part), subst (λ (x : List ℕ). Appends old new x) e (Appends-more old mid new t part a b.1))
 
 -- a step that is cut off
@@ -133,7 +136,8 @@ print_so_far : (n : Newtype) (ls : List ℤ) (old mid : Option (List ℕ)) (os :
 print_so_far n ls old mid os i o whole lt is so_far = record {
   text = so_far.text;
   goes = sym (rest_prints n os i o lt is (state_with ls so_far.text)) ∙ so_far.goes;
-  puts = so_far.puts }
+  puts = so_far.puts;
+}
 
 -- one more operand is printed
 pub print_more : (n : Newtype) (ls : List ℤ) (old mid new : Option (List ℕ)) (os : List declared_operand.Operand) (i : ℕ) (o : declared_operand.Operand) (whole : Outcome)
@@ -160,7 +164,8 @@ execute_so_far : (n : Newtype) (ls : List ℤ) (old mid : Option (List ℕ)) (st
 execute_so_far n ls old mid stmts i stmt whole lt is so_far = record {
   text = so_far.text;
   goes = sym (ap (λ (rest : List declared_stmt.Stmt). execute_all 0 n (state_with ls so_far.text) (map stmt_of rest)) (drop_more stmts i stmt lt ∙ ap (λ (x : declared_stmt.Stmt). x ∷ drop (i + 1) stmts) (sym is))) ∙ so_far.goes;
-  puts = so_far.puts }
+  puts = so_far.puts;
+}
 
 -- one more statement is executed
 pub execute_more : (n : Newtype) (ls after : List ℤ) (old mid new : Option (List ℕ)) (stmts : List declared_stmt.Stmt) (i : ℕ) (stmt : declared_stmt.Stmt) (whole : Outcome)
@@ -179,3 +184,17 @@ pub execute_stops : (halt : Halt) (n : Newtype) (ls after : List ℤ) (old mid n
     → Does (Err halt) after old new whole
 execute_stops halt n ls after old mid new stmts i stmt whole lt is so_far does =
     stops halt ls after old mid new (λ s. execute 0 n s (stmt_of stmt)) _ whole (λ t. execute_shifts n t (state_at ls) (stmt_of stmt)) (execute_grows n (map stmt_of (drop (i + 1) stmts))) (execute_so_far n ls old mid stmts i stmt whole lt is so_far) does
+
+-- what holds of a halt holds of the result that passes it on
+pub same_halt : (result : Result (Unit {0}) Halt) (halt : Halt) (ls : List ℤ) (old new : Option (List ℕ)) (whole : Outcome) → result ≡ Err halt → Does (Err halt) ls old new whole → Does result ls old new whole
+same_halt result halt ls old new whole same does = subst (λ (r : Result (Unit {0}) Halt). Does r ls old new whole) (sym same) does
+
+-- the whole of a run is put
+pub whole_puts : (n : Newtype) (ls after : List ℤ) (old new : Option (List ℕ)) (stmts body : List declared_stmt.Stmt) → ls ≡ [] → stmts ≡ body
+    → PutsAll after old new (execute_all 0 n (state_at ls) (map stmt_of stmts))
+    → (state : State) × (execute_all 0 n begin (map stmt_of body) ≡ Next state) × Appends old new state.text
+whole_puts n ls after old new stmts body empty same puts = (
+  state_with after puts.text,
+  ap (λ (xs : List declared_stmt.Stmt). execute_all 0 n begin (map stmt_of xs)) (sym same) ∙ ap (λ (xs : List ℤ). execute_all 0 n (state_at xs) (map stmt_of stmts)) (sym empty) ∙ puts.ends,
+  puts.puts,
+)

@@ -1,9 +1,9 @@
 -- The steps of the loop that adds the members of a sum.
-use Rattle.std.proofs.Common.{◌≡◌, ℕ, ◌+◌, ◌<◌, ℤ, ◌+ℤ◌, List, ◌∷◌, drop, length, get_or, Result, Ok, Err, refl, ap, sym, ◌∙◌}
+use Rattle.std.proofs.Common.{◌≡◌, ℕ, ◌+◌, ◌<◌, ℤ, ◌+ℤ◌, List, drop, length, get_or, ap, sym, ◌∙◌}
 use Rattle.std.proofs.lemmas.List.{drop_more}
 use Rattle.df_types.specs.declared.program.Plus.{Plus}
 use Rattle.df_types.specs.Program.{Newtype}
-use Rattle.df_meaning.specs.Value.{Value, Number, number_of}
+use Rattle.df_meaning.specs.Value.{Number, number_of}
 use Rattle.df_meaning.specs.Outcome.{State, Evaluated, Known, Undefined, with_value}
 use Rattle.df_meaning.specs.Evaluation.{evaluate_member, evaluate_rest, in_range}
 use Rattle.df_top.specs.declared.execution.halt.Broken.{Broken}

@@ -6,6 +6,7 @@ ghost use Rattle.df_base.specs.Outside.{HasCause, Appends, AppendsPrefix};
 use df_base::{Sink, SinkFault};
 
 /// A sink that takes all bytes, keeps none of them, and meets no fault.
+#[derive(Clone, Copy, Debug, PartialEq, Eq)]
 pub(crate) struct Silent;
 
 impl Sink for Silent {
@@ -20,6 +21,7 @@ impl Sink for Silent {
     }
 
     fn put(&mut self, _bytes: &[u8]) -> Result<(), SinkFault>
+        ensures { IsOk result }
     {
         Ok(())
     }

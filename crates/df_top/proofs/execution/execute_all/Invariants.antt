@@ -11,8 +11,8 @@ invariant-loop-stmt g l =
     let sink = g.S.Sink in
     record {
       put : PutSoFar l.locals.items (sink.taken l.fn.sink) (sink.taken l.sink)
-        (λ state. meaning.execute_all 0 (newtype_of l.newtype) state (map stmt_of (drop l.stmt-index l.stmts)))
-        (meaning.execute_all 0 (newtype_of l.newtype) (state_at l.fn.locals.items) (map stmt_of l.stmts));
+          (λ state. meaning.execute_all 0 (newtype_of l.newtype) state (map stmt_of (drop l.stmt-index l.stmts)))
+          (meaning.execute_all 0 (newtype_of l.newtype) (state_at l.fn.locals.items) (map stmt_of l.stmts));
       counted : sink.fault_count l.fn.sink ≤ sink.fault_count l.sink;
       stays : sink.takes_memory l.sink ≡ sink.takes_memory l.fn.sink;
     }

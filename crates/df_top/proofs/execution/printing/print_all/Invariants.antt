@@ -11,8 +11,8 @@ invariant-loop-operand g l =
     let sink = g.S.Sink in
     record {
       put : PutSoFar l.locals (sink.taken l.fn.sink) (sink.taken l.sink)
-        (λ state. meaning.print_all 0 (newtype_of l.newtype) state (map operand_of (drop l.operand-index l.operands)))
-        (meaning.print_all 0 (newtype_of l.newtype) (state_at l.locals) (map operand_of l.operands));
+          (λ state. meaning.print_all 0 (newtype_of l.newtype) state (map operand_of (drop l.operand-index l.operands)))
+          (meaning.print_all 0 (newtype_of l.newtype) (state_at l.locals) (map operand_of l.operands));
       counted : sink.fault_count l.fn.sink ≤ sink.fault_count l.sink;
       stays : sink.takes_memory l.sink ≡ sink.takes_memory l.fn.sink;
     }
