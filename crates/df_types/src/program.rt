@@ -34,7 +34,7 @@ pub struct Newtype {
 pub enum Member {
     Number { value: i128, pos: Pos },
     /// A local by its number: locals count from 0 in the order of their declarations.
-    Local { local: u32, pos: Pos },
+    Local { local: usize, pos: Pos },
 }
 
 /// A `+`, where it stands, and its right operand.

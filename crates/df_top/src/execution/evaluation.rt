@@ -46,7 +46,7 @@ fn evaluate_member(newtype: &Newtype, locals: &[i128], member: &Member) -> Resul
 {
     match member {
         Member::Number { value, pos } => in_range(newtype, *pos, *value),
-        Member::Local { local, .. } => Ok(locals.get(*local as usize).copied().unwrap_or(0)),
+        Member::Local { local, .. } => Ok(locals.get(*local).copied().unwrap_or(0)),
     }
 }
 
