@@ -7,3 +7,4 @@ pub mod Outcome
 pub mod Evaluation
 pub mod Execution
 pub mod Run
+pub mod Kind

@@ -4,3 +4,6 @@ pub mod Some
 pub mod Sound
 pub mod Typed
 pub mod Complete
+pub mod Frame
+pub mod Steps
+pub mod Sums

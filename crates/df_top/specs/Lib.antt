@@ -1,5 +1,6 @@
 pub use Rattle.df_base.specs.Outside
 pub use Rattle.df_meaning.specs.Run
+pub mod Fault
 pub mod Gives
 pub mod Elaboration
 pub mod Elaborating
@@ -7,3 +8,4 @@ pub mod Bounds
 pub mod Source
 pub mod Command
 pub mod Answer
+pub mod Running

@@ -1,6 +1,9 @@
 //! The program as one call: from the words and the files to what is written and the status.
 #![tactic(auto)]
 
+mod command;
 mod elaboration;
+mod execution;
+mod silent;
 
-pub use elaboration::elaborate;
+pub use command::{one_program, top};

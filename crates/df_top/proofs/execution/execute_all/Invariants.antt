@@ -1,0 +1,18 @@
+use Rattle.std.proofs.Common.{◌≡◌, ◌≤◌, drop, map}
+use Rattle.df_types.specs.Program.{stmt_of}
+use Rattle.df_types.specs.View.{newtype_of}
+use Rattle.df_meaning.specs.Execution as meaning
+use Rattle.df_top.specs.Running.{state_at, PutSoFar}
+use Rattle.df_top.proofs.execution.execute_all.Given as goal
+
+-- some text is put, and what is left goes on from it as the whole does
+abbrev pub invariant-loop-stmt : goal.invariant-loop-stmt
+invariant-loop-stmt g l =
+    let sink = g.S.Sink in
+    record {
+      put : PutSoFar l.locals.items (sink.taken l.fn.sink) (sink.taken l.sink)
+          (λ state. meaning.execute_all 0 (newtype_of l.newtype) state (map stmt_of (drop l.stmt-index l.stmts)))
+          (meaning.execute_all 0 (newtype_of l.newtype) (state_at l.fn.locals.items) (map stmt_of l.stmts));
+      counted : sink.fault_count l.fn.sink ≤ sink.fault_count l.sink;
+      stays : sink.takes_memory l.sink ≡ sink.takes_memory l.fn.sink;
+    }
