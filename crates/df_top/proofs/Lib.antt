@@ -7,3 +7,4 @@ pub mod Complete
 pub mod Frame
 pub mod Steps
 pub mod Sums
+pub mod Ranges
