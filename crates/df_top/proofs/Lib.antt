@@ -1,4 +1,4 @@
 pub mod Frame
 pub mod Steps
 pub mod Sums
-pub mod Typed
+pub mod Parts

@@ -1,6 +1,6 @@
 use Rattle.std.proofs.Common.{rules}
 use Rattle.df_types.specs.View.{newtype_of}
-use Rattle.df_top.proofs.Typed.{rest_stmts, rest_counted}
+use Rattle.df_top.proofs.Parts.{rest_stmts, rest_counted}
 use Rattle.df_top.proofs.Steps.{execute_more, execute_stops, same_halt}
 use Rattle.df_top.proofs.execution.execute_all.Goals as goal
 

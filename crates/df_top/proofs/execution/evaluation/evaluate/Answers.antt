@@ -2,7 +2,7 @@ use Rattle.std.proofs.Common.{rules}
 use Rattle.std.proofs.lemmas.Int.{to_z-of_z}
 use Rattle.df_types.specs.View.{newtype_of}
 use Rattle.df_top.specs.Running.{state_at}
-use Rattle.df_top.proofs.Typed.{first_of_all, rest_of_all}
+use Rattle.df_top.proofs.Parts.{first_of_all, rest_of_all}
 use Rattle.df_top.proofs.Sums.{sum_more, sum_breaks}
 use Rattle.df_top.proofs.execution.evaluation.evaluate.Goals as goal
 

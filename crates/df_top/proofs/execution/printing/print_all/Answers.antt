@@ -1,6 +1,6 @@
 use Rattle.std.proofs.Common.{rules}
 use Rattle.df_types.specs.View.{newtype_of}
-use Rattle.df_top.proofs.Typed.{rest_operands}
+use Rattle.df_top.proofs.Parts.{rest_operands}
 use Rattle.df_top.proofs.Steps.{print_more, print_stops, same_halt}
 use Rattle.df_top.proofs.execution.printing.print_all.Goals as goal
 
