@@ -1,3 +1,9 @@
+pub mod All
+pub mod Statements
+pub mod Some
+pub mod Sound
+pub mod Typed
+pub mod Complete
 pub mod Frame
 pub mod Steps
 pub mod Sums

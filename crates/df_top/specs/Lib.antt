@@ -2,4 +2,10 @@ pub use Rattle.df_base.specs.Outside
 pub use Rattle.df_meaning.specs.Run
 pub mod Fault
 pub mod Gives
+pub mod Elaboration
+pub mod Elaborating
+pub mod Bounds
+pub mod Source
+pub mod Command
+pub mod Answer
 pub mod Running

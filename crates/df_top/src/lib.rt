@@ -1,8 +1,9 @@
 //! The program as one call: from the words and the files to what is written and the status.
 #![tactic(auto)]
 
-ghost use Rattle.std.specs.Prelude.{◌≡◌, ℕ};
-ghost use Rattle.df_top.specs.Gives.{Gives};
-
+mod command;
+mod elaboration;
 mod execution;
 mod silent;
+
+pub use command::{one_program, top};

@@ -1,0 +1,7 @@
+//! Elaboration: the typed program of a tree.
+
+mod expressions;
+mod newtypes;
+mod statements;
+
+pub use statements::elaborate;
