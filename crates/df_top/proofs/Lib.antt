@@ -8,3 +8,5 @@ pub mod Frame
 pub mod Steps
 pub mod Sums
 pub mod Ranges
+pub mod Parts
+pub mod Named

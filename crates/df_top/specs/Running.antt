@@ -1,6 +1,7 @@
 -- What the parts of a run answer and put, against their meaning.
-use Rattle.std.specs.Prelude.{◌≡◌, ℕ, ℤ, List, [], map, Option, Result, Ok, Err}
+use Rattle.std.specs.Prelude.{◌≡◌, ℕ, suc, ℤ, List, [], map, Option, Result, Ok, Err}
 use Rattle.df_base.specs.Outside.{Appends, AppendsPrefix}
+use Rattle.df_types.specs.Program.{Stmt, Var, Print}
 use Rattle.df_meaning.specs.Value.{Number}
 use Rattle.df_meaning.specs.Outcome.{State, Evaluated, Known, Undefined, Outcome, Next, Wrong}
 use Rattle.df_top.specs.declared.execution.halt.Broken.{Broken}
@@ -43,3 +44,8 @@ Does (Ok _) locals old new outcome = PutsAll locals old new outcome
 Does (Err (halts.Wrong place kind)) locals old new outcome = outcome ≡ Wrong place kind
 Does (Err halts.Write) locals old new outcome = PutsPart old new outcome
 Does (Err halts.Memory) locals old new outcome = PutsPart old new outcome
+
+-- how many locals are declared after a statement
+abbrev pub count_after : ℕ → Stmt → ℕ
+count_after count (Var ty value) = suc count
+count_after count (Print operands) = count

@@ -1,16 +1,17 @@
 //! The run of Main.
 
-ghost use Rattle.std.specs.Prelude.{◌≡◌, ◌≢◌, ◌⊎◌, map, Err};
+ghost use Rattle.std.specs.Prelude.{◌≡◌, ◌≢◌, ◌⊎◌, [], ◌∷◌, map, length, true, OnOk, Err};
 ghost use Rattle.df_base.specs.Outside.{Appends, AppendsPrefix, HasCause};
 ghost use Rattle.df_base.specs.declared.pos.Pos.{Pos};
 ghost use Rattle.df_types.specs.Program.{stmt_of};
+ghost use Rattle.df_types.specs.Typing.{are_well_typed};
 ghost use Rattle.df_types.specs.View.{newtype_of, program_of};
 ghost use Rattle.df_meaning.specs.declared.kind.Kind.{Kind};
 ghost use Rattle.df_meaning.specs.Outcome.{State, Next};
 ghost use Rattle.df_meaning.specs.Outcome as outcomes;
 ghost use Rattle.df_meaning.specs.Execution as execution;
 ghost use Rattle.df_meaning.specs.Run as meaning;
-ghost use Rattle.df_top.specs.Running.{state_at, Does};
+ghost use Rattle.df_top.specs.Running.{state_at, Does, count_after};
 
 mod evaluation;
 mod halt;
@@ -44,7 +45,9 @@ fn execute<S: Sink>(
     stmt: &Stmt,
     sink: &mut S,
 ) -> Result<(), Halt>
+    requires { are_well_typed newtype.now.declared.name (length locals.old.items) (stmt_of stmt.now ∷ []) ≡ true }
     ensures does { Does result locals.new.items (S.taken sink.old) (S.taken sink.new) (execution.execute 0 (newtype_of newtype.now) (state_at locals.old.items) (stmt_of stmt.now)) }
+    ensures counted { OnOk result (length locals.new.items ≡ count_after (length locals.old.items) (stmt_of stmt.now)) }
     ensures cause { HasCause (S.fault_count sink.old) (S.fault_count sink.new) (result ≡ Err Halt.Write) }
     ensures stays { S.takes_memory sink.new ≡ S.takes_memory sink.old }
 {
@@ -65,6 +68,7 @@ fn execute_all<S: Sink>(
     stmts: &[Stmt],
     sink: &mut S,
 ) -> Result<(), Halt>
+    requires { are_well_typed newtype.now.declared.name (length locals.old.items) (map stmt_of stmts.now) ≡ true }
     ensures does { Does result locals.new.items (S.taken sink.old) (S.taken sink.new) (execution.execute_all 0 (newtype_of newtype.now) (state_at locals.old.items) (map stmt_of stmts.now)) }
     ensures cause { HasCause (S.fault_count sink.old) (S.fault_count sink.new) (result ≡ Err Halt.Write) }
     ensures stays { S.takes_memory sink.new ≡ S.takes_memory sink.old }

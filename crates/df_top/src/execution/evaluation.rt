@@ -1,7 +1,8 @@
 //! Values of expressions.
 
-ghost use Rattle.std.specs.Prelude.{◌≡◌, ◌+ℤ◌};
+ghost use Rattle.std.specs.Prelude.{◌≡◌, ◌+ℤ◌, length, true};
 ghost use Rattle.df_types.specs.Program.{expr_of};
+ghost use Rattle.df_types.specs.Typing.{is_declared, is_expr};
 ghost use Rattle.df_types.specs.View.{newtype_of};
 ghost use Rattle.df_meaning.specs.Evaluation as meaning;
 ghost use Rattle.df_top.specs.Running.{state_at, evaluated};
@@ -42,16 +43,18 @@ fn add(newtype: &Newtype, place: Pos, left: i128, right: i128) -> Result<i128, B
 
 /// The value of a member of a sum.
 fn evaluate_member(newtype: &Newtype, locals: &[i128], member: &Member) -> Result<i128, Broken>
+    requires { is_declared (length locals.now) member.now ≡ true }
     ensures { evaluated result ≡ meaning.evaluate_member 0 (newtype_of newtype.now) (state_at locals.now) member.now }
 {
     match member {
         Member::Number { value, pos } => in_range(newtype, *pos, *value),
-        Member::Local { local, .. } => Ok(locals.get(*local).copied().unwrap_or(0)),
+        Member::Local { local, .. } => Ok(locals[*local]),
     }
 }
 
 /// The value of an expression: its members added from left to right.
 pub(super) fn evaluate(newtype: &Newtype, locals: &[i128], expr: &Expr) -> Result<i128, Broken>
+    requires { is_expr newtype.now.declared.name (length locals.now) (expr_of expr.now) ≡ true }
     ensures { evaluated result ≡ meaning.evaluate 0 (newtype_of newtype.now) (state_at locals.now) (expr_of expr.now) }
 {
     let mut sum = evaluate_member(newtype, locals, &expr.first)?;

@@ -1,9 +1,11 @@
 //! What is printed.
 
-ghost use Rattle.std.specs.Prelude.{◌≡◌, [], ◌∷◌, map, OnOk, OnErr, Err};
+ghost use Rattle.std.specs.Prelude.{◌≡◌, [], ◌∷◌, map, length, true, OnOk, OnErr, Err};
 ghost use Rattle.df_base.specs.Outside.{Appends, AppendsPrefix, HasCause};
 ghost use Rattle.df_types.specs.Program.{operand_of};
+ghost use Rattle.df_types.specs.Typing.{is_operand};
 ghost use Rattle.df_types.specs.View.{newtype_of};
+ghost use Rattle.std.specs.List.{list_all};
 ghost use Rattle.df_meaning.specs.Execution as meaning;
 ghost use Rattle.df_top.specs.Running.{state_at, Does};
 
@@ -33,6 +35,7 @@ fn print<S: Sink>(
     operand: &Operand,
     sink: &mut S,
 ) -> Result<(), Halt>
+    requires { is_operand newtype.now.declared.name (length locals.now) (operand_of operand.now) ≡ true }
     ensures does { Does result locals.now (S.taken sink.old) (S.taken sink.new) (meaning.print_all 0 (newtype_of newtype.now) (state_at locals.now) (operand_of operand.now ∷ [])) }
     ensures cause { HasCause (S.fault_count sink.old) (S.fault_count sink.new) (result ≡ Err Halt.Write) }
     ensures stays { S.takes_memory sink.new ≡ S.takes_memory sink.old }
@@ -54,6 +57,7 @@ pub(super) fn print_all<S: Sink>(
     operands: &[Operand],
     sink: &mut S,
 ) -> Result<(), Halt>
+    requires { list_all (is_operand newtype.now.declared.name (length locals.now)) (map operand_of operands.now) ≡ true }
     ensures does { Does result locals.now (S.taken sink.old) (S.taken sink.new) (meaning.print_all 0 (newtype_of newtype.now) (state_at locals.now) (map operand_of operands.now)) }
     ensures cause { HasCause (S.fault_count sink.old) (S.fault_count sink.new) (result ≡ Err Halt.Write) }
     ensures stays { S.takes_memory sink.new ≡ S.takes_memory sink.old }

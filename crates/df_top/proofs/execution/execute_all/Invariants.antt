@@ -1,4 +1,5 @@
-use Rattle.std.proofs.Common.{◌≡◌, ◌≤◌, drop, map}
+use Rattle.std.proofs.Common.{◌≡◌, ◌≤◌, drop, map, length, true}
+use Rattle.df_types.specs.Typing.{are_well_typed}
 use Rattle.df_types.specs.Program.{stmt_of}
 use Rattle.df_types.specs.View.{newtype_of}
 use Rattle.df_meaning.specs.Execution as meaning
@@ -13,6 +14,7 @@ invariant-loop-stmt g l =
       put : PutSoFar l.locals.items (sink.taken l.fn.sink) (sink.taken l.sink)
           (λ state. meaning.execute_all 0 (newtype_of l.newtype) state (map stmt_of (drop l.stmt-index l.stmts)))
           (meaning.execute_all 0 (newtype_of l.newtype) (state_at l.fn.locals.items) (map stmt_of l.stmts));
+      typed : are_well_typed l.newtype.declared.name (length l.locals.items) (map stmt_of (drop l.stmt-index l.stmts)) ≡ true;
       counted : sink.fault_count l.fn.sink ≤ sink.fault_count l.sink;
       stays : sink.takes_memory l.sink ≡ sink.takes_memory l.fn.sink;
     }

@@ -1,4 +1,6 @@
-use Rattle.std.proofs.Common.{◌≡◌, ◌≤◌, drop, map}
+use Rattle.std.proofs.Common.{◌≡◌, ◌≤◌, drop, map, length, true}
+use Rattle.std.specs.List.{list_all}
+use Rattle.df_types.specs.Typing.{is_operand}
 use Rattle.df_types.specs.Program.{operand_of}
 use Rattle.df_types.specs.View.{newtype_of}
 use Rattle.df_meaning.specs.Execution as meaning
@@ -13,6 +15,7 @@ invariant-loop-operand g l =
       put : PutSoFar l.locals (sink.taken l.fn.sink) (sink.taken l.sink)
           (λ state. meaning.print_all 0 (newtype_of l.newtype) state (map operand_of (drop l.operand-index l.operands)))
           (meaning.print_all 0 (newtype_of l.newtype) (state_at l.locals) (map operand_of l.operands));
+      typed : list_all (is_operand l.newtype.declared.name (length l.locals)) (map operand_of (drop l.operand-index l.operands)) ≡ true;
       counted : sink.fault_count l.fn.sink ≤ sink.fault_count l.sink;
       stays : sink.takes_memory l.sink ≡ sink.takes_memory l.fn.sink;
     }
