@@ -10,3 +10,4 @@ pub mod Sums
 pub mod Ranges
 pub mod Parts
 pub mod Named
+pub mod Elaborated

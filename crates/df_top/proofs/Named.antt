@@ -1,7 +1,9 @@
 -- The names of a tree that tokens of a source spell are among the source's names.
 use Rattle.std.proofs.Common.{◌≡◌, ℕ, ◌+◌, ◌<◌, ◌≤◌, Bool, true, false, cond, List, [], ◌∷◌, ◌++◌, length, Option, Some, None, refl, sym, ap, subst, ◌∙◌, arith, length-append}
 use Rattle.std.specs.Prelude.{position}
-use Rattle.std.specs.List.{list_any}
+use Rattle.std.specs.List.{list_any, flat_map}
+use Rattle.df_tok.specs.declared.word.Word.TheVariants as words
+use Rattle.df_tok.specs.declared.sign.Sign.TheVariants as signs
 use Rattle.std.proofs.lemmas.List.Quantifiers.{position-Some}
 use Rattle.df_base.specs.Names.{same_text, with_text}
 use Rattle.df_base.specs.declared.pos.Pos.{Pos}
@@ -117,4 +119,6 @@ pub declared_known : (before : List (List ℕ)) (source : List ℕ) (tokens : Li
     → (tree.newtype.name.name < length after) × (tree.method.name < length after)
 declared_known before source tokens after tree divided spelled =
     let all = all_wanted_known (length after) (spell tree) tokens spelled.1 (tokens_known before source tokens after divided) in
-    ?
+    let body = flat_map spell_stmt tree.body ++ TheSign signs.CloseBrace ∷ [] in
+    let method = TheWord words.Method ∷ NameAt tree.method ∷ TheSign signs.OpenParenthesis ∷ TheSign signs.CloseParenthesis ∷ TheSign signs.OpenBrace ∷ body in
+    (all.1.0, (wanted_after (length after) (spell_newtype tree.newtype) method all).1.0)

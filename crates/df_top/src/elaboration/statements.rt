@@ -1,10 +1,13 @@
 //! Statements, and the program.
 
-ghost use Rattle.std.specs.Prelude.{◌≡◌, ◌<◌, [], length, map};
+ghost use Rattle.std.specs.Prelude.{◌≡◌, ◌<◌, [], length, map, IfOk, Err};
+ghost use Rattle.df_base.specs.declared.refusal.Refusal.{Refusal};
+ghost use Rattle.df_base.specs.declared.refusal.Stop.TheVariants as stops;
 ghost use Rattle.df_types.specs.Program as typed_specs;
 ghost use Rattle.df_types.specs.View as typed_view;
 ghost use Rattle.df_tree.specs.Tree as tree_specs;
 ghost use Rattle.df_top.specs.Gives.{Gives};
+ghost use Rattle.df_top.specs.Elaboration.{Elaborates};
 ghost use Rattle.df_top.specs.Elaborating.{stmt_of, stmts_of, program_of};
 
 use crate::elaboration::expressions::{expression, operands, refused};
@@ -63,10 +66,9 @@ fn statements(
     Ok(stmts)
 }
 
-/// The program that the tree elaborates to. It asks for names that hold those of the tree. A refusal
-/// comes exactly where there is none.
+/// The program that is found from left to right.
 #[tactic(auto, unfolding(crate::specs::Elaborating::program_of))]
-pub fn elaborate(alloc: Global, tree: &tree::SourceTree, names: &Names) -> Result<typed::Program, Stop>
+fn whole(alloc: Global, tree: &tree::SourceTree, names: &Names) -> Result<typed::Program, Stop>
     requires newtype { tree.now.newtype.name.name < length names.now }
     requires method { tree.now.method.name < length names.now }
     ensures { Gives typed_view.program_of result (program_of names.now (tree_specs.tree_of tree.now)) }
@@ -82,4 +84,19 @@ pub fn elaborate(alloc: Global, tree: &tree::SourceTree, names: &Names) -> Resul
     let body = statements(alloc, name, &tree.body)?;
     let declared = declared(alloc, names, tree.method.name)?;
     Ok(typed::Program::new(newtype, typed::Method { declared, body }))
+}
+
+/// The program that the tree elaborates to. It asks for names that hold those of the declarations. It is
+/// refused exactly where there is no such program.
+pub fn elaborate(
+    alloc: Global,
+    tree: &tree::SourceTree,
+    names: &Names,
+) -> Result<typed::Program, Stop>
+    requires newtype { tree.now.newtype.name.name < length names.now }
+    requires method { tree.now.method.name < length names.now }
+    ensures program { IfOk result (λ program. Elaborates names.now (tree_specs.tree_of tree.now) (typed_view.program_of program)) }
+    ensures refused { (r : Refusal) → result ≡ Err (stops.Refused r) → (program : typed_specs.Program) → Elaborates names.now (tree_specs.tree_of tree.now) program → ⊥ }
+{
+    whole(alloc, tree, names)
 }
