@@ -34,6 +34,10 @@ impl Model for Names {
     ghost Value = { List (List ℕ) };
 
     ghost view = { λ n. map string_bytes n.texts.keys };
+
+    ghost use Rattle.df_base.specs.Names.{IsDistinct};
+
+    ghost invariant = { λ n. IsDistinct (map string_bytes n.texts.keys) };
 }
 
 impl Names {
@@ -52,6 +56,9 @@ impl Names {
     /// The name of a text: the one that it has, or the next number.
     pub fn intern(&mut self, text: &str) -> Result<Name, Memory>
         requires { length self.old < 2 ^ 32 }
+        ensures name { IfOk result (λ name. slice_get self.new name ≡ Some text.now) }
+        ensures names { OnOk result (self.new ≡ with_text self.old text.now) }
+        ensures distinct { IsDistinct self.new }
         ensures err { OnErr result (self.new ≡ self.old) }
     {
         if let Some(number) = self.texts.get_index_of(text) {
@@ -63,6 +70,14 @@ impl Names {
         Ok(Name {
             number: number as u32,
         })
+    }
+
+    /// How many names there are.
+    pub fn len(&self) -> usize
+        ensures len { result ≡ length self.now }
+        ensures distinct { IsDistinct self.now }
+    {
+        self.texts.len()
     }
 
     /// The text of a name.

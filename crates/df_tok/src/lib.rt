@@ -5,6 +5,12 @@ ghost use Rattle.std.specs.Prelude.{◌≡◌, ℕ, ◌≤◌, List, length, map
 ghost use Rattle.df_tok.specs.Token as pure;
 ghost use Rattle.df_tok.specs.Division.{Divides};
 
+mod byte;
+mod comment;
+mod kind;
+mod literal;
+mod run;
+mod scan;
 mod sign;
 mod token;
 mod word;
