@@ -1,5 +1,5 @@
 -- Divisions of a source: a front of it, and what is left.
-use Rattle.std.proofs.Common.{◌≡◌, ℕ, zero, suc, ◌+◌, ◌-◌, ◌<◌, ◌≤◌, List, [], ◌∷◌, ◌++◌, length, take, drop, cond, Bool, true, false, refl, sym, ap, subst, ◌∙◌, append_assoc, arith}
+use Rattle.std.proofs.Common.{◌≡◌, ℕ, zero, suc, ◌+◌, ◌-◌, ◌<◌, ◌≤◌, List, [], ◌∷◌, ◌++◌, length, take, drop, cond, Bool, true, false, Some, refl, sym, ap, subst, ◌∙◌, append_assoc, arith}
 use Rattle.std.specs.List.{list_any}
 use Rattle.std.proofs.lemmas.List.{append-nil, length-append}
 use Rattle.df_base.specs.declared.pos.Pos.{Pos}
@@ -9,9 +9,12 @@ use Rattle.df_tok.specs.declared.token.Kind.TheVariants as kinds
 use Rattle.df_tok.specs.Token.{Token, HasKind}
 use Rattle.df_tok.specs.Scanned.{Grows}
 use Rattle.df_tok.specs.Division.{after_bytes, start, Piece, Blank, LineComment, BlockComment, Lexeme, text_of, IsPiece, AreDivided, tokens_of, Divides}
-use Rattle.df_tok.specs.Steps.{token_of, NextPiece, NoPiece, Exceeds}
+use Rattle.df_tok.specs.Steps.{token_of, NextPiece, CannotAdd, kindless, full, NoPiece, Exceeds}
+use Rattle.df_tok.specs.declared.scan.Form.{Form}
+use Rattle.df_tok.specs.declared.scan.Front.TheVariants.{Lexeme as Lexed}
+use Rattle.df_tok.specs.Scanning.{front_at}
 use Rattle.df_tok.proofs.Lists.{Parts-take}
-use Rattle.df_tok.proofs.Pieces.{Same, one_piece, Seen, seen, no_piece_of_nothing}
+use Rattle.df_tok.proofs.Pieces.{Same, one_piece, Seen, seen, lex_next, lexeme_next, no_kind_next, no_piece_of_nothing}
 
 -- ---- tokens, piece by piece
 
@@ -172,6 +175,9 @@ grows_more a b c m n p q = record {
   few = omega (arith, length-append p.more q.more, p.few, q.few);
 }
 
+pub grows_most : (a b : List (List ℕ)) (m n : ℕ) → m ≤ n → Grows a b m → Grows a b n
+grows_most a b m n le p = record { more = p.more; is = p.is; few = omega (arith, p.few) }
+
 grows_text : (names : List (List ℕ)) (text : List ℕ) → Grows names (with_text names text) 1
 grows_text names text = by (list_any (same_text text) names)
   where
@@ -206,3 +212,14 @@ reach_grows before source (piece ∷ pieces) rest after pos (n, b, is, first, ot
 pub progress_grows : (before : List (List ℕ)) (source : List ℕ) (tokens : List Token) (rest : List ℕ) (pos : Pos) (names : List (List ℕ)) → Progress before source tokens rest pos names → Grows before names (length tokens)
 progress_grows before source tokens rest pos names p = subst (Grows before names) (sym (ap length p.tokens_are)) (reach_grows before source p.pieces rest names start p.reaches)
 
+
+pub next_within : (names : List (List ℕ)) (bytes : List ℕ) (pos : Pos) (tokens : List Token) (n : ℕ) (after : List (List ℕ)) → NextPiece names bytes pos tokens n after → n ≤ length bytes
+next_within names bytes pos tokens n after q = omega (arith, ap length q.is, length-append (text_of q.piece) (drop n bytes), q.len)
+
+-- where nothing can be added each division has too many tokens
+pub cannot_exceeds : (names : List (List ℕ)) (bytes : List ℕ) (form : Form) (n count : ℕ) → 0 < length bytes → front_at bytes ≡ Some (Lexed form n) → CannotAdd names (take n bytes) count → Exceeds names bytes (500000 - count)
+cannot_exceeds names bytes form n count some h (kindless no_kind) = no_piece_exceeds names bytes (500000 - count) some (no_kind_next names bytes form n h no_kind)
+cannot_exceeds names bytes form n count some h (full kind after has e) =
+    let next = lexeme_next names bytes start form n kind after (lex_next bytes form n h) has in
+    let none : 0 ≡ 500000 - count = omega arith in
+    subst (Exceeds names bytes) none (token_exceeds names bytes start (record { kind = kind; text = take n bytes; pos = start }) n after some next)

@@ -10,3 +10,4 @@ mod Lexemes
 mod OneKind
 mod Pieces
 mod Divisions
+mod Results

@@ -262,3 +262,16 @@ one_kind before text kind other after last h g =
   where
     some_is : (x y : Kind) → Some x ≡ Some y → x ≡ y
     some_is x y e = cc
+
+-- a number's token has its value, below 2^127
+pub number_small : (before : List (List ℕ)) (text : List ℕ) (kind : Kind) (after : List (List ℕ)) → IsNumber text → HasKind before text kind after → value_of_number text < 2 ^ 127
+unfolding kind_at
+number_small before text kind after is h =
+    let p = number_first text is in
+    let e : kind_at before (p.0 ∷ p.1) ≡ Some (kinds.Number (value_of_number (p.0 ∷ p.1))) = rw (digit_is_none p.0 p.3, p.3) refl in
+    let number : kind_at before text ≡ Some (kinds.Number (value_of_number text)) = subst (λ (t : List ℕ). kind_at before t ≡ Some (kinds.Number (value_of_number t))) (sym p.2) e in
+    let same : kind ≡ kinds.Number (value_of_number text) = kind_same kind (kinds.Number (value_of_number text)) (sym (kind_found before text kind after h).0 ∙ number) in
+    (subst (λ (k : Kind). HasKind before text k after) same h).2
+  where
+    kind_same : (x y : Kind) → Some x ≡ Some y → x ≡ y
+    kind_same x y e = cc

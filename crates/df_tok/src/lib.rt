@@ -9,12 +9,15 @@ mod byte;
 mod comment;
 mod kind;
 mod literal;
+mod place;
+mod reader;
 mod run;
 mod scan;
 mod sign;
 mod token;
 mod word;
 
+pub use reader::tokens;
 pub use sign::Sign;
 pub use token::{Kind, Token, Tokens};
 pub use word::Word;
