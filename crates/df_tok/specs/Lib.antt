@@ -4,4 +4,8 @@ pub mod Word
 pub mod Sign
 pub mod Lexeme
 pub mod Token
+pub mod Words
+pub mod Scanned
+pub mod Scanning
 pub mod Division
+pub mod Steps

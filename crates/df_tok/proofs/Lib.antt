@@ -1,0 +1,13 @@
+mod Lists
+mod Values
+mod Words
+mod Signs
+mod Outsides
+mod Literals
+mod Comments
+mod Identifiers
+mod Lexemes
+mod OneKind
+mod Pieces
+mod Divisions
+mod Results

@@ -1,0 +1,9 @@
+use Rattle.std.proofs.Common.{◌≡◌, ◌+◌, drop}
+use Rattle.std.specs.Prelude.{◌==◌, not}
+use Rattle.std.specs.List.{prefix_len}
+use Rattle.df_tok.specs.Byte as spec
+use Rattle.df_tok.proofs.word.digits_len.Given as goal
+
+-- the bytes so far, and those in the rest
+abbrev pub invariant-loop-b : goal.invariant-loop-b
+invariant-loop-b l = (l.n ≡ l.b-index) × (l.n + prefix_len spec.is_digit (drop l.b-index l.bytes) ≡ prefix_len spec.is_digit l.bytes)
