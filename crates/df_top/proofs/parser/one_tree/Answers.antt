@@ -1,0 +1,4 @@
+use Rattle.df_top.proofs.parser.one_tree.Goals as goal
+
+pub returns : goal.returns
+returns c = ?
