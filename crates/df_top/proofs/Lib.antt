@@ -7,4 +7,6 @@ pub mod Complete
 pub mod Frame
 pub mod Steps
 pub mod Sums
+pub mod Ranges
 pub mod Parts
+pub mod Named

@@ -4,6 +4,8 @@
 mod command;
 mod elaboration;
 mod execution;
+mod reading;
+mod running;
 mod silent;
 
-pub use command::{one_program, top};
+pub use command::top;

@@ -1,0 +1,120 @@
+-- The names of a tree that tokens of a source spell are among the source's names.
+use Rattle.std.proofs.Common.{◌≡◌, ℕ, ◌+◌, ◌<◌, ◌≤◌, Bool, true, false, cond, List, [], ◌∷◌, ◌++◌, length, Option, Some, None, refl, sym, ap, subst, ◌∙◌, arith, length-append}
+use Rattle.std.specs.Prelude.{position}
+use Rattle.std.specs.List.{list_any}
+use Rattle.std.proofs.lemmas.List.Quantifiers.{position-Some}
+use Rattle.df_base.specs.Names.{same_text, with_text}
+use Rattle.df_base.specs.declared.pos.Pos.{Pos}
+use Rattle.df_tok.specs.declared.token.Kind.{Kind}
+use Rattle.df_tok.specs.declared.token.Kind.TheVariants as kinds
+use Rattle.df_tok.specs.Token.{Token, HasKind, IsNamed}
+use Rattle.df_tok.specs.Division.{Piece, Blank, LineComment, BlockComment, Lexeme, IsPiece, AreDivided, tokens_of, Divides, after_byte, after_bytes, start}
+use Rattle.df_tree.specs.Tree.{Tree}
+use Rattle.df_tree.specs.Spelling.{Wanted, TheWord, TheSign, SignAt, NameAt, TheNumber, NumberAt, TheText, Meets, AllMeet, spell, spell_newtype, spell_stmt, Spells}
+
+-- a name below a number
+abbrev pub IsKnown : ℕ → Kind → Type 0
+IsKnown count (kinds.Name name) = name < count
+IsKnown count (kinds.Outside name) = Unit {0}
+IsKnown count kinds.Wildcard = Unit {0}
+IsKnown count (kinds.Word word) = Unit {0}
+IsKnown count (kinds.Number n) = Unit {0}
+IsKnown count (kinds.Character c) = Unit {0}
+IsKnown count kinds.Text = Unit {0}
+IsKnown count (kinds.Sign sign) = Unit {0}
+
+abbrev pub AreKnown : ℕ → List Token → Type 0
+AreKnown count [] = Unit {0}
+AreKnown count (token ∷ tokens) = IsKnown count token.kind × AreKnown count tokens
+
+known_more : (count more : ℕ) (kind : Kind) → count ≤ more → IsKnown count kind → IsKnown more kind
+known_more count more (kinds.Name name) le h = omega arith
+known_more count more (kinds.Outside name) le h = tt
+known_more count more kinds.Wildcard le h = tt
+known_more count more (kinds.Word word) le h = tt
+known_more count more (kinds.Number n) le h = tt
+known_more count more (kinds.Character c) le h = tt
+known_more count more kinds.Text le h = tt
+known_more count more (kinds.Sign sign) le h = tt
+
+with_text_longer : (b : Bool) (names : List (List ℕ)) (text : List ℕ) → length names ≤ length (cond b names (names ++ text ∷ []))
+with_text_longer true names text = omega arith
+with_text_longer false names text = omega (arith, length-append names (text ∷ []))
+
+named : (before : List (List ℕ)) (text : List ℕ) (name : ℕ) (after : List (List ℕ)) → IsNamed before text name after → (length before ≤ length after) × (name < length after)
+named before text name after h =
+    let longer = with_text_longer (list_any (same_text text) before) before text in
+    (rw h.0 longer, (position-Some (same_text text) after name [] h.1).0)
+
+same_length : (before after : List (List ℕ)) → after ≡ before → length before ≤ length after
+same_length before after e = rw e (omega arith)
+
+kind_known : (before : List (List ℕ)) (text : List ℕ) (kind : Kind) (after : List (List ℕ)) → HasKind before text kind after → (length before ≤ length after) × IsKnown (length after) kind
+kind_known before text (kinds.Name name) after h = let n = named before text name after h.4 in (n.0, n.1)
+kind_known before text (kinds.Outside name) after h = let n = named before text name after h.1 in (n.0, tt)
+kind_known before text kinds.Wildcard after h = (same_length before after h.1, tt)
+kind_known before text (kinds.Word word) after h = (same_length before after h.1, tt)
+kind_known before text (kinds.Number n) after h = (same_length before after h.3, tt)
+kind_known before text (kinds.Character c) after h = (same_length before after h.1, tt)
+kind_known before text kinds.Text after h = (same_length before after h.1, tt)
+kind_known before text (kinds.Sign sign) after h = (same_length before after h.1, tt)
+
+divided_known : (before : List (List ℕ)) (source : List ℕ) (pieces : List Piece) (after : List (List ℕ)) (pos : Pos) → AreDivided before source pieces after → (length before ≤ length after) × AreKnown (length after) (tokens_of pos pieces)
+divided_known before source [] after pos h = (same_length before after h.1, tt)
+divided_known before source (Blank b ∷ pieces) after pos h =
+    let rest = divided_known h.1 h.0 pieces after (after_byte pos b) h.4 in
+    let same = same_length before h.1 h.3.1 in (omega (arith, rest.0), rest.1)
+divided_known before source (LineComment text ∷ pieces) after pos h =
+    let rest = divided_known h.1 h.0 pieces after (after_bytes pos text) h.4 in
+    let same = same_length before h.1 h.3.2 in (omega (arith, rest.0), rest.1)
+divided_known before source (BlockComment text ∷ pieces) after pos h =
+    let rest = divided_known h.1 h.0 pieces after (after_bytes pos text) h.4 in
+    let same = same_length before h.1 h.3.1 in (omega (arith, rest.0), rest.1)
+divided_known before source (Lexeme kind text ∷ pieces) after pos h =
+    let rest = divided_known h.1 h.0 pieces after (after_bytes pos text) h.4 in
+    let here = kind_known before text kind h.1 h.3.3 in
+    (omega (arith, rest.0, here.0), (known_more (length h.1) (length after) kind rest.0 here.1, rest.1))
+
+-- the names of tokens are among those of their source
+pub tokens_known : (before : List (List ℕ)) (source : List ℕ) (tokens : List Token) (after : List (List ℕ)) → Divides before source tokens after → AreKnown (length after) tokens
+tokens_known before source tokens after h = rw h.2 (divided_known before source h.0 after start h.1).1
+
+abbrev IsWantedKnown : ℕ → Wanted → Type 0
+IsWantedKnown count (TheWord word) = Unit {0}
+IsWantedKnown count (TheSign sign) = Unit {0}
+IsWantedKnown count (SignAt sign pos) = Unit {0}
+IsWantedKnown count (NameAt ident) = ident.name < count
+IsWantedKnown count (TheNumber n) = Unit {0}
+IsWantedKnown count (NumberAt n pos) = Unit {0}
+IsWantedKnown count (TheText characters) = Unit {0}
+
+abbrev AreWantedKnown : ℕ → List Wanted → Type 0
+AreWantedKnown count [] = Unit {0}
+AreWantedKnown count (wanted ∷ others) = IsWantedKnown count wanted × AreWantedKnown count others
+
+wanted_known : (count : ℕ) (wanted : Wanted) (token : Token) → Meets wanted token → IsKnown count token.kind → IsWantedKnown count wanted
+wanted_known count (TheWord word) token meets h = tt
+wanted_known count (TheSign sign) token meets h = tt
+wanted_known count (SignAt sign pos) token meets h = tt
+wanted_known count (NameAt ident) token meets h = subst (IsKnown count) meets.0 h
+wanted_known count (TheNumber n) token meets h = tt
+wanted_known count (NumberAt n pos) token meets h = tt
+wanted_known count (TheText characters) token meets h = tt
+
+all_wanted_known : (count : ℕ) (wanted : List Wanted) (tokens : List Token) → AllMeet wanted tokens → AreKnown count tokens → AreWantedKnown count wanted
+all_wanted_known count [] [] meets h = tt
+all_wanted_known count [] (token ∷ tokens) meets h = tt
+all_wanted_known count (wanted ∷ others) [] meets h = absurd meets
+all_wanted_known count (wanted ∷ others) (token ∷ tokens) meets h =
+    (wanted_known count wanted token meets.0 h.0, all_wanted_known count others tokens meets.1 h.1)
+
+wanted_after : (count : ℕ) (front back : List Wanted) → AreWantedKnown count (front ++ back) → AreWantedKnown count back
+wanted_after count [] back h = h
+wanted_after count (wanted ∷ front) back h = wanted_after count front back h.1
+
+-- the names of the two declarations are among those of the source
+pub declared_known : (before : List (List ℕ)) (source : List ℕ) (tokens : List Token) (after : List (List ℕ)) (tree : Tree) → Divides before source tokens after → Spells tree tokens
+    → (tree.newtype.name.name < length after) × (tree.method.name < length after)
+declared_known before source tokens after tree divided spelled =
+    let all = all_wanted_known (length after) (spell tree) tokens spelled.1 (tokens_known before source tokens after divided) in
+    ?
