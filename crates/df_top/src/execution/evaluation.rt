@@ -30,6 +30,7 @@ fn in_range(newtype: &Newtype, place: Pos, number: i128) -> Result<i128, Broken>
 fn add(newtype: &Newtype, place: Pos, left: i128, right: i128) -> Result<i128, Broken>
     ensures { evaluated result ≡ meaning.in_range (newtype_of newtype.now) place (left +ℤ right) }
 {
+    // The ends fit i128, so a sum that does not lies outside them.
     let _low = newtype.interval.low;
     let _high = newtype.interval.high;
     match left.checked_add(right) {
