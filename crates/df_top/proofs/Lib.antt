@@ -11,3 +11,4 @@ pub mod Ranges
 pub mod Parts
 pub mod Named
 pub mod Elaborated
+pub mod Sources

@@ -4,8 +4,10 @@
 mod command;
 mod elaboration;
 mod execution;
+mod parser;
 mod reading;
 mod running;
 mod silent;
 
 pub use command::top;
+pub use reading::one_program;

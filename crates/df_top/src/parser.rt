@@ -16,8 +16,3 @@ pub(crate) fn parse(_alloc: Global, _tokens: &Tokens) -> Result<SourceTree, Stop
 {
     Err(Stop::Memory)
 }
-
-pub fn one_tree()
-    ensures { (tokens : List token.Token) (tree other : pure.Tree) → Spells tree tokens → Spells other tokens → tree ≡ other }
-{
-}
