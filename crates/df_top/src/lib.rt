@@ -9,5 +9,9 @@ mod reading;
 mod running;
 mod silent;
 
+#[cfg(test)]
+mod tests;
+
+
 pub use command::top;
 pub use reading::one_program;
