@@ -1,6 +1,6 @@
 //! A sink over a writer of the system.
 
-ghost use Rattle.std.specs.Prelude.{◌≡◌, ◌≢◌, ℕ, ◌≤◌, List, None, Err, false, length, take, OnOk, OnErr};
+ghost use Rattle.std.specs.Prelude.{◌≡◌, ◌≢◌, ℕ, ◌≤◌, List, None, Err, false, length, take, IsOk, OnOk, OnErr};
 ghost use Rattle.std.specs.Io.KnownBytes.{Appends};
 ghost use Rattle.df_base.specs.Outside.{HasCause, AppendsKnownPrefix};
 ghost use Rattle.df_base.specs.declared.sink.SinkFault.TheVariants.{Failed, Memory};
@@ -47,6 +47,7 @@ impl<W: Write> Sink for HostSink<W> {
 
     fn put(&mut self, bytes: &[u8]) -> Result<(), SinkFault>
         ensures cause { HasCause self.old.faults self.new.faults (result ≡ Err Failed) }
+        ensures empty { length bytes.now ≡ 0 → IsOk result }
         ensures quiet { result ≢ Err Failed → self.new.faults ≡ self.old.faults }
         ensures from_memory { result ≢ Err Memory }
         // Where the writer tells what it holds, that grew by the bytes, or on a failure by a prefix.

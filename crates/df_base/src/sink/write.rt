@@ -1,6 +1,6 @@
 //! Writing all of a piece.
 
-ghost use Rattle.std.specs.Prelude.{◌≡◌, ◌≢◌, ℕ, ◌≤◌, List, Err, length, take, OnOk, OnErr};
+ghost use Rattle.std.specs.Prelude.{◌≡◌, ◌≢◌, ℕ, ◌≤◌, List, Err, length, take, IsOk, OnOk, OnErr};
 ghost use Rattle.std.specs.Io.KnownBytes.{Appends};
 ghost use Rattle.df_base.specs.Outside.{AppendsKnownPrefix};
 ghost use Rattle.df_base.specs.declared.sink.SinkFault.TheVariants.{Memory};
@@ -14,6 +14,7 @@ use std::io::Write;
 pub fn write_all<W: Write>(writer: &mut W, bytes: &[u8]) -> Result<(), SinkFault>
     ensures all { OnOk result (Appends (W.contents writer.old) (W.contents writer.new) bytes.now) }
     ensures prefix { OnErr result (AppendsKnownPrefix (W.contents writer.old) (W.contents writer.new) bytes.now) }
+    ensures empty { length bytes.now ≡ 0 → IsOk result }
     ensures kind { result ≢ Err Memory }
 {
     let mut done = 0;
