@@ -40,9 +40,10 @@ some_place texts text i h =
     let within : k < length texts = elim (cases_lt k (length texts)) [
       | inl lt ↦ lt
       | inr le ↦
-        let e : not (same_text text (get_or texts i [])) ≡ true = prefix_len_passes (λ x. not (same_text text x)) texts i [] (omega (arith, slice_get_within texts i text h)) in
-        let f : same_text text text ≡ false = ap (same_text text) (sym (get_or_from_slice_get texts i text [] h)) ∙ not-true _ e in
-        absurd (both_ways _ f here) ] in
+          let e : not (same_text text (get_or texts i [])) ≡ true = prefix_len_passes (λ x. not (same_text text x)) texts i [] (omega (arith, slice_get_within texts i text h)) in
+          let f : same_text text text ≡ false = ap (same_text text) (sym (get_or_from_slice_get texts i text [] h)) ∙ not-true _ e in
+          absurd (both_ways _ f here)
+    ] in
     (k, rw (lt-ltb k (length texts) within) refl)
 
 pub place_of : (texts : List (List ℕ)) (text : List ℕ) (i : ℕ) → IsDistinct texts → slice_get texts i ≡ Some text → position (same_text text) texts ≡ Some i

@@ -85,7 +85,11 @@ character_front b bs (Some c) first is form n e =
     let p = character_sound bs c.0 c.1 is in
     let k : suc c.1 ≡ 1 + c.1 = omega arith in
     found_is (b ∷ bs) (forms.Character c.0) form (1 + c.1) n e (subst (LexemeFront (b ∷ bs) (forms.Character c.0)) k (record {
-      form_is = subst (λ x. IsCharacter (x ∷ take c.1 bs) c.0) (sym first) p.0; follows = tt; within = omega (arith, p.1); some = omega arith }))
+      form_is = subst (λ x. IsCharacter (x ∷ take c.1 bs) c.0) (sym first) p.0;
+      follows = tt;
+      within = omega (arith, p.1);
+      some = omega arith;
+    }))
 
 text_front : (b : ℕ) (bs : List ℕ) (o : Option ℕ) → b ≡ 34 → text_len false bs ≡ o → Sound (b ∷ bs) (option_map (λ n. (forms.Text, 1 + n)) o)
 text_front b bs None first is form n e = absurd cc
@@ -93,7 +97,11 @@ text_front b bs (Some i) first is form n e =
     let p = text_sound bs i is in
     let k : suc i ≡ 1 + i = omega arith in
     found_is (b ∷ bs) forms.Text form (1 + i) n e (subst (LexemeFront (b ∷ bs) forms.Text) k (record {
-      form_is = subst (λ x. (cs : List ℕ) × IsText (x ∷ take i bs) cs) (sym first) p.0; follows = tt; within = omega (arith, p.1); some = omega arith }))
+      form_is = subst (λ x. (cs : List ℕ) × IsText (x ∷ take i bs) cs) (sym first) p.0;
+      follows = tt;
+      within = omega (arith, p.1);
+      some = omega arith;
+    }))
 
 sign_front : (bytes : List ℕ) (o : Option Sign) → sign_at bytes ≡ o → Sound bytes (sign_lexeme o)
 sign_front bytes None is form n e = absurd cc
@@ -123,14 +131,18 @@ lexeme_sound (b ∷ bs) form n e =
     let characters = cond (eqb b 39) (option_map {U = Form × ℕ} (λ c. (forms.Character c.0, 1 + c.1)) (character_at bs)) texts in
     let numbers = cond (is_digit b) (option_map {U = Form × ℕ} (λ n. (forms.Number, n)) (number_at (b ∷ bs))) characters in
     elim (chosen (begins_identifier b) (Some (forms.Identifier, 1 + prefix_len continues_identifier bs)) numbers (Some (form, n)) e) [
-    | inl p ↦ found_is (b ∷ bs) forms.Identifier form (1 + prefix_len continues_identifier bs) n p.1 (identifier_front b bs p.0)
-    | inr p ↦ elim (chosen (is_digit b) (option_map {U = Form × ℕ} (λ n. (forms.Number, n)) (number_at (b ∷ bs))) characters (Some (form, n)) p.1) [
-      | inl q ↦ number_front b bs (number_at (b ∷ bs)) refl form n q.1
-      | inr q ↦ elim (chosen (eqb b 39) (option_map {U = Form × ℕ} (λ c. (forms.Character c.0, 1 + c.1)) (character_at bs)) texts (Some (form, n)) q.1) [
-        | inl r ↦ character_front b bs (character_at bs) (eqb-true b 39 r.0) refl form n r.1
-        | inr r ↦ elim (chosen (eqb b 34) (option_map {U = Form × ℕ} (λ n. (forms.Text, 1 + n)) (text_len false bs)) signs (Some (form, n)) r.1) [
-          | inl t ↦ text_front b bs (text_len false bs) (eqb-true b 34 t.0) refl form n t.1
-          | inr t ↦ sign_front (b ∷ bs) (sign_at (b ∷ bs)) refl form n t.1 ] ] ] ]
+      | inl p ↦ found_is (b ∷ bs) forms.Identifier form (1 + prefix_len continues_identifier bs) n p.1 (identifier_front b bs p.0)
+      | inr p ↦ elim (chosen (is_digit b) (option_map {U = Form × ℕ} (λ n. (forms.Number, n)) (number_at (b ∷ bs))) characters (Some (form, n)) p.1) [
+        | inl q ↦ number_front b bs (number_at (b ∷ bs)) refl form n q.1
+        | inr q ↦ elim (chosen (eqb b 39) (option_map {U = Form × ℕ} (λ c. (forms.Character c.0, 1 + c.1)) (character_at bs)) texts (Some (form, n)) q.1) [
+          | inl r ↦ character_front b bs (character_at bs) (eqb-true b 39 r.0) refl form n r.1
+          | inr r ↦ elim (chosen (eqb b 34) (option_map {U = Form × ℕ} (λ n. (forms.Text, 1 + n)) (text_len false bs)) signs (Some (form, n)) r.1) [
+            | inl t ↦ text_front b bs (text_len false bs) (eqb-true b 34 t.0) refl form n t.1
+            | inr t ↦ sign_front (b ∷ bs) (sign_at (b ∷ bs)) refl form n t.1
+          ]
+        ]
+      ]
+    ]
 
 -- ---- no longer one
 

@@ -78,9 +78,15 @@ begins bytes all.NotIn h = (and_parts _ _ h).0
 begins bytes sign h = h
 
 pub stands_sound : (bytes : List ℕ) (sign : Sign) → stands bytes sign ≡ true → (bytes ≡ sign_text sign ++ drop (length (sign_text sign)) bytes) × IsSign (sign_text sign) (drop (length (sign_text sign)) bytes)
-stands_sound bytes sign h =
-    (starts_front bytes (sign_text sign) (begins bytes sign h), (sign, refl, λ e. subst (λ s. NotNext continues_identifier (drop (length (sign_text s)) bytes)) (sym e)
-        (not_next (drop 3 bytes) (not-true _ (and_parts (starts_with nat_eq bytes (sign_text all.NotIn)) _ (subst (λ s. stands bytes s ≡ true) e h)).1))))
+stands_sound bytes sign h = (
+  starts_front bytes (sign_text sign) (begins bytes sign h),
+  (
+    sign,
+    refl,
+    λ e. subst (λ s. NotNext continues_identifier (drop (length (sign_text s)) bytes)) (sym e)
+        (not_next (drop 3 bytes) (not-true _ (and_parts (starts_with nat_eq bytes (sign_text all.NotIn)) _ (subst (λ s. stands bytes s ≡ true) e h)).1)),
+  ),
+)
 
 stands_again : (sign : Sign) (rest : List ℕ) → (sign ≡ all.NotIn → NotNext continues_identifier rest) → stands (sign_text sign ++ rest) sign ≡ true
 stands_again all.NotIn rest h = and_from _ _ (starts_again (sign_text all.NotIn) rest) (not_from_false _ (not_continues rest (h refl)))
