@@ -1,10 +1,10 @@
 -- Block comments: what closes the open ones is found, and what is found closes them.
-use Rattle.std.proofs.Common.{◌≡◌, ℕ, zero, suc, ◌+◌, ◌-◌, ◌≤◌, ◌⊎◌, inl, inr, Bool, true, false, cond, eqb, List, [], ◌∷◌, ◌++◌, length, take, drop, Option, Some, None, refl, sym, ap, subst, ◌∙◌, arith, add-one, sub-one}
+use Rattle.std.proofs.Common.{◌≡◌, ℕ, zero, suc, ◌+◌, inl, inr, Bool, true, false, eqb, List, [], ◌∷◌, ◌++◌, length, Option, Some, refl, sym, ap, ◌∙◌, arith, add-one, sub-one}
 use Rattle.std.specs.Prelude.{◌&&◌, MatchBool}
-use Rattle.std.proofs.lemmas.Bool.{eqb-true, ne_eqb, MatchBool-at_true, MatchBool-at_false, cases_Bool}
+use Rattle.std.proofs.lemmas.Bool.{ne_eqb, MatchBool-at_true, MatchBool-at_false, cases_Bool}
 use Rattle.df_tok.specs.Division.{Closes}
 use Rattle.df_tok.specs.Scanning.{more, comment_len}
-use Rattle.df_tok.proofs.Lists.{chosen, Parts}
+use Rattle.df_tok.proofs.Lists.{Parts}
 use Rattle.df_tok.proofs.Literals.{some_is, less_one}
 
 abbrev opens : ℕ → ℕ → Bool

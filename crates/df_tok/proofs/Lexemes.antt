@@ -1,10 +1,9 @@
 -- Lexemes: what is found at the front is one, and no longer one stands there.
-use Rattle.std.proofs.Common.{◌≡◌, ◌≢◌, ℕ, zero, suc, ◌+◌, ◌<◌, ◌≤◌, ◌⊎◌, inl, inr, Bool, true, false, cond, eqb, List, [], ◌∷◌, ◌++◌, length, take, drop, Option, Some, None, refl, sym, ap, subst, ◌∙◌, append_assoc, arith}
-use Rattle.std.specs.Prelude.{nat_eq, ◌&&◌, not, IsTrue, option_map}
+use Rattle.std.proofs.Common.{◌≡◌, ℕ, zero, suc, ◌+◌, ◌<◌, ◌≤◌, inl, inr, true, false, cond, eqb, List, [], ◌∷◌, ◌++◌, length, take, drop, Option, Some, None, refl, sym, ap, subst, ◌∙◌, arith}
+use Rattle.std.specs.Prelude.{nat_eq, ◌&&◌, not, option_map}
 use Rattle.std.specs.List.{prefix_len}
 use Rattle.std.proofs.lemmas.Bool.{and_parts, not-true, eqb-true}
 use Rattle.std.proofs.lemmas.Bool.Decides.{nat_tests}
-use Rattle.std.proofs.lemmas.List.{append-nil, length-append, take_at, drop_at}
 use Rattle.std.proofs.lemmas.Option.{some_pair_parts}
 use Rattle.df_tok.specs.Byte.{is_digit, is_blank, begins_identifier, continues_identifier, continues_number}
 use Rattle.df_tok.specs.declared.sign.Sign.{Sign}
@@ -12,12 +11,12 @@ use Rattle.df_tok.specs.declared.sign.Sign.TheVariants.{NotIn}
 use Rattle.df_tok.specs.declared.scan.Form.{Form}
 use Rattle.df_tok.specs.declared.scan.Form.TheVariants as forms
 use Rattle.df_tok.specs.Sign.{sign_text}
-use Rattle.df_tok.specs.Lexeme.{NotNext, IsIdentifier, IsNumber, IsCharacter, IsText, IsSign, IsLexeme, identifier, number, character, string, sign}
+use Rattle.df_tok.specs.Lexeme.{NotNext, IsIdentifier, IsNumber, IsCharacter, IsText, IsLexeme, identifier, number, character, string, sign}
 use Rattle.df_tok.specs.Scanned.{HasForm}
 use Rattle.df_tok.specs.Scanning.{number_at, character_at, text_len, sign_at, sign_lexeme, lexeme_at}
-use Rattle.df_tok.proofs.Lists.{chosen, Parts, Parts-take, Parts-drop, Parts-le, Passes, Run, run_of, run_all}
+use Rattle.df_tok.proofs.Lists.{chosen, Parts, Parts-take, Parts-le, Passes, run_of, run_all}
 use Rattle.df_tok.proofs.Literals.{number_at_sound, number_again, number_first, character_sound, character_again, text_sound, text_again}
-use Rattle.df_tok.proofs.Signs.{same_sign, sign_sound, Found, sign_furthest, begins_sign, sign_begins}
+use Rattle.df_tok.proofs.Signs.{same_sign, sign_sound, sign_furthest, begins_sign, sign_begins}
 
 -- what may stand behind a lexeme of a form
 abbrev pub Follows : Form → List ℕ → Type 0

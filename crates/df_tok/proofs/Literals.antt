@@ -1,15 +1,15 @@
 -- Literals: what is found at the front is one, and one that stands there is found.
-use Rattle.std.proofs.Common.{◌≡◌, ◌≢◌, ℕ, zero, suc, ◌+◌, ◌<◌, ◌≤◌, ◌⊎◌, inl, inr, Bool, true, false, cond, eqb, List, [], ◌∷◌, ◌++◌, length, take, drop, Option, Some, None, refl, sym, ap, subst, ◌∙◌, append_assoc, arith}
-use Rattle.std.specs.Prelude.{nat_eq, ◌&&◌, ◌||◌, not, IsTrue, codes, is_some, option_map}
+use Rattle.std.proofs.Common.{◌≡◌, ℕ, ◌+◌, ◌≤◌, inl, inr, Bool, true, false, cond, eqb, List, [], ◌∷◌, ◌++◌, length, take, drop, Option, Some, None, refl, sym, ap, subst, ◌∙◌, append_assoc, arith}
+use Rattle.std.specs.Prelude.{nat_eq, ◌&&◌, ◌||◌, not, codes, is_some, option_map}
 use Rattle.std.specs.List.{starts_with, prefix_len}
-use Rattle.std.proofs.lemmas.Bool.{and_parts, and_from, or_left, or_right, not-true, eqb-true, eq-eqb, cases_Bool, false≢true}
+use Rattle.std.proofs.lemmas.Bool.{and_parts, or_left, or_right, not-true, eqb-true, eq-eqb, cases_Bool, false≢true}
 use Rattle.std.proofs.lemmas.Bool.Decides.{nat_tests}
 use Rattle.std.proofs.lemmas.Option.{some_pair_parts}
-use Rattle.std.proofs.lemmas.List.{append-nil, length-append, take_at, drop_at}
+use Rattle.std.proofs.lemmas.List.{length-append, take_at}
 use Rattle.df_tok.specs.Byte.{is_letter, is_digit, is_hex_digit, continues_number, is_plain_in_character, is_plain_in_text, escaped}
-use Rattle.df_tok.specs.Lexeme.{NotNext, AreDigits, IsNumber, IsCharacter, Part, Plain, Escape, IsPart, AreParts, IsText}
+use Rattle.df_tok.specs.Lexeme.{NotNext, AreDigits, IsNumber, IsCharacter, Part, Plain, Escape, AreParts, IsText}
 use Rattle.df_tok.specs.Scanning.{more, are_digits, is_number, number_at, character_at, text_len}
-use Rattle.df_tok.proofs.Lists.{chosen, some_if, Parts, Parts-take, Parts-drop, Parts-le, Passes, Run, run_of, run_all, run_none, starts_front}
+use Rattle.df_tok.proofs.Lists.{chosen, some_if, Parts, Parts-take, Parts-drop, Parts-le, Passes, run_of, run_all, run_none, starts_front}
 
 -- ---- digits
 

@@ -1,10 +1,10 @@
 -- The words outside the language, by their texts.
-use Rattle.std.proofs.Common.{◌≡◌, ◌≢◌, ℕ, zero, suc, ◌+◌, ◌<◌, ◌≤◌, ◌⊎◌, inl, inr, Bool, true, false, cond, ltb, eqb, List, [], ◌∷◌, ◌++◌, length, get_or, take, drop, refl, sym, ap, subst, ◌∙◌, append_assoc, arith}
-use Rattle.std.specs.Prelude.{nat_eq, nat_lt, ◌&&◌, ◌||◌, IsTrue, MatchBool, codes, Contains}
-use Rattle.std.specs.List.{list_any, starts_with, prefix_len, AllByRecursion}
+use Rattle.std.proofs.Common.{◌≡◌, ◌≢◌, ℕ, zero, suc, ◌+◌, ◌<◌, ◌⊎◌, inl, inr, Bool, true, false, List, [], ◌∷◌, ◌++◌, length, get_or, drop, refl, sym, ap, subst, ◌∙◌, append_assoc, arith}
+use Rattle.std.specs.Prelude.{nat_eq, nat_lt, ◌&&◌, ◌||◌, MatchBool, codes, Contains}
+use Rattle.std.specs.List.{list_any, starts_with, prefix_len}
 use Rattle.std.specs.Cmp.Lexicographic.{pointwise}
-use Rattle.std.proofs.lemmas.Bool.{and_parts, and_from, or_cases, or_left, or_right, eqb-true, eq-eqb, ltb-true, lt-ltb, cases_Bool, true_from_ne_false, false≢true}
-use Rattle.std.proofs.lemmas.List.{append-nil, length-append, take_at, drop_at, nil_from_length, take-append-drop}
+use Rattle.std.proofs.lemmas.Bool.{and_parts, and_from, or_cases, or_left, or_right, eqb-true, eq-eqb, ltb-true, lt-ltb, false≢true}
+use Rattle.std.proofs.lemmas.List.{append-nil, length-append, drop_at, nil_from_length}
 use Rattle.std.proofs.lemmas.Slice.Eq.{bytes_eq-Decides}
 use Rattle.df_tok.specs.declared.word.Word.{Word}
 use Rattle.df_tok.specs.declared.word.Word.TheVariants as all
@@ -12,7 +12,7 @@ use Rattle.df_tok.specs.Word.{word_text}
 use Rattle.df_tok.specs.Byte.{is_digit}
 use Rattle.df_tok.specs.Outside.{outside_words, AreAllDigits, IsOutside}
 use Rattle.df_tok.specs.Scanning.{are_only_digits, are_array_digits, is_outside}
-use Rattle.df_tok.proofs.Lists.{Parts, Parts-take, Parts-drop, Passes, Run, run_of, run_all, starts_front, starts_again}
+use Rattle.df_tok.proofs.Lists.{Parts-drop, Passes, run_of, run_all, starts_front, starts_again}
 
 -- ---- listed words
 

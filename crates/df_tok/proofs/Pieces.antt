@@ -1,10 +1,10 @@
 -- The piece at the front of a source: what is found is one, and there is no other.
-use Rattle.std.proofs.Common.{◌≡◌, ◌≢◌, ℕ, zero, suc, ◌+◌, ◌<◌, ◌≤◌, ◌⊎◌, inl, inr, Bool, true, false, cond, eqb, List, [], ◌∷◌, ◌++◌, length, take, drop, Option, Some, None, refl, sym, ap, subst, ◌∙◌, append_assoc, arith}
-use Rattle.std.specs.Prelude.{nat_eq, ◌&&◌, not, IsTrue, option_map, codes}
+use Rattle.std.proofs.Common.{◌≡◌, ◌≢◌, ℕ, ◌+◌, ◌<◌, ◌≤◌, ◌⊎◌, inl, inr, Bool, true, false, cond, eqb, List, [], ◌∷◌, ◌++◌, length, take, drop, Option, Some, None, refl, sym, ap, subst, ◌∙◌, arith}
+use Rattle.std.specs.Prelude.{nat_eq, ◌&&◌, not, codes}
 use Rattle.std.specs.List.{prefix_len, starts_with, AllByRecursion}
-use Rattle.std.proofs.lemmas.Bool.{and_parts, not-true, eqb-true, ne_eqb, eqb-false, both_ways, false_from_ne_true, not_from_false, not_from_true}
+use Rattle.std.proofs.lemmas.Bool.{and_parts, not-true, eqb-true, ne_eqb, eqb-false, both_ways, false_from_ne_true, not_from_false}
 use Rattle.std.proofs.lemmas.Bool.Decides.{nat_tests}
-use Rattle.std.proofs.lemmas.List.{append-nil, length-append, take_at, drop_at, length-take-le, take-append-drop}
+use Rattle.std.proofs.lemmas.List.{take_at, drop_at, length-take-le, take-append-drop}
 use Rattle.std.proofs.lemmas.Option.{some_pair_parts}
 use Rattle.df_base.specs.declared.pos.Pos.{Pos}
 use Rattle.df_tok.specs.Byte.{is_digit, is_blank, begins_identifier}
@@ -14,17 +14,17 @@ use Rattle.df_tok.specs.declared.scan.Form.TheVariants as forms
 use Rattle.df_tok.specs.declared.scan.Front.{Front}
 use Rattle.df_tok.specs.declared.scan.Front.TheVariants.{Skipped, Lexeme as Lexed}
 use Rattle.df_tok.specs.Sign.{sign_text}
-use Rattle.df_tok.specs.Lexeme.{NotNext, IsIdentifier, IsLexeme}
-use Rattle.df_tok.specs.Token.{Token, HasKind}
+use Rattle.df_tok.specs.Lexeme.{NotNext, IsLexeme}
+use Rattle.df_tok.specs.Token.{HasKind}
 use Rattle.df_tok.specs.Scanned.{HasForm}
 use Rattle.df_tok.specs.Scanning.{begins_blank, comment_len, skips, lexes, lexeme_at, front_at}
-use Rattle.df_tok.specs.Division.{IsLineComment, EndsLine, Closes, IsBlockComment, BeginsComment, IsLongest, Piece, Blank, LineComment, BlockComment, Lexeme, text_of, IsPiece}
+use Rattle.df_tok.specs.Division.{EndsLine, Closes, BeginsComment, IsLongest, Piece, Blank, LineComment, BlockComment, Lexeme, text_of, IsPiece}
 use Rattle.df_tok.specs.Steps.{token_of, NextPiece, NoPiece}
-use Rattle.df_tok.proofs.Lists.{chosen, starts_front, Parts, Parts-take, Parts-drop, Parts-le, Passes, Run, run_of, run_all, run_none}
+use Rattle.df_tok.proofs.Lists.{chosen, starts_front, Parts, Parts-take, Parts-drop, Passes, run_of, run_all, run_none}
 use Rattle.df_tok.proofs.Literals.{number_first}
-use Rattle.df_tok.proofs.Comments.{unused, used, comment_again, Closing, comment_sound}
+use Rattle.df_tok.proofs.Comments.{unused, used, comment_again, comment_sound}
 use Rattle.df_tok.proofs.Signs.{begins_sign, sign_begins}
-use Rattle.df_tok.proofs.Lexemes.{Follows, lexeme_of, LexemeFront, lexeme_sound, Furthest, furthest}
+use Rattle.df_tok.proofs.Lexemes.{lexeme_of, lexeme_sound, furthest}
 use Rattle.df_tok.proofs.OneKind.{one_kind}
 
 abbrev other_byte : ℕ → Bool

@@ -1,17 +1,16 @@
 -- The longest sign at the front.
-use Rattle.std.proofs.Common.{◌≡◌, ℕ, zero, suc, ◌+◌, ◌<◌, ◌≤◌, ◌⊎◌, inl, inr, Bool, true, false, cond, List, [], ◌∷◌, ◌++◌, length, get_or, drop, Option, Some, None, refl, sym, ap, subst, ◌∙◌, arith, lit<}
-use Rattle.std.specs.Prelude.{nat_eq, nat_le, ◌&&◌, not, IsTrue}
+use Rattle.std.proofs.Common.{◌≡◌, ℕ, zero, suc, ◌<◌, ◌≤◌, Bool, true, false, List, [], ◌∷◌, ◌++◌, length, get_or, drop, Option, Some, refl, sym, ap, subst, ◌∙◌, arith, lit<}
+use Rattle.std.specs.Prelude.{nat_eq, nat_le, ◌&&◌, not}
 use Rattle.std.specs.List.{find, list_all, starts_with}
 use Rattle.std.specs.Cmp.Lexicographic.{pointwise}
 use Rattle.std.proofs.lemmas.Bool.{and_parts, and_from, not_from_false, not-true, leb-true}
-use Rattle.std.proofs.lemmas.Slice.Eq.{bytes_eq-Decides}
 use Rattle.df_tok.specs.Byte.{continues_identifier, begins_identifier, is_digit, is_blank}
 use Rattle.df_tok.specs.declared.sign.Sign.{Sign}
 use Rattle.df_tok.specs.declared.sign.Sign.TheVariants as all
 use Rattle.df_tok.specs.Sign.{sign_text}
 use Rattle.df_tok.specs.Lexeme.{IsSign, NotNext}
 use Rattle.df_tok.specs.Scanning.{signs, stands, sign_at, continues}
-use Rattle.df_tok.proofs.Lists.{chosen, find_passes, starts_front, starts_again}
+use Rattle.df_tok.proofs.Lists.{find_passes, starts_front, starts_again}
 
 -- ---- a sign is told by its text
 

@@ -1,4 +1,4 @@
-use Rattle.std.proofs.Common.{◌≡◌, subst, List, ℕ}
+use Rattle.std.proofs.Common.{subst, List, ℕ}
 use Rattle.std.specs.Prelude.{IfOk}
 use Rattle.df_tok.specs.Token.{IsNamed}
 use Rattle.df_tok.proofs.Identifiers.{identifier_utf8, named_from}
