@@ -1,5 +1,5 @@
 -- Divisions of a source: a front of it, and what is left.
-use Rattle.std.proofs.Common.{◌≡◌, ℕ, zero, suc, ◌+◌, ◌-◌, ◌<◌, ◌≤◌, List, [], ◌∷◌, ◌++◌, length, take, drop, cond, Bool, true, false, Some, refl, sym, ap, subst, ◌∙◌, append_assoc, arith}
+use Rattle.std.proofs.Common.{◌≡◌, ℕ, ◌+◌, ◌-◌, ◌<◌, ◌≤◌, List, [], ◌∷◌, ◌++◌, length, take, drop, cond, Bool, true, false, Some, refl, sym, ap, subst, ◌∙◌, append_assoc, arith}
 use Rattle.std.specs.List.{list_any}
 use Rattle.std.proofs.lemmas.List.{append-nil, length-append}
 use Rattle.df_base.specs.declared.pos.Pos.{Pos}
@@ -14,7 +14,7 @@ use Rattle.df_tok.specs.declared.scan.Form.{Form}
 use Rattle.df_tok.specs.declared.scan.Front.TheVariants.{Lexeme as Lexed}
 use Rattle.df_tok.specs.Scanning.{front_at}
 use Rattle.df_tok.proofs.Lists.{Parts-take}
-use Rattle.df_tok.proofs.Pieces.{Same, one_piece, Seen, seen, lex_next, lexeme_next, no_kind_next, no_piece_of_nothing}
+use Rattle.df_tok.proofs.Pieces.{one_piece, lex_next, lexeme_next, no_kind_next, no_piece_of_nothing}
 
 -- ---- tokens, piece by piece
 
@@ -81,13 +81,13 @@ split before source (piece ∷ pieces) (other ∷ others) rest between after (n,
       more = r.more;
       divided = r.divided;
       tokens = λ pos.
-        let next = after_bytes pos (text_of piece) in
-        tokens_cons pos other others
-        ∙ ap (λ (t : List Token). t ++ tokens_of (after_bytes pos (text_of other)) others) (sym (s.token pos))
-        ∙ ap (λ (t : List ℕ). token_of pos piece ++ tokens_of (after_bytes pos t) others) (sym s.text)
-        ∙ ap (λ (t : List Token). token_of pos piece ++ t) (r.tokens next)
-        ∙ sym (append_assoc (token_of pos piece) (tokens_of next pieces) (tokens_of (place_after next pieces) r.more))
-        ∙ ap (λ (t : List Token). t ++ tokens_of (place_after next pieces) r.more) (sym (tokens_cons pos piece pieces));
+          let next = after_bytes pos (text_of piece) in
+          tokens_cons pos other others
+          ∙ ap (λ (t : List Token). t ++ tokens_of (after_bytes pos (text_of other)) others) (sym (s.token pos))
+          ∙ ap (λ (t : List ℕ). token_of pos piece ++ tokens_of (after_bytes pos t) others) (sym s.text)
+          ∙ ap (λ (t : List Token). token_of pos piece ++ t) (r.tokens next)
+          ∙ sym (append_assoc (token_of pos piece) (tokens_of next pieces) (tokens_of (place_after next pieces) r.more))
+          ∙ ap (λ (t : List Token). t ++ tokens_of (place_after next pieces) r.more) (sym (tokens_cons pos piece pieces));
     }
 
 reach_divided : (before : List (List ℕ)) (source : List ℕ) (pieces : List Piece) (after : List (List ℕ)) → AreDivided before source pieces after → Reaches before source pieces [] after
@@ -125,8 +125,8 @@ progress_more before source tokens more rest pos names after n p q =
       pieces = p.pieces ++ q.piece ∷ [];
       reaches = reach_on before source p.pieces rest names q.piece (drop n rest) after p.reaches q.is q.is_piece;
       tokens_are =
-        ap (λ (t : List Token). t ++ more) p.tokens_are ∙ ap (λ (t : List Token). tokens_of start p.pieces ++ t) (q.tokens_are ∙ ap (λ (x : Pos). token_of x q.piece) p.pos_is ∙ sym (one_token (place_after start p.pieces) q.piece))
-        ∙ sym (tokens_append start p.pieces (q.piece ∷ []));
+          ap (λ (t : List Token). t ++ more) p.tokens_are ∙ ap (λ (t : List Token). tokens_of start p.pieces ++ t) (q.tokens_are ∙ ap (λ (x : Pos). token_of x q.piece) p.pos_is ∙ sym (one_token (place_after start p.pieces) q.piece))
+          ∙ sym (tokens_append start p.pieces (q.piece ∷ []));
       pos_is = ap (after_bytes pos) (sym text) ∙ ap (λ (x : Pos). after_bytes x (text_of q.piece)) p.pos_is ∙ sym (place_append start p.pieces q.piece);
     }
   where
@@ -211,7 +211,6 @@ reach_grows before source (piece ∷ pieces) rest after pos (n, b, is, first, ot
 -- names grow by at most one a token
 pub progress_grows : (before : List (List ℕ)) (source : List ℕ) (tokens : List Token) (rest : List ℕ) (pos : Pos) (names : List (List ℕ)) → Progress before source tokens rest pos names → Grows before names (length tokens)
 progress_grows before source tokens rest pos names p = subst (Grows before names) (sym (ap length p.tokens_are)) (reach_grows before source p.pieces rest names start p.reaches)
-
 
 pub next_within : (names : List (List ℕ)) (bytes : List ℕ) (pos : Pos) (tokens : List Token) (n : ℕ) (after : List (List ℕ)) → NextPiece names bytes pos tokens n after → n ≤ length bytes
 next_within names bytes pos tokens n after q = omega (arith, ap length q.is, length-append (text_of q.piece) (drop n bytes), q.len)

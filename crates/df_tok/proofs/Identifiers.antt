@@ -1,7 +1,7 @@
 -- Identifiers, and their names.
-use Rattle.std.proofs.Common.{◌≡◌, ◌≢◌, ℕ, ◌+◌, ◌<◌, ◌⊎◌, inl, inr, Bool, true, false, cond, ltb, List, [], ◌∷◌, ◌++◌, length, get_or, take, drop, slice_get, Option, Some, None, Result, Ok, Err, refl, sym, ap, subst, ◌∙◌, arith}
-use Rattle.std.specs.Prelude.{not, IsTrue, IfOk, OnOk, position}
-use Rattle.std.specs.List.{AllByRecursion, position_or_len}
+use Rattle.std.proofs.Common.{◌≡◌, ℕ, ◌<◌, inl, inr, true, false, List, [], ◌∷◌, length, get_or, slice_get, Some, Result, Ok, Err, refl, sym, ap, ◌∙◌, arith}
+use Rattle.std.specs.Prelude.{not, IfOk, OnOk, position}
+use Rattle.std.specs.List.{position_or_len}
 use Rattle.std.specs.Str.{IsAscii, IsUtf8}
 use Rattle.std.proofs.lemmas.Bool.{lt-ltb, cases_lt, not-true, both_ways}
 use Rattle.std.proofs.lemmas.Bool.Decides.{nat_tests}
@@ -40,9 +40,10 @@ some_place texts text i h =
     let within : k < length texts = elim (cases_lt k (length texts)) [
       | inl lt ↦ lt
       | inr le ↦
-        let e : not (same_text text (get_or texts i [])) ≡ true = prefix_len_passes (λ x. not (same_text text x)) texts i [] (omega (arith, slice_get_within texts i text h)) in
-        let f : same_text text text ≡ false = ap (same_text text) (sym (get_or_from_slice_get texts i text [] h)) ∙ not-true _ e in
-        absurd (both_ways _ f here) ] in
+          let e : not (same_text text (get_or texts i [])) ≡ true = prefix_len_passes (λ x. not (same_text text x)) texts i [] (omega (arith, slice_get_within texts i text h)) in
+          let f : same_text text text ≡ false = ap (same_text text) (sym (get_or_from_slice_get texts i text [] h)) ∙ not-true _ e in
+          absurd (both_ways _ f here)
+    ] in
     (k, rw (lt-ltb k (length texts) within) refl)
 
 pub place_of : (texts : List (List ℕ)) (text : List ℕ) (i : ℕ) → IsDistinct texts → slice_get texts i ≡ Some text → position (same_text text) texts ≡ Some i

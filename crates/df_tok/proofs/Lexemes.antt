@@ -1,10 +1,9 @@
 -- Lexemes: what is found at the front is one, and no longer one stands there.
-use Rattle.std.proofs.Common.{◌≡◌, ◌≢◌, ℕ, zero, suc, ◌+◌, ◌<◌, ◌≤◌, ◌⊎◌, inl, inr, Bool, true, false, cond, eqb, List, [], ◌∷◌, ◌++◌, length, take, drop, Option, Some, None, refl, sym, ap, subst, ◌∙◌, append_assoc, arith}
-use Rattle.std.specs.Prelude.{nat_eq, ◌&&◌, not, IsTrue, option_map}
+use Rattle.std.proofs.Common.{◌≡◌, ℕ, zero, suc, ◌+◌, ◌<◌, ◌≤◌, inl, inr, true, false, cond, eqb, List, [], ◌∷◌, ◌++◌, length, take, drop, Option, Some, None, refl, sym, ap, subst, ◌∙◌, arith}
+use Rattle.std.specs.Prelude.{nat_eq, ◌&&◌, not, option_map}
 use Rattle.std.specs.List.{prefix_len}
 use Rattle.std.proofs.lemmas.Bool.{and_parts, not-true, eqb-true}
 use Rattle.std.proofs.lemmas.Bool.Decides.{nat_tests}
-use Rattle.std.proofs.lemmas.List.{append-nil, length-append, take_at, drop_at}
 use Rattle.std.proofs.lemmas.Option.{some_pair_parts}
 use Rattle.df_tok.specs.Byte.{is_digit, is_blank, begins_identifier, continues_identifier, continues_number}
 use Rattle.df_tok.specs.declared.sign.Sign.{Sign}
@@ -12,12 +11,12 @@ use Rattle.df_tok.specs.declared.sign.Sign.TheVariants.{NotIn}
 use Rattle.df_tok.specs.declared.scan.Form.{Form}
 use Rattle.df_tok.specs.declared.scan.Form.TheVariants as forms
 use Rattle.df_tok.specs.Sign.{sign_text}
-use Rattle.df_tok.specs.Lexeme.{NotNext, IsIdentifier, IsNumber, IsCharacter, IsText, IsSign, IsLexeme, identifier, number, character, string, sign}
+use Rattle.df_tok.specs.Lexeme.{NotNext, IsIdentifier, IsNumber, IsCharacter, IsText, IsLexeme, identifier, number, character, string, sign}
 use Rattle.df_tok.specs.Scanned.{HasForm}
 use Rattle.df_tok.specs.Scanning.{number_at, character_at, text_len, sign_at, sign_lexeme, lexeme_at}
-use Rattle.df_tok.proofs.Lists.{chosen, Parts, Parts-take, Parts-drop, Parts-le, Passes, Run, run_of, run_all}
+use Rattle.df_tok.proofs.Lists.{chosen, Parts, Parts-take, Parts-le, Passes, run_of, run_all}
 use Rattle.df_tok.proofs.Literals.{number_at_sound, number_again, number_first, character_sound, character_again, text_sound, text_again}
-use Rattle.df_tok.proofs.Signs.{same_sign, sign_sound, Found, sign_furthest, begins_sign, sign_begins}
+use Rattle.df_tok.proofs.Signs.{same_sign, sign_sound, sign_furthest, begins_sign, sign_begins}
 
 -- what may stand behind a lexeme of a form
 abbrev pub Follows : Form → List ℕ → Type 0
@@ -85,7 +84,11 @@ character_front b bs (Some c) first is form n e =
     let p = character_sound bs c.0 c.1 is in
     let k : suc c.1 ≡ 1 + c.1 = omega arith in
     found_is (b ∷ bs) (forms.Character c.0) form (1 + c.1) n e (subst (LexemeFront (b ∷ bs) (forms.Character c.0)) k (record {
-      form_is = subst (λ x. IsCharacter (x ∷ take c.1 bs) c.0) (sym first) p.0; follows = tt; within = omega (arith, p.1); some = omega arith }))
+      form_is = subst (λ x. IsCharacter (x ∷ take c.1 bs) c.0) (sym first) p.0;
+      follows = tt;
+      within = omega (arith, p.1);
+      some = omega arith;
+    }))
 
 text_front : (b : ℕ) (bs : List ℕ) (o : Option ℕ) → b ≡ 34 → text_len false bs ≡ o → Sound (b ∷ bs) (option_map (λ n. (forms.Text, 1 + n)) o)
 text_front b bs None first is form n e = absurd cc
@@ -93,7 +96,11 @@ text_front b bs (Some i) first is form n e =
     let p = text_sound bs i is in
     let k : suc i ≡ 1 + i = omega arith in
     found_is (b ∷ bs) forms.Text form (1 + i) n e (subst (LexemeFront (b ∷ bs) forms.Text) k (record {
-      form_is = subst (λ x. (cs : List ℕ) × IsText (x ∷ take i bs) cs) (sym first) p.0; follows = tt; within = omega (arith, p.1); some = omega arith }))
+      form_is = subst (λ x. (cs : List ℕ) × IsText (x ∷ take i bs) cs) (sym first) p.0;
+      follows = tt;
+      within = omega (arith, p.1);
+      some = omega arith;
+    }))
 
 sign_front : (bytes : List ℕ) (o : Option Sign) → sign_at bytes ≡ o → Sound bytes (sign_lexeme o)
 sign_front bytes None is form n e = absurd cc
@@ -123,14 +130,18 @@ lexeme_sound (b ∷ bs) form n e =
     let characters = cond (eqb b 39) (option_map {U = Form × ℕ} (λ c. (forms.Character c.0, 1 + c.1)) (character_at bs)) texts in
     let numbers = cond (is_digit b) (option_map {U = Form × ℕ} (λ n. (forms.Number, n)) (number_at (b ∷ bs))) characters in
     elim (chosen (begins_identifier b) (Some (forms.Identifier, 1 + prefix_len continues_identifier bs)) numbers (Some (form, n)) e) [
-    | inl p ↦ found_is (b ∷ bs) forms.Identifier form (1 + prefix_len continues_identifier bs) n p.1 (identifier_front b bs p.0)
-    | inr p ↦ elim (chosen (is_digit b) (option_map {U = Form × ℕ} (λ n. (forms.Number, n)) (number_at (b ∷ bs))) characters (Some (form, n)) p.1) [
-      | inl q ↦ number_front b bs (number_at (b ∷ bs)) refl form n q.1
-      | inr q ↦ elim (chosen (eqb b 39) (option_map {U = Form × ℕ} (λ c. (forms.Character c.0, 1 + c.1)) (character_at bs)) texts (Some (form, n)) q.1) [
-        | inl r ↦ character_front b bs (character_at bs) (eqb-true b 39 r.0) refl form n r.1
-        | inr r ↦ elim (chosen (eqb b 34) (option_map {U = Form × ℕ} (λ n. (forms.Text, 1 + n)) (text_len false bs)) signs (Some (form, n)) r.1) [
-          | inl t ↦ text_front b bs (text_len false bs) (eqb-true b 34 t.0) refl form n t.1
-          | inr t ↦ sign_front (b ∷ bs) (sign_at (b ∷ bs)) refl form n t.1 ] ] ] ]
+      | inl p ↦ found_is (b ∷ bs) forms.Identifier form (1 + prefix_len continues_identifier bs) n p.1 (identifier_front b bs p.0)
+      | inr p ↦ elim (chosen (is_digit b) (option_map {U = Form × ℕ} (λ n. (forms.Number, n)) (number_at (b ∷ bs))) characters (Some (form, n)) p.1) [
+        | inl q ↦ number_front b bs (number_at (b ∷ bs)) refl form n q.1
+        | inr q ↦ elim (chosen (eqb b 39) (option_map {U = Form × ℕ} (λ c. (forms.Character c.0, 1 + c.1)) (character_at bs)) texts (Some (form, n)) q.1) [
+          | inl r ↦ character_front b bs (character_at bs) (eqb-true b 39 r.0) refl form n r.1
+          | inr r ↦ elim (chosen (eqb b 34) (option_map {U = Form × ℕ} (λ n. (forms.Text, 1 + n)) (text_len false bs)) signs (Some (form, n)) r.1) [
+            | inl t ↦ text_front b bs (text_len false bs) (eqb-true b 34 t.0) refl form n t.1
+            | inr t ↦ sign_front (b ∷ bs) (sign_at (b ∷ bs)) refl form n t.1
+          ]
+        ]
+      ]
+    ]
 
 -- ---- no longer one
 

@@ -1,15 +1,15 @@
 -- Literals: what is found at the front is one, and one that stands there is found.
-use Rattle.std.proofs.Common.{◌≡◌, ◌≢◌, ℕ, zero, suc, ◌+◌, ◌<◌, ◌≤◌, ◌⊎◌, inl, inr, Bool, true, false, cond, eqb, List, [], ◌∷◌, ◌++◌, length, take, drop, Option, Some, None, refl, sym, ap, subst, ◌∙◌, append_assoc, arith}
-use Rattle.std.specs.Prelude.{nat_eq, ◌&&◌, ◌||◌, not, IsTrue, codes, is_some, option_map}
+use Rattle.std.proofs.Common.{◌≡◌, ℕ, ◌+◌, ◌≤◌, inl, inr, Bool, true, false, cond, eqb, List, [], ◌∷◌, ◌++◌, length, take, drop, Option, Some, None, refl, sym, ap, subst, ◌∙◌, append_assoc, arith}
+use Rattle.std.specs.Prelude.{nat_eq, ◌&&◌, ◌||◌, not, codes, is_some, option_map}
 use Rattle.std.specs.List.{starts_with, prefix_len}
-use Rattle.std.proofs.lemmas.Bool.{and_parts, and_from, or_left, or_right, not-true, eqb-true, eq-eqb, cases_Bool, false≢true}
+use Rattle.std.proofs.lemmas.Bool.{and_parts, or_left, or_right, not-true, eqb-true, eq-eqb, cases_Bool, false≢true}
 use Rattle.std.proofs.lemmas.Bool.Decides.{nat_tests}
 use Rattle.std.proofs.lemmas.Option.{some_pair_parts}
-use Rattle.std.proofs.lemmas.List.{append-nil, length-append, take_at, drop_at}
+use Rattle.std.proofs.lemmas.List.{length-append, take_at}
 use Rattle.df_tok.specs.Byte.{is_letter, is_digit, is_hex_digit, continues_number, is_plain_in_character, is_plain_in_text, escaped}
-use Rattle.df_tok.specs.Lexeme.{NotNext, AreDigits, IsNumber, IsCharacter, Part, Plain, Escape, IsPart, AreParts, IsText}
+use Rattle.df_tok.specs.Lexeme.{NotNext, AreDigits, IsNumber, IsCharacter, Part, Plain, Escape, AreParts, IsText}
 use Rattle.df_tok.specs.Scanning.{more, are_digits, is_number, number_at, character_at, text_len}
-use Rattle.df_tok.proofs.Lists.{chosen, some_if, Parts, Parts-take, Parts-drop, Parts-le, Passes, Run, run_of, run_all, run_none, starts_front}
+use Rattle.df_tok.proofs.Lists.{chosen, some_if, Parts, Parts-take, Parts-drop, Parts-le, Passes, run_of, run_all, run_none, starts_front}
 
 -- ---- digits
 
@@ -17,13 +17,18 @@ pub digits_sound : (digit : ℕ → Bool) (bs : List ℕ) → are_digits digit f
 digits_sound digit [] h = absurd (false≢true h)
 digits_sound digit (d ∷ []) h = elim (chosen (digit d) true false true h) [ inl p ↦ p.0 | inr p ↦ absurd (false≢true p.1) ]
 digits_sound digit (d ∷ e ∷ rest) h = elim (chosen (digit d) (are_digits digit true (e ∷ rest)) false true h) [
-    | inl p ↦ (p.0, elim (chosen (digit e) (are_digits digit true rest) (cond (eqb e 95) (are_digits digit false rest) false) true p.1) [
+  | inl p ↦ (
+    p.0,
+    elim (chosen (digit e) (are_digits digit true rest) (cond (eqb e 95) (are_digits digit false rest) false) true p.1) [
       | inl q ↦ inl (digits_sound digit (e ∷ rest) (rw q.0 q.1))
       | inr q ↦ elim (chosen (eqb e 95) (are_digits digit false rest) false true q.1) [
         | inl r ↦ inr (eqb-true e 95 r.0, digits_sound digit rest r.1)
-        | inr r ↦ absurd (false≢true r.1) ] ])
-    | inr p ↦ absurd (false≢true p.1)
-  ]
+        | inr r ↦ absurd (false≢true r.1)
+      ]
+    ],
+  )
+  | inr p ↦ absurd (false≢true p.1)
+]
 
 digits_first : (digit : ℕ → Bool) (bs : List ℕ) → are_digits digit false bs ≡ true → are_digits digit true bs ≡ true
 digits_first digit [] h = refl
@@ -47,9 +52,9 @@ digits_pass digit p (d ∷ e ∷ rest) each line (h, inr (is, ds)) = (each d h, 
 
 number_sound : (text : List ℕ) → is_number text ≡ true → IsNumber text
 number_sound text h = elim (chosen (starts_with nat_eq text (codes "0x")) (are_digits is_hex_digit false (drop 2 text)) (are_digits is_digit false text) true h) [
-    | inl p ↦ inr (drop 2 text, starts_front text (codes "0x") p.0, digits_sound is_hex_digit _ p.1)
-    | inr p ↦ inl (digits_sound is_digit text p.1)
-  ]
+  | inl p ↦ inr (drop 2 text, starts_front text (codes "0x") p.0, digits_sound is_hex_digit _ p.1)
+  | inr p ↦ inl (digits_sound is_digit text p.1)
+]
 
 no_x : (rest : List ℕ) → AreDigits is_digit (120 ∷ rest) → ⊥
 no_x [] h = false≢true h
@@ -61,9 +66,9 @@ not_hex rest (h, inr (is, ds)) = absurd (omega arith)
 
 number_complete : (text : List ℕ) → IsNumber text → is_number text ≡ true
 number_complete text (inl ds) = elim (cases_Bool (starts_with nat_eq text (codes "0x"))) [
-    | inl e ↦ absurd (not_hex (drop 2 text) (subst (AreDigits is_digit) (starts_front text (codes "0x") e) ds))
-    | inr e ↦ rw e (digits_complete is_digit text refl ds)
-  ]
+  | inl e ↦ absurd (not_hex (drop 2 text) (subst (AreDigits is_digit) (starts_front text (codes "0x") e) ds))
+  | inr e ↦ rw e (digits_complete is_digit text refl ds)
+]
 number_complete text (inr (digits, is, ds)) = subst (λ (t : List ℕ). is_number t ≡ true) (sym is) (digits_complete is_hex_digit digits refl ds)
 
 digit_continues : (b : ℕ) → is_digit b ≡ true → continues_number b ≡ true
@@ -101,7 +106,7 @@ plain_found a b rest c n h e =
     let p = and_parts (is_plain_in_character a) (eqb b 39) h in
     let q = some_pair_parts a c 2 n e in
     subst (λ k. IsCharacter (39 ∷ take k (a ∷ b ∷ rest)) c × (k ≤ length (a ∷ b ∷ rest))) q.1
-        (subst (λ k. IsCharacter (39 ∷ a ∷ b ∷ []) k) q.0 (inl (p.0, ap (λ (x : ℕ). 39 ∷ a ∷ x ∷ []) (eqb-true b 39 p.1))), omega arith)
+    (subst (λ k. IsCharacter (39 ∷ a ∷ b ∷ []) k) q.0 (inl (p.0, ap (λ (x : ℕ). 39 ∷ a ∷ x ∷ []) (eqb-true b 39 p.1))), omega arith)
 
 escape_found : (a b d : ℕ) (rest : List ℕ) (c n : ℕ) (o : Option ℕ) → escaped b ≡ o → (eqb a 92 && eqb d 39) ≡ true → option_map {U = ℕ × ℕ} (λ e. (e, 3)) o ≡ Some (c, n) → IsCharacter (39 ∷ take n (a ∷ b ∷ d ∷ rest)) c × (n ≤ length (a ∷ b ∷ d ∷ rest))
 escape_found a b d rest c n None is h e = absurd cc
@@ -109,21 +114,22 @@ escape_found a b d rest c n (Some x) is h e =
     let p = and_parts (eqb a 92) (eqb d 39) h in
     let q = some_pair_parts x c 3 n e in
     subst (λ k. IsCharacter (39 ∷ take k (a ∷ b ∷ d ∷ rest)) c × (k ≤ length (a ∷ b ∷ d ∷ rest))) q.1
-        (subst (λ k. IsCharacter (39 ∷ a ∷ b ∷ d ∷ []) k) q.0 (inr (b, is, rw (eqb-true a 92 p.0, eqb-true d 39 p.1) refl)), omega arith)
+    (subst (λ k. IsCharacter (39 ∷ a ∷ b ∷ d ∷ []) k) q.0 (inr (b, is, rw (eqb-true a 92 p.0, eqb-true d 39 p.1) refl)), omega arith)
 
 pub character_sound : (bs : List ℕ) (c n : ℕ) → character_at bs ≡ Some (c, n) → IsCharacter (39 ∷ take n bs) c × (n ≤ length bs)
 character_sound [] c n h = absurd cc
 character_sound (a ∷ []) c n h = absurd cc
 character_sound (a ∷ b ∷ []) c n h = elim (chosen (is_plain_in_character a && eqb b 39) (Some (a, 2)) None (Some (c, n)) h) [
-    | inl p ↦ plain_found a b [] c n p.0 p.1
-    | inr p ↦ absurd cc
-  ]
+  | inl p ↦ plain_found a b [] c n p.0 p.1
+  | inr p ↦ absurd cc
+]
 character_sound (a ∷ b ∷ d ∷ rest) c n h = elim (chosen (is_plain_in_character a && eqb b 39) (Some (a, 2)) (cond (eqb a 92 && eqb d 39) (option_map (λ e. (e, 3)) (escaped b)) None) (Some (c, n)) h) [
-    | inl p ↦ plain_found a b (d ∷ rest) c n p.0 p.1
-    | inr p ↦ elim (chosen (eqb a 92 && eqb d 39) (option_map (λ e. (e, 3)) (escaped b)) None (Some (c, n)) p.1) [
-      | inl q ↦ escape_found a b d rest c n (escaped b) refl q.0 q.1
-      | inr q ↦ absurd cc ]
+  | inl p ↦ plain_found a b (d ∷ rest) c n p.0 p.1
+  | inr p ↦ elim (chosen (eqb a 92 && eqb d 39) (option_map (λ e. (e, 3)) (escaped b)) None (Some (c, n)) p.1) [
+    | inl q ↦ escape_found a b d rest c n (escaped b) refl q.0 q.1
+    | inr q ↦ absurd cc
   ]
+]
 
 plain_again : (c : ℕ) (rest : List ℕ) → is_plain_in_character c ≡ true → character_at (c ∷ 39 ∷ rest) ≡ Some (c, 2)
 plain_again c [] plain = rw plain refl
@@ -161,7 +167,10 @@ some_if_more false o n e = absurd cc
 
 with_plain : (b : ℕ) (bs : List ℕ) (k : ℕ) → is_plain_in_text b ≡ true → TextFront bs k → TextFront (b ∷ bs) (1 + k)
 with_plain b bs k plain r = record {
-  parts = Plain b ∷ r.parts; inner = b ∷ r.inner; cs = b ∷ r.cs; rest = r.rest;
+  parts = Plain b ∷ r.parts;
+  inner = b ∷ r.inner;
+  cs = b ∷ r.cs;
+  rest = r.rest;
   are = (b ∷ [], r.inner, b, r.cs, refl, refl, (plain, refl, refl), r.are);
   is = ap (λ (t : List ℕ). b ∷ t) r.is;
   len = omega (arith, r.len);
@@ -169,7 +178,10 @@ with_plain b bs k plain r = record {
 
 with_escape : (e c : ℕ) (bs : List ℕ) (k : ℕ) → escaped e ≡ Some c → TextFront bs k → TextFront (92 ∷ e ∷ bs) (1 + (1 + k))
 with_escape e c bs k esc r = record {
-  parts = Escape e ∷ r.parts; inner = 92 ∷ e ∷ r.inner; cs = c ∷ r.cs; rest = r.rest;
+  parts = Escape e ∷ r.parts;
+  inner = 92 ∷ e ∷ r.inner;
+  cs = c ∷ r.cs;
+  rest = r.rest;
   are = (92 ∷ e ∷ [], r.inner, c, r.cs, refl, refl, (esc, refl), r.are);
   is = ap (λ (t : List ℕ). 92 ∷ e ∷ t) r.is;
   len = omega (arith, r.len);
@@ -185,24 +197,27 @@ ended b bs n e len = record { parts = []; inner = []; cs = []; rest = bs; are = 
 text_front : (bs : List ℕ) (n : ℕ) → text_len false bs ≡ Some n → TextFront bs n
 text_front [] n h = absurd cc
 text_front (b ∷ []) n h = elim (chosen (eqb b 34) (Some 1) (cond (eqb b 92) None (cond (is_plain_in_text b) None None)) (Some n) h) [
-    | inl p ↦ ended b [] n p.0 p.1
-    | inr p ↦ elim (chosen (eqb b 92) None (cond (is_plain_in_text b) None None) (Some n) p.1) [
-      | inl q ↦ absurd cc
-      | inr q ↦ elim (chosen (is_plain_in_text b) None None (Some n) q.1) [ inl r ↦ absurd cc | inr r ↦ absurd cc ] ]
+  | inl p ↦ ended b [] n p.0 p.1
+  | inr p ↦ elim (chosen (eqb b 92) None (cond (is_plain_in_text b) None None) (Some n) p.1) [
+    | inl q ↦ absurd cc
+    | inr q ↦ elim (chosen (is_plain_in_text b) None None (Some n) q.1) [ inl r ↦ absurd cc | inr r ↦ absurd cc ]
   ]
+]
 text_front (b ∷ e ∷ bs) n h = elim (chosen (eqb b 34) (Some 1) (cond (eqb b 92) (more 1 (text_len true (e ∷ bs))) (cond (is_plain_in_text b) (more 1 (text_len false (e ∷ bs))) None)) (Some n) h) [
-    | inl p ↦ ended b (e ∷ bs) n p.0 p.1
-    | inr p ↦ elim (chosen (eqb b 92) (more 1 (text_len true (e ∷ bs))) (cond (is_plain_in_text b) (more 1 (text_len false (e ∷ bs))) None) (Some n) p.1) [
-      | inl q ↦
+  | inl p ↦ ended b (e ∷ bs) n p.0 p.1
+  | inr p ↦ elim (chosen (eqb b 92) (more 1 (text_len true (e ∷ bs))) (cond (is_plain_in_text b) (more 1 (text_len false (e ∷ bs))) None) (Some n) p.1) [
+    | inl q ↦
         let k = less_one (text_len true (e ∷ bs)) n q.1 in
         let r = some_if_more (is_some (escaped e)) (text_len false bs) k.0 k.1 in
         let c = some_is_some (escaped e) r.1 in
         let t = with_escape e c.0 bs r.0 c.1 (text_front bs r.0 r.2) in
         subst (λ x. TextFront (x ∷ e ∷ bs) n) (sym (eqb-true b 92 q.0)) (subst (TextFront (92 ∷ e ∷ bs)) (sym (k.2 ∙ ap (λ x. 1 + x) r.3)) t)
-      | inr q ↦ elim (chosen (is_plain_in_text b) (more 1 (text_len false (e ∷ bs))) None (Some n) q.1) [
-        | inl r ↦ let k = less_one (text_len false (e ∷ bs)) n r.1 in subst (TextFront (b ∷ e ∷ bs)) (sym k.2) (with_plain b (e ∷ bs) k.0 r.0 (text_front (e ∷ bs) k.0 k.1))
-        | inr r ↦ absurd cc ] ]
+    | inr q ↦ elim (chosen (is_plain_in_text b) (more 1 (text_len false (e ∷ bs))) None (Some n) q.1) [
+      | inl r ↦ let k = less_one (text_len false (e ∷ bs)) n r.1 in subst (TextFront (b ∷ e ∷ bs)) (sym k.2) (with_plain b (e ∷ bs) k.0 r.0 (text_front (e ∷ bs) k.0 k.1))
+      | inr r ↦ absurd cc
+    ]
   ]
+]
 
 pub text_sound : (bs : List ℕ) (n : ℕ) → text_len false bs ≡ Some n → ((cs : List ℕ) × IsText (34 ∷ take n bs) cs) × (n ≤ length bs)
 text_sound bs n h =

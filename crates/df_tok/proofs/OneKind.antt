@@ -1,15 +1,13 @@
 -- A token's text has one kind.
-use Rattle.std.proofs.Common.{◌≡◌, ◌≢◌, ℕ, zero, suc, ◌+◌, ◌<◌, ◌^◌, ◌⊎◌, inl, inr, Bool, true, false, cond, eqb, List, [], ◌∷◌, ◌++◌, length, get_or, drop, Option, Some, None, refl, sym, ap, subst, ◌∙◌, arith}
-use Rattle.std.specs.Prelude.{nat_eq, ◌&&◌, not, codes, position, option_map, Contains, MatchOption, MatchBool}
+use Rattle.std.proofs.Common.{◌≡◌, ◌≢◌, ℕ, zero, suc, ◌<◌, ◌^◌, inl, inr, Bool, true, false, cond, eqb, List, [], ◌∷◌, length, get_or, Option, Some, None, refl, sym, ap, subst, ◌∙◌, arith}
+use Rattle.std.specs.Prelude.{nat_eq, ◌&&◌, not, codes, position, option_map}
 use Rattle.std.specs.List.{find, list_all}
-use Rattle.std.specs.Cmp.Lexicographic.{pointwise}
-use Rattle.std.proofs.lemmas.Bool.{both_ways, cases_Bool, false≢true, false_from_ne_true, and_parts, not-true, eqb-true, MatchBool-at_true, MatchBool-at_false}
+use Rattle.std.proofs.lemmas.Bool.{false≢true, false_from_ne_true, and_parts, not-true}
 use Rattle.std.proofs.lemmas.Option.{MatchOption-at_some}
 use Rattle.std.proofs.lemmas.List.{append-nil}
 use Rattle.std.proofs.lemmas.Slice.Eq.{bytes_eq-Decides}
 use Rattle.df_base.specs.Names.{same_text, with_text}
 use Rattle.df_tok.specs.Byte.{is_digit, begins_identifier, is_blank}
-use Rattle.df_tok.specs.declared.sign.Sign.{Sign}
 use Rattle.df_tok.specs.declared.word.Word.{Word}
 use Rattle.df_tok.specs.declared.word.Word.TheVariants as all
 use Rattle.df_tok.specs.declared.token.Kind.{Kind}
@@ -18,8 +16,8 @@ use Rattle.df_tok.specs.Word.{word_text}
 use Rattle.df_tok.specs.Words.{words}
 use Rattle.df_tok.specs.Sign.{sign_text}
 use Rattle.df_tok.specs.Outside.{IsOutside, outside_words}
-use Rattle.df_tok.specs.Lexeme.{IsIdentifier, IsNumber, value_of_number, IsWord, IsCharacter, IsText}
-use Rattle.df_tok.specs.Token.{HasKind, IsNamed}
+use Rattle.df_tok.specs.Lexeme.{IsIdentifier, IsNumber, value_of_number, IsWord}
+use Rattle.df_tok.specs.Token.{HasKind}
 use Rattle.df_tok.specs.Scanning.{is_written, is_outside, character_at}
 use Rattle.df_tok.proofs.Words.{word_again, word_found}
 use Rattle.df_tok.proofs.Signs.{coded, sign_again, begins_sign, sign_begins}

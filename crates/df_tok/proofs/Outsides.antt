@@ -1,10 +1,10 @@
 -- The words outside the language, by their texts.
-use Rattle.std.proofs.Common.{◌≡◌, ◌≢◌, ℕ, zero, suc, ◌+◌, ◌<◌, ◌≤◌, ◌⊎◌, inl, inr, Bool, true, false, cond, ltb, eqb, List, [], ◌∷◌, ◌++◌, length, get_or, take, drop, refl, sym, ap, subst, ◌∙◌, append_assoc, arith}
-use Rattle.std.specs.Prelude.{nat_eq, nat_lt, ◌&&◌, ◌||◌, IsTrue, MatchBool, codes, Contains}
-use Rattle.std.specs.List.{list_any, starts_with, prefix_len, AllByRecursion}
+use Rattle.std.proofs.Common.{◌≡◌, ◌≢◌, ℕ, zero, suc, ◌+◌, ◌<◌, ◌⊎◌, inl, inr, Bool, true, false, List, [], ◌∷◌, ◌++◌, length, get_or, drop, refl, sym, ap, subst, ◌∙◌, append_assoc, arith}
+use Rattle.std.specs.Prelude.{nat_eq, nat_lt, ◌&&◌, ◌||◌, MatchBool, codes, Contains}
+use Rattle.std.specs.List.{list_any, starts_with, prefix_len}
 use Rattle.std.specs.Cmp.Lexicographic.{pointwise}
-use Rattle.std.proofs.lemmas.Bool.{and_parts, and_from, or_cases, or_left, or_right, eqb-true, eq-eqb, ltb-true, lt-ltb, cases_Bool, true_from_ne_false, false≢true}
-use Rattle.std.proofs.lemmas.List.{append-nil, length-append, take_at, drop_at, nil_from_length, take-append-drop}
+use Rattle.std.proofs.lemmas.Bool.{and_parts, and_from, or_cases, or_left, or_right, eqb-true, eq-eqb, ltb-true, lt-ltb, false≢true}
+use Rattle.std.proofs.lemmas.List.{append-nil, length-append, drop_at, nil_from_length}
 use Rattle.std.proofs.lemmas.Slice.Eq.{bytes_eq-Decides}
 use Rattle.df_tok.specs.declared.word.Word.{Word}
 use Rattle.df_tok.specs.declared.word.Word.TheVariants as all
@@ -12,16 +12,16 @@ use Rattle.df_tok.specs.Word.{word_text}
 use Rattle.df_tok.specs.Byte.{is_digit}
 use Rattle.df_tok.specs.Outside.{outside_words, AreAllDigits, IsOutside}
 use Rattle.df_tok.specs.Scanning.{are_only_digits, are_array_digits, is_outside}
-use Rattle.df_tok.proofs.Lists.{Parts, Parts-take, Parts-drop, Passes, Run, run_of, run_all, starts_front, starts_again}
+use Rattle.df_tok.proofs.Lists.{Parts-drop, Passes, run_of, run_all, starts_front, starts_again}
 
 -- ---- listed words
 
 listed_sound : (text : List ℕ) (words : List (List ℕ)) → list_any (pointwise nat_eq text) words ≡ true → Contains words text
 listed_sound text [] h = absurd (false≢true h)
 listed_sound text (w ∷ ws) h = elim (or_cases (pointwise nat_eq text w) (list_any (pointwise nat_eq text) ws) h) [
-    | inl e ↦ (zero, omega arith, sym ((bytes_eq-Decides text w).0 e))
-    | inr e ↦ let r = listed_sound text ws e in (suc r.0, omega (arith, r.1), r.2)
-  ]
+  | inl e ↦ (zero, omega arith, sym ((bytes_eq-Decides text w).0 e))
+  | inr e ↦ let r = listed_sound text ws e in (suc r.0, omega (arith, r.1), r.2)
+]
 
 listed_complete : (text : List ℕ) (words : List (List ℕ)) (k : ℕ) → k < length words → get_or words k text ≡ text → list_any (pointwise nat_eq text) words ≡ true
 listed_complete text [] k lt at = absurd (omega arith)
@@ -66,14 +66,14 @@ array_sound bytes h =
     let digits : AreAllDigits r.front = (not_nil r.front (omega (arith, r.parts.len)), r.passes) in
     elim (or_cases (nat_eq n (length bytes)) (starts_with nat_eq (drop n bytes) (codes "?") && nat_eq (n + 1) (length bytes)) p.1) [
       | inl e ↦
-        let none : r.rest ≡ [] = nil_from_length r.rest (omega (arith, eqb-true n (length bytes) e, ap length r.parts.is, length-append r.front r.rest, r.parts.len)) in
-        (r.front, digits, inl (r.parts.is ∙ ap (λ (t : List ℕ). r.front ++ t) none ∙ append-nil r.front))
+          let none : r.rest ≡ [] = nil_from_length r.rest (omega (arith, eqb-true n (length bytes) e, ap length r.parts.is, length-append r.front r.rest, r.parts.len)) in
+          (r.front, digits, inl (r.parts.is ∙ ap (λ (t : List ℕ). r.front ++ t) none ∙ append-nil r.front))
       | inr e ↦
-        let q = and_parts (starts_with nat_eq (drop n bytes) (codes "?")) (nat_eq (n + 1) (length bytes)) e in
-        let rest : drop n bytes ≡ codes "?" ++ drop 1 (drop n bytes) = starts_front (drop n bytes) (codes "?") q.0 in
-        let same : r.rest ≡ drop n bytes = Parts-drop bytes r.front r.rest n r.parts in
-        let none : drop 1 (drop n bytes) ≡ [] = nil_from_length _ (omega (arith, eqb-true (n + 1) (length bytes) q.1, ap length r.parts.is, length-append r.front r.rest, r.parts.len, ap length same, ap length rest, length-append (codes "?") (drop 1 (drop n bytes)))) in
-        (r.front, digits, inr (r.parts.is ∙ ap (λ (t : List ℕ). r.front ++ t) (same ∙ rest ∙ ap (λ (t : List ℕ). codes "?" ++ t) none)))
+          let q = and_parts (starts_with nat_eq (drop n bytes) (codes "?")) (nat_eq (n + 1) (length bytes)) e in
+          let rest : drop n bytes ≡ codes "?" ++ drop 1 (drop n bytes) = starts_front (drop n bytes) (codes "?") q.0 in
+          let same : r.rest ≡ drop n bytes = Parts-drop bytes r.front r.rest n r.parts in
+          let none : drop 1 (drop n bytes) ≡ [] = nil_from_length _ (omega (arith, eqb-true (n + 1) (length bytes) q.1, ap length r.parts.is, length-append r.front r.rest, r.parts.len, ap length same, ap length rest, length-append (codes "?") (drop 1 (drop n bytes)))) in
+          (r.front, digits, inr (r.parts.is ∙ ap (λ (t : List ℕ). r.front ++ t) (same ∙ rest ∙ ap (λ (t : List ℕ). codes "?" ++ t) none)))
     ]
 
 array_from : (bytes : List ℕ) → nat_lt 0 (prefix_len is_digit bytes) ≡ true → (nat_eq (prefix_len is_digit bytes) (length bytes) || (starts_with nat_eq (drop (prefix_len is_digit bytes) bytes) (codes "?") && nat_eq (prefix_len is_digit bytes + 1) (length bytes))) ≡ true → are_array_digits bytes ≡ true
@@ -98,17 +98,23 @@ array_complete bytes (digits, all, inr e) =
 
 pub outside_sound : (text : List ℕ) → is_outside text ≡ true → IsOutside text
 outside_sound text h = elim (or_cases _ _ h) [
-    | inl g ↦ elim (or_cases _ _ g) [
-      | inl e ↦ inl (listed_sound text outside_words e)
-      | inr e ↦ let p = and_parts (starts_with nat_eq text (codes "bv")) _ e in inr (inl (drop 2 text, only_sound _ p.1, starts_front text (codes "bv") p.0)) ]
-    | inr e ↦
+  | inl g ↦ elim (or_cases _ _ g) [
+    | inl e ↦ inl (listed_sound text outside_words e)
+    | inr e ↦ let p = and_parts (starts_with nat_eq text (codes "bv")) _ e in inr (inl (drop 2 text, only_sound _ p.1, starts_front text (codes "bv") p.0))
+  ]
+  | inr e ↦
       let p = and_parts (starts_with nat_eq text (codes "array")) _ e in
       let front = starts_front text (codes "array") p.0 in
       let a = array_sound _ p.1 in
-      inr (inr (a.0, a.1, elim a.2 [
-        | inl d ↦ inl (front ∙ ap (λ (t : List ℕ). codes "array" ++ t) d)
-        | inr d ↦ inr (front ∙ ap (λ (t : List ℕ). codes "array" ++ t) d) ]))
-  ]
+      inr (inr (
+        a.0,
+        a.1,
+        elim a.2 [
+          | inl d ↦ inl (front ∙ ap (λ (t : List ℕ). codes "array" ++ t) d)
+          | inr d ↦ inr (front ∙ ap (λ (t : List ℕ). codes "array" ++ t) d)
+        ],
+      ))
+]
 
 abbrev listed : List ℕ → Bool
 listed text = list_any (pointwise nat_eq text) outside_words

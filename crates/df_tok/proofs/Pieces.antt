@@ -1,10 +1,10 @@
 -- The piece at the front of a source: what is found is one, and there is no other.
-use Rattle.std.proofs.Common.{◌≡◌, ◌≢◌, ℕ, zero, suc, ◌+◌, ◌<◌, ◌≤◌, ◌⊎◌, inl, inr, Bool, true, false, cond, eqb, List, [], ◌∷◌, ◌++◌, length, take, drop, Option, Some, None, refl, sym, ap, subst, ◌∙◌, append_assoc, arith}
-use Rattle.std.specs.Prelude.{nat_eq, ◌&&◌, not, IsTrue, option_map, codes}
+use Rattle.std.proofs.Common.{◌≡◌, ◌≢◌, ℕ, ◌+◌, ◌<◌, ◌≤◌, ◌⊎◌, inl, inr, Bool, true, false, cond, eqb, List, [], ◌∷◌, ◌++◌, length, take, drop, Option, Some, None, refl, sym, ap, subst, ◌∙◌, arith}
+use Rattle.std.specs.Prelude.{nat_eq, ◌&&◌, not, codes}
 use Rattle.std.specs.List.{prefix_len, starts_with, AllByRecursion}
-use Rattle.std.proofs.lemmas.Bool.{and_parts, not-true, eqb-true, ne_eqb, eqb-false, both_ways, false_from_ne_true, not_from_false, not_from_true}
+use Rattle.std.proofs.lemmas.Bool.{and_parts, not-true, eqb-true, ne_eqb, eqb-false, both_ways, false_from_ne_true, not_from_false}
 use Rattle.std.proofs.lemmas.Bool.Decides.{nat_tests}
-use Rattle.std.proofs.lemmas.List.{append-nil, length-append, take_at, drop_at, length-take-le, take-append-drop}
+use Rattle.std.proofs.lemmas.List.{take_at, drop_at, length-take-le, take-append-drop}
 use Rattle.std.proofs.lemmas.Option.{some_pair_parts}
 use Rattle.df_base.specs.declared.pos.Pos.{Pos}
 use Rattle.df_tok.specs.Byte.{is_digit, is_blank, begins_identifier}
@@ -14,17 +14,17 @@ use Rattle.df_tok.specs.declared.scan.Form.TheVariants as forms
 use Rattle.df_tok.specs.declared.scan.Front.{Front}
 use Rattle.df_tok.specs.declared.scan.Front.TheVariants.{Skipped, Lexeme as Lexed}
 use Rattle.df_tok.specs.Sign.{sign_text}
-use Rattle.df_tok.specs.Lexeme.{NotNext, IsIdentifier, IsLexeme}
-use Rattle.df_tok.specs.Token.{Token, HasKind}
+use Rattle.df_tok.specs.Lexeme.{NotNext, IsLexeme}
+use Rattle.df_tok.specs.Token.{HasKind}
 use Rattle.df_tok.specs.Scanned.{HasForm}
 use Rattle.df_tok.specs.Scanning.{begins_blank, comment_len, skips, lexes, lexeme_at, front_at}
-use Rattle.df_tok.specs.Division.{IsLineComment, EndsLine, Closes, IsBlockComment, BeginsComment, IsLongest, Piece, Blank, LineComment, BlockComment, Lexeme, text_of, IsPiece}
+use Rattle.df_tok.specs.Division.{EndsLine, Closes, BeginsComment, IsLongest, Piece, Blank, LineComment, BlockComment, Lexeme, text_of, IsPiece}
 use Rattle.df_tok.specs.Steps.{token_of, NextPiece, NoPiece}
-use Rattle.df_tok.proofs.Lists.{chosen, starts_front, Parts, Parts-take, Parts-drop, Parts-le, Passes, Run, run_of, run_all, run_none}
+use Rattle.df_tok.proofs.Lists.{chosen, starts_front, Parts, Parts-take, Parts-drop, Passes, run_of, run_all, run_none}
 use Rattle.df_tok.proofs.Literals.{number_first}
-use Rattle.df_tok.proofs.Comments.{unused, used, comment_again, Closing, comment_sound}
+use Rattle.df_tok.proofs.Comments.{unused, used, comment_again, comment_sound}
 use Rattle.df_tok.proofs.Signs.{begins_sign, sign_begins}
-use Rattle.df_tok.proofs.Lexemes.{Follows, lexeme_of, LexemeFront, lexeme_sound, Furthest, furthest}
+use Rattle.df_tok.proofs.Lexemes.{lexeme_of, lexeme_sound, furthest}
 use Rattle.df_tok.proofs.OneKind.{one_kind}
 
 abbrev other_byte : ℕ → Bool
@@ -82,7 +82,7 @@ blank_goes_on (b ∷ bs) rest lt h = h
 pub data Seen (names : List (List ℕ)) (piece : Piece) (bytes : List ℕ) (after : List (List ℕ)) : Type 0 where
   skip : front_at bytes ≡ Some (Skipped (length (text_of piece))) → after ≡ names → ((pos : Pos) → token_of pos piece ≡ []) → Seen names piece bytes after
   lex : (kind : Kind) (form : Form) → front_at bytes ≡ Some (Lexed form (length (text_of piece))) → HasKind names (text_of piece) kind after
-    → ((pos : Pos) → token_of pos piece ≡ record { kind = kind; text = text_of piece; pos = pos } ∷ []) → Seen names piece bytes after
+      → ((pos : Pos) → token_of pos piece ≡ record { kind = kind; text = text_of piece; pos = pos } ∷ []) → Seen names piece bytes after
 
 all_other : (inner : List ℕ) → AllByRecursion (λ b. b ≢ 10) inner → Passes other_byte inner
 all_other [] h = tt
@@ -108,7 +108,7 @@ lexeme_seen text rest is longest comment =
     let le : length (take f.n bytes) ≤ length text = longest (take f.n bytes) (drop f.n bytes) (take-append-drop f.n bytes) (lexeme_of f.form (take f.n bytes) (drop f.n bytes) s.form_is s.follows) in
     let same : f.n ≡ length text = omega (arith, f.long, length-take-le f.n bytes s.within) in
     let no_blank : begins_blank bytes ≡ false = subst (λ (t : List ℕ). begins_blank t ≡ false) (take-append-drop f.n bytes)
-        (blank_goes_on (take f.n bytes) (drop f.n bytes) (omega (arith, length-take-le f.n bytes s.within, s.some)) (form_no_blank f.form (take f.n bytes) s.form_is)) in
+    (blank_goes_on (take f.n bytes) (drop f.n bytes) (omega (arith, length-take-le f.n bytes s.within, s.some)) (form_no_blank f.form (take f.n bytes) s.form_is)) in
     (f.form, lexeme_case bytes no_blank comment ∙ ap lexes f.found ∙ ap (λ k. Some (Lexed f.form k)) same)
 
 pub seen : (names : List (List ℕ)) (piece : Piece) (rest : List ℕ) (after : List (List ℕ)) → IsPiece names piece rest after → Seen names piece (text_of piece ++ rest) after
@@ -139,9 +139,10 @@ apart : (f : Form) (a b : ℕ) → Some (Skipped a) ≡ Some (Lexed f b) → ⊥
 apart f a b e = cc
 
 fronts_same : (text other rest more : List ℕ) → length text ≡ length other → text ++ rest ≡ other ++ more → (text ≡ other) × (rest ≡ more)
-fronts_same text other rest more len e =
-    (sym (take_at text rest (length text) refl) ∙ ap (take (length text)) e ∙ take_at other more (length text) (sym len),
-     sym (drop_at text rest (length text) refl) ∙ ap (drop (length text)) e ∙ drop_at other more (length text) (sym len))
+fronts_same text other rest more len e = (
+  sym (take_at text rest (length text) refl) ∙ ap (take (length text)) e ∙ take_at other more (length text) (sym len),
+  sym (drop_at text rest (length text) refl) ∙ ap (drop (length text)) e ∙ drop_at other more (length text) (sym len),
+)
 
 same_piece : (names : List (List ℕ)) (bytes : List ℕ) (piece other : Piece) (rest more : List ℕ) (after last : List (List ℕ))
     → bytes ≡ text_of piece ++ rest → bytes ≡ text_of other ++ more → Seen names piece bytes after → Seen names other bytes last → Same piece other rest more after last
@@ -154,15 +155,15 @@ same_piece names bytes piece other rest more after last e f (lex kind form s has
     let p = fronts_same (text_of piece) (text_of other) rest more (lexed_is form form' (length (text_of piece)) (length (text_of other)) (sym s ∙ s')) (sym e ∙ f) in
     let k = one_kind names (text_of piece) kind kind' after last has (subst (λ (x : List ℕ). HasKind names x kind' last) (sym p.0) has') in
     let made : (pos : Pos) → token_of pos piece ≡ token_of pos other = λ pos.
-        t pos ∙ ap (λ (x : Kind). record { kind = x; text = text_of piece; pos = pos } ∷ []) k.0 ∙ ap (λ (x : List ℕ). record { kind = kind'; text = x; pos = pos } ∷ []) p.0 ∙ sym (t' pos) in
+    t pos ∙ ap (λ (x : Kind). record { kind = x; text = text_of piece; pos = pos } ∷ []) k.0 ∙ ap (λ (x : List ℕ). record { kind = kind'; text = x; pos = pos } ∷ []) p.0 ∙ sym (t' pos) in
     record { text = p.0; rest_is = p.1; names = k.1; token = made }
 
 pub one_piece : (names : List (List ℕ)) (bytes : List ℕ) (piece other : Piece) (rest more : List ℕ) (after last : List (List ℕ))
     → bytes ≡ text_of piece ++ rest → bytes ≡ text_of other ++ more → IsPiece names piece rest after → IsPiece names other more last → Same piece other rest more after last
 one_piece names bytes piece other rest more after last e f h g =
     same_piece names bytes piece other rest more after last e f
-        (subst (λ (t : List ℕ). Seen names piece t after) (sym e) (seen names piece rest after h))
-        (subst (λ (t : List ℕ). Seen names other t last) (sym f) (seen names other more last g))
+    (subst (λ (t : List ℕ). Seen names piece t after) (sym e) (seen names piece rest after h))
+    (subst (λ (t : List ℕ). Seen names other t last) (sym f) (seen names other more last g))
 
 -- ---- what is found is a piece
 
@@ -201,16 +202,16 @@ line_next names bytes pos h =
     let front : bytes ≡ 47 ∷ 47 ∷ drop 2 bytes = starts_front bytes (codes "//") h in
     let r = run_of other_byte (drop 2 bytes) in
     next_of names bytes pos (2 + prefix_len other_byte (drop 2 bytes)) (LineComment (47 ∷ 47 ∷ r.front)) r.rest names
-        (record { is = front ∙ ap (λ (t : List ℕ). 47 ∷ 47 ∷ t) r.parts.is; len = omega (arith, r.parts.len) }) (omega arith)
-        ((r.front, refl, others_all r.front r.passes), line_ends r.rest r.stops, refl)
+    (record { is = front ∙ ap (λ (t : List ℕ). 47 ∷ 47 ∷ t) r.parts.is; len = omega (arith, r.parts.len) }) (omega arith)
+    ((r.front, refl, others_all r.front r.passes), line_ends r.rest r.stops, refl)
 
 block_next : (names : List (List ℕ)) (bytes : List ℕ) (pos : Pos) (k : ℕ) → starts_with nat_eq bytes (codes "/*") ≡ true → comment_len 0 0 (drop 2 bytes) ≡ Some k → NextPiece names bytes pos [] (2 + k) names
 block_next names bytes pos k h e =
     let front : bytes ≡ 47 ∷ 42 ∷ drop 2 bytes = starts_front bytes (codes "/*") h in
     let r = comment_sound 0 0 (drop 2 bytes) k e in
     next_of names bytes pos (2 + k) (BlockComment (47 ∷ 42 ∷ r.inner)) r.rest names
-        (record { is = front ∙ ap (λ (t : List ℕ). 47 ∷ 42 ∷ t) r.parts.is; len = omega (arith, r.parts.len) }) (omega arith)
-        ((r.inner, refl, used 0 r.inner r.closes), refl)
+    (record { is = front ∙ ap (λ (t : List ℕ). 47 ∷ 42 ∷ t) r.parts.is; len = omega (arith, r.parts.len) }) (omega arith)
+    ((r.inner, refl, used 0 r.inner r.closes), refl)
 
 skips_some : (o : Option ℕ) (n : ℕ) → skips 2 o ≡ Some (Skipped n) → (k : ℕ) × (o ≡ Some k) × (2 + k ≡ n)
 skips_some None n e = absurd cc
@@ -245,12 +246,15 @@ turn_of bytes found h =
     let blocks = cond (starts_with nat_eq bytes (codes "/*")) (skips 2 (comment_len 0 0 (drop 2 bytes))) lexed in
     let lines = cond (starts_with nat_eq bytes (codes "//")) (Some (Skipped (2 + prefix_len other_byte (drop 2 bytes)))) blocks in
     elim (chosen (begins_blank bytes) (Some (Skipped 1)) lines found h) [
-    | inl p ↦ blank p.0 p.1
-    | inr p ↦ elim (chosen (starts_with nat_eq bytes (codes "//")) (Some (Skipped (2 + prefix_len other_byte (drop 2 bytes)))) blocks found p.1) [
-      | inl q ↦ line q.0 q.1
-      | inr q ↦ elim (chosen (starts_with nat_eq bytes (codes "/*")) (skips 2 (comment_len 0 0 (drop 2 bytes))) lexed found q.1) [
-        | inl r ↦ block r.0 r.1
-        | inr r ↦ lexeme q.0 r.0 r.1 ] ] ]
+      | inl p ↦ blank p.0 p.1
+      | inr p ↦ elim (chosen (starts_with nat_eq bytes (codes "//")) (Some (Skipped (2 + prefix_len other_byte (drop 2 bytes)))) blocks found p.1) [
+        | inl q ↦ line q.0 q.1
+        | inr q ↦ elim (chosen (starts_with nat_eq bytes (codes "/*")) (skips 2 (comment_len 0 0 (drop 2 bytes))) lexed found q.1) [
+          | inl r ↦ block r.0 r.1
+          | inr r ↦ lexeme q.0 r.0 r.1
+        ]
+      ]
+    ]
 
 pub skip_next : (names : List (List ℕ)) (bytes : List ℕ) (pos : Pos) (n : ℕ) → front_at bytes ≡ Some (Skipped n) → NextPiece names bytes pos [] n names
 skip_next names bytes pos n h = by (turn_of bytes (Some (Skipped n)) h)
@@ -294,9 +298,9 @@ lex_next bytes form n h = by (turn_of bytes (Some (Lexed form n)) h)
           form_is = s.form_is;
           is = lexeme_of form (take n bytes) (drop n bytes) s.form_is s.follows;
           longest = λ other more joined is.
-            let f = furthest other more is in
-            let same : f.n ≡ n = n_is f.form form f.n n (sym f.found ∙ ap lexeme_at (joined ∙ whole) ∙ found) in
-            omega (arith, f.long, length-take-le n bytes s.within);
+              let f = furthest other more is in
+              let same : f.n ≡ n = n_is f.form form f.n n (sym f.found ∙ ap lexeme_at (joined ∙ whole) ∙ found) in
+              omega (arith, f.long, length-take-le n bytes s.within);
           comment = subst (λ (t : List ℕ). ¬ BeginsComment t) (sym whole) (no_comment bytes p q);
         }
 

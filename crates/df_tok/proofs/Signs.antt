@@ -1,17 +1,16 @@
 -- The longest sign at the front.
-use Rattle.std.proofs.Common.{◌≡◌, ℕ, zero, suc, ◌+◌, ◌<◌, ◌≤◌, ◌⊎◌, inl, inr, Bool, true, false, cond, List, [], ◌∷◌, ◌++◌, length, get_or, drop, Option, Some, None, refl, sym, ap, subst, ◌∙◌, arith, lit<}
-use Rattle.std.specs.Prelude.{nat_eq, nat_le, ◌&&◌, not, IsTrue}
+use Rattle.std.proofs.Common.{◌≡◌, ℕ, zero, suc, ◌<◌, ◌≤◌, Bool, true, false, List, [], ◌∷◌, ◌++◌, length, get_or, drop, Option, Some, refl, sym, ap, subst, ◌∙◌, arith, lit<}
+use Rattle.std.specs.Prelude.{nat_eq, nat_le, ◌&&◌, not}
 use Rattle.std.specs.List.{find, list_all, starts_with}
 use Rattle.std.specs.Cmp.Lexicographic.{pointwise}
 use Rattle.std.proofs.lemmas.Bool.{and_parts, and_from, not_from_false, not-true, leb-true}
-use Rattle.std.proofs.lemmas.Slice.Eq.{bytes_eq-Decides}
 use Rattle.df_tok.specs.Byte.{continues_identifier, begins_identifier, is_digit, is_blank}
 use Rattle.df_tok.specs.declared.sign.Sign.{Sign}
 use Rattle.df_tok.specs.declared.sign.Sign.TheVariants as all
 use Rattle.df_tok.specs.Sign.{sign_text}
 use Rattle.df_tok.specs.Lexeme.{IsSign, NotNext}
 use Rattle.df_tok.specs.Scanning.{signs, stands, sign_at, continues}
-use Rattle.df_tok.proofs.Lists.{chosen, find_passes, starts_front, starts_again}
+use Rattle.df_tok.proofs.Lists.{find_passes, starts_front, starts_again}
 
 -- ---- a sign is told by its text
 
@@ -78,9 +77,15 @@ begins bytes all.NotIn h = (and_parts _ _ h).0
 begins bytes sign h = h
 
 pub stands_sound : (bytes : List ℕ) (sign : Sign) → stands bytes sign ≡ true → (bytes ≡ sign_text sign ++ drop (length (sign_text sign)) bytes) × IsSign (sign_text sign) (drop (length (sign_text sign)) bytes)
-stands_sound bytes sign h =
-    (starts_front bytes (sign_text sign) (begins bytes sign h), (sign, refl, λ e. subst (λ s. NotNext continues_identifier (drop (length (sign_text s)) bytes)) (sym e)
-        (not_next (drop 3 bytes) (not-true _ (and_parts (starts_with nat_eq bytes (sign_text all.NotIn)) _ (subst (λ s. stands bytes s ≡ true) e h)).1))))
+stands_sound bytes sign h = (
+  starts_front bytes (sign_text sign) (begins bytes sign h),
+  (
+    sign,
+    refl,
+    λ e. subst (λ s. NotNext continues_identifier (drop (length (sign_text s)) bytes)) (sym e)
+        (not_next (drop 3 bytes) (not-true _ (and_parts (starts_with nat_eq bytes (sign_text all.NotIn)) _ (subst (λ s. stands bytes s ≡ true) e h)).1)),
+  ),
+)
 
 stands_again : (sign : Sign) (rest : List ℕ) → (sign ≡ all.NotIn → NotNext continues_identifier rest) → stands (sign_text sign ++ rest) sign ≡ true
 stands_again all.NotIn rest h = and_from _ _ (starts_again (sign_text all.NotIn) rest) (not_from_false _ (not_continues rest (h refl)))

@@ -1,5 +1,5 @@
 -- Classes of bytes.
-use Rattle.std.specs.Prelude.{◌≡◌, ◌-◌, ℕ, Bool, ◌==◌, ◌||◌, ◌&&◌, not, nat_le, Option, Some, None, if◌then◌else◌}
+use Rattle.std.specs.Prelude.{◌-◌, ℕ, Bool, ◌==◌, ◌||◌, ◌&&◌, not, nat_le, Option, Some, None, if◌then◌else◌}
 
 -- space, tab, carriage return, line feed
 abbrev pub is_blank : ℕ → Bool

@@ -1,5 +1,5 @@
 -- The division of a source into blanks, comments and tokens.
-use Rattle.std.specs.Prelude.{◌≡◌, ◌≢◌, ℕ, suc, zero, ◌+◌, ◌≤◌, Bool, true, false, IsTrue, ◌==◌, ◌&&◌, ◌⊎◌, MatchBool, List, [], ◌∷◌, ◌++◌, length, fold, if◌then◌else◌}
+use Rattle.std.specs.Prelude.{◌≡◌, ◌≢◌, ℕ, suc, zero, ◌+◌, ◌≤◌, IsTrue, ◌==◌, ◌&&◌, ◌⊎◌, MatchBool, List, [], ◌∷◌, ◌++◌, length, fold, if◌then◌else◌}
 use Rattle.std.specs.List.{AllByRecursion}
 use Rattle.df_base.specs.declared.pos.Pos.{Pos}
 use Rattle.df_tok.specs.declared.token.Kind.{Kind}

@@ -1,5 +1,5 @@
 -- The forms of lexemes: what a token's bytes may be.
-use Rattle.std.specs.Prelude.{◌≡◌, ◌≢◌, ℕ, ◌+◌, ◌*◌, Bool, true, false, IsTrue, ◌==◌, ◌⊎◌, List, [], ◌∷◌, ◌++◌, Option, Some, None, fold, drop, if◌then◌else◌, codes, nat_eq}
+use Rattle.std.specs.Prelude.{◌≡◌, ℕ, ◌+◌, ◌*◌, Bool, false, IsTrue, ◌==◌, ◌⊎◌, List, [], ◌∷◌, ◌++◌, Some, fold, drop, if◌then◌else◌, codes, nat_eq}
 use Rattle.std.specs.List.{AllByRecursion, starts_with}
 use Rattle.df_tok.specs.Byte.{is_digit, is_hex_digit, begins_identifier, continues_identifier, continues_number, is_plain_in_character, is_plain_in_text, escaped, digit_value}
 use Rattle.df_tok.specs.Word.{word_text}

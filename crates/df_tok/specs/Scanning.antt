@@ -1,5 +1,5 @@
 -- What stands at the front of a source, as functions of its bytes.
-use Rattle.std.specs.Prelude.{◌≡◌, ℕ, zero, suc, ◌+◌, ◌-◌, Bool, true, false, ◌==◌, ◌&&◌, ◌||◌, not, List, [], ◌∷◌, Option, Some, None, take, drop, length, option_map, is_some, if◌then◌else◌, codes, nat_eq, nat_lt}
+use Rattle.std.specs.Prelude.{ℕ, ◌+◌, ◌-◌, Bool, true, false, ◌==◌, ◌&&◌, ◌||◌, not, List, [], ◌∷◌, Option, Some, None, take, drop, length, option_map, is_some, if◌then◌else◌, codes, nat_eq, nat_lt}
 use Rattle.std.specs.List.{prefix_len, starts_with, find, list_any}
 use Rattle.std.specs.Cmp.Lexicographic.{pointwise}
 use Rattle.df_tok.specs.Word.{word_text}

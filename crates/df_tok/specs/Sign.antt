@@ -1,5 +1,5 @@
 -- The signs of the language.
-use Rattle.std.specs.Prelude.{◌≡◌, ℕ, List, codes}
+use Rattle.std.specs.Prelude.{ℕ, List, codes}
 use Rattle.df_tok.specs.declared.sign.Sign.{Sign}
 use Rattle.df_tok.specs.declared.sign.Sign.TheVariants.{Iff, Implies, Explies, And, Or, Equal, NotEqual, AtMost, AtLeast, Less, Greater, NotIn, Disjoint, Not, Plus, Minus, Times, Divide, Modulo, Assign, SuchThat, DoubleColon, Colon, Semicolon, Comma, DotDot, Dot, OpenParenthesis, CloseParenthesis, OpenBracket, CloseBracket, OpenAttribute, OpenBrace, CloseBrace, Bar, Arrow, Define}
 

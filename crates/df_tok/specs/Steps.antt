@@ -3,7 +3,7 @@ use Rattle.std.specs.Prelude.{◌≡◌, ℕ, ◌<◌, ◌≤◌, List, [], ◌�
 use Rattle.df_base.specs.declared.pos.Pos.{Pos}
 use Rattle.df_tok.specs.declared.token.Kind.{Kind}
 use Rattle.df_tok.specs.Token.{Token, HasKind}
-use Rattle.df_tok.specs.Division.{after_bytes, Piece, Blank, LineComment, BlockComment, Lexeme, text_of, IsPiece, AreDivided, tokens_of}
+use Rattle.df_tok.specs.Division.{Piece, Blank, LineComment, BlockComment, Lexeme, text_of, IsPiece, AreDivided, tokens_of}
 
 -- the token that a piece is, if it is one
 abbrev pub token_of : Pos → Piece → List Token

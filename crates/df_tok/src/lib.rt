@@ -26,5 +26,7 @@ pub use word::Word;
 pub fn one_division()
     ensures { (before : List (List ℕ)) (source : List ℕ) (tokens others : List pure.Token) (after last : List (List ℕ))
         → Divides before source tokens after → Divides before source others last → (tokens ≡ others) × (after ≡ last) }
-{
-}
+{}
+
+#[cfg(test)]
+mod tests;

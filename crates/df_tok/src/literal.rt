@@ -5,7 +5,9 @@ ghost use Rattle.df_tok.specs.Byte as spec;
 ghost use Rattle.df_tok.specs.Lexeme.{value_of_number, value_of_digits};
 ghost use Rattle.df_tok.specs.Scanning as scanning;
 
-use crate::byte::{digit_value, escaped, is_digit, is_hex_digit, is_plain_in_character, is_plain_in_text};
+use crate::byte::{
+    digit_value, escaped, is_digit, is_hex_digit, is_plain_in_character, is_plain_in_text,
+};
 use crate::run::number_len;
 
 /// Whether these are decimal digits, with single `_` between two of them.
@@ -57,14 +59,20 @@ pub fn number(bytes: &[u8]) -> Option<usize>
     ensures { result ≡ scanning.number_at bytes.now }
 {
     let n = number_len(bytes);
-    if is_number(&bytes[..n]) { Some(n) } else { None }
+    if is_number(&bytes[..n]) {
+        Some(n)
+    } else {
+        None
+    }
 }
 
 /// A number with one more digit, where it is below 2^127.
 fn with_digit(base: u128, value: u128, digit: u8) -> Option<u128>
     ensures { let more = value * base + spec.digit_value digit in MatchOption result (2 ^ 127 ≤ more) (λ v. (v ≡ more) × (v < 2 ^ 127)) }
 {
-    let more = value.checked_mul(base)?.checked_add(u128::from(digit_value(digit)))?;
+    let more = value
+        .checked_mul(base)?
+        .checked_add(u128::from(digit_value(digit)))?;
     if more < 1 << 127 { Some(more) } else { None }
 }
 

@@ -43,11 +43,7 @@ fn add_token<'a>(
 {
     let kind = kind_of(names, form, text, pos)?;
     if all.len() == MAX_TOKENS {
-        return Err(refused(
-            Code::Limit,
-            pos,
-            Detail::Count(MAX_TOKENS as u64),
-        ));
+        return Err(refused(Code::Limit, pos, Detail::Count(MAX_TOKENS as u64)));
     }
     if all.push(Token { kind, text, pos }).is_err() {
         return Err(Stop::Memory);
@@ -98,11 +94,7 @@ pub fn tokens<'a>(alloc: Global, source: &'a [u8], names: &mut Names) -> Result<
     ensures kept { Grows names.old names.new 500001 }
 {
     if MAX_BYTES < source.len() {
-        return Err(refused(
-            Code::Limit,
-            START,
-            Detail::Count(source.len() as u64),
-        ));
+        return Err(refused(Code::Limit, START, Detail::Count(source.len() as u64)));
     }
     let mut all = Vec::new(alloc);
     let mut rest = source;

@@ -1,6 +1,5 @@
-use Rattle.std.proofs.Common.{◌≤◌, ◌^◌, ◌≡◌, ◌+◌, drop, arith, sym, ◌∙◌, subst}
+use Rattle.std.proofs.Common.{◌≤◌, ◌^◌, ◌+◌, drop, sym, ◌∙◌, subst}
 use Rattle.std.proofs.lemmas.List.{at_drop_more}
-use Rattle.df_tok.specs.Lexeme.{value_of_digits}
 use Rattle.df_tok.proofs.Values.{value_from, value_past}
 use Rattle.df_tok.proofs.literal.digits_value.Goals as goal
 

@@ -1,4 +1,4 @@
-use Rattle.std.proofs.Common.{◌≡◌, ◌*◌, ◌+◌, ◌<◌, ◌^◌, drop}
+use Rattle.std.proofs.Common.{◌≡◌, ◌<◌, ◌^◌, drop}
 use Rattle.df_tok.specs.Lexeme.{value_of_digits}
 use Rattle.df_tok.proofs.Values.{value_from}
 use Rattle.df_tok.proofs.literal.digits_value.Given as goal

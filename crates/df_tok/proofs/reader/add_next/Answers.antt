@@ -1,4 +1,4 @@
-use Rattle.std.proofs.Common.{◌≡◌, ℕ, Some, [], sym, ◌∙◌, ap, take}
+use Rattle.std.proofs.Common.{Some, [], sym, ◌∙◌, ap}
 use Rattle.std.proofs.lemmas.List.{append-nil, length-take-le}
 use Rattle.std.proofs.lemmas.Result.{err_from_is_err_and}
 use Rattle.df_base.specs.declared.refusal.Stop.TheVariants.{Refused}

@@ -1,12 +1,11 @@
-use Rattle.std.proofs.Common.{◌≡◌, ◌+◌, ◌-◌, ◌≤◌, ◌<◌, ℕ, List, length, map, take, drop, sym, ◌∙◌, ap, subst, arith, vec_len}
-use Rattle.std.proofs.lemmas.Bool.{eqb-true, eqb-false}
+use Rattle.std.proofs.Common.{◌≡◌, ◌+◌, ◌-◌, length, take, drop, sym, ◌∙◌, ap, arith}
+use Rattle.std.proofs.lemmas.Bool.{eqb-true}
 use Rattle.std.proofs.lemmas.List.{length-map, length-append, length-drop, length-take-le, take_rest, nil_from_length}
 use Rattle.std.proofs.lemmas.Result.{err_from_is_err_and}
 use Rattle.df_base.specs.declared.refusal.Stop.TheVariants.{Refused}
 use Rattle.df_tok.specs.Token.{view}
-use Rattle.df_tok.specs.Scanned.{Grows}
 use Rattle.df_tok.proofs.Results.{passed}
-use Rattle.df_tok.proofs.Divisions.{Progress, progress_more, progress_divides, progress_exceeds, progress_grows, grows_more, grows_most}
+use Rattle.df_tok.proofs.Divisions.{progress_more, progress_divides, progress_exceeds, progress_grows, grows_more, grows_most}
 use Rattle.df_tok.proofs.reader.tokens.Goals as goal
 
 pub add_next-requires-clause-room : goal.add_next-requires-clause-room

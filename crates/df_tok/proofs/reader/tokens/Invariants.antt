@@ -1,4 +1,4 @@
-use Rattle.std.proofs.Common.{◌≡◌, ℕ, ◌+◌, ◌≤◌, ◌<◌, ◌^◌, List, length, map, vec_len}
+use Rattle.std.proofs.Common.{◌+◌, ◌≤◌, length, map, vec_len}
 use Rattle.df_tok.specs.Token.{view}
 use Rattle.df_tok.proofs.Divisions.{Progress}
 use Rattle.df_tok.proofs.reader.tokens.Given as goal

@@ -1,7 +1,6 @@
 use Rattle.std.proofs.Common.{◌≡◌, ◌+◌, drop}
 use Rattle.std.specs.Prelude.{◌==◌, not}
 use Rattle.std.specs.List.{prefix_len}
-use Rattle.df_tok.specs.Byte as spec
 use Rattle.df_tok.proofs.run.line_len.Given as goal
 
 -- the bytes so far, and those in the rest
