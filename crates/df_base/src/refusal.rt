@@ -1,7 +1,11 @@
 //! How the front refuses a source.
 
+ghost use Rattle.std.specs.Prelude.{◌≡◌};
+ghost use Rattle.df_base.specs.declared.refusal.Stop.TheVariants.{Memory};
+
 use crate::name::Name;
 use crate::pos::Pos;
+use std::alloc::{AllocError, AllocFailed};
 
 /// What is wrong with a source. Each code is printed as `S` and its number.
 #[derive(Clone, Copy, Debug, PartialEq, Eq)]
@@ -61,4 +65,20 @@ pub struct Refusal {
 pub enum Stop {
     Refused(Refusal),
     Memory,
+}
+
+impl From<AllocError> for Stop {
+    ghost from_gives = { λ _ e. e ≡ Memory };
+
+    fn from(_error: AllocError) -> Stop {
+        Stop::Memory
+    }
+}
+
+impl<T: Drop> From<AllocFailed<T>> for Stop {
+    ghost from_gives = { λ _ e. e ≡ Memory };
+
+    fn from(_error: AllocFailed<T>) -> Stop {
+        Stop::Memory
+    }
 }

@@ -1,3 +1,4 @@
 pub use Rattle.df_base.specs.Outside
 pub use Rattle.df_meaning.specs.Run
 pub mod Gives
+pub mod Rest

@@ -3,3 +3,4 @@ pub use Rattle.df_tok.specs.Lexeme
 pub use Rattle.df_tok.specs.Division
 pub mod Tree
 pub mod Spelling
+pub mod Reading

@@ -1,0 +1,4 @@
+//! Reads the tree that tokens spell.
+
+mod cursor;
+mod text;
