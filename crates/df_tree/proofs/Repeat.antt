@@ -18,13 +18,13 @@ enough step s zero n rest hm hn = absurd (omega arith)
 enough step s (suc m) zero rest hm hn = absurd (omega arith)
 enough step s (suc m) (suc n) rest hm hn =
     same_steps (some_of step m) (some_of step n) (step rest) (λ x after e.
-      let d = s.falls rest after x e in enough step s m n after (omega arith) (omega arith))
+    let d = s.falls rest after x e in enough step s m n after (omega arith) (omega arith))
 
 pub all_of-step : {S X : Type 0} (step : List S → Option (Option X × List S)) → Shrinks step → (rest : List S) → all_of step rest ≡ (step rest >>= in_front (all_of step))
 unfolding some_of all_of
 all_of-step step s rest =
     same_steps (some_of step (length rest)) (all_of step) (step rest) (λ x after e.
-      let d = s.falls rest after x e in enough step s (length rest) (suc (length after)) after (omega arith) (omega arith))
+    let d = s.falls rest after x e in enough step s (length rest) (suc (length after)) after (omega arith) (omega arith))
 
 -- ---- as a loop makes it
 
@@ -72,7 +72,6 @@ pub complete : {S X : Type 0} (step : List S → Option (Option X × List S)) �
 complete step s One End one end [] rest after run = all_of-step step s rest ∙ rw (end rest after run) refl
 complete step s One End one end (x ∷ xs) rest after run =
     all_of-step step s rest ∙ rw (one x rest run.0 run.1, complete step s One End one end xs run.0 after run.2) refl
-
 
 -- ---- a step that found something
 

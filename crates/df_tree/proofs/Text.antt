@@ -38,11 +38,11 @@ one_sound c (b ∷ bytes) rest h =
       | inl p ↦ absurd (no_end c bytes rest p.1)
       | inr p ↦ elim (choice (b == 92) (escape_at bytes) (cond (is_plain_in_text b) (Some (Some b, bytes)) None) (Some (Some c, rest)) p.1) [
         | inl q ↦
-          let x = escape_sound bytes rest c q.1 in
-          record { part = Escape x.0; front = 92 ∷ x.0 ∷ []; split = ap (λ (n : ℕ). n ∷ bytes) (eqb-true b 92 q.0) ∙ ap (λ (bs : List ℕ). 92 ∷ bs) x.2; is = (x.1, refl) }
+            let x = escape_sound bytes rest c q.1 in
+            record { part = Escape x.0; front = 92 ∷ x.0 ∷ []; split = ap (λ (n : ℕ). n ∷ bytes) (eqb-true b 92 q.0) ∙ ap (λ (bs : List ℕ). 92 ∷ bs) x.2; is = (x.1, refl) }
         | inr q ↦ elim (choice (is_plain_in_text b) (Some (Some b, bytes)) None (Some (Some c, rest)) q.1) [
           | inl r ↦ finish_some (λ (d : ℕ) (k : List ℕ). One d (b ∷ bytes) k) b c bytes rest r.1
-            (record { part = Plain b; front = b ∷ []; split = refl; is = (r.0, refl, refl) })
+              (record { part = Plain b; front = b ∷ []; split = refl; is = (r.0, refl, refl) })
           | inr r ↦ absurd (let h : got (Some c) rest ≡ None = sym r.1 in cc)
         ]
       ]
@@ -94,11 +94,13 @@ part_long (Plain b) front c h = rw (h.1) (omega arith)
 part_long (Escape e) front c h = rw (h.1) (omega arith)
 
 pub part_shrinks : Shrinks part_at
-part_shrinks = record { falls = λ bytes rest c e.
-  let one = one_sound c bytes rest e in
-  let long = part_long one.part one.front c one.is in
-  let all : length bytes ≡ length one.front + length rest = ap length one.split ∙ length-append one.front rest in
-  omega arith }
+part_shrinks = record {
+  falls = λ bytes rest c e.
+      let one = one_sound c bytes rest e in
+      let long = part_long one.part one.front c one.is in
+      let all : length bytes ≡ length one.front + length rest = ap length one.split ∙ length-append one.front rest in
+      omega arith;
+}
 
 -- ---- all characters
 
@@ -106,17 +108,19 @@ run_parts : (cs bytes rest : List ℕ) → Run One End cs bytes rest → (parts 
 run_parts [] bytes rest run = ([], [], run, (refl, refl))
 run_parts (c ∷ cs) bytes rest run =
     let one = run.1 in
-    let more = run_parts cs run.0 rest run.2 in
-    (one.part ∷ more.0, one.front ++ more.1,
-     one.split ∙ ap (λ (bs : List ℕ). one.front ++ bs) more.2 ∙ sym (append_assoc one.front more.1 (34 ∷ rest)),
-     (one.front, more.1, c, cs, refl, refl, one.is, more.3))
+    let more = run_parts cs run.0 rest run.2 in (
+      one.part ∷ more.0,
+      one.front ++ more.1,
+      one.split ∙ ap (λ (bs : List ℕ). one.front ++ bs) more.2 ∙ sym (append_assoc one.front more.1 (34 ∷ rest)),
+      (one.front, more.1, c, cs, refl, refl, one.is, more.3),
+    )
 
 parts_run : (parts : List Part) (inner cs rest : List ℕ) → AreParts parts inner cs → Run One End cs (inner ++ (34 ∷ rest)) rest
 parts_run [] inner cs rest p = subst (λ (xs : List ℕ). Run One End xs (inner ++ (34 ∷ rest)) rest) (sym p.1) (ap (λ (bs : List ℕ). bs ++ (34 ∷ rest)) p.0)
 parts_run (part ∷ parts) inner cs rest p =
     let bytes : inner ++ (34 ∷ rest) ≡ p.0 ++ (p.1 ++ (34 ∷ rest)) = ap (λ (bs : List ℕ). bs ++ (34 ∷ rest)) p.4 ∙ append_assoc p.0 p.1 (34 ∷ rest) in
     subst (λ (xs : List ℕ). Run One End xs (inner ++ (34 ∷ rest)) rest) (sym p.5)
-      (p.1 ++ (34 ∷ rest), record { part = part; front = p.0; split = bytes; is = p.6 }, parts_run parts p.1 p.3 rest p.7)
+    (p.1 ++ (34 ∷ rest), record { part = part; front = p.0; split = bytes; is = p.6 }, parts_run parts p.1 p.3 rest p.7)
 
 pub characters_sound : (text cs : List ℕ) → characters_of text ≡ Some cs → IsText text cs
 unfolding characters_of
@@ -124,12 +128,12 @@ characters_sound [] cs h = absurd cc
 characters_sound (b ∷ bytes) cs h =
     elim (choice (b == 34) (all_of part_at bytes >>= whole) None (Some cs) h) [
       | inl p ↦
-        let found = bind_some (all_of part_at bytes) whole cs p.1 in
-        let w = whole_is found.0.0 found.0.1 cs found.2 in
-        let run = sound part_at One End one_sound end_sound bytes found.0.0 found.0.1 found.1 in
-        let q = run_parts found.0.0 bytes found.0.1 run in
-        let here : bytes ≡ q.1 ++ (34 ∷ []) = q.2 ∙ ap (λ (r : List ℕ). q.1 ++ (34 ∷ r)) w.1 in
-        (q.0, q.1, ap (λ (n : ℕ). n ∷ bytes) (eqb-true b 34 p.0) ∙ ap (λ (bs : List ℕ). 34 ∷ bs) here, subst (λ (xs : List ℕ). AreParts q.0 q.1 xs) w.0 q.3)
+          let found = bind_some (all_of part_at bytes) whole cs p.1 in
+          let w = whole_is found.0.0 found.0.1 cs found.2 in
+          let run = sound part_at One End one_sound end_sound bytes found.0.0 found.0.1 found.1 in
+          let q = run_parts found.0.0 bytes found.0.1 run in
+          let here : bytes ≡ q.1 ++ (34 ∷ []) = q.2 ∙ ap (λ (r : List ℕ). q.1 ++ (34 ∷ r)) w.1 in
+          (q.0, q.1, ap (λ (n : ℕ). n ∷ bytes) (eqb-true b 34 p.0) ∙ ap (λ (bs : List ℕ). 34 ∷ bs) here, subst (λ (xs : List ℕ). AreParts q.0 q.1 xs) w.0 q.3)
       | inr p ↦ absurd cc
     ]
 
