@@ -1,7 +1,7 @@
 //! The tokens that are still to be read.
 
 ghost use Rattle.std.specs.Prelude.{◌≡◌, ℕ, IsTrue};
-ghost use Rattle.df_top.specs.Gives.{Gives};
+ghost use Rattle.df_top.specs.Reads.{Reads};
 ghost use Rattle.df_top.specs.Rest.{rest_of};
 ghost use Rattle.df_tree.specs.Reading.{is_word, is_sign, word_at, sign_at, optional_word, optional_sign, name_at, number_at, text_at, member_at, kind_at};
 
@@ -47,6 +47,13 @@ pub(crate) struct Cursor<'t, 's> {
 }
 
 impl<'t, 's> Cursor<'t, 's> {
+    /// At the first of the tokens; `end` is the place of the last one.
+    pub(crate) fn new(tokens: &'t [Token<'s>], end: Pos) -> Self
+        ensures { result.rest.now ≡ tokens.now }
+    {
+        Cursor { rest: tokens, end }
+    }
+
     /// The kind of the next token.
     pub(crate) fn kind(&self) -> Option<Kind>
         ensures { result ≡ kind_at (rest_of self.now) }
@@ -57,40 +64,39 @@ impl<'t, 's> Cursor<'t, 's> {
         }
     }
 
-    /// A refusal at the next token.
-    pub(crate) fn syntax(&self) -> Stop
-    {
+    /// The place of the next token, or of the last one where none is left.
+    pub(crate) fn place(&self) -> Pos {
         match self.rest {
-            [] => syntax(self.end),
-            [token, ..] => syntax(token.pos),
+            [] => self.end,
+            [token, ..] => token.pos,
         }
     }
 
     /// Takes the word.
     #[tactic(auto, unfolding(df_tree::specs::Reading::word_at))]
     pub(crate) fn word(&mut self, word: Word) -> Result<(), Stop>
-        ensures { Gives (λ _. rest_of self.new) result (word_at word (rest_of self.old)) }
+        ensures { Reads (λ _. rest_of self.new) result (word_at word (rest_of self.old)) }
     {
         match self.rest {
             [token, rest @ ..] if is_word(token.kind, word) => {
                 self.rest = rest;
                 Ok(())
             }
-            _ => Err(self.syntax()),
+            _ => Err(syntax(self.place())),
         }
     }
 
     /// Takes the sign.
     #[tactic(auto, unfolding(df_tree::specs::Reading::sign_at))]
     pub(crate) fn sign(&mut self, sign: Sign) -> Result<(), Stop>
-        ensures { Gives (λ _. rest_of self.new) result (sign_at sign (rest_of self.old)) }
+        ensures { Reads (λ _. rest_of self.new) result (sign_at sign (rest_of self.old)) }
     {
         match self.rest {
             [token, rest @ ..] if is_sign(token.kind, sign) => {
                 self.rest = rest;
                 Ok(())
             }
-            _ => Err(self.syntax()),
+            _ => Err(syntax(self.place())),
         }
     }
 
@@ -125,10 +131,10 @@ impl<'t, 's> Cursor<'t, 's> {
     /// Takes a name.
     #[tactic(auto, unfolding(df_tree::specs::Reading::name_at))]
     pub(crate) fn name(&mut self) -> Result<Ident, Stop>
-        ensures { Gives (λ x. (x, rest_of self.new)) result (name_at (rest_of self.old)) }
+        ensures { Reads (λ x. (x, rest_of self.new)) result (name_at (rest_of self.old)) }
     {
         let [token, rest @ ..] = self.rest else {
-            return Err(self.syntax());
+            return Err(syntax(self.place()));
         };
         let pos = token.pos;
         match token.kind {
@@ -143,10 +149,10 @@ impl<'t, 's> Cursor<'t, 's> {
     /// Takes a number, and says at which place it stood.
     #[tactic(auto, unfolding(df_tree::specs::Reading::number_at))]
     pub(crate) fn number(&mut self) -> Result<(u128, Pos), Stop>
-        ensures { Gives (λ x. ((x.0, x.1), rest_of self.new)) result (number_at (rest_of self.old)) }
+        ensures { Reads (λ x. ((x.0, x.1), rest_of self.new)) result (number_at (rest_of self.old)) }
     {
         let [token, rest @ ..] = self.rest else {
-            return Err(self.syntax());
+            return Err(syntax(self.place()));
         };
         let pos = token.pos;
         match token.kind {
@@ -161,10 +167,10 @@ impl<'t, 's> Cursor<'t, 's> {
     /// Takes a string literal, and gives its characters.
     #[tactic(auto, unfolding(df_tree::specs::Reading::text_at))]
     pub(crate) fn text(&mut self, alloc: Global) -> Result<Vec<u8>, Stop>
-        ensures { Gives (λ x. (x.items, rest_of self.new)) result (text_at (rest_of self.old)) }
+        ensures { Reads (λ x. (x.items, rest_of self.new)) result (text_at (rest_of self.old)) }
     {
         let [token, rest @ ..] = self.rest else {
-            return Err(self.syntax());
+            return Err(syntax(self.place()));
         };
         let pos = token.pos;
         match token.kind {
@@ -180,10 +186,10 @@ impl<'t, 's> Cursor<'t, 's> {
     /// Takes a number or a name.
     #[tactic(auto, unfolding(df_tree::specs::Reading::member_at))]
     pub(crate) fn member(&mut self) -> Result<Member, Stop>
-        ensures { Gives (λ x. (x, rest_of self.new)) result (member_at (rest_of self.old)) }
+        ensures { Reads (λ x. (x, rest_of self.new)) result (member_at (rest_of self.old)) }
     {
         let [token, rest @ ..] = self.rest else {
-            return Err(self.syntax());
+            return Err(syntax(self.place()));
         };
         let pos = token.pos;
         let member = match token.kind {

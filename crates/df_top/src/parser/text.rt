@@ -3,7 +3,7 @@
 ghost use Rattle.std.specs.Prelude.{◌≡◌, Option, Some, None};
 ghost use Rattle.df_tok.specs.Byte.{is_plain_in_text, escaped};
 ghost use Rattle.df_tree.specs.Reading.{escape_at, part_at, characters_of, all_of};
-ghost use Rattle.df_top.specs.Gives.{Gives};
+ghost use Rattle.df_top.specs.Reads.{Reads};
 
 use super::cursor::syntax;
 use df_base::{Global, Pos, Stop};
@@ -40,7 +40,7 @@ impl Parts<'_> {
     /// Takes the letter of an escape.
     #[tactic(auto, unfolding(df_tree::specs::Reading::escape_at))]
     fn escape(&mut self) -> Result<Option<u8>, Stop>
-        ensures { Gives (λ x. (x, self.new.rest.now)) result (escape_at self.old.rest.now) }
+        ensures { Reads (λ x. (x, self.new.rest.now)) result (escape_at self.old.rest.now) }
     {
         let [letter, rest @ ..] = self.rest else {
             return Err(syntax(self.pos));
@@ -57,7 +57,7 @@ impl Parts<'_> {
     /// Takes the next character, or the closing quote for none.
     #[tactic(auto, unfolding(df_tree::specs::Reading::part_at))]
     fn next(&mut self) -> Result<Option<u8>, Stop>
-        ensures { Gives (λ x. (x, self.new.rest.now)) result (part_at self.old.rest.now) }
+        ensures { Reads (λ x. (x, self.new.rest.now)) result (part_at self.old.rest.now) }
     {
         let [byte, rest @ ..] = self.rest else {
             return Err(syntax(self.pos));
@@ -73,7 +73,7 @@ impl Parts<'_> {
 
     /// Takes all characters, and the closing quote.
     fn all(&mut self, alloc: Global) -> Result<Vec<u8>, Stop>
-        ensures { Gives (λ x. (x.items, self.new.rest.now)) result (all_of part_at self.old.rest.now) }
+        ensures { Reads (λ x. (x.items, self.new.rest.now)) result (all_of part_at self.old.rest.now) }
     {
         let mut characters = Vec::new(alloc);
         while let Some(character) = self.next()? {
@@ -87,7 +87,7 @@ impl Parts<'_> {
 /// refused where the bytes are no string literal.
 #[tactic(auto, unfolding(df_tree::specs::Reading::characters_of))]
 pub(crate) fn characters(alloc: Global, text: &[u8], pos: Pos) -> Result<Vec<u8>, Stop>
-    ensures { Gives (λ x. x.items) result (characters_of text.now) }
+    ensures { Reads (λ x. x.items) result (characters_of text.now) }
 {
     let [b'"', rest @ ..] = text else {
         return Err(syntax(pos));
