@@ -12,3 +12,5 @@ pub mod Parts
 pub mod Named
 pub mod Elaborated
 pub mod Sources
+pub mod Loop
+pub mod Refusals

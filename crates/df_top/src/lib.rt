@@ -12,6 +12,5 @@ mod silent;
 #[cfg(test)]
 mod tests;
 
-
 pub use command::top;
 pub use reading::one_program;

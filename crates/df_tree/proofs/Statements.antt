@@ -121,11 +121,11 @@ stmt_complete (Print os) tokens rest is eats =
 abbrev pub close : List Wanted
 close = TheSign signs.CloseBrace ∷ []
 
-next_by : (o : Option Pos × List Token) (x : Stmt) (tokens rest : List Token) → optional_sign signs.CloseBrace tokens ≡ o → stmt_after tokens o ≡ Some (Some x, rest) → Eats (spell_stmt x) tokens rest × IsStmt x
+next_by : (o : Option Pos × List Token) (x : Stmt) (tokens rest : List Token) → optional_sign signs.CloseBrace tokens ≡ o → stmt_after o ≡ Some (Some x, rest) → Eats (spell_stmt x) tokens rest × IsStmt x
 next_by (Some pos, after) x tokens rest h e = absurd (no_end x after rest e)
 next_by (None, after) x tokens rest h e =
-    let b = bind_some (stmt_at tokens) (λ stmt. got (Some stmt.0) stmt.1) (Some x, rest) e in
-    finish_some (λ (y : Stmt) (r : List Token). Eats (spell_stmt y) tokens r × IsStmt y) b.0.0 x b.0.1 rest b.2 (stmt_sound b.0.0 tokens b.0.1 b.1)
+    let b = bind_some (stmt_at after) (λ stmt. got (Some stmt.0) stmt.1) (Some x, rest) e in
+    finish_some (λ (y : Stmt) (r : List Token). Eats (spell_stmt y) tokens r × IsStmt y) b.0.0 x b.0.1 rest b.2 (subst (λ (ts : List Token). Eats (spell_stmt b.0.0) ts b.0.1 × IsStmt b.0.0) (sym (optional_sign_none signs.CloseBrace tokens after h)) (stmt_sound b.0.0 after b.0.1 b.1))
 
 pub next_sound : (x : Stmt) (tokens rest : List Token) → next_stmt tokens ≡ Some (Some x, rest) → Eats (spell_stmt x) tokens rest × IsStmt x
 unfolding next_stmt
@@ -135,12 +135,12 @@ pub without_place : (sign : Sign) (pos : Pos) (tokens rest : List Token) → Eat
 without_place sign pos [] rest p = absurd p
 without_place sign pos (t ∷ tokens) rest p = (p.0.0, p.1)
 
-close_by : (o : Option Pos × List Token) (tokens rest : List Token) → optional_sign signs.CloseBrace tokens ≡ o → stmt_after tokens o ≡ Some (None, rest) → Eats close tokens rest
+close_by : (o : Option Pos × List Token) (tokens rest : List Token) → optional_sign signs.CloseBrace tokens ≡ o → stmt_after o ≡ Some (None, rest) → Eats close tokens rest
 close_by (Some pos, after) tokens rest h e =
     let there : after ≡ rest = ap (λ (z : Option Stmt × List Token). z.1) (some_is (None, after) (None, rest) e) in
     without_place signs.CloseBrace pos tokens rest (optional_sign_sound signs.CloseBrace tokens rest pos (h ∙ ap (λ (ts : List Token). (Some pos, ts)) there))
 close_by (None, after) tokens rest h e =
-    let b = bind_some (stmt_at tokens) (λ stmt. got (Some stmt.0) stmt.1) (None, rest) e in
+    let b = bind_some (stmt_at after) (λ stmt. got (Some stmt.0) stmt.1) (None, rest) e in
     absurd (no_find b.0.0 b.0.1 rest b.2)
 
 pub close_sound : (tokens rest : List Token) → next_stmt tokens ≡ Some (None, rest) → Eats close tokens rest
@@ -150,7 +150,7 @@ close_sound tokens rest e = close_by (optional_sign signs.CloseBrace tokens) tok
 pub close_complete : (tokens rest : List Token) → Eats close tokens rest → next_stmt tokens ≡ Some (None, rest)
 unfolding next_stmt
 close_complete [] rest p = absurd p
-close_complete (t ∷ tokens) rest p = ap (stmt_after (t ∷ tokens)) (optional_sign_complete signs.CloseBrace t.pos (t ∷ tokens) rest ((p.0, refl), p.1))
+close_complete (t ∷ tokens) rest p = ap stmt_after (optional_sign_complete signs.CloseBrace t.pos (t ∷ tokens) rest ((p.0, refl), p.1))
 
 opens : (x : Stmt) (tokens rest : List Token) → Eats (spell_stmt x) tokens rest → NotSign signs.CloseBrace tokens
 opens (Var local ty value) tokens rest eats = word_no_sign signs.CloseBrace words.Var (spell_names (local, ty) ++ (TheSign signs.Assign ∷ (spell_expr value ++ TheSign signs.Semicolon ∷ []))) tokens rest eats
@@ -158,7 +158,7 @@ opens (Print os) tokens rest eats = word_no_sign signs.CloseBrace words.Print (s
 
 pub next_complete : (x : Stmt) (tokens rest : List Token) → IsStmt x → Eats (spell_stmt x) tokens rest → next_stmt tokens ≡ Some (Some x, rest)
 unfolding next_stmt
-next_complete x tokens rest is eats = ap (stmt_after tokens) (opens x tokens rest eats) ∙ rw (stmt_complete x tokens rest is eats) refl
+next_complete x tokens rest is eats = ap stmt_after (opens x tokens rest eats) ∙ rw (stmt_complete x tokens rest is eats) refl
 
 stmt_long : (x : Stmt) → 0 < length (spell_stmt x)
 stmt_long (Var local ty value) = omega arith

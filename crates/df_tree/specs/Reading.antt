@@ -197,13 +197,13 @@ stmt_by _ tokens = None
 unfoldable pub stmt_at : List Token → Read Stmt
 stmt_at tokens = stmt_by (kind_at tokens) tokens
 
-abbrev pub stmt_after : List Token → Option Pos × List Token → Read (Option Stmt)
-stmt_after tokens (Some pos, rest) = Some (None, rest)
-stmt_after tokens (None, rest) = stmt_at tokens >>= λ stmt. Some (Some stmt.0, stmt.1)
+abbrev pub stmt_after : Option Pos × List Token → Read (Option Stmt)
+stmt_after (Some pos, rest) = Some (None, rest)
+stmt_after (None, rest) = stmt_at rest >>= λ stmt. Some (Some stmt.0, stmt.1)
 
 -- the next statement, or the end at a closing brace
 unfoldable pub next_stmt : List Token → Read (Option Stmt)
-next_stmt tokens = stmt_after tokens (optional_sign signs.CloseBrace tokens)
+next_stmt tokens = stmt_after (optional_sign signs.CloseBrace tokens)
 
 -- ---- declarations
 
