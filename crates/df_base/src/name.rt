@@ -7,19 +7,8 @@ use indexmap::IndexSet;
 use std::alloc::Global;
 use std::marker::Model;
 
-/// A name of the source, as its number in the `Names` that interned it.
-#[derive(Clone, Copy, Debug, PartialEq, Eq, PartialOrd, Ord, Hash)]
-pub struct Name {
-    number: u32,
-}
-
-impl Model for Name {
-    ghost Value = { ℕ };
-
-    ghost view = { λ n. n.number };
-
-    ghost inverse = { λ n. record { number = n } };
-}
+/// A name of the source: its number in the `Names` that interned it.
+pub type Name = u32;
 
 /// The texts of the names, each once, in order of first use.
 #[derive(Drop)]
@@ -62,14 +51,10 @@ impl Names {
         ensures err { OnErr result (self.new ≡ self.old) }
     {
         if let Some(number) = self.texts.get_index_of(text) {
-            return Ok(Name {
-                number: number as u32,
-            });
+            return Ok(number as Name);
         }
         let (number, _) = self.texts.insert_full(String::from_str(self.alloc, text)?)?;
-        Ok(Name {
-            number: number as u32,
-        })
+        Ok(number as Name)
     }
 
     /// How many names there are.
@@ -85,6 +70,6 @@ impl Names {
         requires { name < length self.now }
         ensures { slice_get self.now name ≡ Some result.now }
     {
-        self.texts.get_index(name.number as usize).unwrap().as_str()
+        self.texts.get_index(name as usize).unwrap().as_str()
     }
 }
