@@ -1,1 +1,3 @@
+pub mod FakesLemmas
 pub mod NamesLemmas
+pub mod WriteLemmas

@@ -1,3 +1,5 @@
+pub mod Fakes
 pub mod Names
 pub mod Outside
 pub mod Status
+pub mod Stored

@@ -1,5 +1,6 @@
 -- What the outside holds and takes, and what its counts of faults say.
-use Rattle.std.specs.Prelude.{◌≡◌, ℕ, ◌+◌, ◌-◌, ◌^◌, ◌<◌, ◌≤◌, ◌⊎◌, List, [], ◌∷◌, ◌++◌, Option, Some, None, IfSome, length, take, cond}
+use Rattle.std.specs.Prelude.{◌≡◌, ℕ, ◌-◌, ◌^◌, ◌<◌, ◌≤◌, ◌⊎◌, List, [], ◌∷◌, ◌++◌, Option, Some, None, take, cond}
+use Rattle.std.specs.Io.KnownBytes as known
 use Rattle.df_base.specs.Names.{same_text}
 
 -- a map from the names of files to their bytes: the first pair of a name counts
@@ -25,3 +26,7 @@ Appends (Some old) new bytes = new ≡ Some (old ++ bytes)
 -- the same with a prefix of the bytes
 abbrev pub AppendsPrefix : Option (List ℕ) → Option (List ℕ) → List ℕ → Type 0
 AppendsPrefix old new bytes = (count : ℕ) × Appends old new (take count bytes)
+
+-- known bytes grow by a prefix of the bytes
+abbrev pub AppendsKnownPrefix : Option (List ℕ) → Option (List ℕ) → List ℕ → Type 0
+AppendsKnownPrefix old new bytes = (count : ℕ) × known.Appends old new (take count bytes)

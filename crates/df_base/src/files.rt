@@ -2,9 +2,19 @@
 
 ghost use Rattle.std.specs.Prelude.{◌≡◌, ◌≢◌, None, ℕ, ◌+◌, ◌<◌, ◌≤◌, List, Option, Some, length, vec_len, IfOk, IfSome, Err};
 ghost use Rattle.df_base.specs.Outside.{Contents, bytes_of, HasCause};
-ghost use Rattle.df_base.specs.declared.files.LoadFault.TheVariants.{Failed, Large};
+ghost use Rattle.df_base.specs.declared.files.LoadFault.TheVariants.{Failed, Large, Memory};
 
-use std::alloc::Global;
+mod host;
+mod mem;
+mod read;
+mod store;
+mod sure;
+
+pub use host::HostFiles;
+pub use mem::MemFiles;
+pub use read::read_all;
+use std::alloc::{AllocError, Global};
+pub use sure::SureFiles;
 use thiserror::Error;
 
 /// Why a file was not loaded.
@@ -18,6 +28,14 @@ pub enum LoadFault {
     Large(u64),
     #[error("out of memory")]
     Memory,
+}
+
+impl From<AllocError> for LoadFault {
+    ghost from_gives = { λ _ fault. fault ≡ Memory };
+
+    fn from(_error: AllocError) -> LoadFault {
+        LoadFault::Memory
+    }
 }
 
 /// A place that files are read from.

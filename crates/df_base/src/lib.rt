@@ -9,12 +9,14 @@ mod pos;
 mod refusal;
 mod sink;
 mod status;
+#[cfg(test)]
+mod tests;
 
-pub use files::{Files, LoadFault};
+pub use files::{Files, HostFiles, LoadFault, MemFiles, SureFiles, read_all};
 pub use memory::Memory;
 pub use name::{Name, Names};
 pub use pos::Pos;
 pub use refusal::{Code, Detail, Refusal, Stop};
-pub use sink::{Sink, SinkFault};
+pub use sink::{HostSink, MemSink, Sink, SinkFault, SureSink, write_all};
 pub use status::Status;
 pub use std::alloc::Global;

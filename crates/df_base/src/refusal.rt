@@ -1,7 +1,12 @@
 //! How the front refuses a source.
 
+ghost use Rattle.std.specs.Prelude.{◌≡◌};
+ghost use Rattle.df_base.specs.declared.refusal.Stop.TheVariants.{Memory as out_of_memory};
+
+use crate::memory::Memory;
 use crate::name::Name;
 use crate::pos::Pos;
+use std::alloc::{AllocError, AllocFailed};
 
 /// What is wrong with a source. Each code is printed as `S` and its number.
 #[derive(Clone, Copy, Debug, PartialEq, Eq)]
@@ -61,4 +66,28 @@ pub struct Refusal {
 pub enum Stop {
     Refused(Refusal),
     Memory,
+}
+
+impl From<Memory> for Stop {
+    ghost from_gives = { λ _ stop. stop ≡ out_of_memory };
+
+    fn from(_memory: Memory) -> Stop {
+        Stop::Memory
+    }
+}
+
+impl From<AllocError> for Stop {
+    ghost from_gives = { λ _ stop. stop ≡ out_of_memory };
+
+    fn from(_error: AllocError) -> Stop {
+        Stop::Memory
+    }
+}
+
+impl<T: Drop> From<AllocFailed<T>> for Stop {
+    ghost from_gives = { λ _ stop. stop ≡ out_of_memory };
+
+    fn from(_error: AllocFailed<T>) -> Stop {
+        Stop::Memory
+    }
 }

@@ -4,7 +4,17 @@ ghost use Rattle.std.specs.Prelude.{◌≡◌, ℕ, Bool, IsTrue, List, Option, 
 ghost use Rattle.df_base.specs.Outside.{HasCause, Appends, AppendsPrefix};
 ghost use Rattle.df_base.specs.declared.sink.SinkFault.TheVariants.{Failed, Memory};
 
+mod host;
+mod mem;
+mod sure;
+mod write;
+
+pub use host::HostSink;
+pub use mem::MemSink;
+use std::alloc::AllocError;
+pub use sure::SureSink;
 use thiserror::Error;
+pub use write::write_all;
 
 /// Why bytes were not taken.
 #[derive(Debug, Drop, Error)]
@@ -15,6 +25,14 @@ pub enum SinkFault {
     /// Memory was refused, and nothing was taken.
     #[error("out of memory")]
     Memory,
+}
+
+impl From<AllocError> for SinkFault {
+    ghost from_gives = { λ _ fault. fault ≡ Memory };
+
+    fn from(_error: AllocError) -> SinkFault {
+        SinkFault::Memory
+    }
 }
 
 /// A place that bytes are written to.

@@ -1,7 +1,6 @@
-use Rattle.std.proofs.Common.{◌≡◌, Some, refl, sym, ap, ◌∙◌, slice_get, map}
+use Rattle.std.proofs.Common.{Some, sym, ap, ◌∙◌}
 use Rattle.std.proofs.lemmas.Option.{slice_get-map}
 use Rattle.std.specs.String.{string_bytes}
-use Rattle.df_base.specs.Names.{with_text, IsDistinct}
 use Rattle.df_base.proofs.NamesLemmas.{IsDistinct-keys, slice_get-found, texts-kept, texts-insert, same_text-equal}
 use Rattle.df_base.proofs.name.Names.intern.Goals as goal
 

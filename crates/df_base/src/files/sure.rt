@@ -1,0 +1,73 @@
+//! Files in memory, of which no load fails.
+
+ghost use Rattle.std.specs.Prelude.{◌≡◌, ◌≢◌, ℕ, ◌+◌, ◌<◌, ◌≤◌, List, [], ◌∷◌, Some, None, Err, length, vec_len, IfOk, IfSome, OnOk, OnErr};
+ghost use Rattle.df_base.specs.Outside.{bytes_of, HasCause};
+ghost use Rattle.df_base.specs.Fakes.{bytes_or_none};
+ghost use Rattle.df_base.specs.declared.files.LoadFault.TheVariants.{Failed, Large};
+
+use super::store::{Store, copy_within};
+use super::{Files, LoadFault};
+use crate::memory::Memory;
+use std::alloc::Global;
+use std::marker::Model;
+
+/// Files in memory, of which no load fails: a name that has no file is loaded as an empty one.
+#[derive(Drop)]
+pub struct SureFiles {
+    store: Store,
+}
+
+impl Model for SureFiles {
+    ghost use Rattle.df_base.specs.Outside.{Contents};
+    ghost use Rattle.std.specs.Prelude.{ℕ, List};
+
+    ghost Value = { List (List ℕ × List ℕ) };
+
+    ghost view = { λ s. s.store };
+}
+
+impl SureFiles {
+    /// No files.
+    pub fn new(alloc: Global) -> SureFiles
+        ensures { result ≡ [] }
+    {
+        SureFiles {
+            store: Store::new(alloc),
+        }
+    }
+
+    /// Adds a file. A file of the same name that stood there before is no longer loaded.
+    pub fn add(&mut self, name: &str, bytes: &[u8]) -> Result<(), Memory>
+        ensures ok { OnOk result (self.new ≡ (name.now, bytes.now) ∷ self.old) }
+        ensures err { OnErr result (self.new ≡ self.old) }
+    {
+        self.store.add(name, bytes)
+    }
+}
+
+impl Files for SureFiles {
+    // A name that has no file gives bytes too, so what it holds is told by clauses of its own.
+    ghost holds = { λ _. None };
+
+    ghost fault_count = { λ _. 0 };
+
+    ghost allowed = { λ _ _. Unit {0} };
+
+    fn faults(&self) -> u64
+        ensures { result ≡ 0 }
+    {
+        0
+    }
+
+    fn load(&mut self, alloc: Global, name: &str, limit: u64) -> Result<Vec<u8>, LoadFault>
+        ensures given { IfOk result (λ bytes. bytes.items ≡ bytes_or_none self.old name.now) }
+        ensures within { IfOk result (λ bytes. vec_len bytes ≤ limit) }
+        ensures large { (n : ℕ) → result ≡ Err (Large n) → n ≡ limit + 1 }
+        ensures over { (n : ℕ) → result ≡ Err (Large n) → limit < length (bytes_or_none self.old name.now) }
+        ensures sure { result ≢ Err Failed }
+        ensures kept { self.new ≡ self.old }
+    {
+        let bytes = self.store.find(name).unwrap_or(&[]);
+        copy_within(alloc, bytes, limit)
+    }
+}
