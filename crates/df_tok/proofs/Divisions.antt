@@ -9,10 +9,8 @@ use Rattle.df_tok.specs.declared.token.Kind.TheVariants as kinds
 use Rattle.df_tok.specs.Token.{Token, HasKind}
 use Rattle.df_tok.specs.Scanned.{Grows}
 use Rattle.df_tok.specs.Division.{after_bytes, start, Piece, Blank, LineComment, BlockComment, Lexeme, text_of, IsPiece, AreDivided, tokens_of, Divides}
-use Rattle.df_tok.specs.Steps.{token_of, NextPiece, CannotAdd, kindless, full, NoPiece, Exceeds}
-use Rattle.df_tok.specs.declared.scan.Form.{Form}
-use Rattle.df_tok.specs.declared.scan.Front.TheVariants.{Lexeme as Lexed}
-use Rattle.df_tok.specs.Scanning.{front_at}
+use Rattle.df_tok.specs.Fault.{IsFront, after_pieces}
+use Rattle.df_tok.specs.Steps.{token_of, NextPiece, NoPiece, Exceeds}
 use Rattle.df_tok.proofs.Lists.{Parts-take}
 use Rattle.df_tok.proofs.Pieces.{one_piece, lex_next, lexeme_next, no_kind_next, no_piece_of_nothing}
 
@@ -24,38 +22,28 @@ tokens_cons pos (LineComment text) pieces = refl
 tokens_cons pos (BlockComment text) pieces = refl
 tokens_cons pos (Lexeme kind text) pieces = refl
 
-abbrev pub place_after : Pos → List Piece → Pos
-place_after pos [] = pos
-place_after pos (piece ∷ pieces) = place_after (after_bytes pos (text_of piece)) pieces
-
-pub tokens_append : (pos : Pos) (pieces more : List Piece) → tokens_of pos (pieces ++ more) ≡ tokens_of pos pieces ++ tokens_of (place_after pos pieces) more
+pub tokens_append : (pos : Pos) (pieces more : List Piece) → tokens_of pos (pieces ++ more) ≡ tokens_of pos pieces ++ tokens_of (after_pieces pos pieces) more
 tokens_append pos [] more = refl
 tokens_append pos (piece ∷ pieces) more =
     let next = after_bytes pos (text_of piece) in
     tokens_cons pos piece (pieces ++ more) ∙ ap (λ (t : List Token). token_of pos piece ++ t) (tokens_append next pieces more)
-    ∙ sym (append_assoc (token_of pos piece) (tokens_of next pieces) (tokens_of (place_after next pieces) more))
-    ∙ ap (λ (t : List Token). t ++ tokens_of (place_after next pieces) more) (sym (tokens_cons pos piece pieces))
+    ∙ sym (append_assoc (token_of pos piece) (tokens_of next pieces) (tokens_of (after_pieces next pieces) more))
+    ∙ ap (λ (t : List Token). t ++ tokens_of (after_pieces next pieces) more) (sym (tokens_cons pos piece pieces))
 
-place_append : (pos : Pos) (pieces : List Piece) (piece : Piece) → place_after pos (pieces ++ piece ∷ []) ≡ after_bytes (place_after pos pieces) (text_of piece)
+place_append : (pos : Pos) (pieces : List Piece) (piece : Piece) → after_pieces pos (pieces ++ piece ∷ []) ≡ after_bytes (after_pieces pos pieces) (text_of piece)
 place_append pos [] piece = refl
 place_append pos (p ∷ pieces) piece = place_append (after_bytes pos (text_of p)) pieces piece
 
 -- ---- a front of the source
 
--- the pieces are a front of the source, with the rest and the names after them
-abbrev pub Reaches : List (List ℕ) → List ℕ → List Piece → List ℕ → List (List ℕ) → Type 0
-Reaches before source [] rest after = (source ≡ rest) × (after ≡ before)
-Reaches before source (piece ∷ pieces) rest after =
-    (next : List ℕ) × (between : List (List ℕ)) × (source ≡ text_of piece ++ next) × IsPiece before piece next between × Reaches between next pieces rest after
-
 reach_on : (before : List (List ℕ)) (source : List ℕ) (pieces : List Piece) (rest : List ℕ) (between : List (List ℕ)) (piece : Piece) (next : List ℕ) (after : List (List ℕ))
-    → Reaches before source pieces rest between → rest ≡ text_of piece ++ next → IsPiece between piece next after → Reaches before source (pieces ++ piece ∷ []) next after
+    → IsFront before source pieces rest between → rest ≡ text_of piece ++ next → IsPiece between piece next after → IsFront before source (pieces ++ piece ∷ []) next after
 reach_on before source [] rest between piece next after (is, kept) e h =
     (next, after, is ∙ e, subst (λ (n : List (List ℕ)). IsPiece n piece next after) kept h, (refl, refl))
 reach_on before source (p ∷ pieces) rest between piece next after (n, b, is, first, others) e h =
     (n, b, is, first, reach_on b n pieces rest between piece next after others e h)
 
-reach_all : (before : List (List ℕ)) (source : List ℕ) (pieces : List Piece) (rest : List ℕ) (after : List (List ℕ)) → Reaches before source pieces rest after → rest ≡ [] → AreDivided before source pieces after
+reach_all : (before : List (List ℕ)) (source : List ℕ) (pieces : List Piece) (rest : List ℕ) (after : List (List ℕ)) → IsFront before source pieces rest after → rest ≡ [] → AreDivided before source pieces after
 reach_all before source [] rest after (is, kept) e = (is ∙ e, kept)
 reach_all before source (piece ∷ pieces) rest after (n, b, is, first, others) e = (n, b, is, first, reach_all b n pieces rest after others e)
 
@@ -63,10 +51,10 @@ reach_all before source (piece ∷ pieces) rest after (n, b, is, first, others) 
 pub record Splits (source : List ℕ) (pieces others : List Piece) (rest : List ℕ) (between after : List (List ℕ)) : Type 0 where
   pub more : List Piece
   pub divided : AreDivided between rest more after
-  pub tokens : (pos : Pos) → tokens_of pos others ≡ tokens_of pos pieces ++ tokens_of (place_after pos pieces) more
+  pub tokens : (pos : Pos) → tokens_of pos others ≡ tokens_of pos pieces ++ tokens_of (after_pieces pos pieces) more
 
 pub split : (before : List (List ℕ)) (source : List ℕ) (pieces others : List Piece) (rest : List ℕ) (between after : List (List ℕ))
-    → Reaches before source pieces rest between → AreDivided before source others after → Splits source pieces others rest between after
+    → IsFront before source pieces rest between → AreDivided before source others after → Splits source pieces others rest between after
 split before source [] others rest between after (is, kept) d = record {
   more = others;
   divided = subst (λ (n : List (List ℕ)). AreDivided n rest others after) (sym kept) (subst (λ (t : List ℕ). AreDivided before t others after) is d);
@@ -86,11 +74,11 @@ split before source (piece ∷ pieces) (other ∷ others) rest between after (n,
           ∙ ap (λ (t : List Token). t ++ tokens_of (after_bytes pos (text_of other)) others) (sym (s.token pos))
           ∙ ap (λ (t : List ℕ). token_of pos piece ++ tokens_of (after_bytes pos t) others) (sym s.text)
           ∙ ap (λ (t : List Token). token_of pos piece ++ t) (r.tokens next)
-          ∙ sym (append_assoc (token_of pos piece) (tokens_of next pieces) (tokens_of (place_after next pieces) r.more))
-          ∙ ap (λ (t : List Token). t ++ tokens_of (place_after next pieces) r.more) (sym (tokens_cons pos piece pieces));
+          ∙ sym (append_assoc (token_of pos piece) (tokens_of next pieces) (tokens_of (after_pieces next pieces) r.more))
+          ∙ ap (λ (t : List Token). t ++ tokens_of (after_pieces next pieces) r.more) (sym (tokens_cons pos piece pieces));
     }
 
-reach_divided : (before : List (List ℕ)) (source : List ℕ) (pieces : List Piece) (after : List (List ℕ)) → AreDivided before source pieces after → Reaches before source pieces [] after
+reach_divided : (before : List (List ℕ)) (source : List ℕ) (pieces : List Piece) (after : List (List ℕ)) → AreDivided before source pieces after → IsFront before source pieces [] after
 reach_divided before source [] after h = h
 reach_divided before source (piece ∷ pieces) after (n, b, is, first, others) = (n, b, is, first, reach_divided b n pieces after others)
 
@@ -103,16 +91,16 @@ pub one_division : (before : List (List ℕ)) (source : List ℕ) (tokens others
 one_division before source tokens others after last (pieces, d, is) (pieces', d', is') =
     let s = split before source pieces pieces' [] after last (reach_divided before source pieces after d) d' in
     let e = nothing_left after s.more last s.divided in
-    (is ∙ sym (append-nil (tokens_of start pieces)) ∙ ap (λ (m : List Piece). tokens_of start pieces ++ tokens_of (place_after start pieces) m) (sym e.0) ∙ sym (s.tokens start) ∙ sym is', sym e.1)
+    (is ∙ sym (append-nil (tokens_of start pieces)) ∙ ap (λ (m : List Piece). tokens_of start pieces ++ tokens_of (after_pieces start pieces) m) (sym e.0) ∙ sym (s.tokens start) ∙ sym is', sym e.1)
 
 -- ---- as a loop does
 
 -- how far a loop has come
 pub record Progress (before : List (List ℕ)) (source : List ℕ) (tokens : List Token) (rest : List ℕ) (pos : Pos) (names : List (List ℕ)) : Type 0 where
   pub pieces : List Piece
-  pub reaches : Reaches before source pieces rest names
+  pub reaches : IsFront before source pieces rest names
   pub tokens_are : tokens ≡ tokens_of start pieces
-  pub pos_is : pos ≡ place_after start pieces
+  pub pos_is : pos ≡ after_pieces start pieces
 
 pub progress_none : (names : List (List ℕ)) (source : List ℕ) → Progress names source [] source start names
 progress_none names source = record { pieces = []; reaches = (refl, refl); tokens_are = refl; pos_is = refl }
@@ -125,7 +113,7 @@ progress_more before source tokens more rest pos names after n p q =
       pieces = p.pieces ++ q.piece ∷ [];
       reaches = reach_on before source p.pieces rest names q.piece (drop n rest) after p.reaches q.is q.is_piece;
       tokens_are =
-          ap (λ (t : List Token). t ++ more) p.tokens_are ∙ ap (λ (t : List Token). tokens_of start p.pieces ++ t) (q.tokens_are ∙ ap (λ (x : Pos). token_of x q.piece) p.pos_is ∙ sym (one_token (place_after start p.pieces) q.piece))
+          ap (λ (t : List Token). t ++ more) p.tokens_are ∙ ap (λ (t : List Token). tokens_of start p.pieces ++ t) (q.tokens_are ∙ ap (λ (x : Pos). token_of x q.piece) p.pos_is ∙ sym (one_token (after_pieces start p.pieces) q.piece))
           ∙ sym (tokens_append start p.pieces (q.piece ∷ []));
       pos_is = ap (after_bytes pos) (sym text) ∙ ap (λ (x : Pos). after_bytes x (text_of q.piece)) p.pos_is ∙ sym (place_append start p.pieces q.piece);
     }
@@ -142,7 +130,7 @@ pub progress_exceeds : (before : List (List ℕ)) (source : List ℕ) (tokens : 
 progress_exceeds before source tokens rest pos names left p h all after (others, d, is) =
     let s = split before source p.pieces others rest names after p.reaches d in
     let e = s.tokens start in
-    omega (arith, ap length is, ap length e, length-append (tokens_of start p.pieces) (tokens_of (place_after start p.pieces) s.more), ap length p.tokens_are, h s.more after (place_after start p.pieces) s.divided)
+    omega (arith, ap length is, ap length e, length-append (tokens_of start p.pieces) (tokens_of (after_pieces start p.pieces) s.more), ap length p.tokens_are, h s.more after (after_pieces start p.pieces) s.divided)
 
 -- where no piece stands nothing divides
 pub no_piece_exceeds : (names : List (List ℕ)) (bytes : List ℕ) (left : ℕ) → 0 < length bytes → NoPiece names bytes → Exceeds names bytes left
@@ -201,7 +189,7 @@ piece_grows names (LineComment text) rest after pos h = subst (λ (x : List (Lis
 piece_grows names (BlockComment text) rest after pos h = subst (λ (x : List (List ℕ)). Grows names x 0) (sym h.1) (grows_none names 0)
 piece_grows names (Lexeme kind text) rest after pos h = kind_grows names text kind after h.3
 
-reach_grows : (before : List (List ℕ)) (source : List ℕ) (pieces : List Piece) (rest : List ℕ) (after : List (List ℕ)) (pos : Pos) → Reaches before source pieces rest after → Grows before after (length (tokens_of pos pieces))
+reach_grows : (before : List (List ℕ)) (source : List ℕ) (pieces : List Piece) (rest : List ℕ) (after : List (List ℕ)) (pos : Pos) → IsFront before source pieces rest after → Grows before after (length (tokens_of pos pieces))
 reach_grows before source [] rest after pos (is, kept) = subst (λ (x : List (List ℕ)). Grows before x 0) (sym kept) (grows_none before 0)
 reach_grows before source (piece ∷ pieces) rest after pos (n, b, is, first, others) =
     let next = after_bytes pos (text_of piece) in
@@ -214,11 +202,3 @@ progress_grows before source tokens rest pos names p = subst (Grows before names
 
 pub next_within : (names : List (List ℕ)) (bytes : List ℕ) (pos : Pos) (tokens : List Token) (n : ℕ) (after : List (List ℕ)) → NextPiece names bytes pos tokens n after → n ≤ length bytes
 next_within names bytes pos tokens n after q = omega (arith, ap length q.is, length-append (text_of q.piece) (drop n bytes), q.len)
-
--- where nothing can be added each division has too many tokens
-pub cannot_exceeds : (names : List (List ℕ)) (bytes : List ℕ) (form : Form) (n count : ℕ) → 0 < length bytes → front_at bytes ≡ Some (Lexed form n) → CannotAdd names (take n bytes) count → Exceeds names bytes (500000 - count)
-cannot_exceeds names bytes form n count some h (kindless no_kind) = no_piece_exceeds names bytes (500000 - count) some (no_kind_next names bytes form n h no_kind)
-cannot_exceeds names bytes form n count some h (full kind after has e) =
-    let next = lexeme_next names bytes start form n kind after (lex_next bytes form n h) has in
-    let none : 0 ≡ 500000 - count = omega arith in
-    subst (Exceeds names bytes) none (token_exceeds names bytes start (record { kind = kind; text = take n bytes; pos = start }) n after some next)

@@ -11,3 +11,5 @@ mod OneKind
 mod Pieces
 mod Divisions
 mod Results
+mod Begins
+mod Faults

@@ -187,7 +187,7 @@ with_escape e c bs k esc r = record {
   len = omega (arith, r.len);
 }
 
-some_is_some : (o : Option ℕ) → is_some o ≡ true → (c : ℕ) × (o ≡ Some c)
+pub some_is_some : (o : Option ℕ) → is_some o ≡ true → (c : ℕ) × (o ≡ Some c)
 some_is_some None h = absurd (false≢true h)
 some_is_some (Some c) h = (c, refl)
 
@@ -225,7 +225,7 @@ text_sound bs n h =
     let parts : Parts bs (r.inner ++ 34 ∷ []) r.rest n = record { is = r.is ∙ sym (append_assoc r.inner (34 ∷ []) r.rest); len = omega (arith, length-append r.inner (34 ∷ []), r.len) } in
     ((r.cs, (r.parts, r.inner, ap (λ (t : List ℕ). 34 ∷ t) (sym (Parts-take bs (r.inner ++ 34 ∷ []) r.rest n parts)), r.are)), Parts-le bs (r.inner ++ 34 ∷ []) r.rest n parts)
 
-plain_apart : (b : ℕ) → is_plain_in_text b ≡ true → (eqb b 34 ≡ false) × (eqb b 92 ≡ false)
+pub plain_apart : (b : ℕ) → is_plain_in_text b ≡ true → (eqb b 34 ≡ false) × (eqb b 92 ≡ false)
 plain_apart b h =
     let p = and_parts _ (not (eqb b 34)) h in
     (not-true _ p.1, not-true _ (and_parts _ (not (eqb b 92)) p.0).1)

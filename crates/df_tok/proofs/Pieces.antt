@@ -40,7 +40,7 @@ line_case : (rest : List ℕ) → front_at (47 ∷ 47 ∷ rest) ≡ Some (Skippe
 unfolding front_at
 line_case rest = refl
 
-block_case : (rest : List ℕ) → front_at (47 ∷ 42 ∷ rest) ≡ skips 2 (comment_len 0 0 rest)
+pub block_case : (rest : List ℕ) → front_at (47 ∷ 42 ∷ rest) ≡ skips 2 (comment_len 0 0 rest)
 unfolding front_at
 block_case rest = refl
 
@@ -100,7 +100,7 @@ block_seen : (inner rest : List ℕ) → Closes 1 inner → front_at (47 ∷ 42 
 block_seen inner rest closes =
     block_case (inner ++ rest) ∙ ap (skips 2) (comment_again 0 0 inner rest (unused 0 inner closes)) ∙ ap (λ k. Some (Skipped k)) (omega arith)
 
-lexeme_seen : (text rest : List ℕ) → IsLexeme text rest → IsLongest text rest → ¬ BeginsComment (text ++ rest) → (form : Form) × (front_at (text ++ rest) ≡ Some (Lexed form (length text)))
+pub lexeme_seen : (text rest : List ℕ) → IsLexeme text rest → IsLongest text rest → ¬ BeginsComment (text ++ rest) → (form : Form) × (front_at (text ++ rest) ≡ Some (Lexed form (length text)))
 lexeme_seen text rest is longest comment =
     let bytes = text ++ rest in
     let f = furthest text rest is in
@@ -233,13 +233,13 @@ lexes_some (Some p) form n e = ap (λ (f : Form). Some (f, p.1)) (form_is p.0 fo
     form_is f g a b e = cc
 
 -- the tests in turn: a blank, a line comment, a block comment, a lexeme
-data Turn (bytes : List ℕ) (found : Option Front) : Type 0 where
+pub data Turn (bytes : List ℕ) (found : Option Front) : Type 0 where
   blank : begins_blank bytes ≡ true → Some (Skipped 1) ≡ found → Turn bytes found
   line : starts_with nat_eq bytes (codes "//") ≡ true → Some (Skipped (2 + prefix_len other_byte (drop 2 bytes))) ≡ found → Turn bytes found
   block : starts_with nat_eq bytes (codes "/*") ≡ true → skips 2 (comment_len 0 0 (drop 2 bytes)) ≡ found → Turn bytes found
-  lexeme : starts_with nat_eq bytes (codes "//") ≡ false → starts_with nat_eq bytes (codes "/*") ≡ false → lexes (lexeme_at bytes) ≡ found → Turn bytes found
+  lexeme : begins_blank bytes ≡ false → starts_with nat_eq bytes (codes "//") ≡ false → starts_with nat_eq bytes (codes "/*") ≡ false → lexes (lexeme_at bytes) ≡ found → Turn bytes found
 
-turn_of : (bytes : List ℕ) (found : Option Front) → front_at bytes ≡ found → Turn bytes found
+pub turn_of : (bytes : List ℕ) (found : Option Front) → front_at bytes ≡ found → Turn bytes found
 unfolding front_at
 turn_of bytes found h =
     let lexed = lexes (lexeme_at bytes) in
@@ -251,7 +251,7 @@ turn_of bytes found h =
         | inl q ↦ line q.0 q.1
         | inr q ↦ elim (chosen (starts_with nat_eq bytes (codes "/*")) (skips 2 (comment_len 0 0 (drop 2 bytes))) lexed found q.1) [
           | inl r ↦ block r.0 r.1
-          | inr r ↦ lexeme q.0 r.0 r.1
+          | inr r ↦ lexeme p.0 q.0 r.0 r.1
         ]
       ]
     ]
@@ -263,9 +263,9 @@ skip_next names bytes pos n h = by (turn_of bytes (Some (Skipped n)) h)
     by (blank p e) = subst (λ k. NextPiece names bytes pos [] k names) (skipped_is 1 n e) (blank_next names bytes pos p)
     by (line p e) = subst (λ k. NextPiece names bytes pos [] k names) (skipped_is (2 + prefix_len other_byte (drop 2 bytes)) n e) (line_next names bytes pos p)
     by (block p e) = let k = skips_some (comment_len 0 0 (drop 2 bytes)) n e in subst (λ k. NextPiece names bytes pos [] k names) k.2 (block_next names bytes pos k.0 p k.1)
-    by (lexeme p q e) = absurd (lexes_no_skip (lexeme_at bytes) n e)
+    by (lexeme b p q e) = absurd (lexes_no_skip (lexeme_at bytes) n e)
 
-no_comment : (bytes : List ℕ) → starts_with nat_eq bytes (codes "//") ≡ false → starts_with nat_eq bytes (codes "/*") ≡ false → ¬ BeginsComment bytes
+pub no_comment : (bytes : List ℕ) → starts_with nat_eq bytes (codes "//") ≡ false → starts_with nat_eq bytes (codes "/*") ≡ false → ¬ BeginsComment bytes
 no_comment bytes p q (b, rest, is, inl e) = both_ways _ p (ap (λ (t : List ℕ). starts_with nat_eq t (codes "//")) (is ∙ ap (λ (x : ℕ). 47 ∷ x ∷ rest) e))
 no_comment bytes p q (b, rest, is, inr e) = both_ways _ q (ap (λ (t : List ℕ). starts_with nat_eq t (codes "/*")) (is ∙ ap (λ (x : ℕ). 47 ∷ x ∷ rest) e))
 
@@ -288,7 +288,7 @@ lex_next bytes form n h = by (turn_of bytes (Some (Lexed form n)) h)
     by (blank p e) = absurd (apart form 1 n e)
     by (line p e) = absurd (apart form (2 + prefix_len other_byte (drop 2 bytes)) n e)
     by (block p e) = absurd (skips_no_lexeme (comment_len 0 0 (drop 2 bytes)) form n e)
-    by (lexeme p q e) =
+    by (lexeme b p q e) =
         let found = lexes_some (lexeme_at bytes) form n e in
         let s = lexeme_sound bytes form n found in
         let whole : take n bytes ++ drop n bytes ≡ bytes = take-append-drop n bytes in

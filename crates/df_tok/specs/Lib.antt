@@ -9,3 +9,4 @@ pub mod Scanned
 pub mod Scanning
 pub mod Division
 pub mod Steps
+pub mod Fault

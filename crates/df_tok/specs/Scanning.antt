@@ -1,10 +1,16 @@
 -- What stands at the front of a source, as functions of its bytes.
-use Rattle.std.specs.Prelude.{ℕ, ◌+◌, ◌-◌, Bool, true, false, ◌==◌, ◌&&◌, ◌||◌, not, List, [], ◌∷◌, Option, Some, None, take, drop, length, option_map, is_some, if◌then◌else◌, codes, nat_eq, nat_lt}
+use Rattle.std.specs.Prelude.{ℕ, ◌+◌, ◌-◌, Bool, true, false, ◌==◌, ◌&&◌, ◌||◌, not, List, [], ◌∷◌, Option, Some, None, take, drop, length, option_map, is_some, if◌then◌else◌, codes, nat_eq, nat_lt, nat_le}
 use Rattle.std.specs.List.{prefix_len, starts_with, find, list_any}
 use Rattle.std.specs.Cmp.Lexicographic.{pointwise}
 use Rattle.df_tok.specs.Word.{word_text}
 use Rattle.df_tok.specs.Outside.{outside_words}
 use Rattle.df_tok.specs.declared.word.Word.{Word}
+use Rattle.df_base.specs.declared.pos.Pos.{Pos}
+use Rattle.df_base.specs.declared.refusal.Refusal.{Refusal}
+use Rattle.df_base.specs.declared.refusal.Code.TheVariants as tags
+use Rattle.df_base.specs.declared.refusal.Detail.TheVariants.{Nothing}
+use Rattle.df_tok.specs.Division.{after_bytes}
+use Rattle.df_tok.specs.Fault.{refusal}
 use Rattle.df_tok.specs.Byte.{is_blank, is_digit, is_hex_digit, begins_identifier, continues_identifier, continues_number, is_plain_in_character, is_plain_in_text, escaped}
 use Rattle.df_tok.specs.Sign.{sign_text}
 use Rattle.df_tok.specs.declared.sign.Sign.{Sign}
@@ -134,3 +140,45 @@ front_at bytes =
     else (if starts_with nat_eq bytes (codes "//") then Some (fronts.Skipped (2 + prefix_len (λ c. not (c == 10)) (drop 2 bytes)))
     else (if starts_with nat_eq bytes (codes "/*") then skips 2 (comment_len 0 0 (drop 2 bytes))
     else lexes (lexeme_at bytes)))
+
+-- ---- where no lexeme stands: how many bytes can be continued to one
+
+abbrev pub digits_begun : (ℕ → Bool) → Bool → List ℕ → ℕ
+digits_begun digit before [] = 0
+digits_begun digit before (b ∷ bs) = if digit b then 1 + digits_begun digit true bs else (if before && b == 95 then 1 + digits_begun digit false bs else 0)
+
+abbrev pub number_begun : List ℕ → ℕ
+number_begun bytes = if starts_with nat_eq bytes (codes "0x") then 2 + digits_begun is_hex_digit false (drop 2 bytes) else digits_begun is_digit false bytes
+
+abbrev pub escape_begun : List ℕ → ℕ
+escape_begun [] = 0
+escape_begun (e ∷ rest) = if is_some (escaped e) then 1 else 0
+
+abbrev pub character_begun : List ℕ → ℕ
+character_begun [] = 0
+character_begun (a ∷ rest) = if is_plain_in_character a then 1 else (if a == 92 then 1 + escape_begun rest else 0)
+
+abbrev pub text_begun : Bool → List ℕ → ℕ
+text_begun before [] = 0
+text_begun true (b ∷ bs) = if is_some (escaped b) then 1 + text_begun false bs else 0
+text_begun false (b ∷ bs) = if b == 92 then 1 + text_begun true bs else (if is_plain_in_text b then 1 + text_begun false bs else 0)
+
+abbrev pub begun_at : List ℕ → ℕ
+begun_at [] = 0
+begun_at (b ∷ bs) =
+    if is_digit b then number_begun (b ∷ bs)
+    else (if b == 39 then 1 + character_begun bs
+    else (if b == 34 then 1 + text_begun false bs
+    else (if b == 38 then 1 else 0)))
+
+-- a byte from 128 on stands there
+abbrev pub is_high : List ℕ → Bool
+is_high [] = false
+is_high (b ∷ bs) = nat_le 128 b
+
+-- the refusal where no piece stands
+abbrev pub fault_at : Pos → List ℕ → Refusal
+fault_at pos rest =
+    let n = begun_at rest in
+    if starts_with nat_eq rest (codes "/*") then refusal tags.Token pos Nothing
+    else (if is_high (drop n rest) then refusal tags.Byte (after_bytes pos (take n rest)) Nothing else refusal tags.Token pos Nothing)

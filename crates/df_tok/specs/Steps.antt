@@ -1,7 +1,12 @@
 -- A division, a piece after another.
-use Rattle.std.specs.Prelude.{◌≡◌, ℕ, ◌<◌, ◌≤◌, List, [], ◌∷◌, ◌++◌, length, drop}
+use Rattle.std.specs.Prelude.{◌≡◌, ℕ, ◌<◌, ◌≤◌, ◌^◌, List, [], ◌∷◌, ◌++◌, length, drop}
 use Rattle.df_base.specs.declared.pos.Pos.{Pos}
 use Rattle.df_tok.specs.declared.token.Kind.{Kind}
+use Rattle.df_base.specs.declared.refusal.Refusal.{Refusal}
+use Rattle.df_base.specs.declared.refusal.Code.TheVariants as tags
+use Rattle.df_base.specs.declared.refusal.Detail.TheVariants.{Nothing, Count}
+use Rattle.df_tok.specs.Lexeme.{IsNumber, value_of_number}
+use Rattle.df_tok.specs.Fault.{refusal}
 use Rattle.df_tok.specs.Token.{Token, HasKind}
 use Rattle.df_tok.specs.Division.{Piece, Blank, LineComment, BlockComment, Lexeme, text_of, IsPiece, AreDivided, tokens_of}
 
@@ -27,10 +32,10 @@ pub record AddsToken (before : List (List ℕ)) (text : List ℕ) (pos : Pos) (o
   pub has : HasKind before text kind after
   pub items : new ≡ old ++ record { kind = kind; text = text; pos = pos } ∷ []
 
--- a text is no token, or there are too many before it
-pub data CannotAdd (before : List (List ℕ)) (text : List ℕ) (count : ℕ) : Type 0 where
-  kindless : ((kind : Kind) (after : List (List ℕ)) → HasKind before text kind after → ⊥) → CannotAdd before text count
-  full : (kind : Kind) (after : List (List ℕ)) → HasKind before text kind after → count ≡ 500000 → CannotAdd before text count
+-- why a text of this form cannot be added: it is too large a number, or there are too many tokens before it
+pub data CannotAdd (before : List (List ℕ)) (text : List ℕ) (pos : Pos) (count : ℕ) (r : Refusal) : Type 0 where
+  large : IsNumber text → 2 ^ 127 ≤ value_of_number text → r ≡ refusal tags.Number pos Nothing → CannotAdd before text pos count r
+  full : (kind : Kind) (after : List (List ℕ)) → HasKind before text kind after → count ≡ 500000 → r ≡ refusal tags.Limit pos (Count 500000) → CannotAdd before text pos count r
 
 -- the tokens with that of the piece at the front
 pub record AddsPiece (before : List (List ℕ)) (bytes : List ℕ) (pos : Pos) (n : ℕ) (old new : List Token) (after : List (List ℕ)) : Type 0 where

@@ -3,6 +3,9 @@
 ghost use Rattle.std.specs.Prelude.{◌≡◌, ◌≤◌, ◌<◌, ◌^◌, ◌+◌, length, IfOk, MatchResult, Err};
 ghost use Rattle.df_base.specs.declared.refusal.Stop.TheVariants.{Refused};
 ghost use Rattle.df_base.specs.declared.refusal.Refusal.{Refusal};
+ghost use Rattle.df_base.specs.declared.refusal.Code.TheVariants as tags;
+ghost use Rattle.df_base.specs.declared.refusal.Detail.TheVariants.{Nothing};
+ghost use Rattle.df_tok.specs.Fault.{refusal};
 ghost use Rattle.df_tok.specs.declared.token.Kind.TheVariants.{Number};
 ghost use Rattle.df_tok.specs.Lexeme.{IsIdentifier, IsNumber, value_of_number};
 ghost use Rattle.df_tok.specs.Token.{IsNamed, HasKind};
@@ -52,7 +55,7 @@ fn identifier(names: &mut Names, text: &[u8]) -> Result<Kind, Memory>
 /// What a number is.
 fn numeral(text: &[u8], pos: Pos) -> Result<Kind, Stop>
     ensures { let value = value_of_number text.now in
-        MatchResult result (λ kind. (kind ≡ Number value) × (value < 2 ^ 127)) (λ _. 2 ^ 127 ≤ value) }
+        MatchResult result (λ kind. (kind ≡ Number value) × (value < 2 ^ 127)) (λ stop. (2 ^ 127 ≤ value) × (stop ≡ Refused (refusal tags.Number pos Nothing))) }
 {
     match number_value(text) {
         Some(value) => Ok(Kind::Number(value)),
@@ -69,14 +72,11 @@ pub fn kind_of(names: &mut Names, form: Form, text: &[u8], pos: Pos) -> Result<K
     requires room { length names.old < 2 ^ 32 }
     requires form { HasForm form text.now }
     ensures kind { IfOk result (λ kind. HasKind names.old text.now kind names.new) }
-    ensures refused { (r : Refusal) → result ≡ Err (Refused r) → IsNumber text.now × (2 ^ 127 ≤ value_of_number text.now) }
+    ensures refused { (r : Refusal) → result ≡ Err (Refused r) → IsNumber text.now × (2 ^ 127 ≤ value_of_number text.now) × (r ≡ refusal tags.Number pos Nothing) }
     ensures kept { Grows names.old names.new 1 }
 {
     match form {
-        Form::Identifier => match identifier(names, text) {
-            Ok(kind) => Ok(kind),
-            Err(Memory) => Err(Stop::Memory),
-        },
+        Form::Identifier => Ok(identifier(names, text)?),
         Form::Number => numeral(text, pos),
         Form::Character(c) => Ok(Kind::Character(c)),
         Form::Text => Ok(Kind::Text),

@@ -3,8 +3,11 @@
 
 ghost use Rattle.std.specs.Prelude.{◌≡◌, ℕ, ◌≤◌, List, length, map};
 ghost use Rattle.df_tok.specs.Token as pure;
+ghost use Rattle.df_base.specs.declared.refusal.Refusal.{Refusal};
 ghost use Rattle.df_tok.specs.Division.{Divides};
+ghost use Rattle.df_tok.specs.Fault.{IsFault};
 
+mod begun;
 mod byte;
 mod comment;
 mod kind;
@@ -26,6 +29,12 @@ pub use word::Word;
 pub fn one_division()
     ensures { (before : List (List ℕ)) (source : List ℕ) (tokens others : List pure.Token) (after last : List (List ℕ))
         → Divides before source tokens after → Divides before source others last → (tokens ≡ others) × (after ≡ last) }
+{}
+
+/// A source with a fault divides in no way within the limits, so that just what cannot be divided is refused.
+pub fn no_division()
+    ensures { (before : List (List ℕ)) (source : List ℕ) (r : Refusal) (tokens : List pure.Token) (after : List (List ℕ))
+        → IsFault before source r → Divides before source tokens after → length source ≤ 4194304 → length tokens ≤ 500000 → ⊥ }
 {}
 
 #[cfg(test)]

@@ -1,14 +1,15 @@
 //! Divides a source into tokens, a piece after another.
 
-ghost use Rattle.std.specs.Prelude.{◌≡◌, ℕ, List, ◌+◌, ◌-◌, ◌<◌, ◌≤◌, ◌^◌, length, map, vec_len, IfOk, OnOk, Err};
+ghost use Rattle.std.specs.Prelude.{◌≡◌, ◌+◌, ◌<◌, ◌≤◌, ◌^◌, length, map, vec_len, IfOk, OnOk, Err};
 ghost use Rattle.df_base.specs.declared.refusal.Stop.TheVariants.{Refused};
 ghost use Rattle.df_base.specs.declared.refusal.Refusal.{Refusal};
 ghost use Rattle.df_tok.specs.Token.{view};
-ghost use Rattle.df_tok.specs.Token as pure;
 ghost use Rattle.df_tok.specs.Division.{Divides};
 ghost use Rattle.df_tok.specs.Scanned.{HasForm, Grows};
-ghost use Rattle.df_tok.specs.Steps.{AddsToken, CannotAdd, AddsPiece, Exceeds};
+ghost use Rattle.df_tok.specs.Steps.{AddsToken, CannotAdd, AddsPiece};
+ghost use Rattle.df_tok.specs.Fault.{refusal, IsRefusedAt, IsFault};
 
+use crate::begun::fault;
 use crate::kind::kind_of;
 use crate::place::{START, after};
 use crate::scan::{Form, Front, front_of};
@@ -21,7 +22,9 @@ const MAX_BYTES: usize = 4194304;
 /// The most tokens that a source may have.
 const MAX_TOKENS: usize = 500000;
 
-fn refused(code: Code, pos: Pos, detail: Detail) -> Stop {
+fn refused(code: Code, pos: Pos, detail: Detail) -> Stop
+    ensures { result ≡ Refused (refusal code pos detail) }
+{
     Stop::Refused(Refusal { code, pos, detail })
 }
 
@@ -38,7 +41,7 @@ fn add_token<'a>(
     requires few { vec_len all.old ≤ 500000 }
     ensures added { OnOk result (AddsToken names.old text.now pos (map view all.old.items) (map view all.new.items) names.new) }
     ensures few { vec_len all.new ≤ 500000 }
-    ensures refused { (r : Refusal) → result ≡ Err (Refused r) → CannotAdd names.old text.now (vec_len all.old) }
+    ensures refused { (r : Refusal) → result ≡ Err (Refused r) → CannotAdd names.old text.now pos (vec_len all.old) r }
     ensures kept { Grows names.old names.new 1 }
 {
     let kind = kind_of(names, form, text, pos)?;
@@ -60,10 +63,12 @@ fn add_next<'a>(
 ) -> Result<usize, Stop>
     requires room { length names.old < 2 ^ 32 }
     requires some { 0 < length rest.now }
+    requires line { pos.line + length rest.now < 2 ^ 32 }
+    requires col { pos.col + length rest.now < 2 ^ 32 }
     requires few { vec_len all.old ≤ 500000 }
     ensures found { IfOk result (λ len. AddsPiece names.old rest.now pos len (map view all.old.items) (map view all.new.items) names.new) }
     ensures few { vec_len all.new ≤ 500000 }
-    ensures refused { (r : Refusal) → result ≡ Err (Refused r) → Exceeds names.old rest.now (500000 - vec_len all.old) }
+    ensures refused { (r : Refusal) → result ≡ Err (Refused r) → IsRefusedAt names.old rest.now pos (vec_len all.old) r }
     ensures kept { Grows names.old names.new 1 }
 {
     match front_of(rest) {
@@ -72,24 +77,22 @@ fn add_next<'a>(
             add_token(all, names, form, &rest[..len], pos)?;
             Ok(len)
         }
-        None => Err(refused(Code::Token, pos, Detail::Nothing)),
+        None => Err(Stop::Refused(fault(rest, pos))),
     }
 }
 
 /// The tokens of a source, in order. Its names are numbered on from those that `names` has.
 ///
-/// A source of more than 4194304 bytes is refused, and so is one of more than 500000 tokens, at the
-/// token past them; at that token no memory is asked for. A source that is no sequence of blanks,
-/// comments and tokens is refused where the first of them is missing, and a number of 2^127 or more
-/// where it stands.
+/// It is refused for its first fault: `Limit` where it has more than 4194304 bytes, or at the token past
+/// 500000; `Number` at a number of 2^127 or more; `Byte` at a byte of 128 or more that continues no
+/// token; else `Token` where no token stands, or where a comment begins that is not closed.
 pub fn tokens<'a>(alloc: Global, source: &'a [u8], names: &mut Names) -> Result<Tokens<'a>, Stop>
     requires { length names.old < 2 ^ 31 }
     // The tokens are the division of the source, and the names those in order of first use.
     ensures divided { IfOk result (λ tokens. Divides names.old source.now (map view tokens.all.items) names.new) }
     ensures few { IfOk result (λ tokens. (length source.now ≤ 4194304) × (vec_len tokens.all ≤ 500000)) }
-    // It is refused just where there is no such division within the limits.
-    ensures refused { (r : Refusal) → result ≡ Err (Refused r) → length source.now ≤ 4194304
-        → (tokens : List pure.Token) (after : List (List ℕ)) → Divides names.old source.now tokens after → length tokens ≤ 500000 → ⊥ }
+    // It is refused for its first fault, and for no other reason.
+    ensures refused { (r : Refusal) → result ≡ Err (Refused r) → IsFault names.old source.now r }
     // Names only grow, by at most one a token.
     ensures kept { Grows names.old names.new 500001 }
 {

@@ -1,18 +1,17 @@
 use Rattle.std.proofs.Common.{sym, ◌∙◌, arith}
 use Rattle.std.proofs.lemmas.Result.{err_from_is_err_and}
 use Rattle.df_base.specs.declared.refusal.Stop.TheVariants.{Refused}
-use Rattle.df_tok.specs.Steps.{kindless, full}
-use Rattle.df_tok.proofs.OneKind.{number_small}
-use Rattle.df_tok.proofs.Results.{passed}
+use Rattle.df_tok.specs.Steps.{large, full}
+use Rattle.df_tok.proofs.Results.{passed, refused_is}
 use Rattle.df_tok.proofs.reader.add_token.Goals as goal
 
 pub returns-in_err-kind-clause-refused : goal.returns-in_err-kind-clause-refused
 returns-in_err-kind-clause-refused c = λ r e.
     let p = err_from_is_err_and c.from_residual.result c.from_residual.ensures.1 in
     let q = c.in_err-kind.ensures.refused r (passed c.from_residual.result c.in_err-kind.field-0.0 (Refused r) p e) in
-    kindless (λ kind after h. absurd (omega (arith, q.1, number_small c.args.names.now c.args.text.now kind after q.0 h)))
+    large q.0 q.1 q.2
 
 pub returns-then-len-eq-MAX_TOKENS-clause-refused :
     goal.returns-then-len-eq-MAX_TOKENS-clause-refused
 returns-then-len-eq-MAX_TOKENS-clause-refused c = λ r e.
-    full c.in_ok-kind.kind c.kind_of.new.names c.in_ok-kind.ensures.kind (sym c.len.ensures ∙ c.if-len-eq-MAX_TOKENS.true)
+    full c.in_ok-kind.kind c.kind_of.new.names c.in_ok-kind.ensures.kind (sym c.len.ensures ∙ c.if-len-eq-MAX_TOKENS.true) (refused_is c.refused.result r _ e c.refused.ensures)

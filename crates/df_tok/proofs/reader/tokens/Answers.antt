@@ -1,11 +1,12 @@
-use Rattle.std.proofs.Common.{◌≡◌, ◌+◌, ◌-◌, length, take, drop, sym, ◌∙◌, ap, arith}
+use Rattle.std.proofs.Common.{vec_len, ◌≡◌, ◌+◌, ◌-◌, length, take, drop, sym, ◌∙◌, ap, arith}
 use Rattle.std.proofs.lemmas.Bool.{eqb-true}
 use Rattle.std.proofs.lemmas.List.{length-map, length-append, length-drop, length-take-le, take_rest, nil_from_length}
 use Rattle.std.proofs.lemmas.Result.{err_from_is_err_and}
 use Rattle.df_base.specs.declared.refusal.Stop.TheVariants.{Refused}
 use Rattle.df_tok.specs.Token.{view}
 use Rattle.df_tok.proofs.Results.{passed}
-use Rattle.df_tok.proofs.Divisions.{progress_more, progress_divides, progress_exceeds, progress_grows, grows_more, grows_most}
+use Rattle.df_tok.proofs.Divisions.{progress_more, progress_divides, progress_grows, grows_more, grows_most}
+use Rattle.df_tok.proofs.Faults.{fault_there}
 use Rattle.df_tok.proofs.reader.tokens.Goals as goal
 
 pub add_next-requires-clause-room : goal.add_next-requires-clause-room
@@ -14,11 +15,10 @@ add_next-requires-clause-room c =
     omega (arith, ap length g.is, length-append c.args.names.now g.more, g.few, length-map c.loop-rest.all.items view, c.loop-rest.invariant.few, c.requires)
 
 pub returns-in_err-len-clause-refused : goal.returns-in_err-len-clause-refused
-returns-in_err-len-clause-refused c = λ r e within tokens after d few.
+returns-in_err-len-clause-refused c = λ r e.
     let p = err_from_is_err_and c.from_residual.result c.from_residual.ensures.1 in
     let q = c.in_err-len.ensures.refused r (passed c.from_residual.result c.in_err-len.field-0.0 (Refused r) p e) in
-    let n = progress_exceeds _ _ _ _ _ _ _ c.loop-rest.invariant.progress q tokens after d in
-    omega (arith, n, few, length-map c.loop-rest.all.items view, c.loop-rest.invariant.few)
+    fault_there _ _ _ _ _ _ (vec_len c.loop-rest.all) r c.loop-rest.invariant.progress (omega (arith, length-map c.loop-rest.all.items view)) c.loop-rest.invariant.few (omega arith) q
 
 pub returns-in_err-len-clause-kept : goal.returns-in_err-len-clause-kept
 returns-in_err-len-clause-kept c =
