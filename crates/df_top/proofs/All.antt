@@ -1,6 +1,6 @@
 -- A loop that takes a step for each of a list.
 use Rattle.std.proofs.Common.{◌≡◌, ℕ, suc, ◌+◌, ◌≤◌, ◌<◌, List, [], ◌∷◌, ◌++◌, length, get_or, drop, map, Option, Some, None, refl, sym, ap, ◌∙◌, append_assoc, arith, drop-cons, add-one}
-use Rattle.std.proofs.lemmas.List.{append-nil, drop_all}
+use Rattle.std.proofs.lemmas.List.{append-nil, drop_all, drop_more}
 use Rattle.df_base.specs.declared.refusal.Stop.{Stop}
 use Rattle.df_base.specs.declared.refusal.Stop.TheVariants as stops
 use Rattle.df_top.specs.Gives.{◌>>=◌, Fails, all_of}
@@ -8,6 +8,13 @@ use Rattle.df_top.specs.Gives.{◌>>=◌, Fails, all_of}
 -- what was found before, and what is still found
 abbrev pub with_front : {B : Type 0} → List B → Option (List B) → Option (List B)
 with_front front found = found >>= λ rest. Some (front ++ rest)
+
+-- an element that is read with one default is that of another
+pub same_read : {A : Type 0} (xs : List A) (i : ℕ) (d : A) → i < length xs → get_or xs i d ≡ get_or xs i (get_or xs i d)
+same_read xs i d lt =
+    let a = drop_more xs i d lt in
+    let b = drop_more xs i (get_or xs i d) lt in
+    cc
 
 -- one more in front of what is still found
 pub regroup : {B : Type 0} (front : List B) (found : B) (rest : Option (List B)) → with_front front (rest >>= λ others. Some (found ∷ others)) ≡ with_front (front ++ found ∷ []) rest

@@ -11,7 +11,7 @@ ghost use Rattle.df_top.specs.Answer.{IsUnlawful};
 use crate::elaboration::elaborate;
 use crate::parser::parse;
 use df_base::{Global, Names, Stop};
-use df_tok::{one_division, tokens};
+use df_tok::{no_division, one_division, tokens};
 use df_tree::one_tree;
 use df_types::Program;
 
@@ -28,6 +28,7 @@ pub(crate) fn program(alloc: Global, source: &[u8]) -> Result<Program, Stop>
     ensures lawful { IfOk result (λ program. IsLawful source.now (program_of program)) }
     ensures refused { (r : Refusal) → result ≡ Err (stops.Refused r) → IsUnlawful source.now }
 {
+    no_division();
     one_division();
     one_tree();
     let mut names = Names::new(alloc)?;

@@ -7,6 +7,7 @@ use Rattle.df_base.specs.declared.refusal.Stop.{Stop}
 use Rattle.df_base.specs.declared.refusal.Stop.TheVariants as stops
 use Rattle.df_tok.specs.Token as token
 use Rattle.df_tok.specs.Division.{Divides}
+use Rattle.df_tok.specs.Fault.{IsFault}
 use Rattle.df_tree.specs.Tree.{tree_of}
 use Rattle.df_types.specs.View.{program_of}
 use Rattle.df_top.specs.Source.{IsLawful}
@@ -22,7 +23,8 @@ pub returns-in_err-tokens-clause-refused : goal.returns-in_err-tokens-clause-ref
 returns-in_err-tokens-clause-refused c = λ r e.
     let p = err_from_is_err_and c.from_residual-in_err-tokens.result c.from_residual-in_err-tokens.ensures.1 in
     let stop : c.in_err-tokens.field-0.0 ≡ stops.Refused r = sym p.2 ∙ same_error c.from_residual-in_err-tokens.result p.0 (stops.Refused r) p.1 e in
-    undivided c.args.source.now (rw c.in_ok-names.ensures at (c.in_err-tokens.ensures.refused r (ap (λ (s : Stop). Err s) stop)))
+    let fault : IsFault [] c.args.source.now r = rw (← c.in_ok-names.ensures) (c.in_err-tokens.ensures.refused r (ap (λ (s : Stop). Err s) stop)) in
+    undivided c.args.source.now (λ short tokens after divided few. c.no_division.ensures [] c.args.source.now r tokens after fault divided short few)
 
 pub returns-in_err-tree-clause-refused : goal.returns-in_err-tree-clause-refused
 returns-in_err-tree-clause-refused c = λ r e.
