@@ -15,6 +15,8 @@ mod cursor;
 mod declarations;
 mod expressions;
 mod statements;
+#[cfg(test)]
+mod tests;
 mod text;
 
 use cursor::{Cursor, syntax};

@@ -1,5 +1,5 @@
 -- A newtype and a method's head: what is read is spelled so, and what is spelled so is read.
-use Rattle.std.proofs.Common.{◌≡◌, ℕ, Bool, true, false, List, [], ◌∷◌, ◌++◌, Option, Some, None, is_some, unwrap_or, refl, sym, ap, subst, ◌∙◌, append_assoc}
+use Rattle.std.proofs.Common.{◌≡◌, ℕ, Bool, true, false, List, [], ◌∷◌, ◌++◌, Option, Some, None, is_some, unwrap_or, refl, sym, ap, subst, ◌∙◌}
 use Rattle.df_base.specs.declared.pos.Pos.{Pos}
 use Rattle.df_tok.specs.declared.word.Word.TheVariants as words
 use Rattle.df_tok.specs.declared.sign.Sign.TheVariants as signs
@@ -14,8 +14,8 @@ use Rattle.df_tree.specs.declared.tree.Range.{Range}
 use Rattle.df_tree.specs.declared.tree.Newtype.{Newtype}
 use Rattle.df_tree.specs.Spelling.{Wanted, TheWord, TheSign, SignAt, NameAt, TheNumber, NumberAt, spell_literal, spell_order, spell_range, spell_typed, spell_witness, spell_newtype}
 use Rattle.df_tree.specs.Reading.{◌>>=◌, word_at, sign_at, optional_sign, optional_word, name_at, number_at, literal_at, order_by, order_at, range_at, typed_after, typed_at, witness_after, witness_at, newtype_head_at, newtype_at, method_head_at}
-use Rattle.df_tree.proofs.Repeat.{bind_some, got, finish, some_is}
-use Rattle.df_tree.proofs.Tokens.{Eats, Eats-then, Parts, Eats-parts, word_sound, word_complete, sign_sound, sign_complete, name_sound, name_complete, number_sound, number_complete, optional_sign_sound, optional_sign_none, optional_sign_complete, optional_word_sound, optional_word_none, optional_word_complete, NotSign, not_sign, not_word}
+use Rattle.df_tree.proofs.Repeat.{bind_some, got, finish}
+use Rattle.df_tree.proofs.Tokens.{Eats, Eats-then, Eats-parts, word_sound, word_complete, sign_sound, sign_complete, name_sound, name_complete, number_sound, number_complete, optional_sign_sound, optional_sign_none, optional_sign_complete, optional_word_sound, optional_word_none, optional_word_complete, NotSign, not_sign}
 use Rattle.df_tree.proofs.Statements.{other_sign, without_place}
 
 -- ---- literals

@@ -1,5 +1,5 @@
 -- Sums and operands: what is read is spelled so, and what is spelled so is read.
-use Rattle.std.proofs.Common.{◌≡◌, ℕ, ◌+◌, ◌<◌, true, false, List, [], ◌∷◌, ◌++◌, length, Option, Some, None, refl, sym, ap, subst, ◌∙◌, arith}
+use Rattle.std.proofs.Common.{◌≡◌, ℕ, List, [], ◌∷◌, Option, Some, None, refl, ap, subst, ◌∙◌, arith}
 use Rattle.std.specs.List.{AllByRecursion, flat_map}
 use Rattle.std.proofs.lemmas.List.{append-nil}
 use Rattle.df_base.specs.declared.pos.Pos.{Pos}
@@ -12,12 +12,12 @@ use Rattle.df_tree.specs.declared.tree.Member.{Member}
 use Rattle.df_tree.specs.declared.tree.Member.TheVariants as members
 use Rattle.df_tree.specs.declared.tree.Plus.{Plus}
 use Rattle.df_tree.specs.Tree.{Expr, Operand, Text, Value}
-use Rattle.df_tree.specs.Spelling.{Wanted, TheWord, TheSign, SignAt, NameAt, NumberAt, TheText, spell_member, spell_plus, spell_expr, spell_operand, spell_more, spell_operands, BeginsWithName, IsOperand}
-use Rattle.df_tree.specs.Reading.{◌>>=◌, is_sign, optional_sign, characters_of, text_at, member_at, plus_after, next_plus, expr_at, kind_at, operand_by, operand_at, operand_after, next_operand, operands_at, all_of}
-use Rattle.df_tree.proofs.Repeat.{Shrinks, Run, sound, complete, bind_some, got, finish, finish_some, no_end, no_find, some_is}
-use Rattle.df_tree.proofs.Tokens.{Eats, Eats-then, Parts, Eats-parts, Eats-length, optional_sign_sound, optional_sign_none, optional_sign_complete, NotSign, not_sign}
+use Rattle.df_tree.specs.Spelling.{Wanted, TheSign, SignAt, NameAt, TheText, spell_member, spell_plus, spell_expr, spell_operand, spell_more, spell_operands, BeginsWithName, IsOperand}
+use Rattle.df_tree.specs.Reading.{◌>>=◌, optional_sign, characters_of, text_at, member_at, plus_after, next_plus, expr_at, kind_at, operand_by, operand_at, operand_after, next_operand, operands_at, all_of}
+use Rattle.df_tree.proofs.Repeat.{Shrinks, sound, complete, bind_some, got, finish, finish_some, no_end, no_find, some_is}
+use Rattle.df_tree.proofs.Tokens.{Eats, Eats-then, Eats-parts, Eats-length, optional_sign_sound, optional_sign_none, optional_sign_complete, NotSign, not_sign}
 use Rattle.df_tree.proofs.Text.{characters_sound, characters_complete}
-use Rattle.df_tree.proofs.Siblings.{One, Siblings, from_run, follow, to_run}
+use Rattle.df_tree.proofs.Siblings.{One, from_run, follow, to_run}
 
 -- ---- members
 

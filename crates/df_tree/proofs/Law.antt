@@ -1,7 +1,6 @@
 -- Reading finds a tree exactly where the tokens spell it.
-use Rattle.std.proofs.Common.{◌≡◌, ℕ, Bool, true, false, List, [], ◌∷◌, ◌++◌, Option, Some, None, refl, sym, ap, subst, ◌∙◌, append_assoc}
+use Rattle.std.proofs.Common.{◌≡◌, false, List, [], ◌∷◌, ◌++◌, Some, refl, sym, subst, ◌∙◌}
 use Rattle.std.specs.List.{AllByRecursion, flat_map}
-use Rattle.df_tok.specs.declared.word.Word.{Word}
 use Rattle.df_tok.specs.declared.word.Word.TheVariants as words
 use Rattle.df_tok.specs.declared.sign.Sign.TheVariants as signs
 use Rattle.df_tok.specs.declared.token.Kind.TheVariants as kinds
@@ -9,8 +8,8 @@ use Rattle.df_tok.specs.Token.{Token}
 use Rattle.df_tree.specs.Tree.{Stmt, Tree}
 use Rattle.df_tree.specs.Spelling.{Wanted, TheWord, TheSign, NameAt, spell_newtype, spell_stmt, spell, IsStmt, IsTree, Spells}
 use Rattle.df_tree.specs.Reading.{◌>>=◌, optional_word, newtype_at, method_head_at, next_stmt, all_of, whole, source_at, tree_at}
-use Rattle.df_tree.proofs.Repeat.{Run, sound, complete, bind_some, some_is, got, finish, whole_is}
-use Rattle.df_tree.proofs.Tokens.{Eats, Eats-then, Parts, Eats-parts, Eats-from_all, all_from_Eats, not_word}
+use Rattle.df_tree.proofs.Repeat.{sound, complete, bind_some, some_is, got, finish, whole_is}
+use Rattle.df_tree.proofs.Tokens.{Eats, Eats-then, Eats-parts, Eats-from_all, all_from_Eats, not_word}
 use Rattle.df_tree.proofs.Siblings.{One, Siblings, from_run, to_run}
 use Rattle.df_tree.proofs.Statements.{close, next_sound, close_sound, next_complete, close_complete, stmt_shrinks}
 use Rattle.df_tree.proofs.Declarations.{spell_method, newtype_sound, newtype_complete, method_sound, method_complete}

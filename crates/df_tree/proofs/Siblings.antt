@@ -1,11 +1,11 @@
 -- Siblings that are read one after another are those that are spelled.
-use Rattle.std.proofs.Common.{◌≡◌, List, [], ◌∷◌, ◌++◌, refl, sym, subst, append_assoc}
+use Rattle.std.proofs.Common.{List, [], ◌∷◌, ◌++◌, sym, subst, append_assoc}
 use Rattle.std.specs.List.{AllByRecursion, flat_map}
 use Rattle.std.proofs.lemmas.List.Concat.{flat_map-cons}
 use Rattle.df_tok.specs.Token.{Token}
 use Rattle.df_tree.specs.Spelling.{Wanted}
 use Rattle.df_tree.proofs.Repeat.{Run}
-use Rattle.df_tree.proofs.Tokens.{Eats, Eats-then, Parts, Eats-parts}
+use Rattle.df_tree.proofs.Tokens.{Eats, Eats-then, Eats-parts}
 
 -- an element from the front: its tokens, its shape, and what comes after it
 pub record One {X : Type 0} (spell : X → List Wanted) (Is : X → Type 0) (Follows : List Token → Type 0) (x : X) (tokens rest : List Token) : Type 0 where

@@ -1,6 +1,5 @@
 -- Statements: what is read is spelled so, and what is spelled so is read.
-use Rattle.std.proofs.Common.{◌≡◌, ℕ, ◌+◌, ◌<◌, true, false, List, [], ◌∷◌, ◌++◌, length, length-append, Option, Some, None, refl, sym, ap, subst, ◌∙◌, arith}
-use Rattle.std.specs.List.{AllByRecursion, flat_map}
+use Rattle.std.proofs.Common.{◌≡◌, ◌<◌, false, List, [], ◌∷◌, ◌++◌, length, Option, Some, None, refl, sym, ap, subst, ◌∙◌, arith}
 use Rattle.df_base.specs.declared.pos.Pos.{Pos}
 use Rattle.df_tok.specs.declared.word.Word.TheVariants as words
 use Rattle.df_tok.specs.declared.sign.Sign.TheVariants as signs
@@ -11,10 +10,10 @@ use Rattle.df_tok.specs.declared.token.Kind.TheVariants as kinds
 use Rattle.df_tok.specs.Token.{Token}
 use Rattle.df_tree.specs.declared.tree.Ident.{Ident}
 use Rattle.df_tree.specs.Tree.{Expr, Operand, Stmt, Var, Print}
-use Rattle.df_tree.specs.Spelling.{Wanted, TheWord, TheSign, SignAt, NameAt, spell_expr, spell_operands, spell_stmt, IsStmt, IsOperand}
-use Rattle.df_tree.specs.Reading.{◌>>=◌, is_sign, word_at, sign_at, optional_sign, name_at, expr_at, kind_at, operands_at, print_at, typed_name_at, var_at, stmt_by, stmt_at, stmt_after, next_stmt, all_of}
+use Rattle.df_tree.specs.Spelling.{Wanted, TheWord, TheSign, SignAt, NameAt, spell_expr, spell_operands, spell_stmt, IsStmt}
+use Rattle.df_tree.specs.Reading.{◌>>=◌, is_sign, word_at, sign_at, optional_sign, name_at, expr_at, kind_at, operands_at, print_at, typed_name_at, var_at, stmt_by, stmt_at, stmt_after, next_stmt}
 use Rattle.df_tree.proofs.Repeat.{Shrinks, bind_some, got, finish, finish_some, no_end, no_find, some_is}
-use Rattle.df_tree.proofs.Tokens.{Eats, Eats-then, Parts, Eats-parts, Eats-length, word_sound, word_complete, sign_sound, sign_complete, name_sound, name_complete, optional_sign_sound, optional_sign_none, optional_sign_complete, NotSign, not_sign}
+use Rattle.df_tree.proofs.Tokens.{Eats, Eats-then, Eats-parts, Eats-length, word_sound, word_complete, sign_sound, sign_complete, name_sound, name_complete, optional_sign_sound, optional_sign_none, optional_sign_complete, NotSign, not_sign}
 use Rattle.df_tree.proofs.Expressions.{expr_sound, expr_complete, operands_sound, operands_complete}
 
 -- where another sign stands

@@ -1,5 +1,5 @@
 -- One token at the front: what is read was wanted, and what is wanted is read.
-use Rattle.std.proofs.Common.{◌≡◌, ℕ, zero, suc, ◌+◌, ◌<◌, Bool, true, false, cond, List, [], ◌∷◌, ◌++◌, length, Option, Some, None, refl, sym, ap, subst, ◌∙◌, arith}
+use Rattle.std.proofs.Common.{◌≡◌, ℕ, ◌+◌, Bool, true, false, cond, List, [], ◌∷◌, ◌++◌, length, Option, Some, None, refl, sym, ap, subst, arith}
 use denote.Enum.Bare.{same_true, true_same}
 use Rattle.df_base.specs.declared.pos.Pos.{Pos}
 use Rattle.df_tok.specs.contracts.word.Word as declared_word
@@ -10,9 +10,9 @@ use Rattle.df_tok.specs.declared.token.Kind.{Kind}
 use Rattle.df_tok.specs.declared.token.Kind.TheVariants as kinds
 use Rattle.df_tok.specs.Token.{Token}
 use Rattle.df_tree.specs.declared.tree.Ident.{Ident}
-use Rattle.df_tree.specs.Spelling.{Wanted, TheWord, TheSign, SignAt, NameAt, TheNumber, NumberAt, TheText, Meets, AllMeet}
-use Rattle.df_tree.specs.Reading.{◌>>=◌, is_word, is_sign, word_at, sign_at, optional_word, optional_sign, name_at, number_at}
-use Rattle.df_tree.proofs.Repeat.{found, nothing, pair, some_is, got, finish, unwrapped, differ}
+use Rattle.df_tree.specs.Spelling.{Wanted, TheWord, TheSign, SignAt, NameAt, NumberAt, Meets, AllMeet}
+use Rattle.df_tree.specs.Reading.{is_word, is_sign, word_at, sign_at, optional_word, optional_sign, name_at, number_at}
+use Rattle.df_tree.proofs.Repeat.{found, pair, got, finish, unwrapped, differ}
 
 -- the tokens begin with those wanted, and then come the rest
 abbrev pub Eats : List Wanted → List Token → List Token → Type 0

@@ -1,5 +1,5 @@
 -- Source trees as contracts see them: members of one level are lists.
-use Rattle.std.specs.Prelude.{ℕ, List, map, Option}
+use Rattle.std.specs.Prelude.{ℕ, List, map}
 use Rattle.df_tree.specs.declared.tree.Ident.{Ident}
 use Rattle.df_tree.specs.declared.tree.Newtype.{Newtype}
 use Rattle.df_tree.specs.declared.tree.Member.{Member}
