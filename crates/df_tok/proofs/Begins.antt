@@ -1,19 +1,18 @@
 -- How far the rest can be continued to a lexeme, where none stands.
-use Rattle.std.proofs.Common.{◌≡◌, ◌≢◌, ℕ, zero, suc, ◌+◌, ◌-◌, ◌<◌, ◌≤◌, ◌⊎◌, inl, inr, Bool, true, false, cond, eqb, List, [], ◌∷◌, ◌++◌, length, take, drop, Option, Some, None, refl, sym, ap, subst, ◌∙◌, append_assoc, arith}
-use Rattle.std.specs.Prelude.{nat_eq, nat_le, ◌&&◌, ◌||◌, not, IsTrue, codes, is_some}
+use Rattle.std.proofs.Common.{◌≡◌, ◌≢◌, ℕ, suc, ◌+◌, ◌≤◌, ◌⊎◌, inl, inr, Bool, true, false, cond, eqb, List, [], ◌∷◌, ◌++◌, length, take, drop, Some, refl, sym, ap, subst, ◌∙◌, append_assoc, arith}
+use Rattle.std.specs.Prelude.{nat_eq, ◌&&◌, codes, is_some}
 use Rattle.std.specs.List.{starts_with}
-use Rattle.std.proofs.lemmas.Bool.{cases_lt, cond-true, and_parts, not-true, eqb-true, eq-eqb, ne_eqb, cases_Bool, false≢true}
-use Rattle.std.proofs.lemmas.List.{append-nil, length-append, take_at, drop_at, take-append-drop, length-take-le, length-take, take_all, nil_from_length}
-use Rattle.df_tok.specs.Byte.{is_digit, is_hex_digit, is_plain_in_character, is_plain_in_text, escaped, begins_identifier}
+use Rattle.std.proofs.lemmas.Bool.{cases_lt, cond-true, eqb-true, cases_Bool, false≢true}
+use Rattle.std.proofs.lemmas.List.{append-nil, length-append, take-append-drop, length-take, take_all, nil_from_length}
+use Rattle.df_tok.specs.Byte.{is_digit, is_hex_digit, is_plain_in_character, is_plain_in_text, escaped}
 use Rattle.df_tok.specs.declared.sign.Sign.{Sign}
 use Rattle.df_tok.specs.declared.sign.Sign.TheVariants as all
 use Rattle.df_tok.specs.Sign.{sign_text}
-use Rattle.df_tok.specs.Lexeme.{NotNext, AreDigits, IsIdentifier, IsNumber, IsCharacter, Part, Plain, Escape, AreParts, IsText, IsSign, IsLexeme, identifier, number, character, string, sign}
+use Rattle.df_tok.specs.Lexeme.{AreDigits, IsNumber, IsCharacter, Part, Plain, Escape, AreParts, IsText, IsSign, IsLexeme, identifier, number, character, string, sign}
 use Rattle.df_tok.specs.Fault.{IsBegun, Stops}
 use Rattle.df_tok.specs.Scanning.{are_digits, text_len, digits_begun, number_begun, escape_begun, character_begun, text_begun, begun_at}
 use Rattle.df_tok.proofs.Lists.{chosen, starts_front}
 use Rattle.df_tok.proofs.Literals.{digits_sound, digits_complete, number_first, text_sound, plain_apart, some_is_some}
-use Rattle.df_tok.proofs.Lexemes.{digit_is_none}
 
 abbrev pub NoLexeme : List ℕ → Type 0
 NoLexeme rest = (text more : List ℕ) → rest ≡ text ++ more → ¬ IsLexeme text more
@@ -24,27 +23,29 @@ NoLexeme rest = (text more : List ℕ) → rest ≡ text ++ more → ¬ IsLexeme
 digits_local : (digit : ℕ → Bool) (before : Bool) (front x y : List ℕ) → length front ≤ digits_begun digit before (front ++ x) → length front ≤ digits_begun digit before (front ++ y)
 digits_local digit before [] x y h = omega arith
 digits_local digit before (b ∷ front) x y h = elim (cases_Bool (digit b)) [
-    | inl p ↦
+  | inl p ↦
       let g = rw p at h in
       let r = digits_local digit true front x y (omega arith) in
       rw p (omega (arith, r))
-    | inr p ↦ elim (cases_Bool (before && eqb b 95)) [
-      | inl q ↦
+  | inr p ↦ elim (cases_Bool (before && eqb b 95)) [
+    | inl q ↦
         let g = rw (p, q) at h in
         let r = digits_local digit false front x y (omega arith) in
         rw (p, q) (omega (arith, r))
-      | inr q ↦ let g = rw (p, q) at h in absurd (omega arith) ]
+    | inr q ↦ let g = rw (p, q) at h in absurd (omega arith)
   ]
+]
 
 -- digits are begun to their end
 digits_whole : (digit : ℕ → Bool) (before : Bool) (bs x : List ℕ) → are_digits digit before bs ≡ true → length bs ≤ digits_begun digit before (bs ++ x)
 digits_whole digit before [] x h = omega arith
 digits_whole digit before (b ∷ bs) x h = elim (chosen (digit b) (are_digits digit true bs) (cond (before && eqb b 95) (are_digits digit false bs) false) true h) [
-    | inl p ↦ let r = digits_whole digit true bs x p.1 in rw p.0 (omega (arith, r))
-    | inr p ↦ elim (chosen (before && eqb b 95) (are_digits digit false bs) false true p.1) [
-      | inl q ↦ let r = digits_whole digit false bs x q.1 in rw (p.0, q.0) (omega (arith, r))
-      | inr q ↦ absurd (false≢true q.1) ]
+  | inl p ↦ let r = digits_whole digit true bs x p.1 in rw p.0 (omega (arith, r))
+  | inr p ↦ elim (chosen (before && eqb b 95) (are_digits digit false bs) false true p.1) [
+    | inl q ↦ let r = digits_whole digit false bs x q.1 in rw (p.0, q.0) (omega (arith, r))
+    | inr q ↦ absurd (false≢true q.1)
   ]
+]
 
 take_one : (k b : ℕ) (bs : List ℕ) → take (1 + k) (b ∷ bs) ≡ b ∷ take k bs
 take_one k b bs = let e : suc k ≡ 1 + k = omega arith in sym (ap (λ n. take n (b ∷ bs)) e)
@@ -53,21 +54,22 @@ take_one k b bs = let e : suc k ≡ 1 + k = omega arith in sym (ap (λ n. take n
 digits_can : (digit : ℕ → Bool) (before : Bool) (bs : List ℕ) → digit 48 ≡ true → are_digits digit before (take (digits_begun digit before bs) bs ++ 48 ∷ []) ≡ true
 digits_can digit before [] h = rw h refl
 digits_can digit before (b ∷ bs) h = elim (cases_Bool (digit b)) [
-    | inl p ↦ rw (p, take_one (digits_begun digit true bs) b bs, p) (digits_can digit true bs h)
-    | inr p ↦ elim (cases_Bool (before && eqb b 95)) [
-      | inl q ↦ rw (p, q, take_one (digits_begun digit false bs) b bs, p, q) (digits_can digit false bs h)
-      | inr q ↦ rw (p, q, h) refl ]
+  | inl p ↦ rw (p, take_one (digits_begun digit true bs) b bs, p) (digits_can digit true bs h)
+  | inr p ↦ elim (cases_Bool (before && eqb b 95)) [
+    | inl q ↦ rw (p, q, take_one (digits_begun digit false bs) b bs, p, q) (digits_can digit false bs h)
+    | inr q ↦ rw (p, q, h) refl
   ]
+]
 
 number_can : (bytes : List ℕ) → IsBegun (take (number_begun bytes) bytes)
 number_can bytes = elim (cases_Bool (starts_with nat_eq bytes (codes "0x"))) [
-    | inl e ↦
+  | inl e ↦
       let front : bytes ≡ 48 ∷ 120 ∷ drop 2 bytes = starts_front bytes (codes "0x") e in
       let k = digits_begun is_hex_digit false (drop 2 bytes) in
       let taken : take (2 + k) bytes ≡ 48 ∷ 120 ∷ take k (drop 2 bytes) = let two : suc (suc k) ≡ 2 + k = omega arith in ap (take (2 + k)) front ∙ sym (ap (λ n. take n (48 ∷ 120 ∷ drop 2 bytes)) two) in
       rw (e, taken) (48 ∷ [], number (inr (take k (drop 2 bytes) ++ 48 ∷ [], refl, digits_sound is_hex_digit _ (digits_can is_hex_digit false (drop 2 bytes) refl))) tt)
-    | inr e ↦ rw e (48 ∷ [], number (inl (digits_sound is_digit _ (digits_can is_digit false bytes refl))) tt)
-  ]
+  | inr e ↦ rw e (48 ∷ [], number (inl (digits_sound is_digit _ (digits_can is_digit false bytes refl))) tt)
+]
 
 digits_longest : (digit : ℕ → Bool) (front more after : List ℕ) → digit 95 ≡ false → AreDigits digit (front ++ more) → length front ≤ digits_begun digit false (front ++ after)
 digits_longest digit front more after other h =
@@ -85,17 +87,19 @@ number_longest : (front more after : List ℕ) → IsNumber (front ++ more) → 
 number_longest front more after (inl ds) =
     let r = digits_longest is_digit front more after refl ds in
     elim (cases_Bool (starts_with nat_eq (front ++ after) (codes "0x"))) [
-    | inl e ↦
-      let is : front ++ after ≡ 48 ∷ 120 ∷ drop 2 (front ++ after) = starts_front (front ++ after) (codes "0x") e in
-      let one : digits_begun is_digit false (front ++ after) ≡ 1 = ap (digits_begun is_digit false) is in
-      rw e (omega (arith, r, one))
-    | inr e ↦ rw e r ]
+      | inl e ↦
+          let is : front ++ after ≡ 48 ∷ 120 ∷ drop 2 (front ++ after) = starts_front (front ++ after) (codes "0x") e in
+          let one : digits_begun is_digit false (front ++ after) ≡ 1 = ap (digits_begun is_digit false) is in
+          rw e (omega (arith, r, one))
+      | inr e ↦ rw e r
+    ]
 number_longest [] more after (inr h) = omega arith
 number_longest (a ∷ []) more after (inr (digits, is, ds)) =
     let zero_is : a ≡ 48 = head_is a 48 more (120 ∷ digits) is in
     elim (cases_Bool (starts_with nat_eq (a ∷ after) (codes "0x"))) [
-    | inl e ↦ rw e (omega arith)
-    | inr e ↦ let d : is_digit a ≡ true = ap is_digit zero_is in rw (e, d) (omega arith) ]
+      | inl e ↦ rw e (omega arith)
+      | inr e ↦ let d : is_digit a ≡ true = ap is_digit zero_is in rw (e, d) (omega arith)
+    ]
 number_longest (a ∷ b ∷ front) more after (inr (digits, is, ds)) =
     let zero_is : a ≡ 48 = head_is a 48 (b ∷ (front ++ more)) (120 ∷ digits) is in
     let tail : b ∷ (front ++ more) ≡ 120 ∷ digits = tail_is a 48 (b ∷ (front ++ more)) (120 ∷ digits) is in
@@ -110,17 +114,19 @@ number_longest (a ∷ b ∷ front) more after (inr (digits, is, ds)) =
 character_can : (bs : List ℕ) → IsBegun (39 ∷ take (character_begun bs) bs)
 character_can [] = (97 ∷ 39 ∷ [], character 97 (inl (refl, refl)))
 character_can (a ∷ rest) = elim (cases_Bool (is_plain_in_character a)) [
-    | inl p ↦ rw p (39 ∷ [], character a (inl (p, refl)))
-    | inr p ↦ elim (cases_Bool (eqb a 92)) [
-      | inl q ↦ rw (p, q, take_one (escape_begun rest) a rest, eqb-true a 92 q) (escape rest)
-      | inr q ↦ rw (p, q) (97 ∷ 39 ∷ [], character 97 (inl (refl, refl))) ]
+  | inl p ↦ rw p (39 ∷ [], character a (inl (p, refl)))
+  | inr p ↦ elim (cases_Bool (eqb a 92)) [
+    | inl q ↦ rw (p, q, take_one (escape_begun rest) a rest, eqb-true a 92 q) (escape rest)
+    | inr q ↦ rw (p, q) (97 ∷ 39 ∷ [], character 97 (inl (refl, refl)))
   ]
+]
   where
     escape : (rest : List ℕ) → IsBegun (39 ∷ 92 ∷ take (escape_begun rest) rest)
     escape [] = (110 ∷ 39 ∷ [], character 10 (inr (110, refl, refl)))
     escape (e ∷ rest) = elim (cases_Bool (is_some (escaped e))) [
       | inl q ↦ let c = some_is_some (escaped e) q in rw q (39 ∷ [], character c.0 (inr (e, c.1, refl)))
-      | inr q ↦ rw q (110 ∷ 39 ∷ [], character 10 (inr (110, refl, refl))) ]
+      | inr q ↦ rw q (110 ∷ 39 ∷ [], character 10 (inr (110, refl, refl)))
+    ]
 
 no_more : (front more : List ℕ) (n : ℕ) → length (front ++ more) ≡ n → n ≤ length front → more ≡ []
 no_more front more n e le = nil_from_length more (omega (arith, length-append front more, e, le))
@@ -152,13 +158,16 @@ character_longest (a ∷ b ∷ d ∷ front) more after c (inr (e, esc, is)) some
 text_local : (before : Bool) (front x y : List ℕ) → length front ≤ text_begun before (front ++ x) → length front ≤ text_begun before (front ++ y)
 text_local before [] x y h = omega arith
 text_local true (b ∷ front) x y h = elim (cases_Bool (is_some (escaped b))) [
-    | inl p ↦ let g = rw p at h in let r = text_local false front x y (omega arith) in rw p (omega (arith, r))
-    | inr p ↦ let g = rw p at h in absurd (omega arith) ]
+  | inl p ↦ let g = rw p at h in let r = text_local false front x y (omega arith) in rw p (omega (arith, r))
+  | inr p ↦ let g = rw p at h in absurd (omega arith)
+]
 text_local false (b ∷ front) x y h = elim (cases_Bool (eqb b 92)) [
-    | inl p ↦ let g = rw p at h in let r = text_local true front x y (omega arith) in rw p (omega (arith, r))
-    | inr p ↦ elim (cases_Bool (is_plain_in_text b)) [
-      | inl q ↦ let g = rw (q, p) at h in let r = text_local false front x y (omega arith) in rw (q, p) (omega (arith, r))
-      | inr q ↦ let g = rw (q, p) at h in absurd (omega arith) ] ]
+  | inl p ↦ let g = rw p at h in let r = text_local true front x y (omega arith) in rw p (omega (arith, r))
+  | inr p ↦ elim (cases_Bool (is_plain_in_text b)) [
+    | inl q ↦ let g = rw (q, p) at h in let r = text_local false front x y (omega arith) in rw (q, p) (omega (arith, r))
+    | inr q ↦ let g = rw (q, p) at h in absurd (omega arith)
+  ]
+]
 
 parts_begun : (parts : List Part) (inner cs x : List ℕ) → AreParts parts inner cs → length inner ≤ text_begun false (inner ++ x)
 parts_begun [] inner cs x h = omega (arith, ap length h.0)
@@ -181,7 +190,8 @@ text_longest front more after cs (parts, inner, is, are) some =
     let n = parts_begun parts inner cs (34 ∷ []) are in
     let shorter : length front ≤ length inner = elim (cases_lt (length inner) (length front)) [
       | inl lt ↦ absurd (some (nil_from_length more (omega (arith, ap length e, length-append front more, length-append inner (34 ∷ [])))))
-      | inr le ↦ le ] in
+      | inr le ↦ le
+    ] in
     let m : length front ≤ text_begun false (front ++ more) = subst (λ (t : List ℕ). length front ≤ text_begun false t) (sym e) (omega (arith, n, shorter)) in
     text_local false front more after m
 
@@ -197,21 +207,24 @@ end_now false = record { more = 34 ∷ []; ends = refl }
 text_can : (before : Bool) (bs : List ℕ) → CanEnd before (take (text_begun before bs) bs)
 text_can before [] = end_now before
 text_can true (b ∷ bs) = elim (cases_Bool (is_some (escaped b))) [
-    | inl p ↦
+  | inl p ↦
       let r = text_can false bs in
       rw (p, take_one (text_begun false bs) b bs) (record { more = r.more; ends = rw (p, r.ends) (ap Some (omega arith)) })
-    | inr p ↦ rw p (end_now true) ]
+  | inr p ↦ rw p (end_now true)
+]
 text_can false (b ∷ bs) = elim (cases_Bool (eqb b 92)) [
-    | inl p ↦
+  | inl p ↦
       let r = text_can true bs in
       let q : eqb b 34 ≡ false = ap (λ x. eqb x 34) (eqb-true b 92 p) in
       rw (p, take_one (text_begun true bs) b bs) (record { more = r.more; ends = rw (q, p, r.ends) (ap Some (omega arith)) })
-    | inr p ↦ elim (cases_Bool (is_plain_in_text b)) [
-      | inl q ↦
+  | inr p ↦ elim (cases_Bool (is_plain_in_text b)) [
+    | inl q ↦
         let r = text_can false bs in
         let a = plain_apart b q in
         rw (q, p, take_one (text_begun false bs) b bs) (record { more = r.more; ends = rw (q, a.0, p, r.ends) (ap Some (omega arith)) })
-      | inr q ↦ rw (q, p) (end_now false) ] ]
+    | inr q ↦ rw (q, p) (end_now false)
+  ]
+]
 
 text_is_begun : (bs : List ℕ) → IsBegun (34 ∷ take (text_begun false bs) bs)
 text_is_begun bs =
@@ -293,15 +306,18 @@ character_begins b bs c (inr (e, esc, is)) = head_is b 39 bs (92 ∷ e ∷ 39 �
 pub begun_can : (rest : List ℕ) → IsBegun (take (begun_at rest) rest)
 begun_can [] = (48 ∷ [], number (inl refl) tt)
 begun_can (b ∷ bs) = elim (cases_Bool (is_digit b)) [
-    | inl p ↦ subst (λ n. IsBegun (take n (b ∷ bs))) (sym (digit_begun b bs p)) (number_can (b ∷ bs))
-    | inr p ↦ elim (cases_Bool (eqb b 39)) [
-      | inl q ↦ rw (p, q, take_one (character_begun bs) b bs, eqb-true b 39 q) (character_can bs)
-      | inr q ↦ elim (cases_Bool (eqb b 34)) [
-        | inl r ↦ rw (p, q, r, take_one (text_begun false bs) b bs, eqb-true b 34 r) (text_is_begun bs)
-        | inr r ↦ elim (cases_Bool (eqb b 38)) [
-          | inl s ↦ rw (p, q, r, s, eqb-true b 38 s) (38 ∷ [], sign (all.And, refl, λ e. cc))
-          | inr s ↦ rw (p, q, r, s) (48 ∷ [], number (inl refl) tt) ] ] ]
+  | inl p ↦ subst (λ n. IsBegun (take n (b ∷ bs))) (sym (digit_begun b bs p)) (number_can (b ∷ bs))
+  | inr p ↦ elim (cases_Bool (eqb b 39)) [
+    | inl q ↦ rw (p, q, take_one (character_begun bs) b bs, eqb-true b 39 q) (character_can bs)
+    | inr q ↦ elim (cases_Bool (eqb b 34)) [
+      | inl r ↦ rw (p, q, r, take_one (text_begun false bs) b bs, eqb-true b 34 r) (text_is_begun bs)
+      | inr r ↦ elim (cases_Bool (eqb b 38)) [
+        | inl s ↦ rw (p, q, r, s, eqb-true b 38 s) (38 ∷ [], sign (all.And, refl, λ e. cc))
+        | inr s ↦ rw (p, q, r, s) (48 ∷ [], number (inl refl) tt)
+      ]
+    ]
   ]
+]
 
 pub begun_longest : (rest other more : List ℕ) → NoLexeme rest → rest ≡ other ++ more → IsBegun other → length other ≤ begun_at rest
 begun_longest rest [] more none e h = omega arith

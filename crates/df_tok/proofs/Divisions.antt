@@ -1,5 +1,5 @@
 -- Divisions of a source: a front of it, and what is left.
-use Rattle.std.proofs.Common.{◌≡◌, ℕ, ◌+◌, ◌-◌, ◌<◌, ◌≤◌, List, [], ◌∷◌, ◌++◌, length, take, drop, cond, Bool, true, false, Some, refl, sym, ap, subst, ◌∙◌, append_assoc, arith}
+use Rattle.std.proofs.Common.{◌≡◌, ℕ, ◌+◌, ◌<◌, ◌≤◌, List, [], ◌∷◌, ◌++◌, length, take, drop, cond, Bool, true, false, refl, sym, ap, subst, ◌∙◌, append_assoc, arith}
 use Rattle.std.specs.List.{list_any}
 use Rattle.std.proofs.lemmas.List.{append-nil, length-append}
 use Rattle.df_base.specs.declared.pos.Pos.{Pos}
@@ -12,7 +12,7 @@ use Rattle.df_tok.specs.Division.{after_bytes, start, Piece, Blank, LineComment,
 use Rattle.df_tok.specs.Fault.{IsFront, after_pieces}
 use Rattle.df_tok.specs.Steps.{token_of, NextPiece, NoPiece, Exceeds}
 use Rattle.df_tok.proofs.Lists.{Parts-take}
-use Rattle.df_tok.proofs.Pieces.{one_piece, lex_next, lexeme_next, no_kind_next, no_piece_of_nothing}
+use Rattle.df_tok.proofs.Pieces.{one_piece, no_piece_of_nothing}
 
 -- ---- tokens, piece by piece
 

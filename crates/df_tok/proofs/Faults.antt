@@ -1,30 +1,25 @@
 -- The refusal that is given is the first fault, and a source with a fault has no division within the limits.
-use Rattle.std.proofs.Common.{◌≡◌, ◌≢◌, ℕ, zero, suc, ◌+◌, ◌-◌, ◌<◌, ◌≤◌, ◌^◌, ◌⊎◌, inl, inr, Bool, true, false, cond, List, [], ◌∷◌, ◌++◌, length, take, drop, Option, Some, None, refl, sym, ap, subst, ◌∙◌, arith}
+use Rattle.std.proofs.Common.{◌≡◌, ◌≢◌, ℕ, ◌+◌, ◌-◌, ◌<◌, ◌≤◌, inl, inr, true, false, List, [], ◌∷◌, ◌++◌, length, take, drop, Option, Some, None, refl, sym, ap, subst, ◌∙◌, arith}
 use Rattle.std.specs.Prelude.{nat_eq, nat_le, codes}
 use Rattle.std.specs.List.{starts_with}
 use Rattle.std.proofs.lemmas.Bool.{cases_Bool, leb-true, both_ways}
-use Rattle.std.proofs.lemmas.List.{length-append, drop_at}
 use Rattle.df_base.specs.declared.pos.Pos.{Pos}
 use Rattle.df_base.specs.declared.refusal.Refusal.{Refusal}
-use Rattle.df_base.specs.declared.refusal.Code.TheVariants as tags
-use Rattle.df_base.specs.declared.refusal.Detail.TheVariants.{Nothing, Count}
 use Rattle.df_tok.specs.Byte.{is_blank}
-use Rattle.df_tok.specs.declared.token.Kind.{Kind}
 use Rattle.df_tok.specs.declared.scan.Form.{Form}
-use Rattle.df_tok.specs.declared.scan.Front.{Front}
 use Rattle.df_tok.specs.declared.scan.Front.TheVariants.{Skipped, Lexeme as Lexed}
-use Rattle.df_tok.specs.Lexeme.{NotNext, IsNumber, value_of_number, IsLexeme}
+use Rattle.df_tok.specs.Lexeme.{NotNext}
 use Rattle.df_tok.specs.Token.{Token, HasKind}
-use Rattle.df_tok.specs.Division.{after_bytes, start, Closes, BeginsComment, IsLongest, Piece, Blank, LineComment, BlockComment, Lexeme, text_of, IsPiece, AreDivided, tokens_of, Divides}
-use Rattle.df_tok.specs.Fault.{refusal, Stops, NothingBegins, IsUnclosed, IsRefusedAt, number, many, unclosed, byte, token, IsFront, after_pieces, IsFault, long, stop}
+use Rattle.df_tok.specs.Division.{start, Blank, LineComment, BlockComment, Lexeme, tokens_of, Divides}
+use Rattle.df_tok.specs.Fault.{Stops, NothingBegins, IsUnclosed, IsRefusedAt, number, many, unclosed, byte, token, after_pieces, IsFault, long, stop}
 use Rattle.df_tok.specs.Scanning.{front_at, comment_len, skips, lexes, lexeme_at, begins_blank, begun_at, is_high, fault_at}
-use Rattle.df_tok.specs.Steps.{NextPiece, CannotAdd, large, full, NoPiece, Exceeds, token_of}
+use Rattle.df_tok.specs.Steps.{CannotAdd, large, full, NoPiece, Exceeds}
 use Rattle.df_tok.proofs.Lists.{starts_front}
-use Rattle.df_tok.proofs.Comments.{unused, used, comment_again, Closing, comment_sound}
-use Rattle.std.proofs.lemmas.List.{take-append-drop, take_at, nil_from_length}
+use Rattle.df_tok.proofs.Comments.{unused, used, comment_again, comment_sound}
+use Rattle.std.proofs.lemmas.List.{take-append-drop, take_at}
 use Rattle.df_tok.proofs.Lexemes.{furthest}
 use Rattle.df_tok.proofs.OneKind.{number_small}
-use Rattle.df_tok.proofs.Pieces.{Turn, blank, line, block, lexeme, turn_of, no_comment, block_case, NextLexeme, lex_next, lexeme_next, lexeme_seen, nothing_next, no_kind_next}
+use Rattle.df_tok.proofs.Pieces.{Turn, blank, line, block, lexeme, turn_of, no_comment, block_case, lex_next, lexeme_next, lexeme_seen, nothing_next, no_kind_next}
 use Rattle.df_tok.proofs.Divisions.{Progress, progress_exceeds, no_piece_exceeds, token_exceeds}
 use Rattle.df_tok.proofs.Begins.{NoLexeme, stops_at}
 
@@ -42,9 +37,13 @@ lexes_none None e = refl
 lexes_none (Some p) e = absurd (some_is_none (Lexed p.0 p.1) e)
 
 unclosed_from : (rest : List ℕ) → starts_with nat_eq rest (codes "/*") ≡ true → comment_len 0 0 (drop 2 rest) ≡ None → IsUnclosed rest
-unclosed_from rest h e = (drop 2 rest, starts_front rest (codes "/*") h, λ front more is closes.
-    let found : comment_len 0 0 (drop 2 rest) ≡ Some (length front) = ap (comment_len 0 0) is ∙ comment_again 0 0 front more (unused 0 front closes) in
-    some_is_none (length front) (sym found ∙ e))
+unclosed_from rest h e = (
+  drop 2 rest,
+  starts_front rest (codes "/*") h,
+  λ front more is closes.
+      let found : comment_len 0 0 (drop 2 rest) ≡ Some (length front) = ap (comment_len 0 0) is ∙ comment_again 0 0 front more (unused 0 front closes) in
+      some_is_none (length front) (sym found ∙ e),
+)
 
 no_lexeme : (rest : List ℕ) → lexeme_at rest ≡ None → NoLexeme rest
 no_lexeme rest h text more is lex =
@@ -69,10 +68,11 @@ begins_from names rest pos count open_none h =
     let s = stops_at rest h.lexeme in
     let n = begun_at rest in
     elim (cases_Bool (is_high (drop n rest))) [
-    | inl e ↦
-      let b = high_byte (drop n rest) e in
-      byte h (take n rest) b.0 b.1 (subst (Stops rest (take n rest)) b.2 s) b.3 (rw (open_none, e) refl)
-    | inr e ↦ token h (take n rest) (drop n rest) s (not_high (drop n rest) e) (rw (open_none, e) refl) ]
+      | inl e ↦
+          let b = high_byte (drop n rest) e in
+          byte h (take n rest) b.0 b.1 (subst (Stops rest (take n rest)) b.2 s) b.3 (rw (open_none, e) refl)
+      | inr e ↦ token h (take n rest) (drop n rest) s (not_high (drop n rest) e) (rw (open_none, e) refl)
+    ]
 
 -- the refusal that is given where no piece is found
 pub fault_from : (names : List (List ℕ)) (rest : List ℕ) (pos : Pos) (count : ℕ) → 0 < length rest → front_at rest ≡ None → IsRefusedAt names rest pos count (fault_at pos rest)
@@ -127,8 +127,8 @@ refused_exceeds names rest pos count r (number text more is lex longest comment 
     let l = lex_next rest f.0 (length text) found in
     let taken : take (length text) rest ≡ text = ap (take (length text)) is ∙ take_at text more (length text) refl in
     no_piece_exceeds names rest (500000 - count) (omega (arith, l.some, l.within))
-        (no_kind_next names rest f.0 (length text) found (λ kind after has.
-            absurd (omega (arith, value, number_small names text kind after num (subst (λ (t : List ℕ). HasKind names t kind after) taken has)))))
+    (no_kind_next names rest f.0 (length text) found (λ kind after has.
+    absurd (omega (arith, value, number_small names text kind after num (subst (λ (t : List ℕ). HasKind names t kind after) taken has)))))
 refused_exceeds names rest pos count r (many kind text more after is p c e) =
     let f = lexeme_seen text more p.0 p.1 p.2 in
     let found : front_at rest ≡ Some (Lexed f.0 (length text)) = ap front_at is ∙ f.1 in
@@ -155,4 +155,4 @@ pub fault_there : (before : List (List ℕ)) (source : List ℕ) (tokens : List 
 fault_there before source tokens rest pos names count r p c few small h =
     let n : count ≡ length (tokens_of start p.pieces) = c ∙ ap length p.tokens_are in
     stop small p.pieces rest names p.reaches (omega (arith, n))
-        (subst (λ (k : ℕ). IsRefusedAt names rest (after_pieces start p.pieces) k r) n (subst (λ (at : Pos). IsRefusedAt names rest at count r) p.pos_is h))
+    (subst (λ (k : ℕ). IsRefusedAt names rest (after_pieces start p.pieces) k r) n (subst (λ (at : Pos). IsRefusedAt names rest at count r) p.pos_is h))

@@ -40,14 +40,14 @@ IsUnclosed rest = (inner : List ℕ) × (rest ≡ 47 ∷ 42 ∷ inner) × ((fron
 -- the byte that continues none is 128 or more, or it is less or the end.
 pub data IsRefusedAt (names : List (List ℕ)) (rest : List ℕ) (pos : Pos) (count : ℕ) (r : Refusal) : Type 0 where
   number : (text more : List ℕ) → rest ≡ text ++ more → IsLexeme text more → IsLongest text more → ¬ BeginsComment (text ++ more)
-    → IsNumber text → 2 ^ 127 ≤ value_of_number text → r ≡ refusal codes.Number pos Nothing → IsRefusedAt names rest pos count r
+      → IsNumber text → 2 ^ 127 ≤ value_of_number text → r ≡ refusal codes.Number pos Nothing → IsRefusedAt names rest pos count r
   many : (kind : Kind) (text more : List ℕ) (after : List (List ℕ)) → rest ≡ text ++ more → IsPiece names (Lexeme kind text) more after
-    → count ≡ 500000 → r ≡ refusal codes.Limit pos (Count 500000) → IsRefusedAt names rest pos count r
+      → count ≡ 500000 → r ≡ refusal codes.Limit pos (Count 500000) → IsRefusedAt names rest pos count r
   unclosed : IsUnclosed rest → r ≡ refusal codes.Token pos Nothing → IsRefusedAt names rest pos count r
   byte : NothingBegins rest → (front : List ℕ) (b : ℕ) (behind : List ℕ) → Stops rest front (b ∷ behind) → 128 ≤ b
-    → r ≡ refusal codes.Byte (after_bytes pos front) Nothing → IsRefusedAt names rest pos count r
+      → r ≡ refusal codes.Byte (after_bytes pos front) Nothing → IsRefusedAt names rest pos count r
   token : NothingBegins rest → (front behind : List ℕ) → Stops rest front behind → NotNext (nat_le 128) behind
-    → r ≡ refusal codes.Token pos Nothing → IsRefusedAt names rest pos count r
+      → r ≡ refusal codes.Token pos Nothing → IsRefusedAt names rest pos count r
 
 -- the pieces are a front of the source, with the rest and the names after them
 abbrev pub IsFront : List (List ℕ) → List ℕ → List Piece → List ℕ → List (List ℕ) → Type 0
@@ -64,4 +64,4 @@ after_pieces pos (piece ∷ pieces) = after_pieces (after_bytes pos (text_of pie
 pub data IsFault (before : List (List ℕ)) (source : List ℕ) (r : Refusal) : Type 0 where
   long : 4194304 < length source → r ≡ refusal codes.Limit start (Count (length source)) → IsFault before source r
   stop : length source ≤ 4194304 → (pieces : List Piece) (rest : List ℕ) (names : List (List ℕ)) → IsFront before source pieces rest names
-    → length (tokens_of start pieces) ≤ 500000 → IsRefusedAt names rest (after_pieces start pieces) (length (tokens_of start pieces)) r → IsFault before source r
+      → length (tokens_of start pieces) ≤ 500000 → IsRefusedAt names rest (after_pieces start pieces) (length (tokens_of start pieces)) r → IsFault before source r

@@ -100,7 +100,7 @@ fn values_and_places(rt: HostRuntime) -> Result<(), Fail> {
     Ok(())
 }
 
-const REFUSED: [(&str, Code, u32, u32); 14] = [
+const REFUSED: [(&str, Code, u32, u32); 25] = [
     ("a # b", Code::Token, 1, 3),
     ("a\n 12a", Code::Token, 2, 2),
     ("1_", Code::Token, 1, 1),
@@ -114,6 +114,17 @@ const REFUSED: [(&str, Code, u32, u32); 14] = [
     ("\"a", Code::Token, 1, 1),
     ("&", Code::Token, 1, 1),
     ("a /* /* */", Code::Token, 1, 3),
+    ("é", Code::Byte, 1, 1),
+    ("\naé", Code::Byte, 2, 2),
+    ("&é", Code::Byte, 1, 2),
+    ("\"aé", Code::Byte, 1, 3),
+    ("0xé", Code::Byte, 1, 3),
+    ("1_é", Code::Byte, 1, 3),
+    ("'é", Code::Byte, 1, 2),
+    ("'aé", Code::Byte, 1, 3),
+    ("'\\é", Code::Byte, 1, 3),
+    ("1aé", Code::Token, 1, 1),
+    ("/* é", Code::Token, 1, 1),
     ("0x80000000000000000000000000000000", Code::Number, 1, 1),
 ];
 

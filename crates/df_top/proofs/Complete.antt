@@ -50,8 +50,8 @@ found scope n l distinct at =
     let lt : l < length scope = slice_get_within scope l n at in
     let here : get_or scope l 0 ≡ n = get_or_from_slice_get scope l n 0 at in
     let earlier : (k : ℕ) → k < l → eqb n (get_or scope k 0) ≡ false = λ k less. false_by (eqb n (get_or scope k 0)) (λ e.
-        let same : slice_get scope k ≡ Some n = slice_get-get_or scope k 0 (omega arith) ∙ ap (λ (m : ℕ). Some m) (sym (eqb-true n (get_or scope k 0) e)) in
-        let place : k ≡ l = distinct k l n same at in omega arith) in
+    let same : slice_get scope k ≡ Some n = slice_get-get_or scope k 0 (omega arith) ∙ ap (λ (m : ℕ). Some m) (sym (eqb-true n (get_or scope k 0) e)) in
+    let place : k ≡ l = distinct k l n same at in omega arith) in
     let is : position_or_len (nat_eq n) scope ≡ l = position_or_len_is (nat_eq n) scope l 0 (omega arith) earlier (λ _. rw here (nat_eq_equiv.refl n)) in
     rw (is, lt-ltb l (length scope) lt) refl
 
@@ -180,9 +180,19 @@ newtype_complete names t p h =
     let low_fits : fitting p.low ≡ Some p.low = fitting_complete p.low (rw h.low (lowest_above t.range.after_low t.range.low.negative t.range.low.magnitude h.low_end)) (omega (arith, ints, h.inside.0, between.1)) in
     let high_fits : fitting p.high ≡ Some p.high = fitting_complete p.high (omega (arith, ints, h.inside.1, between.0)) (rw h.high (highest_below t.range.before_high t.range.high.negative t.range.high.magnitude h.high_end)) in
     let inner : int_le p.low p.default && int_le p.default p.high ≡ true = both_true _ _ (le_test _ _ h.inside.0) (le_test _ _ h.inside.1) in
-    rw (subject, value_complete t.range.low (value_of t.range.low) h.low_end refl, low_is, low_fits,
-        value_complete t.range.high (value_of t.range.high) h.high_end refl, high_is, high_fits,
-        default_complete t.witness p.default h.default, inner, h.text, ← h.name) refl
+    rw (
+      subject,
+      value_complete t.range.low (value_of t.range.low) h.low_end refl,
+      low_is,
+      low_fits,
+      value_complete t.range.high (value_of t.range.high) h.high_end refl,
+      high_is,
+      high_fits,
+      default_complete t.witness p.default h.default,
+      inner,
+      h.text,
+      ← h.name,
+    ) refl
 
 apart_test : (a b : ℕ) → a ≢ b → eqb a b ≡ false
 apart_test a b h = grind (arith, nat_tests)
@@ -191,8 +201,14 @@ program_complete : (names : List (List ℕ)) (t : tree.Tree) (p : program.Progra
 unfolding program_of
 program_complete names t p h =
     let empty : IsScope [] = λ i j name at also. absurd (omega (arith, slice_get_within [] i name at)) in
-    rw (newtype_complete names t.newtype p.newtype h.newtype, apart_test _ _ h.once, h.method,
-        stmts_complete t.newtype.name.name [] t.body p.main.body empty h.body, ← h.name, ← h.text) refl
+    rw (
+      newtype_complete names t.newtype p.newtype h.newtype,
+      apart_test _ _ h.once,
+      h.method,
+      stmts_complete t.newtype.name.name [] t.body p.main.body empty h.body,
+      ← h.name,
+      ← h.text,
+    ) refl
 
 -- a tree elaborates to at most one program
 pub one_elaboration : (names : List (List ℕ)) (t : tree.Tree) (p q : program.Program) → Elaborates names t p → Elaborates names t q → p ≡ q

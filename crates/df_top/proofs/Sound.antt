@@ -151,9 +151,15 @@ newtype_sound names t p e =
     let made : Bounds → program.Newtype = λ b. record { name = t.name.name; text = text.0; low = b.low; high = b.high; default = b.default } in
     subst (IsNewtype names t) (ap made (sym within.0) ∙ some_is (made a.0) p text.2)
     (record {
-      name = refl; text = text.1; subject = eqb-true _ _ subject.0;
-      low_end = low_is.0; low = low_is.1; high_end = high_is.0; high = high_is.1;
-      default = default_sound t.witness default.0 default.1; inside = within.1;
+      name = refl;
+      text = text.1;
+      subject = eqb-true _ _ subject.0;
+      low_end = low_is.0;
+      low = low_is.1;
+      high_end = high_is.0;
+      high = high_is.1;
+      default = default_sound t.witness default.0 default.1;
+      inside = within.1;
     })
 
 apart_names : (a b : ℕ) → eqb a b ≡ false → a ≢ b

@@ -8,7 +8,6 @@ mod parser;
 mod reading;
 mod running;
 mod silent;
-
 #[cfg(test)]
 mod tests;
 

@@ -45,14 +45,42 @@ fn runs_bodies(rt: HostRuntime) -> Result<(), Fail> {
     let alloc = rt.alloc();
     let table: [(&[u8], Status, &[u8]); 13] = [
         (b"", Status::Done, b""),
-        (b"print \"\", \"a\\tb\\\\\\'\\\"\";", Status::Done, b"a\tb\\'\""),
-        (b"var x: i32 := 0x7FFF_FFFF; print x;", Status::Done, b"2147483647"),
-        (b"var x: i32 := 1 + 2 + 3; var y: i32 := x + x; print y, x;", Status::Done, b"126"),
-        (b"var i32: i32 := 1_0; print i32 + i32;", Status::Done, b"20"),
-        (b"/* /* \xff */ */ print \"x\"; // \xfe", Status::Refused, b""),
-        (b"/* /* \xff */ */ print \"x\"; // \xfe\n", Status::Done, b"x"),
+        (
+            b"print \"\", \"a\\tb\\\\\\'\\\"\";",
+            Status::Done,
+            b"a\tb\\'\"",
+        ),
+        (
+            b"var x: i32 := 0x7FFF_FFFF; print x;",
+            Status::Done,
+            b"2147483647",
+        ),
+        (
+            b"var x: i32 := 1 + 2 + 3; var y: i32 := x + x; print y, x;",
+            Status::Done,
+            b"126",
+        ),
+        (
+            b"var i32: i32 := 1_0; print i32 + i32;",
+            Status::Done,
+            b"20",
+        ),
+        (
+            b"/* /* \xff */ */ print \"x\"; // \xfe",
+            Status::Refused,
+            b"",
+        ),
+        (
+            b"/* /* \xff */ */ print \"x\"; // \xfe\n",
+            Status::Done,
+            b"x",
+        ),
         (b"var x: i32 := 2147483648;", Status::Unproved, b""),
-        (b"print \"a\"; var x: i32 := 2147483647; print x + 1;", Status::Unproved, b""),
+        (
+            b"print \"a\"; var x: i32 := 2147483647; print x + 1;",
+            Status::Unproved,
+            b"",
+        ),
         (b"var x: i32 := 2147483647 + 0 + 1;", Status::Unproved, b""),
         (b"print 1;", Status::Refused, b""),
         (b"print;", Status::Refused, b""),
@@ -92,7 +120,11 @@ fn refuses_unlawful_bodies(rt: HostRuntime) -> Result<(), Fail> {
     for body in table {
         let mut out = MemSink::new(alloc);
         let source = with_body(alloc, body)?;
-        assert_eq!(rt; run(alloc, &source, &mut out)?, Status::Refused, "at {body:?}");
+        assert_eq!(rt;
+            run(alloc, &source, &mut out)?,
+            Status::Refused,
+            "at {body:?}"
+        );
         assert_eq!(rt; out.taken().len(), 0);
     }
     Ok(())
@@ -103,23 +135,60 @@ fn reads_newtypes(rt: HostRuntime) -> Result<(), Fail> {
     let alloc = rt.alloc();
     let table: [(&[u8], Status); 15] = [
         (b"newtype n = x | 0 <= x < 1 method Main() {}", Status::Done),
-        (b"newtype n = x: int | - 3 < x <= 0 method Main() {}", Status::Done),
-        (b"newtype n = x | -1 < x < 1 method Main() { var a: n := 0; }", Status::Done),
-        (b"newtype n = x | 0 < x < 2 witness 1 method Main() {}", Status::Done),
-        (b"newtype n = x | 0 < x < 2 method Main() {}", Status::Refused),
-        (b"newtype n = x | 0 <= x < 2 witness 2 method Main() {}", Status::Refused),
-        (b"newtype n = x | 0 <= x < 0 method Main() {}", Status::Refused),
-        (b"newtype n = x | 0 <= y < 9 method Main() {}", Status::Refused),
-        (b"newtype Main = x | 0 <= x < 9 method Main() {}", Status::Refused),
-        (b"newtype n = x | 0 <= x < 9 method main() {}", Status::Refused),
-        (b"newtype n = x | 170141183460469231731687303715884105727 < x <= 170141183460469231731687303715884105727 method Main() {}", Status::Refused),
-        (b"newtype n = x | -170141183460469231731687303715884105727 <= x <= 170141183460469231731687303715884105727 method Main() { var a: n := 170141183460469231731687303715884105727; var b: n := a + a; }", Status::Unproved),
+        (
+            b"newtype n = x: int | - 3 < x <= 0 method Main() {}",
+            Status::Done,
+        ),
+        (
+            b"newtype n = x | -1 < x < 1 method Main() { var a: n := 0; }",
+            Status::Done,
+        ),
+        (
+            b"newtype n = x | 0 < x < 2 witness 1 method Main() {}",
+            Status::Done,
+        ),
+        (
+            b"newtype n = x | 0 < x < 2 method Main() {}",
+            Status::Refused,
+        ),
+        (
+            b"newtype n = x | 0 <= x < 2 witness 2 method Main() {}",
+            Status::Refused,
+        ),
+        (
+            b"newtype n = x | 0 <= x < 0 method Main() {}",
+            Status::Refused,
+        ),
+        (
+            b"newtype n = x | 0 <= y < 9 method Main() {}",
+            Status::Refused,
+        ),
+        (
+            b"newtype Main = x | 0 <= x < 9 method Main() {}",
+            Status::Refused,
+        ),
+        (
+            b"newtype n = x | 0 <= x < 9 method main() {}",
+            Status::Refused,
+        ),
+        (
+            b"newtype n = x | 170141183460469231731687303715884105727 < x <= 170141183460469231731687303715884105727 method Main() {}",
+            Status::Refused,
+        ),
+        (
+            b"newtype n = x | -170141183460469231731687303715884105727 <= x <= 170141183460469231731687303715884105727 method Main() { var a: n := 170141183460469231731687303715884105727; var b: n := a + a; }",
+            Status::Unproved,
+        ),
         (b"method Main() {}", Status::Refused),
         (b"newtype n = x | 0 <= x < 1", Status::Refused),
         (b"", Status::Refused),
     ];
     for (source, status) in table {
-        assert_eq!(rt; run(alloc, source, &mut MemSink::new(alloc))?, status, "at {source:?}");
+        assert_eq!(rt;
+            run(alloc, source, &mut MemSink::new(alloc))?,
+            status,
+            "at {source:?}"
+        );
     }
     Ok(())
 }
@@ -140,13 +209,31 @@ fn knows_one_command(rt: HostRuntime) -> Result<(), Fail> {
     for (texts, status) in table {
         let words = words(alloc, texts)?;
         let mut out = MemSink::new(alloc);
-        assert_eq!(rt; top(alloc, &words, &mut files, &mut out, &mut SureSink::new(alloc)), status);
+        assert_eq!(rt;
+            top(
+                alloc,
+                &words,
+                &mut files,
+                &mut out,
+                &mut SureSink::new(alloc)
+            ),
+            status
+        );
         assert_eq!(rt; out.taken().len(), 0);
     }
     files.fail_at(2)?;
     let words = words(alloc, &["run", "p.dfy"])?;
     let mut out = MemSink::new(alloc);
-    assert_eq!(rt; top(alloc, &words, &mut files, &mut out, &mut SureSink::new(alloc)), Status::Unread);
+    assert_eq!(rt;
+        top(
+            alloc,
+            &words,
+            &mut files,
+            &mut out,
+            &mut SureSink::new(alloc)
+        ),
+        Status::Unread
+    );
     Ok(())
 }
 
@@ -182,10 +269,16 @@ fn touches_no_stack_for_siblings(rt: HostRuntime) -> Result<(), Fail> {
     }
     sum.extend_from_slice(b"; print x;")?;
     let mut out = MemSink::new(alloc);
-    assert_eq!(rt; run(alloc, &with_body(alloc, &sum)?, &mut out)?, Status::Done);
+    assert_eq!(rt;
+        run(alloc, &with_body(alloc, &sum)?, &mut out)?,
+        Status::Done
+    );
     assert_eq!(rt; out.taken(), b"99999".as_slice());
     let mut out = MemSink::new(alloc);
-    assert_eq!(rt; run(alloc, &with_body(alloc, &prints)?, &mut out)?, Status::Done);
+    assert_eq!(rt;
+        run(alloc, &with_body(alloc, &prints)?, &mut out)?,
+        Status::Done
+    );
     assert_eq!(rt; out.taken().len(), 99_999);
     Ok(())
 }
@@ -197,8 +290,14 @@ fn keeps_the_limits(rt: HostRuntime) -> Result<(), Fail> {
     let blanks = vec![in alloc; b' '; 4_194_304]?;
     source.extend_from_slice(&blanks[source.len().min(4_194_304)..])?;
     assert_eq!(rt; source.len(), 4_194_304);
-    assert_eq!(rt; run(alloc, &source, &mut MemSink::new(alloc))?, Status::Done);
+    assert_eq!(rt;
+        run(alloc, &source, &mut MemSink::new(alloc))?,
+        Status::Done
+    );
     source.push(b' ')?;
-    assert_eq!(rt; run(alloc, &source, &mut MemSink::new(alloc))?, Status::Refused);
+    assert_eq!(rt;
+        run(alloc, &source, &mut MemSink::new(alloc))?,
+        Status::Refused
+    );
     Ok(())
 }

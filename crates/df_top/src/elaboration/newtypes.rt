@@ -99,11 +99,7 @@ pub fn declared(alloc: Global, names: &Names, name: Name) -> Result<Declared, Me
 
 /// The newtype of the program.
 #[tactic(auto, unfolding(crate::specs::Elaborating::newtype_of))]
-pub fn newtype(
-    alloc: Global,
-    names: &Names,
-    tree: &tree::Newtype,
-) -> Result<typed::Newtype, Stop>
+pub fn newtype(alloc: Global, names: &Names, tree: &tree::Newtype) -> Result<typed::Newtype, Stop>
     requires { tree.now.name.name < length names.now }
     ensures { Gives typed_view.newtype_of result (newtype_of names.now tree.now) }
 {

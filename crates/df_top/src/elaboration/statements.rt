@@ -50,11 +50,7 @@ fn statement(
 }
 
 /// The statements of a body, in which no local is declared yet.
-fn statements(
-    alloc: Global,
-    newtype: Name,
-    body: &[tree::Stmt],
-) -> Result<Vec<typed::Stmt>, Stop>
+fn statements(alloc: Global, newtype: Name, body: &[tree::Stmt]) -> Result<Vec<typed::Stmt>, Stop>
     ensures { Gives (λ v. map typed_specs.stmt_of v.items) result (stmts_of newtype [] (map tree_specs.stmt_of body.now)) }
 {
     let mut scope = IndexSet::new(alloc);

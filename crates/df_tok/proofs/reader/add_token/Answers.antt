@@ -1,4 +1,4 @@
-use Rattle.std.proofs.Common.{sym, ◌∙◌, arith}
+use Rattle.std.proofs.Common.{sym, ◌∙◌}
 use Rattle.std.proofs.lemmas.Result.{err_from_is_err_and}
 use Rattle.df_base.specs.declared.refusal.Stop.TheVariants.{Refused}
 use Rattle.df_tok.specs.Steps.{large, full}
