@@ -12,5 +12,3 @@ pub mod Parts
 pub mod Named
 pub mod Elaborated
 pub mod Sources
-pub mod Loop
-pub mod Refusals

@@ -9,6 +9,3 @@ pub mod Source
 pub mod Command
 pub mod Answer
 pub mod Running
-pub mod Reads
-pub mod Rest
-pub mod Refusing

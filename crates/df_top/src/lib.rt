@@ -4,7 +4,6 @@
 mod command;
 mod elaboration;
 mod execution;
-mod parser;
 mod reading;
 mod running;
 mod silent;

@@ -9,8 +9,8 @@ ghost use Rattle.df_top.specs.Source.{IsLawful};
 ghost use Rattle.df_top.specs.Answer.{IsUnlawful};
 
 use crate::elaboration::elaborate;
-use crate::parser::parse;
 use df_base::{Global, Names, Stop};
+use df_pdecl::parse;
 use df_tok::{no_division, one_division, tokens};
 use df_tree::one_tree;
 use df_types::Program;
