@@ -49,7 +49,8 @@ pub(crate) struct Cursor<'t, 's> {
 impl<'t, 's> Cursor<'t, 's> {
     /// At the first of the tokens; `end` is the place of the last one.
     pub(crate) fn new(tokens: &'t [Token<'s>], end: Pos) -> Self
-        ensures { result.rest.now ≡ tokens.now }
+        ensures rest { result.rest.now ≡ tokens.now }
+        ensures end { result.end ≡ end }
     {
         Cursor { rest: tokens, end }
     }

@@ -58,48 +58,55 @@ const PRINT: [Kind; 7] = [
 
 const CLOSE: [Kind; 1] = [Kind::Sign(Sign::CloseBrace)];
 
-/// Puts tokens of these kinds at the end, each a column further on; each text is `"\n"`.
-fn put(tokens: &mut Tokens<'static>, kinds: &[Kind]) -> Result<(), AllocError> {
+const NEWLINE: [u8; 4] = *b"\"\\n\"";
+
+/// Tokens of these kinds and this text, each a column further on.
+fn tokens<'s>(alloc: Global, kinds: &[Kind], text: &'s [u8]) -> Result<Tokens<'s>, AllocError> {
+    let mut all = Vec::new(alloc);
+    let mut col: u32 = 1;
     for kind in kinds {
-        let col = (tokens.all.len() as u32).wrapping_add(1);
-        tokens.all.push(Token {
+        all.push(Token {
             kind: *kind,
-            text: b"\"\\n\"",
+            text,
             pos: Pos { line: 1, col },
         })?;
+        col = col.wrapping_add(1);
     }
-    Ok(())
+    Ok(Tokens { all })
 }
 
-/// The newtype, and a method of this body with what closes it.
-fn source(alloc: Global, body: &[Kind], close: &[Kind]) -> Result<Tokens<'static>, AllocError> {
-    let mut tokens = Tokens {
-        all: Vec::new(alloc),
-    };
-    put(&mut tokens, &NEWTYPE)?;
-    put(&mut tokens, &HEAD)?;
-    put(&mut tokens, body)?;
-    put(&mut tokens, close)?;
-    Ok(tokens)
+/// The kinds of the newtype, and of a method of this body with what closes it.
+fn source(alloc: Global, body: &[Kind], close: &[Kind]) -> Result<Vec<Kind>, AllocError> {
+    let mut kinds = Vec::new(alloc);
+    kinds.extend_from_slice(&NEWTYPE)?;
+    kinds.extend_from_slice(&HEAD)?;
+    kinds.extend_from_slice(body)?;
+    kinds.extend_from_slice(close)?;
+    Ok(kinds)
+}
+
+/// The tree that such kinds spell.
+fn read(alloc: Global, kinds: &[Kind]) -> Result<SourceTree, Fail> {
+    let text = NEWLINE;
+    let tokens = tokens(alloc, kinds, &text)?;
+    Ok(parse(alloc, &tokens).ok().ok_or("the tokens spell a tree")?)
 }
 
 /// The refusal of such a source.
-fn refusal(alloc: Global, body: &[Kind], close: &[Kind]) -> Result<Option<Refusal>, AllocError> {
-    let tokens = source(alloc, body, close)?;
+fn refusal(alloc: Global, body: &[Kind], close: &[Kind]) -> Result<Refusal, Fail> {
+    let text = NEWLINE;
+    let kinds = source(alloc, body, close)?;
+    let tokens = tokens(alloc, &kinds, &text)?;
     match parse(alloc, &tokens) {
-        Ok(_) => Ok(None),
-        Err(Stop::Refused(refusal)) => Ok(Some(refusal)),
-        Err(Stop::Memory) => Err(AllocError),
+        Err(Stop::Refused(refusal)) => Ok(refusal),
+        _ => Ok(Err("the tokens spell no tree")?),
     }
 }
 
 #[test]
 fn the_newtype_is_read(rt: HostRuntime) -> Result<(), Fail> {
-    let tokens = source(rt.alloc(), &VAR, &CLOSE)?;
-    let newtype = parse(rt.alloc(), &tokens)
-        .ok()
-        .ok_or("the tokens spell a tree")?
-        .newtype;
+    let kinds = source(rt.alloc(), &VAR, &CLOSE)?;
+    let newtype = read(rt.alloc(), &kinds)?.newtype;
     assert_eq!(rt; newtype.name.name, 0);
     assert_eq!(rt; newtype.variable.name, 1);
     assert!(rt; newtype.is_typed);
@@ -115,11 +122,9 @@ fn the_newtype_is_read(rt: HostRuntime) -> Result<(), Fail> {
 
 #[test]
 fn the_body_is_read(rt: HostRuntime) -> Result<(), Fail> {
-    let mut tokens = source(rt.alloc(), &VAR, &PRINT)?;
-    put(&mut tokens, &CLOSE)?;
-    let tree = parse(rt.alloc(), &tokens)
-        .ok()
-        .ok_or("the tokens spell a tree")?;
+    let mut kinds = source(rt.alloc(), &VAR, &PRINT)?;
+    kinds.extend_from_slice(&CLOSE)?;
+    let tree = read(rt.alloc(), &kinds)?;
     assert_eq!(rt; tree.method.name, 2);
     assert_eq!(rt; tree.body.len(), 2);
     for stmt in &tree.body {
@@ -162,13 +167,13 @@ fn no_tree_is_refused_where_reading_stops(rt: HostRuntime) -> Result<(), Fail> {
         X,
         Kind::Sign(Sign::Semicolon),
     ];
-    let number = refusal(rt.alloc(), &print_number, &CLOSE)?.ok_or("refused")?;
+    let number = refusal(rt.alloc(), &print_number, &CLOSE)?;
     assert_eq!(rt; number.code, Code::Syntax);
     assert_eq!(rt; number.pos.col, 20);
-    let text = refusal(rt.alloc(), &add_to_text, &CLOSE)?.ok_or("refused")?;
+    let text = refusal(rt.alloc(), &add_to_text, &CLOSE)?;
     assert_eq!(rt; text.code, Code::Syntax);
     assert_eq!(rt; text.pos.col, 21);
-    let open = refusal(rt.alloc(), &VAR, &[])?.ok_or("refused")?;
+    let open = refusal(rt.alloc(), &VAR, &[])?;
     assert_eq!(rt; open.code, Code::Syntax);
     assert_eq!(rt; open.pos.col, 25);
     Ok(())
@@ -177,7 +182,7 @@ fn no_tree_is_refused_where_reading_stops(rt: HostRuntime) -> Result<(), Fail> {
 #[test]
 fn a_word_outside_the_language_comes_first(rt: HostRuntime) -> Result<(), Fail> {
     let body = [Kind::Number(1), Kind::Outside(7), Kind::Outside(8)];
-    let outside = refusal(rt.alloc(), &body, &CLOSE)?.ok_or("refused")?;
+    let outside = refusal(rt.alloc(), &body, &CLOSE)?;
     assert_eq!(rt; outside.code, Code::Outside);
     assert_eq!(rt; outside.pos.col, 20);
     assert_eq!(rt; outside.detail, Detail::Word(7));
@@ -186,21 +191,16 @@ fn a_word_outside_the_language_comes_first(rt: HostRuntime) -> Result<(), Fail> 
 
 #[test]
 fn siblings_are_many(rt: HostRuntime) -> Result<(), Fail> {
-    let mut tokens = source(rt.alloc(), &VAR, &[])?;
-    put(&mut tokens, &VAR[..6])?;
+    let mut kinds = source(rt.alloc(), &VAR, &VAR[..6])?;
     for _ in 0..100_000 {
-        put(&mut tokens, &PRINT[2..4])?;
+        kinds.extend_from_slice(&PRINT[2..4])?;
     }
-    put(&mut tokens, &VAR[6..])?;
-    for _ in 0..100_000 {
-        put(&mut tokens, &PRINT[..3])?;
-        put(&mut tokens, &PRINT[3..4])?;
-        put(&mut tokens, &PRINT[6..])?;
+    kinds.push(Kind::Sign(Sign::Semicolon))?;
+    for _ in 0..90_000 {
+        kinds.extend_from_slice(&[Kind::Word(Word::Print), X, Kind::Sign(Sign::Semicolon)])?;
     }
-    put(&mut tokens, &CLOSE)?;
-    let tree = parse(rt.alloc(), &tokens)
-        .ok()
-        .ok_or("the tokens spell a tree")?;
-    assert_eq!(rt; tree.body.len(), 100_002);
+    kinds.extend_from_slice(&CLOSE)?;
+    let tree = read(rt.alloc(), &kinds)?;
+    assert_eq!(rt; tree.body.len(), 90_002);
     Ok(())
 }

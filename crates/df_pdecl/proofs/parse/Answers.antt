@@ -1,4 +1,4 @@
-use Rattle.std.proofs.Common.{◌≡◌, map, sym, ◌∙◌}
+use Rattle.std.proofs.Common.{map, sym, ◌∙◌}
 use Rattle.df_tok.specs.Token.{view}
 use Rattle.df_pdecl.proofs.Refusals.{outside_spells_none, read_is_spelled, refused_spells_none}
 use Rattle.df_pdecl.proofs.parse.Goals as goal

@@ -1,5 +1,5 @@
 use Rattle.std.proofs.Common.{◌≡◌, length, map}
-use Rattle.df_tree.specs.Tree.{operand_of, stmt_of}
+use Rattle.df_tree.specs.Tree.{stmt_of}
 use Rattle.df_tree.specs.Reading.{next_stmt, all_of}
 use Rattle.df_tree.proofs.Repeat.{with_front}
 use Rattle.df_pdecl.specs.Rest.{rest_of}

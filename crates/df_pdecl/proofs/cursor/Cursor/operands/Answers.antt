@@ -1,4 +1,4 @@
-use Rattle.std.proofs.Common.{ap, map, option_map, ◌≡◌, Some, None}
+use Rattle.std.proofs.Common.{ap, map, option_map, Some, None}
 use Rattle.std.proofs.lemmas.Result.{err_from_is_err_and}
 use Rattle.std.proofs.lemmas.List.{map_push}
 use Rattle.df_tree.specs.Tree.{operand_of}

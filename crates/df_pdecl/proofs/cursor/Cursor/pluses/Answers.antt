@@ -1,4 +1,4 @@
-use Rattle.std.proofs.Common.{◌≡◌, Some, None}
+use Rattle.std.proofs.Common.{Some, None}
 use Rattle.std.proofs.lemmas.Result.{err_from_is_err_and}
 use Rattle.df_tree.specs.Reading.{next_plus, all_of}
 use Rattle.df_tree.proofs.Repeat.{goes_on, is_done}
