@@ -95,7 +95,7 @@ fn values_and_places(rt: HostRuntime) -> Result<(), Fail> {
     }
     assert_eq!(rt;
         shown.as_str(),
-        "170141183460469231731687303715884105727@1:1 10@1:36 9@2:2 Name { number: 0 }@2:7 Name { number: 1 }@2:9 Name { number: 0 }@2:11 "
+        "170141183460469231731687303715884105727@1:1 10@1:36 9@2:2 0@2:7 1@2:9 0@2:11 "
     );
     Ok(())
 }
