@@ -58,6 +58,7 @@ pub fn top<F: Files, O: Sink, E: Sink>(
     ensures done { result ≡ statuses.Done → OfLoaded (F.holds files.old) (file_of (map string_bytes words.now)) (λ source. Ran source (O.taken out.old) (O.taken out.new)) }
     ensures unproved { result ≡ statuses.Unproved → OfLoaded (F.holds files.old) (file_of (map string_bytes words.now)) IsUnproved × (O.taken out.new ≡ O.taken out.old) }
     ensures usage { (result ≡ statuses.Usage) ↔ (file_of (map string_bytes words.now) ≡ None) }
+    ensures quiet { result ≡ statuses.Usage → O.taken out.new ≡ O.taken out.old }
     ensures refused { result ≡ statuses.Refused → (OfLoaded (F.holds files.old) (file_of (map string_bytes words.now)) IsUnlawful ⊎ IsTooLong (F.holds files.old) (file_of (map string_bytes words.now))) × (O.taken out.new ≡ O.taken out.old) }
     ensures unread { result ≡ statuses.Unread → Rose (F.fault_count files.old) (F.fault_count files.new) × (O.taken out.new ≡ O.taken out.old) }
     ensures unwritten { result ≡ statuses.Unwritten → Rose (O.fault_count out.old) (O.fault_count out.new) × OfLoaded (F.holds files.old) (file_of (map string_bytes words.now)) (λ source. RanInto source (O.taken out.old) (O.taken out.new)) }
