@@ -1,3 +1,3 @@
 pub mod Depth
 pub mod Determined
-pub mod Tests
+pub mod Examples

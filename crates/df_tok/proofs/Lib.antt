@@ -13,3 +13,4 @@ mod Divisions
 mod Results
 mod Begins
 mod Faults
+pub mod Examples

@@ -12,3 +12,4 @@ pub mod Parts
 pub mod Named
 pub mod Elaborated
 pub mod Sources
+pub mod Examples

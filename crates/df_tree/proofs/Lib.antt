@@ -6,3 +6,4 @@ pub mod Expressions
 pub mod Statements
 pub mod Declarations
 pub mod Law
+pub mod Examples
