@@ -1,18 +1,32 @@
 -- Values, and the text that prints them.
-use Rattle.std.specs.Prelude.{ℕ, ℤ, pos, List}
+use Rattle.std.specs.Prelude.{ℕ, ℤ, pos, Bool, true, false, List, codes}
 use Rattle.std.specs.Fmt.{signed_decimal}
 
--- a whole number, or a text: a sequence of characters
+-- a truth, a whole number, or a text: a sequence of characters
 pub data Value : Type 0 where
+  Truth : Bool → Value
   Number : ℤ → Value
   Text : List ℕ → Value
 
--- what `print` writes: a number in decimal, a text as its characters
+-- the text of a truth
+abbrev pub truth_text : Bool → List ℕ
+truth_text true = codes "true"
+truth_text false = codes "false"
+
+-- what `print` writes: a truth by its word, a number in decimal, a text as its characters
 abbrev pub text_of : Value → List ℕ
+text_of (Truth b) = truth_text b
 text_of (Number n) = signed_decimal n
 text_of (Text characters) = characters
 
 -- the number of a value; 0 for what is no number, of which a well-typed program asks none
 abbrev pub number_of : Value → ℤ
+number_of (Truth b) = pos 0
 number_of (Number n) = n
 number_of (Text characters) = pos 0
+
+-- the truth of a value; false for what is no truth
+abbrev pub truth_of : Value → Bool
+truth_of (Truth b) = b
+truth_of (Number n) = false
+truth_of (Text characters) = false

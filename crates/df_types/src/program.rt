@@ -14,7 +14,7 @@ pub struct Declared {
 }
 
 /// The type of a place or an expression.
-#[derive(Clone, Copy, Debug, PartialEq, Eq)]
+#[derive(Clone, Copy, Debug, PartialEq, Eq, Hash)]
 pub enum Ty {
     /// The newtype of this name.
     Newtype(Name),
