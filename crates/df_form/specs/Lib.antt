@@ -1,0 +1,13 @@
+pub use Rattle.df_meaning.specs.Value
+pub use Rattle.df_types.specs.Program
+pub use Rattle.df_types.specs.View
+pub mod Node
+pub mod Made
+pub mod Sorting
+pub mod Truth
+pub mod Sequent
+pub mod Log
+pub mod Clause
+pub mod SequentView
+pub mod Draft
+pub mod Renaming

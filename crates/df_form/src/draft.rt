@@ -1,0 +1,196 @@
+//! Sequents that are being built.
+
+ghost use Rattle.std.specs.Prelude.{◌≡◌, ℕ, Bool, true, List, ◌++◌, length, nat_lt};
+ghost use Rattle.std.specs.List.{list_all};
+ghost use Rattle.df_form.specs.Sorting.{IsTable, is_formula};
+ghost use Rattle.df_form.specs.Sequent.{Walk};
+
+use crate::node::{Formula, Node, Op, Term};
+use crate::nodes::Nodes;
+use crate::sequent::Sequent;
+use df_types::Program;
+use std::alloc::{AllocError, Global};
+
+/// A sequent that is being built. Terms are put on a stack, and an operation takes those on top as its
+/// parts.
+#[derive(Drop)]
+pub struct Draft<'a> {
+    pub program: &'a Program,
+    /// The nodes so far, in postorder of first occurrence.
+    pub nodes: Nodes,
+    pub hypotheses: Vec<Formula>,
+    /// The terms that wait for an operation, by the numbers of their nodes. The last is on top.
+    pub stack: Vec<Term>,
+    pub ghost table: { IsTable nodes },
+    pub ghost formulas: { list_all (is_formula nodes) hypotheses.items ≡ true },
+    pub ghost known: { list_all (λ n. nat_lt n (length nodes)) stack.items ≡ true },
+    pub ghost walked: { ∥ Walk nodes 0 (hypotheses.items ++ stack.items) (length nodes) ∥₁ },
+}
+
+impl<'a> Draft<'a> {
+    ghost use Rattle.std.specs.Prelude.{[], ◌∷◌, ◌≤◌, OnOk, OnErr, IfOk, map, slice_index};
+    ghost use Rattle.df_form.specs.Sorting.{takes, sort_at, sort_of};
+    ghost use Rattle.df_form.specs.Made.{made};
+    ghost use Rattle.df_form.specs.Draft.{last_terms, other_terms, node_on};
+
+    /// Nothing yet.
+    pub fn new(alloc: Global, program: &'a Program) -> Draft<'a>
+        ensures program { result.program ≡ program.entry }
+        ensures nodes { result.nodes ≡ [] }
+        ensures hypotheses { result.hypotheses.items ≡ [] }
+        ensures stack { result.stack.items ≡ [] }
+    {
+        Draft {
+            program,
+            nodes: Nodes::new(alloc),
+            hypotheses: Vec::new(alloc),
+            stack: Vec::new(alloc),
+        }
+    }
+
+    /// Takes so many terms from the top of the stack, and puts the operation on them there. The lowest
+    /// is its first part. It fails for want of memory, and then changes nothing.
+    pub fn apply(&mut self, op: Op, count: usize) -> Result<(), AllocError>
+        requires enough { count ≤ length self.old.stack.items }
+        requires takes { takes op (map (sort_at self.old.nodes) (last_terms count self.old.stack.items)) ≡ true }
+        ensures nodes { OnOk result (self.new.nodes ≡ (made self.old.nodes (node_on op count self.old.stack.items)).nodes) }
+        ensures stack { OnOk result (self.new.stack.items ≡ other_terms count self.old.stack.items ++ (made self.old.nodes (node_on op count self.old.stack.items)).number ∷ []) }
+        ensures sorts { OnOk result (map (sort_at self.new.nodes) self.new.stack.items ≡ map (sort_at self.old.nodes) (other_terms count self.old.stack.items) ++ sort_of op ∷ []) }
+        ensures err { OnErr result ((self.new.nodes ≡ self.old.nodes) × (self.new.stack.items ≡ self.old.stack.items)) }
+        ensures hypotheses { self.new.hypotheses.items ≡ self.old.hypotheses.items }
+        ensures program { self.new.program ≡ self.old.program }
+    {
+        let start = self.stack.len() - count;
+        let parts = Vec::from_slice(*self.stack.allocator(), &self.stack[start..])?;
+        // With this room the last push cannot fail: the node would stand already.
+        self.stack.reserve(1)?;
+        let number = self.nodes.add(Node { op, parts })?;
+        self.stack.truncate(start);
+        self.stack.push(number)?;
+        Ok(())
+    }
+
+    /// Makes the formula on the stack, which stands there alone, the next hypothesis. It fails for want
+    /// of memory, and then changes nothing.
+    pub fn assume(&mut self) -> Result<(), AllocError>
+        requires one { length self.old.stack.items ≡ 1 }
+        requires formula { is_formula self.old.nodes (slice_index self.old.stack.items 0) ≡ true }
+        ensures hypotheses { OnOk result (self.new.hypotheses.items ≡ self.old.hypotheses.items ++ self.old.stack.items) }
+        ensures stack { OnOk result (self.new.stack.items ≡ []) }
+        ensures err { OnErr result ((self.new.hypotheses.items ≡ self.old.hypotheses.items) × (self.new.stack.items ≡ self.old.stack.items)) }
+        ensures nodes { self.new.nodes ≡ self.old.nodes }
+        ensures program { self.new.program ≡ self.old.program }
+    {
+        self.hypotheses.push(self.stack[0])?;
+        self.stack.clear();
+        Ok(())
+    }
+
+    /// The sequent with the formula on the stack, which stands there alone, as its goal.
+    pub fn sequent(&self, alloc: Global) -> Result<Sequent<'a>, AllocError>
+        requires one { length self.now.stack.items ≡ 1 }
+        requires formula { is_formula self.now.nodes (slice_index self.now.stack.items 0) ≡ true }
+        ensures program { IfOk result (λ sequent. sequent.program ≡ self.now.program) }
+        ensures nodes { IfOk result (λ sequent. sequent.nodes ≡ self.now.nodes) }
+        ensures hypotheses { IfOk result (λ sequent. sequent.hypotheses.items ≡ self.now.hypotheses.items) }
+        ensures goal { IfOk result (λ sequent. sequent.goal ∷ [] ≡ self.now.stack.items) }
+    {
+        Ok(Sequent {
+            program: self.program,
+            nodes: self.nodes.copy(alloc)?,
+            hypotheses: Vec::from_slice(alloc, self.hypotheses.as_slice())?,
+            goal: self.stack[0],
+        })
+    }
+}
+
+#[cfg(test)]
+mod tests {
+    use super::*;
+    use crate::node::{Free, Sort};
+    use df_types::{Declared, Interval, Method, Newtype};
+    use std::process::Abort;
+    use std::test::Fail;
+
+    /// A program with the newtype `byte = x: int | 0 <= x < 256` and an empty `Main`.
+    fn program(alloc: Global) -> Result<Program, Fail> {
+        let newtype = Newtype {
+            declared: Declared {
+                name: 0,
+                text: String::from_str(alloc, "byte")?,
+            },
+            interval: Interval::new(0, 255).ok_or("ordered")?,
+            default: 0,
+        };
+        let main = Method {
+            declared: Declared {
+                name: 1,
+                text: String::from_str(alloc, "Main")?,
+            },
+            body: Vec::new(alloc),
+        };
+        Ok(Program::new(newtype, main))
+    }
+
+    /// A free number.
+    const X: Op = Op::Free(Free {
+        number: 0,
+        sort: Sort::Number,
+    });
+
+    /// x <= 3: operations, how many terms each takes, and its number.
+    const HYPOTHESIS: [(Op, usize, usize); 3] = [
+        (X, 0, 0),
+        (Op::Number(3), 0, 1),
+        (Op::AtMost, 2, 2),
+    ];
+
+    /// x + 1 <= 4
+    const GOAL: [(Op, usize, usize); 5] = [
+        (X, 0, 0),
+        (Op::Number(1), 0, 3),
+        (Op::Plus, 2, 4),
+        (Op::Number(4), 0, 5),
+        (Op::AtMost, 2, 6),
+    ];
+
+    /// Puts each operation on so many terms, and wants its number on top of the stack.
+    fn put(rt: &impl Abort, draft: &mut Draft, steps: &[(Op, usize, usize)]) -> Result<(), Fail> {
+        for (op, count, number) in steps {
+            assert!(rt; *count <= draft.stack.len());
+            let start = draft.stack.len() - *count;
+            let parts = Vec::from_slice(*draft.stack.allocator(), &draft.stack[start..])?;
+            assert!(rt; draft.nodes.admits(&Node { op: *op, parts }));
+            draft.apply(*op, *count)?;
+            assert!(rt;
+                draft.stack.as_slice().last() == Some(number),
+                "at {number}"
+            );
+        }
+        Ok(())
+    }
+
+    /// x <= 3 |- x + 1 <= 4, with the goal on the stack.
+    fn fill(rt: &impl Abort, draft: &mut Draft) -> Result<(), Fail> {
+        put(rt, draft, &HYPOTHESIS)?;
+        assert!(rt; draft.stack.len() == 1);
+        assert!(rt; draft.nodes.is_formula(draft.stack[0]));
+        draft.assume()?;
+        put(rt, draft, &GOAL)
+    }
+
+    #[test]
+    fn numbers_nodes_in_postorder_of_first_occurrence(rt: HostRuntime) -> Result<(), Fail> {
+        let alloc = rt.alloc();
+        let program = program(alloc)?;
+        let mut draft = Draft::new(alloc, &program);
+        fill(&rt, &mut draft)?;
+        assert!(rt; draft.stack.len() == 1);
+        assert!(rt; draft.nodes.is_formula(draft.stack[0]));
+        let sequent = draft.sequent(alloc)?;
+        assert!(rt; sequent.nodes.len() == 7);
+        assert!(rt; sequent.hypotheses.as_slice() == [2].as_slice());
+        assert!(rt; sequent.goal == 6);
+        Ok(())
+    }
+}

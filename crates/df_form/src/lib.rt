@@ -1,0 +1,19 @@
+//! Sequents: terms and formulas as nodes of a table, with their sorts and what they mean; the kinds of
+//! obligation; and the lines of the logs that prove sequents.
+#![tactic(auto)]
+
+mod draft;
+mod law;
+mod log;
+mod node;
+mod nodes;
+mod sequent;
+mod sorting;
+
+pub use df_meaning::Kind;
+pub use draft::Draft;
+pub use law::{one_numbering, one_sequent};
+pub use log::{Combination, Lit, Multiple, Step};
+pub use node::{Formula, Free, Node, Op, Sort, Term};
+pub use nodes::Nodes;
+pub use sequent::Sequent;

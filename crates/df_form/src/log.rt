@@ -1,0 +1,61 @@
+//! The lines of proof logs. Each adds one clause, numbered from 0, but for the line that makes a node.
+
+use crate::node::{Formula, Node, Term};
+
+/// A literal: a formula by the number of its node, or its negation.
+#[derive(Clone, Copy, Debug, PartialEq, Eq)]
+pub struct Lit {
+    pub positive: bool,
+    pub node: Formula,
+}
+
+/// A row taken some times.
+#[derive(Clone, Copy, Debug, PartialEq, Eq)]
+pub struct Multiple {
+    pub factor: i128,
+    pub row: usize,
+}
+
+/// A sum of rows, divided.
+#[derive(Debug, Drop)]
+pub struct Combination {
+    pub divisor: i128,
+    pub members: Vec<Multiple>,
+}
+
+/// A line of a log.
+#[derive(Debug, Drop)]
+pub enum Step {
+    /// `h I`: the hypothesis of this number, from 0.
+    Hypothesis(usize),
+    /// `g`: the negated goal.
+    Goal,
+    /// `x N K`: a defining clause of a connective.
+    Connective {
+        node: usize,
+        clause: usize,
+    },
+    /// `a S K T..`: a clause of a schema for the nodes that its pattern matches.
+    Schema {
+        schema: u8,
+        clause: u32,
+        terms: Vec<Term>,
+    },
+    /// `u C.. : L..`: a clause that follows from named ones by unit propagation.
+    Propagation {
+        clauses: Vec<usize>,
+        conclusion: Vec<Lit>,
+    },
+    /// `l L.. : R..`: a clause whose negation is refuted by linear arithmetic.
+    Linear {
+        conclusion: Vec<Lit>,
+        combinations: Vec<Combination>,
+    },
+    /// `s N K`: a number is at most a bound, or at least the next number.
+    Split {
+        node: usize,
+        bound: i128,
+    },
+    /// `n OP A..`: makes a node.
+    Make(Node),
+}
