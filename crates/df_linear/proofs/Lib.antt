@@ -1,0 +1,9 @@
+pub mod Rows
+pub mod RowEntries
+pub mod RowFold
+pub mod RowSums
+pub mod RowQuotients
+pub mod LinearRows
+pub mod LinearSums
+pub mod LinearWithin
+pub mod LinearRefutes

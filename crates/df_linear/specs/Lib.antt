@@ -1,0 +1,4 @@
+pub mod Row
+pub mod Linear
+pub mod RowView
+pub mod LinearView

@@ -1,0 +1,7 @@
+//! The kernel's linear arithmetic: rows of literals, and combinations that refute them.
+#![tactic(auto)]
+
+mod linear;
+mod row;
+
+pub use linear::is_linear;
