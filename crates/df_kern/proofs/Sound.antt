@@ -1,0 +1,157 @@
+-- A log that derives a sequent makes it valid.
+use Rattle.std.proofs.Common.{◌≡◌, ℕ, zero, suc, ◌⊎◌, inl, inr, Bool, true, false, not, ◌&&◌, ◌||◌, List, [], ◌∷◌, ◌++◌, length, Option, Some, slice_get, nat_lt, refl, subst}
+use Rattle.std.specs.Option.{option_map}
+use Rattle.std.specs.List.{list_all, AllByRecursion}
+use Rattle.df_form.specs.Log.{Step, Hypothesis, Goal, Connective, Schema, Propagation, Linear, Split, Make}
+use Rattle.df_form.specs.declared.node.Sort.TheVariants as sorts
+use Rattle.df_form.specs.Node.{Node, number_of, same_sort}
+use Rattle.df_form.specs.Sorting.{is_formula, is_well_sorted, sort_at}
+use Rattle.df_form.specs.Truth.{Assignment, truth}
+use Rattle.df_form.specs.Sequent.{Sequent, IsSequent, IsValid}
+use Rattle.df_form.specs.Clause.{Clause, yes, no}
+use Rattle.df_kern.specs.Connective.{Added, connective_line}
+use Rattle.df_kern.specs.Schema.{schema_line}
+use Rattle.df_kern.specs.Propagation.{propagation_line}
+use Rattle.df_linear.specs.Linear.{linear_line}
+use Rattle.df_kern.specs.Derivation.{State, begin, only_clause, split_line, is_free, is_new, made_line, with_clause, adds, after, after_all, ends_empty, Derives}
+use Rattle.df_kern.proofs.SoundBasics.{then_some, map_some, test_some, some_is, both, both_true, is_true_or_false}
+use Rattle.df_kern.proofs.SoundValues.{Grows, grows_not, grows_by, grows_twice, AreSorted, one_more_sorted}
+use Rattle.df_kern.proofs.SoundClauses.{Holds, holds_grown, propagation_holds, IsLine}
+use Rattle.df_kern.proofs.SoundConnectives.{connective_is_line, all_appended}
+use Rattle.df_kern.proofs.SoundBounds.{schema_is_line, split_is_line}
+use Rattle.df_kern.proofs.SoundLinear.{linear_holds}
+
+-- each formula of a list stands among the nodes
+listed_below : (nodes : List Node) (hypotheses : List ℕ) (i h : ℕ) → list_all (is_formula nodes) hypotheses ≡ true → slice_get hypotheses i ≡ Some h → nat_lt h (length nodes) ≡ true
+listed_below nodes [] i h all e = absurd cc
+listed_below nodes (first ∷ others) zero h all e =
+    let parts = both (is_formula nodes first) (list_all (is_formula nodes) others) all in
+    let formula = both (nat_lt first (length nodes)) (same_sort (sort_at nodes first) sorts.Truth) parts.0 in
+    subst (λ (n : ℕ). nat_lt n (length nodes) ≡ true) (some_is first h e) formula.0
+listed_below nodes (first ∷ others) (suc i) h all e = listed_below nodes others i h (both (is_formula nodes first) (list_all (is_formula nodes) others) all).1 e
+
+all_parts : {A : Type 0} (test : A → Bool) (xs ys : List A) → list_all test (xs ++ ys) ≡ true → (list_all test xs ≡ true) × (list_all test ys ≡ true)
+all_parts test [] ys e = (refl, e)
+all_parts test (x ∷ xs) ys e =
+    let first = both (test x) (list_all test (xs ++ ys)) e in
+    let rest = all_parts test xs ys first.1 in
+    (both_true (test x) (list_all test xs) first.0 rest.0, rest.1)
+
+true_at : (is : ℕ → Bool) (hypotheses : List ℕ) (i h : ℕ) → AllByRecursion (λ n. is n ≡ true) hypotheses → slice_get hypotheses i ≡ Some h → is h ≡ true
+true_at is [] i h all e = absurd cc
+true_at is (first ∷ others) zero h all e = subst (λ (n : ℕ). is n ≡ true) (some_is first h e) all.0
+true_at is (first ∷ others) (suc i) h all e = true_at is others i h all.1 e
+
+yes_test : (b t : Bool) → b ≡ true → t ≡ true → ((b && t) || false) ≡ true
+yes_test b t e f = rw (e, f) refl
+
+no_test : (b t : Bool) → b ≡ true → t ≡ false → ((b && not t) || false) ≡ true
+no_test b t e f = rw (e, f) refl
+
+-- Where the hypotheses are true and the goal is false, each clause of a derivation holds.
+module _ (depth : ℕ) (assignment : Assignment) (s : Sequent) (is : IsSequent s)
+    (true_all : AllByRecursion (λ h. truth depth s.program assignment s.nodes h ≡ true) s.hypotheses) (goal_false : truth depth s.program assignment s.nodes s.goal ≡ false) where
+  pub record Keeps (state : State) : Type 0 where
+    pub grows : Grows s.nodes state.nodes
+    pub sorted : AreSorted state.nodes
+    pub hold : AllByRecursion (Holds depth s.program assignment state.nodes) state.clauses
+
+  hold_grown : (before now : List Node) (clauses : List Clause) → Grows before now → AllByRecursion (Holds depth s.program assignment before) clauses → AllByRecursion (Holds depth s.program assignment now) clauses
+  hold_grown before now [] g all = tt
+  hold_grown before now (clause ∷ others) g all = (holds_grown depth s.program assignment before now g clause all.0, hold_grown before now others g all.1)
+
+  begin_keeps : Keeps (begin s)
+  begin_keeps = record { grows = grows_not s.nodes; sorted = record { sorted = is.table.sorted }; hold = tt }
+
+  line_keeps : (state next : State) (o : Option Added) → Keeps state → ((added : Added) → o ≡ Some added → IsLine depth s.program assignment state.nodes added) → adds state o ≡ Some next → Keeps next
+  line_keeps state next o keeps line e =
+      let found = map_some (with_clause state) o next e in
+      let one = line found.0 found.1 in
+      let now = found.0.nodes in
+      subst Keeps found.2 (record {
+        grows = grows_twice s.nodes state.nodes now keeps.grows one.grows;
+        sorted = one.sorted;
+        hold = all_appended (Holds depth s.program assignment now) state.clauses (found.0.clause ∷ []) (hold_grown state.nodes now state.clauses one.grows keeps.hold) (one.holds, tt);
+      })
+
+  clause_line : (nodes : List Node) (o : Option Clause) (added : Added) → AreSorted nodes → ((clause : Clause) → o ≡ Some clause → Holds depth s.program assignment nodes clause) → only_clause nodes o ≡ Some added
+      → IsLine depth s.program assignment nodes added
+  clause_line nodes o added sorted holds e =
+      let found = map_some (λ (c : Clause). record { nodes = nodes; clause = c }) o added e in
+      subst (IsLine depth s.program assignment nodes) found.2 (record { grows = grows_not nodes; sorted = sorted; holds = holds found.0 found.1 })
+
+  hypothesis_holds : (nodes : List Node) (i : ℕ) (clause : Clause) → Grows s.nodes nodes → option_map (λ h. yes h ∷ []) (slice_get s.hypotheses i) ≡ Some clause → Holds depth s.program assignment nodes clause
+  hypothesis_holds nodes i clause grows e =
+      let found = map_some (λ (h : ℕ). yes h ∷ []) (slice_get s.hypotheses i) clause e in
+      let formulas = all_parts (is_formula s.nodes) s.hypotheses (s.goal ∷ []) is.formulas in
+      let below = listed_below s.nodes s.hypotheses i found.0 formulas.0 found.1 in
+      let holds : Holds depth s.program assignment s.nodes (yes found.0 ∷ []) = yes_test _ _ below (true_at (truth depth s.program assignment s.nodes) s.hypotheses i found.0 true_all found.1) in
+      subst (Holds depth s.program assignment nodes) found.2 (holds_grown depth s.program assignment s.nodes nodes grows (yes found.0 ∷ []) holds)
+
+  goal_holds : (nodes : List Node) (clause : Clause) → Grows s.nodes nodes → Some (no s.goal ∷ []) ≡ Some clause → Holds depth s.program assignment nodes clause
+  goal_holds nodes clause grows e =
+      let formulas = all_parts (is_formula s.nodes) s.hypotheses (s.goal ∷ []) is.formulas in
+      let below = listed_below s.nodes (s.goal ∷ []) zero s.goal formulas.1 refl in
+      let holds : Holds depth s.program assignment s.nodes (no s.goal ∷ []) = no_test _ _ below goal_false in
+      subst (Holds depth s.program assignment nodes) (some_is (no s.goal ∷ []) clause e) (holds_grown depth s.program assignment s.nodes nodes grows (no s.goal ∷ []) holds)
+
+  make_keeps : (state next : State) (node : Node) → Keeps state → option_map (λ nodes. record { nodes = nodes; clauses = state.clauses }) (made_line state.nodes node) ≡ Some next → Keeps next
+  make_keeps state next node keeps e =
+      let found = map_some (λ (nodes : List Node). record { nodes = nodes; clauses = state.clauses }) (made_line state.nodes node) next e in
+      let tested = test_some (not (is_free node.op) && is_well_sorted state.nodes node && is_new (number_of state.nodes node)) (Some (state.nodes ++ node ∷ [])) found.0 found.1 in
+      let first = both (not (is_free node.op) && is_well_sorted state.nodes node) (is_new (number_of state.nodes node)) tested.0 in
+      let second = both (not (is_free node.op)) (is_well_sorted state.nodes node) first.0 in
+      let now = state.nodes ++ node ∷ [] in
+      let more = grows_by state.nodes node in
+      let kept : Keeps (record { nodes = now; clauses = state.clauses }) = record {
+        grows = grows_twice s.nodes state.nodes now keeps.grows more;
+        sorted = one_more_sorted state.nodes node keeps.sorted second.1;
+        hold = hold_grown state.nodes now state.clauses more keeps.hold;
+      } in
+      subst Keeps found.2 (subst (λ (nodes : List Node). Keeps (record { nodes = nodes; clauses = state.clauses })) (some_is now found.0 tested.1) kept)
+
+  pub after_keeps : (state next : State) (step : Step) → Keeps state → after s state step ≡ Some next → Keeps next
+  after_keeps state next (Hypothesis i) keeps e =
+      line_keeps state next (only_clause state.nodes (option_map (λ h. yes h ∷ []) (slice_get s.hypotheses i))) keeps
+      (λ added. clause_line state.nodes (option_map (λ h. yes h ∷ []) (slice_get s.hypotheses i)) added keeps.sorted (λ clause. hypothesis_holds state.nodes i clause keeps.grows)) e
+  after_keeps state next Goal keeps e =
+      line_keeps state next (only_clause state.nodes (Some (no s.goal ∷ []))) keeps
+      (λ added. clause_line state.nodes (Some (no s.goal ∷ [])) added keeps.sorted (λ clause. goal_holds state.nodes clause keeps.grows)) e
+  after_keeps state next (Connective n k) keeps e = line_keeps state next (connective_line state.nodes n k) keeps (λ added. connective_is_line depth s.program assignment state.nodes n k added keeps.sorted) e
+  after_keeps state next (Schema schema k terms) keeps e =
+      line_keeps state next (schema_line s.program state.nodes schema k terms) keeps (λ added. schema_is_line depth s.program assignment state.nodes schema k terms added keeps.sorted) e
+  after_keeps state next (Propagation numbers conclusion) keeps e =
+      line_keeps state next (only_clause state.nodes (propagation_line state.nodes state.clauses numbers conclusion)) keeps
+      (λ added. clause_line state.nodes (propagation_line state.nodes state.clauses numbers conclusion) added keeps.sorted
+      (λ clause. propagation_holds depth s.program assignment state.nodes state.clauses numbers conclusion clause keeps.hold)) e
+  after_keeps state next (Linear conclusion combinations) keeps e =
+      line_keeps state next (only_clause state.nodes (linear_line state.nodes conclusion combinations)) keeps
+      (λ added. clause_line state.nodes (linear_line state.nodes conclusion combinations) added keeps.sorted (λ clause. linear_holds depth s.program assignment state.nodes keeps.sorted conclusion clause combinations)) e
+  after_keeps state next (Split n k) keeps e = line_keeps state next (split_line state.nodes n k) keeps (λ added. split_is_line depth s.program assignment state.nodes n k added keeps.sorted) e
+  after_keeps state next (Make node) keeps e = make_keeps state next node keeps e
+
+  pub after_all_keeps : (state last : State) (log : List Step) → Keeps state → after_all s state log ≡ Some last → Keeps last
+  after_all_keeps state last [] keeps e = subst Keeps (some_is state last e) keeps
+  after_all_keeps state last (step ∷ steps) keeps e =
+      let found = then_some (λ next. after_all s next steps) (after s state step) last e in
+      after_all_keeps found.0 last steps (after_keeps state found.0 step keeps found.1) found.2
+
+  -- an empty clause does not hold
+  none_empty : (nodes : List Node) (clauses : List Clause) → AllByRecursion (Holds depth s.program assignment nodes) clauses → ends_empty clauses ≡ true → ⊥
+  none_empty nodes [] all e = cc
+  none_empty nodes ([] ∷ []) all e = let empty = all.0 in cc
+  none_empty nodes ((l ∷ ls) ∷ []) all e = cc
+  none_empty nodes (clause ∷ next ∷ others) all e = none_empty nodes (next ∷ others) all.1 e
+
+  pub not_derived : (log : List Step) → Derives s log → ⊥
+  not_derived log derives =
+      let keeps = after_all_keeps (begin s) derives.0 log begin_keeps derives.1 in
+      none_empty derives.0.nodes derives.0.clauses keeps.hold derives.2
+
+pub derivation_is_valid : (s : Sequent) → IsSequent s → (log : List Step) → Derives s log → IsValid s
+derivation_is_valid s is log derives = λ depth assignment all. by_truth depth assignment all (is_true_or_false (truth depth s.program assignment s.nodes s.goal))
+  where
+    by_truth : (depth : ℕ) (assignment : Assignment) → AllByRecursion (λ h. truth depth s.program assignment s.nodes h ≡ true) s.hypotheses
+        → (truth depth s.program assignment s.nodes s.goal ≡ true) ⊎ (truth depth s.program assignment s.nodes s.goal ≡ false) → truth depth s.program assignment s.nodes s.goal ≡ true
+    by_truth depth assignment all (inl e) = e
+    by_truth depth assignment all (inr e) = absurd (not_derived depth assignment s is all e log derives)

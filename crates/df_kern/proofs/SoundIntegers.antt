@@ -1,0 +1,155 @@
+-- Integers and their sums, as rows need them.
+use Rattle.std.proofs.Common.{◌≡◌, ℕ, zero, suc, ◌+◌, ◌*◌, ◌-◌, ◌/◌, ◌<◌, ◌≤◌, ℤ, pos, negsuc, ◌+ℤ◌, ◌*ℤ◌, int_le, Bool, true, false, cond, ◌==◌, refl, sym, ap, ◌∙◌, arith, subst, eqb-true, div-lt_iff_lt-mul, le-div_iff_mul-le}
+use Rattle.std.proofs.lemmas.Int.{ints}
+use Rattle.std.proofs.lemmas.Bool.{eqb-false}
+use borrow.Author.Differences.{up, down, sum_is_lem, product_is}
+use Rattle.df_linear.specs.Row.{with_coefficient}
+use Rattle.df_linear.specs.Linear.{all_below, quotient}
+use Rattle.df_kern.proofs.SoundBasics.{both}
+
+pub times_over_sum : (a b c : ℤ) → (a +ℤ b) *ℤ c ≡ (a *ℤ c) +ℤ (b *ℤ c)
+times_over_sum a b c = omega (arith, ints, ap (λ (z : ℕ). z * up c) (sum_is_lem a b), ap (λ (z : ℕ). z * down c) (sum_is_lem a b))
+
+pub sum_times : (a b c : ℤ) → a *ℤ (b +ℤ c) ≡ (a *ℤ b) +ℤ (a *ℤ c)
+sum_times a b c = omega (arith, ints, ap (λ (z : ℕ). up a * z) (sum_is_lem b c), ap (λ (z : ℕ). down a * z) (sum_is_lem b c))
+
+pub times_twice : (a b c : ℤ) → (a *ℤ b) *ℤ c ≡ a *ℤ (b *ℤ c)
+times_twice a b c =
+    let left = product_is a b in
+    let right = product_is b c in
+    omega (
+      arith,
+      ints,
+      ap (λ (z : ℕ). z * up c) left.0,
+      ap (λ (z : ℕ). z * up c) left.1,
+      ap (λ (z : ℕ). z * down c) left.0,
+      ap (λ (z : ℕ). z * down c) left.1,
+      ap (λ (z : ℕ). up a * z) right.0,
+      ap (λ (z : ℕ). up a * z) right.1,
+      ap (λ (z : ℕ). down a * z) right.0,
+      ap (λ (z : ℕ). down a * z) right.1,
+    )
+
+pub zero_times : (a : ℤ) → pos 0 *ℤ a ≡ pos 0
+zero_times a = omega (arith, ints)
+
+pub times_zero : (a : ℤ) → a *ℤ pos 0 ≡ pos 0
+times_zero a = omega (arith, ints)
+
+-- at least 0
+abbrev pub IsNatural : ℤ → Type 0
+IsNatural z = (k : ℕ) × (z ≡ pos k)
+
+pub natural_by : (z x y : ℤ) → z +ℤ x ≡ y → int_le x y ≡ true → IsNatural z
+natural_by (pos k) x y e le = (k, refl)
+natural_by (negsuc k) x y e le = absurd (omega (arith, ints))
+
+pub natural_above : (z x y : ℤ) → z +ℤ x ≡ y +ℤ negsuc 0 → int_le y x ≡ false → IsNatural z
+natural_above (pos k) x y e le = (k, refl)
+natural_above (negsuc k) x y e le = absurd (omega (arith, ints))
+
+pub sum_of_naturals : (a b c : ℤ) → IsNatural a → int_le (pos 0) c ≡ true → IsNatural b → IsNatural (a +ℤ (c *ℤ b))
+sum_of_naturals a b (pos c) p le q = (p.0 + c * q.0, (λ i. p.1 i +ℤ (pos c *ℤ q.1 i)) ∙ same p.0 c q.0)
+  where
+    same : (m c n : ℕ) → pos m +ℤ (pos c *ℤ pos n) ≡ pos (m + c * n)
+    same m c n = omega (arith, ints)
+sum_of_naturals a b (negsuc c) p le q = absurd (omega (arith, ints))
+
+pub no_natural : (z : ℤ) → IsNatural z → int_le z (negsuc 0) ≡ true → ⊥
+no_natural z p le = let e = p.1 in omega (arith, ints)
+
+-- A sum that a number of at least 1 divides stays at least 0 when its constant is divided and rounded down.
+pub rounded : (d : ℕ) (s c : ℤ) → 0 < d → IsNatural ((pos d *ℤ s) +ℤ c) → IsNatural (s +ℤ quotient c (pos d))
+rounded d (pos s) (pos c) lt h = (s + c / d, refl)
+rounded d (pos s) (negsuc c) lt h = next h.0 h.1
+  where
+    next : (k : ℕ) → (pos d *ℤ pos s) +ℤ negsuc c ≡ pos k → IsNatural (pos s +ℤ negsuc (c / d))
+    next k e =
+        let below : c < s * d = omega (arith, ints, e) in
+        let less : c / d < s = (div-lt_iff_lt-mul lt).1 below in
+        (s - suc (c / d), omega (arith, ints))
+rounded d (negsuc s) (pos c) lt h = next h.0 h.1
+  where
+    next : (k : ℕ) → (pos d *ℤ negsuc s) +ℤ pos c ≡ pos k → IsNatural (negsuc s +ℤ pos (c / d))
+    next k e =
+        let above : suc s * d ≤ c = omega (arith, ints, e) in
+        let more : suc s ≤ c / d = (le-div_iff_mul-le lt).1 above in
+        (c / d - suc s, omega (arith, ints))
+rounded d (negsuc s) (negsuc c) lt h = absurd (next h.0 h.1)
+  where
+    next : (k : ℕ) → (pos d *ℤ negsuc s) +ℤ negsuc c ≡ pos k → ⊥
+    next k e = omega (arith, ints, e)
+
+-- f 0 + f 1 + .. below a number
+abbrev pub sum_below : ℕ → (ℕ → ℤ) → ℤ
+sum_below zero f = pos 0
+sum_below (suc n) f = f n +ℤ sum_below n f
+
+pub same_sums : (count : ℕ) (f g : ℕ → ℤ) → ((n : ℕ) → n < count → f n ≡ g n) → sum_below count f ≡ sum_below count g
+same_sums zero f g h = refl
+same_sums (suc n) f g h = let first = h n (omega arith) in let rest = same_sums n f g (λ m lt. h m (omega arith)) in cc
+
+pub no_sum : (count : ℕ) (f : ℕ → ℤ) → ((n : ℕ) → n < count → f n ≡ pos 0) → sum_below count f ≡ pos 0
+no_sum zero f h = refl
+no_sum (suc n) f h = let first = h n (omega arith) in let rest = no_sum n f (λ m lt. h m (omega arith)) in omega (arith, ints)
+
+pub all_below_at : (count : ℕ) (test : ℕ → Bool) → all_below count test ≡ true → (n : ℕ) → n < count → test n ≡ true
+all_below_at zero test e n lt = absurd (omega arith)
+all_below_at (suc count) test e n lt =
+    let parts = both (test count) (all_below count test) e in
+    next (n == count) refl parts.0 (all_below_at count test parts.1 n)
+  where
+    next : (b : Bool) → (n == count) ≡ b → test count ≡ true → (n < count → test n ≡ true) → test n ≡ true
+    next true is here rest = subst (λ (m : ℕ). test m ≡ true) (sym (eqb-true n count is)) here
+    next false is here rest = rest (omega (arith, eqb-false n count is))
+
+regroup : (all first raw second both more s t : ℤ) → all ≡ first +ℤ raw → raw ≡ second → both ≡ second +ℤ more → s ≡ t +ℤ more → all +ℤ s ≡ (first +ℤ t) +ℤ both
+regroup all first raw second both more s t e f g h = omega (arith, ints)
+
+regroup_scaled : (first second both more s : ℤ) → first ≡ second → both ≡ second +ℤ more → s ≡ more → first +ℤ s ≡ both
+regroup_scaled first second both more s e f g = omega (arith, ints)
+
+-- the sum of two sums, the second some times
+pub sum_added : (count : ℕ) (f g v : ℕ → ℤ) (c : ℤ) → sum_below count (λ n. (f n +ℤ (c *ℤ g n)) *ℤ v n) ≡ sum_below count (λ n. f n *ℤ v n) +ℤ (c *ℤ sum_below count (λ n. g n *ℤ v n))
+sum_added zero f g v c = omega (arith, ints)
+sum_added (suc n) f g v c = next (f n) (g n) (v n) (sum_below n (λ m. (f m +ℤ (c *ℤ g m)) *ℤ v m)) (sum_below n (λ m. f m *ℤ v m)) (sum_below n (λ m. g m *ℤ v m)) (sum_added n f g v c)
+  where
+    next : (x y w s t u : ℤ) → s ≡ t +ℤ (c *ℤ u) → ((x +ℤ (c *ℤ y)) *ℤ w) +ℤ s ≡ ((x *ℤ w) +ℤ t) +ℤ (c *ℤ ((y *ℤ w) +ℤ u))
+    next x y w s t u e = regroup ((x +ℤ (c *ℤ y)) *ℤ w) (x *ℤ w) ((c *ℤ y) *ℤ w) (c *ℤ (y *ℤ w)) (c *ℤ ((y *ℤ w) +ℤ u)) (c *ℤ u) s t (times_over_sum x (c *ℤ y) w) (times_twice c y w) (sum_times c (y *ℤ w) u) e
+
+-- a sum whose coefficients are multiples
+pub sum_scaled : (count : ℕ) (f g v : ℕ → ℤ) (d : ℤ) → ((n : ℕ) → n < count → d *ℤ g n ≡ f n) → sum_below count (λ n. f n *ℤ v n) ≡ d *ℤ sum_below count (λ n. g n *ℤ v n)
+sum_scaled zero f g v d h = omega (arith, ints)
+sum_scaled (suc n) f g v d h = next (f n) (g n) (v n) (sum_below n (λ m. f m *ℤ v m)) (sum_below n (λ m. g m *ℤ v m)) (h n (omega arith)) (sum_scaled n f g v d (λ m lt. h m (omega arith)))
+  where
+    next : (x y w s t : ℤ) → d *ℤ y ≡ x → s ≡ d *ℤ t → (x *ℤ w) +ℤ s ≡ d *ℤ ((y *ℤ w) +ℤ t)
+    next x y w s t e h = subst (λ (x : ℤ). (x *ℤ w) +ℤ s ≡ d *ℤ ((y *ℤ w) +ℤ t)) e (regroup_scaled ((d *ℤ y) *ℤ w) (d *ℤ (y *ℤ w)) (d *ℤ ((y *ℤ w) +ℤ t)) (d *ℤ t) s (times_twice d y w) (sum_times d (y *ℤ w) t) h)
+
+-- the sum with another coefficient for one number
+unchanged : (count n : ℕ) (f : ℕ → ℤ) (c : ℤ) (v : ℕ → ℤ) → count ≤ n → sum_below count (λ m. with_coefficient f n c m *ℤ v m) ≡ sum_below count (λ m. f m *ℤ v m)
+unchanged count n f c v le = same_sums count (λ m. with_coefficient f n c m *ℤ v m) (λ m. f m *ℤ v m) (λ m lt. other m (m == n) refl (omega arith))
+  where
+    other : (m : ℕ) (b : Bool) → (m == n) ≡ b → m < n → cond b c (f m) *ℤ v m ≡ f m *ℤ v m
+    other m true e lt = absurd (omega (arith, eqb-true m n e))
+    other m false e lt = refl
+
+pub changed : (count n : ℕ) (f : ℕ → ℤ) (c : ℤ) (v : ℕ → ℤ) → n < count → sum_below count (λ m. with_coefficient f n c m *ℤ v m) +ℤ (f n *ℤ v n) ≡ sum_below count (λ m. f m *ℤ v m) +ℤ (c *ℤ v n)
+changed zero n f c v lt = absurd (omega arith)
+changed (suc k) n f c v lt = next (k == n) refl (changed k n f c v) (unchanged k n f c v)
+  where
+    here : (x y z w s t : ℤ) → s ≡ t → x ≡ z → y ≡ w → (y +ℤ s) +ℤ x ≡ (z +ℤ t) +ℤ w
+    here x y z w s t e f g = omega (arith, ints)
+
+    there : (x s y t z : ℤ) → s +ℤ y ≡ t +ℤ z → (x +ℤ s) +ℤ y ≡ (x +ℤ t) +ℤ z
+    there x s y t z e = omega (arith, ints)
+
+    next : (b : Bool) → (k == n) ≡ b
+        → (n < k → sum_below k (λ m. with_coefficient f n c m *ℤ v m) +ℤ (f n *ℤ v n) ≡ sum_below k (λ m. f m *ℤ v m) +ℤ (c *ℤ v n))
+        → (k ≤ n → sum_below k (λ m. with_coefficient f n c m *ℤ v m) ≡ sum_below k (λ m. f m *ℤ v m))
+        → ((cond b c (f k) *ℤ v k) +ℤ sum_below k (λ m. with_coefficient f n c m *ℤ v m)) +ℤ (f n *ℤ v n) ≡ ((f k *ℤ v k) +ℤ sum_below k (λ m. f m *ℤ v m)) +ℤ (c *ℤ v n)
+    next true e rest same =
+        let is = eqb-true k n e in
+        here (f n *ℤ v n) (c *ℤ v k) (f k *ℤ v k) (c *ℤ v n) (sum_below k (λ m. with_coefficient f n c m *ℤ v m)) (sum_below k (λ m. f m *ℤ v m)) (same (omega arith))
+        (ap (λ m. f m *ℤ v m) (sym is)) (ap (λ m. c *ℤ v m) is)
+    next false e rest same =
+        there (f k *ℤ v k) (sum_below k (λ m. with_coefficient f n c m *ℤ v m)) (f n *ℤ v n) (sum_below k (λ m. f m *ℤ v m)) (c *ℤ v n) (rest (omega (arith, eqb-false k n e)))

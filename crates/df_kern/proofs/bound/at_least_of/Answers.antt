@@ -1,0 +1,8 @@
+use Rattle.df_kern.proofs.Growth.{number-made, number-grows}
+use Rattle.df_kern.proofs.bound.at_least_of.Goals as goal
+
+pub comparison-requires : goal.comparison-requires
+comparison-requires c = record {
+  left = number-made c.args.nodes.now _ (record { nodes = c.number_of.new.nodes; number = c.in_ok-low.low }) c.in_ok-low.ensures.made;
+  right = number-grows c.args.nodes.now c.number_of.new.nodes c.args.node c.in_ok-low.ensures.grows c.requires;
+}

@@ -1,0 +1,15 @@
+pub mod Bound
+pub mod Connective
+pub mod Schema
+pub mod Propagation
+pub mod Growth
+pub mod Typed
+pub mod Known
+pub mod Learning
+pub mod Refusal
+pub mod Instance
+pub mod CheckerView
+pub mod Lines
+pub mod Answers
+pub mod Connecting
+pub mod Derivation

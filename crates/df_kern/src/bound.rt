@@ -1,0 +1,74 @@
+//! Comparisons that a line needs: they are made where they do not stand yet.
+
+ghost use Rattle.std.specs.Prelude.{◌≡◌, ◌≤◌, length, IfOk};
+ghost use Rattle.df_form.specs.Made.{made};
+ghost use Rattle.df_form.specs.Sorting.{is_well_sorted};
+ghost use Rattle.df_kern.specs.Bound.{at_most, number as number_node, made_at_least, made_at_most};
+ghost use Rattle.df_kern.specs.Growth.{Grows, IsNumber};
+
+use df_form::{Node, Nodes, Op};
+use std::alloc::{AllocError, Global};
+
+/// The number of `left <= right`.
+pub(crate) fn comparison(
+    alloc: Global,
+    nodes: &mut Nodes,
+    left: usize,
+    right: usize,
+) -> Result<usize, AllocError>
+    requires left { IsNumber nodes.old left }
+    requires right { IsNumber nodes.old right }
+    ensures made { IfOk result (λ n. made nodes.old (at_most left right) ≡ record { nodes = nodes.new; number = n }) }
+    ensures grows { Grows nodes.old nodes.new }
+    ensures longer { length nodes.old ≤ length nodes.new }
+{
+    let parts = vec![in alloc; left, right]?;
+    nodes.add(Node {
+        op: Op::AtMost,
+        parts,
+    })
+}
+
+/// The number of a number's node.
+fn number_of(alloc: Global, nodes: &mut Nodes, value: i128) -> Result<usize, AllocError>
+    ensures made { IfOk result (λ n. made nodes.old (number_node value) ≡ record { nodes = nodes.new; number = n }) }
+    ensures grows { Grows nodes.old nodes.new }
+    ensures longer { length nodes.old ≤ length nodes.new }
+{
+    nodes.add(Node {
+        op: Op::Number(value),
+        parts: Vec::new(alloc),
+    })
+}
+
+/// The number of `bound <= node`.
+pub(crate) fn at_least_of(
+    alloc: Global,
+    nodes: &mut Nodes,
+    bound: i128,
+    node: usize,
+) -> Result<usize, AllocError>
+    requires { IsNumber nodes.old node }
+    ensures made { IfOk result (λ n. made_at_least nodes.old bound node ≡ record { nodes = nodes.new; number = n }) }
+    ensures grows { Grows nodes.old nodes.new }
+    ensures longer { length nodes.old ≤ length nodes.new }
+{
+    let low = number_of(alloc, nodes, bound)?;
+    comparison(alloc, nodes, low, node)
+}
+
+/// The number of `node <= bound`.
+pub(crate) fn at_most_of(
+    alloc: Global,
+    nodes: &mut Nodes,
+    node: usize,
+    bound: i128,
+) -> Result<usize, AllocError>
+    requires { IsNumber nodes.old node }
+    ensures made { IfOk result (λ n. made_at_most nodes.old node bound ≡ record { nodes = nodes.new; number = n }) }
+    ensures grows { Grows nodes.old nodes.new }
+    ensures longer { length nodes.old ≤ length nodes.new }
+{
+    let high = number_of(alloc, nodes, bound)?;
+    comparison(alloc, nodes, node, high)
+}

@@ -1,0 +1,23 @@
+//! The kernel: it takes the lines of a log one by one, and accepts a log exactly where it derives its
+//! sequent. It searches for nothing.
+#![tactic(auto)]
+
+mod bound;
+mod checker;
+mod connective;
+mod fault;
+mod instances;
+mod known;
+mod law;
+mod line;
+mod literal;
+mod propagation;
+mod schema;
+mod step;
+#[cfg(test)]
+mod tests;
+
+pub use checker::{Checker, check};
+pub use fault::KernFault;
+pub use instances::{AxiomFault, instance};
+pub use law::{derivations_are_valid, logs_derive_or_are_refused};

@@ -1,0 +1,105 @@
+//! The lines that are neither connectives, schemas, propagation nor arithmetic.
+
+ghost use Rattle.std.specs.Prelude.{◌≡◌, ◌<◌, ◌≤◌, length, IfOk, ◌∷◌, [], slice_get, Some};
+ghost use Rattle.std.specs.Bool.{OnTrue};
+ghost use Rattle.std.specs.Option.{option_map};
+ghost use Rattle.df_form.specs.Node.{node_of, same_sort};
+ghost use Rattle.df_form.specs.SequentView.{sequent_of};
+ghost use Rattle.df_form.specs.Clause.{yes, no};
+ghost use Rattle.df_kern.specs.Derivation.{split_line, made_line, is_number as is_number_of, is_free as is_free_of};
+ghost use Rattle.df_kern.specs.Answers.{Gives, Adds, Makes};
+
+use crate::bound::{at_least_of, at_most_of};
+use crate::literal::{no_of, yes_of};
+use df_form::{Lit, Node, Nodes, Op, Sequent, Sort};
+use std::alloc::{AllocError, Global};
+
+/// A hypothesis.
+pub(crate) fn hypothesis_clause(
+    alloc: Global,
+    sequent: &Sequent,
+    number: usize,
+) -> Result<Option<Vec<Lit>>, AllocError>
+    ensures { Gives result (option_map (λ h. yes h ∷ []) (slice_get (sequent_of sequent.now).hypotheses number)) }
+{
+    match sequent.hypotheses.get(number) {
+        Some(formula) => Ok(Some(vec![in alloc; yes_of(*formula)]?)),
+        None => Ok(None),
+    }
+}
+
+/// The negated goal.
+pub(crate) fn goal_clause(alloc: Global, sequent: &Sequent) -> Result<Option<Vec<Lit>>, AllocError>
+    ensures { Gives result (Some (no (sequent_of sequent.now).goal ∷ [])) }
+{
+    Ok(Some(vec![in alloc; no_of(sequent.goal)]?))
+}
+
+/// A number is at most a bound, or at least the next number.
+pub(crate) fn split_clause(
+    alloc: Global,
+    nodes: &mut Nodes,
+    number: usize,
+    bound: i128,
+) -> Result<Option<Vec<Lit>>, AllocError>
+    ensures adds { Adds nodes.old nodes.new result (split_line nodes.old number bound) }
+    ensures longer { length nodes.old ≤ length nodes.new }
+{
+    let Some(next) = bound.checked_add(1) else {
+        return Ok(None);
+    };
+    if !is_number(nodes, number) {
+        return Ok(None);
+    }
+    let below = at_most_of(alloc, nodes, number, bound)?;
+    let above = at_least_of(alloc, nodes, next, number)?;
+    Ok(Some(vec![in alloc; yes_of(below), yes_of(above)]?))
+}
+
+fn is_number(nodes: &Nodes, number: usize) -> bool
+    ensures { result ≡ is_number_of nodes.now number }
+{
+    number < nodes.len() && is_numeric(nodes.sort(number))
+}
+
+fn is_numeric(sort: Sort) -> bool
+    ensures { result ≡ same_sort sort Sort.Number }
+{
+    match sort {
+        Sort::Number => true,
+        Sort::Truth => false,
+    }
+}
+
+fn is_free(op: Op) -> bool
+    ensures { result ≡ is_free_of op }
+{
+    match op {
+        Op::Free(_) => true,
+        Op::Number(_)
+        | Op::Plus
+        | Op::Times
+        | Op::Is(_)
+        | Op::Equal
+        | Op::AtMost
+        | Op::Not
+        | Op::And
+        | Op::Or
+        | Op::Implies
+        | Op::Iff => false,
+    }
+}
+
+/// Makes a node that differs from all before. Whether it could.
+pub(crate) fn make(alloc: Global, nodes: &mut Nodes, node: &Node) -> Result<bool, AllocError>
+    ensures makes { Makes nodes.old nodes.new result (made_line nodes.old (node_of node.now)) }
+    ensures longer { IfOk result (λ made. OnTrue made (length nodes.old < length nodes.new)) }
+{
+    if is_free(node.op) || !nodes.admits(node) {
+        return Ok(false);
+    }
+    let before = nodes.len();
+    let parts = Vec::from_slice(alloc, &node.parts)?;
+    let number = nodes.add(Node { op: node.op, parts })?;
+    Ok(number == before)
+}
