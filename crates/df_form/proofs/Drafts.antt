@@ -1,5 +1,6 @@
 -- What an operation that is put on the last terms of a draft keeps.
-use Rattle.std.proofs.Common.{◌≡◌, ◌⊎◌, inl, inr, ℕ, suc, ◌-◌, ◌<◌, ◌≤◌, Bool, true, nat_lt, List, [], ◌∷◌, ◌++◌, map, length, take, drop, slice_get, get_or, Option, None, Some, refl, sym, ap, ◌∙◌, subst, arith, length-append, length-drop, append_assoc}
+use Rattle.std.proofs.Common.{◌≡◌, ◌⊎◌, inl, inr, ℕ, suc, ◌-◌, ◌<◌, ◌≤◌, Bool, true, nat_lt, List, [], ◌∷◌, ◌++◌, map, length, take, drop, slice_get, get_or, Option, None, Some, Result, OnOk, false, cond, refl, sym, ap, ◌∙◌, subst, arith, length-append, length-drop, append_assoc}
+use Rattle.std.specs.declared.alloc.AllocError.{AllocError}
 use Rattle.std.specs.List.{list_all}
 use Rattle.std.specs.Option.{option_map_or}
 use Rattle.std.proofs.lemmas.Bool.{ltb-true}
@@ -12,26 +13,26 @@ use Rattle.df_form.specs.declared.node.Sort.TheVariants as sorts
 use Rattle.df_form.specs.Node.{Node, same_sort, number_of}
 use Rattle.df_form.specs.Sorting.{IsTable, is_formula, is_well_sorted, sort_of, sort_at, takes}
 use Rattle.df_form.specs.Made.{Made, made}
-use Rattle.df_form.specs.Sequent.{Walk, ends}
+use Rattle.df_form.specs.Sequent.{Walk, ends, again}
 use Rattle.df_form.proofs.Same.{and_true, both_true}
 use Rattle.df_form.proofs.Tables.{get-seam, number_of_some, made_old, made_new, get-left, table_next}
-use Rattle.df_form.proofs.Walks.{walk-known, walk-new}
+use Rattle.df_form.proofs.Walks.{walk-known, walk-new, walk-append}
 
 -- the numbers are those of nodes
 abbrev pub are_known : List Node → List ℕ → Bool
 are_known nodes ns = list_all (λ n. nat_lt n (length nodes)) ns
 
-all_imply : (p q : ℕ → Bool) → ((n : ℕ) → p n ≡ true → q n ≡ true) → (ns : List ℕ) → list_all p ns ≡ true → list_all q ns ≡ true
+pub all_imply : (p q : ℕ → Bool) → ((n : ℕ) → p n ≡ true → q n ≡ true) → (ns : List ℕ) → list_all p ns ≡ true → list_all q ns ≡ true
 all_imply p q imply [] all = refl
 all_imply p q imply (n ∷ ns) all =
     let both = and_true (p n) (list_all p ns) all in
     both_true (q n) (list_all q ns) (imply n both.0) (all_imply p q imply ns both.1)
 
-less_test : (a b : ℕ) → a < b → nat_lt a b ≡ true
+pub less_test : (a b : ℕ) → a < b → nat_lt a b ≡ true
 less_test a b less = grind (arith, nat_tests)
 
 -- more nodes
-known-more : (nodes more : List Node) (n : ℕ) → nat_lt n (length nodes) ≡ true → nat_lt n (length (nodes ++ more)) ≡ true
+pub known-more : (nodes more : List Node) (n : ℕ) → nat_lt n (length nodes) ≡ true → nat_lt n (length (nodes ++ more)) ≡ true
 known-more nodes more n known =
     let less = ltb-true n (length nodes) known in
     less_test n (length (nodes ++ more)) (omega (arith, length-append nodes more))
@@ -43,7 +44,7 @@ get-same nodes more n less = by (slice_get_cases nodes n).1
     by (inl there) = get-left nodes more n there.0 there.2 ∙ sym there.2
     by (inr past) = let far = past.0 in absurd (omega arith)
 
-sort-more : (nodes more : List Node) (n : ℕ) → n < length nodes → sort_at (nodes ++ more) n ≡ sort_at nodes n
+pub sort-more : (nodes more : List Node) (n : ℕ) → n < length nodes → sort_at (nodes ++ more) n ≡ sort_at nodes n
 sort-more nodes more n less = ap (λ (o : Option Node). option_map_or (λ node. sort_of node.op) o sorts.Number) (get-same nodes more n less)
 
 formula-more : (nodes more : List Node) (n : ℕ) → is_formula nodes n ≡ true → is_formula (nodes ++ more) n ≡ true
@@ -60,7 +61,7 @@ sorts-more nodes more (n ∷ ns) known =
     let tail = sorts-more nodes more ns both.1 in
     λ i. head i ∷ tail i
 
-sort_here : (nodes : List Node) (n : ℕ) (node : Node) → slice_get nodes n ≡ Some node → sort_at nodes n ≡ sort_of node.op
+pub sort_here : (nodes : List Node) (n : ℕ) (node : Node) → slice_get nodes n ≡ Some node → sort_at nodes n ≡ sort_of node.op
 sort_here nodes n node at = ap (λ (o : Option Node). option_map_or (λ node. sort_of node.op) o sorts.Number) at
 
 -- what an operation is put on
@@ -83,7 +84,7 @@ pub record IsApplied (nodes : List Node) (node : Node) (hypotheses front : List 
   pub sorts : map (sort_at after.nodes) front ≡ map (sort_at nodes) front
   pub walked : IsWalked nodes hypotheses (front ++ node.parts) → IsWalked after.nodes hypotheses (front ++ after.number ∷ [])
 
-one_more : (nodes : List Node) (ns : List ℕ) (n : ℕ) → are_known nodes ns ≡ true → n < length nodes → are_known nodes (ns ++ n ∷ []) ≡ true
+pub one_more : (nodes : List Node) (ns : List ℕ) (n : ℕ) → are_known nodes ns ≡ true → n < length nodes → are_known nodes (ns ++ n ∷ []) ≡ true
 one_more nodes ns n known less =
     let last : are_known nodes (n ∷ []) ≡ true = both_true (nat_lt n (length nodes)) true (less_test n (length nodes) less) refl in
     list_all-append (λ k. nat_lt k (length nodes)) ns (n ∷ []) ∙ both_true (are_known nodes ns) (are_known nodes (n ∷ [])) known last
@@ -166,3 +167,46 @@ made_on nodes op stack seen parts start k after is same begins made_is =
 pub sorts_then : (nodes after : List Node) (node : Node) (hypotheses front stack : List ℕ) (number : ℕ) → IsApplied nodes node hypotheses front (record { nodes = after; number = number }) → stack ≡ front ++ number ∷ [] → map (sort_at after) stack ≡ map (sort_at nodes) front ++ sort_of node.op ∷ []
 sorts_then nodes after node hypotheses front stack number now is =
     ap (map (sort_at after)) is ∙ map-append (sort_at after) front (number ∷ []) ∙ (λ i. now.sorts i ++ now.sort i ∷ [])
+
+-- a term that stands already goes on the stack
+pub walked_again : (nodes : List Node) (hypotheses stack : List ℕ) (n : ℕ) → n < length nodes → IsWalked nodes hypotheses stack → IsWalked nodes hypotheses (stack ++ n ∷ [])
+walked_again nodes hypotheses stack n less walk =
+    subst (λ ns. Walk nodes 0 ns (length nodes)) (append_assoc hypotheses stack (n ∷ [])) (walk-append nodes 0 (hypotheses ++ stack) (n ∷ []) (length nodes) (length nodes) walk (again less ends))
+
+-- an operation on all of the stack, on which more terms were put
+drop-all : (stack : List ℕ) (count : ℕ) → count ≡ length stack → drop (length stack - count) stack ≡ stack
+drop-all stack count is = let e : length stack - count ≡ 0 = omega arith in ap (λ k. drop k stack) e
+
+take-none : (stack : List ℕ) (count : ℕ) → count ≡ length stack → take (length stack - count) stack ≡ []
+take-none stack count is = let e : length stack - count ≡ 0 = omega arith in ap (λ k. take k stack) e
+
+all_stacked : (before more stack : List ℕ) (index : ℕ) → stack ≡ before ++ take index more → length more ≤ index → stack ≡ before ++ more
+all_stacked before more stack index is past = is ∙ ap (λ xs. before ++ xs) (take_all index more past)
+
+pub sorts_stacked : (nodes now : List Node) (op : Op) (before more stack : List ℕ) (index count : ℕ) → stack ≡ before ++ take index more → length more ≤ index → count ≡ length stack → now ≡ nodes → takes op (map (sort_at nodes) (before ++ more)) ≡ true → takes op (map (sort_at now) (drop (length stack - count) stack)) ≡ true
+sorts_stacked nodes now op before more stack index count is past counted same taken =
+    let all = drop-all stack count counted ∙ all_stacked before more stack index is past in
+    (λ i. takes op (map (sort_at (same i)) (all i))) ∙ taken
+
+made_stacked : (nodes now : List Node) (op : Op) (before more stack : List ℕ) (index count : ℕ) → stack ≡ before ++ take index more → length more ≤ index → count ≡ length stack → now ≡ nodes → made now (record { op = op; parts = drop (length stack - count) stack }) ≡ made nodes (record { op = op; parts = before ++ more })
+made_stacked nodes now op before more stack index count is past counted same =
+    let all = drop-all stack count counted ∙ all_stacked before more stack index is past in
+    λ i. made (same i) (record { op = op; parts = all i })
+
+pub nodes_stacked : (result : Result (Unit {0}) AllocError) (after nodes now : List Node) (op : Op) (before more stack : List ℕ) (index count : ℕ) → stack ≡ before ++ take index more → length more ≤ index → count ≡ length stack → now ≡ nodes → OnOk result (after ≡ (made now (record { op = op; parts = drop (length stack - count) stack })).nodes) → OnOk result (after ≡ (made nodes (record { op = op; parts = before ++ more })).nodes)
+nodes_stacked result after nodes now op before more stack index count is past counted same ok =
+    subst (λ (m : Made). OnOk result (after ≡ m.nodes)) (made_stacked nodes now op before more stack index count is past counted same) ok
+
+pub stack_stacked : (result : Result (Unit {0}) AllocError) (after : List ℕ) (nodes now : List Node) (op : Op) (before more stack : List ℕ) (index count : ℕ) → stack ≡ before ++ take index more → length more ≤ index → count ≡ length stack → now ≡ nodes → OnOk result (after ≡ take (length stack - count) stack ++ (made now (record { op = op; parts = drop (length stack - count) stack })).number ∷ []) → OnOk result (after ≡ (made nodes (record { op = op; parts = before ++ more })).number ∷ [])
+stack_stacked result after nodes now op before more stack index count is past counted same ok =
+    let front = subst (λ (xs : List ℕ). OnOk result (after ≡ xs ++ (made now (record { op = op; parts = drop (length stack - count) stack })).number ∷ [])) (take-none stack count counted) ok in
+    subst (λ (m : Made). OnOk result (after ≡ m.number ∷ [])) (made_stacked nodes now op before more stack index count is past counted same) front
+
+-- whether or not there is room for it
+pub known_either : (nodes : List Node) (stack after : List ℕ) (n : ℕ) (b : Bool) → after ≡ cond b (stack ++ n ∷ []) stack → n < length nodes → are_known nodes stack ≡ true → are_known nodes after ≡ true
+known_either nodes stack after n true is less known = ap (are_known nodes) is ∙ one_more nodes stack n known less
+known_either nodes stack after n false is less known = ap (are_known nodes) is ∙ known
+
+pub walked_either : (nodes : List Node) (hypotheses stack after : List ℕ) (n : ℕ) (b : Bool) → after ≡ cond b (stack ++ n ∷ []) stack → n < length nodes → IsWalked nodes hypotheses stack → IsWalked nodes hypotheses after
+walked_either nodes hypotheses stack after n true is less walk = subst (IsWalked nodes hypotheses) (sym is) (walked_again nodes hypotheses stack n less walk)
+walked_either nodes hypotheses stack after n false is less walk = subst (IsWalked nodes hypotheses) (sym is) walk

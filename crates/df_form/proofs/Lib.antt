@@ -6,3 +6,6 @@ pub mod Walks
 pub mod Drafts
 pub mod Examples
 pub mod Renamings
+pub mod Lists
+pub mod Values
+pub mod Making

@@ -28,7 +28,7 @@ pub struct Draft<'a> {
 }
 
 impl<'a> Draft<'a> {
-    ghost use Rattle.std.specs.Prelude.{[], ◌∷◌, ◌≤◌, OnOk, OnErr, IfOk, map, slice_index};
+    ghost use Rattle.std.specs.Prelude.{[], ◌∷◌, ◌<◌, ◌≤◌, OnOk, OnErr, IfOk, map, slice_index};
     ghost use Rattle.df_form.specs.Sorting.{takes, sort_at, sort_of};
     ghost use Rattle.df_form.specs.Made.{made};
     ghost use Rattle.df_form.specs.Draft.{last_terms, other_terms, node_on};
@@ -68,6 +68,36 @@ impl<'a> Draft<'a> {
         self.stack.truncate(start);
         self.stack.push(number)?;
         Ok(())
+    }
+
+    /// Puts a term that stands already on the stack. It fails for want of memory, and then changes
+    /// nothing.
+    pub fn again(&mut self, term: Term) -> Result<(), AllocError>
+        requires { term < length self.old.nodes }
+        ensures stack { OnOk result (self.new.stack.items ≡ self.old.stack.items ++ term ∷ []) }
+        ensures err { OnErr result (self.new.stack.items ≡ self.old.stack.items) }
+        ensures nodes { self.new.nodes ≡ self.old.nodes }
+        ensures hypotheses { self.new.hypotheses.items ≡ self.old.hypotheses.items }
+        ensures program { self.new.program ≡ self.old.program }
+    {
+        self.stack.push(term)?;
+        Ok(())
+    }
+
+    /// Puts terms that stand already on the stack, and the operation on all that is there then.
+    pub fn apply_all(&mut self, op: Op, more: &[Term]) -> Result<(), AllocError>
+        requires known { list_all (λ n. nat_lt n (length self.old.nodes)) more.now ≡ true }
+        requires takes { takes op (map (sort_at self.old.nodes) (self.old.stack.items ++ more.now)) ≡ true }
+        ensures nodes { OnOk result (self.new.nodes ≡ (made self.old.nodes (record { op = op; parts = self.old.stack.items ++ more.now })).nodes) }
+        ensures stack { OnOk result (self.new.stack.items ≡ (made self.old.nodes (record { op = op; parts = self.old.stack.items ++ more.now })).number ∷ []) }
+        ensures hypotheses { self.new.hypotheses.items ≡ self.old.hypotheses.items }
+        ensures program { self.new.program ≡ self.old.program }
+    {
+        for term in more {
+            self.again(*term)?;
+        }
+        let count = self.stack.len();
+        self.apply(op, count)
     }
 
     /// Makes the formula on the stack, which stands there alone, the next hypothesis. It fails for want

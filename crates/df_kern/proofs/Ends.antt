@@ -4,7 +4,7 @@ use Rattle.std.specs.Option.{option_map}
 use Rattle.std.proofs.lemmas.List.{length-map}
 use Rattle.std.proofs.lemmas.Option.{slice_get-map}
 use Rattle.df_form.specs.declared.log.Lit.{Lit}
-use Rattle.df_kern.proofs.SoundBasics.{some_is}
+use Rattle.df_form.proofs.Lists.{some_is}
 use Rattle.df_form.specs.Clause.{Clause}
 use Rattle.df_kern.specs.Derivation.{ends_empty}
 use Rattle.df_kern.specs.Propagation.{is_empty}

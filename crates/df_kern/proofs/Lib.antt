@@ -1,7 +1,6 @@
 pub mod Connectives
 pub mod Growth
 pub mod Sound
-pub mod SoundBasics
 pub mod SoundBounds
 pub mod SoundClauses
 pub mod SoundConnectives
@@ -9,7 +8,6 @@ pub mod SoundIntegers
 pub mod SoundLinear
 pub mod SoundNodes
 pub mod SoundRows
-pub mod SoundValues
 pub mod Learning
 pub mod Ends
 pub mod Checks

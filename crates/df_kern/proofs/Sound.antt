@@ -14,8 +14,8 @@ use Rattle.df_kern.specs.Schema.{schema_line}
 use Rattle.df_kern.specs.Propagation.{propagation_line}
 use Rattle.df_linear.specs.Linear.{linear_line}
 use Rattle.df_kern.specs.Derivation.{State, begin, only_clause, split_line, is_free, is_new, made_line, with_clause, adds, after, after_all, ends_empty, Derives}
-use Rattle.df_kern.proofs.SoundBasics.{then_some, map_some, test_some, some_is, both, both_true, is_true_or_false}
-use Rattle.df_kern.proofs.SoundValues.{Grows, grows_not, grows_by, grows_twice, AreSorted, one_more_sorted}
+use Rattle.df_form.proofs.Lists.{then_some, map_some, test_some, some_is, both, both_true, is_true_or_false}
+use Rattle.df_form.proofs.Values.{Grows, grows_not, grows_by, grows_twice, AreSorted, one_more_sorted}
 use Rattle.df_kern.proofs.SoundClauses.{Holds, holds_grown, propagation_holds, IsLine}
 use Rattle.df_kern.proofs.SoundConnectives.{connective_is_line, all_appended}
 use Rattle.df_kern.proofs.SoundBounds.{schema_is_line, split_is_line}

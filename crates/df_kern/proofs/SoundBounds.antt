@@ -16,9 +16,11 @@ use Rattle.df_linear.specs.Row.{fits}
 use Rattle.df_kern.specs.Connective.{Added, of_one}
 use Rattle.df_kern.specs.Schema.{newtype_clause, type_clause, is_clause, schema_74, schema_line}
 use Rattle.df_kern.specs.Derivation.{split_clause, is_number, split_line}
-use Rattle.df_kern.proofs.SoundBasics.{then_some, test_some, some_is, both}
-use Rattle.df_kern.proofs.SoundValues.{grows_twice, grown_get, AreSorted, parts_taken, value_is}
-use Rattle.df_kern.proofs.SoundNodes.{IsNumber, grown_number, same_sort_is, at_least_stands, at_most_stands}
+use Rattle.df_form.proofs.Lists.{then_some, test_some, some_is, both}
+use Rattle.df_form.proofs.Values.{grows_twice, grown_get, AreSorted, parts_taken, value_is}
+use Rattle.df_form.proofs.Making.{IsNumber, grown_number}
+use Rattle.df_form.proofs.Same.{same_sort_equal}
+use Rattle.df_kern.proofs.SoundNodes.{at_least_stands, at_most_stands}
 use Rattle.df_kern.proofs.SoundClauses.{IsLine}
 use Rattle.df_kern.proofs.SoundConnectives.{and_left, and_right, and_up, node_truth, at_most_truth, number_in, stands_below, each_below}
 
@@ -104,7 +106,7 @@ module _ (depth : ℕ) (program : Program) (assignment : Assignment) where
       let node : Node = record { op = ops.Is (types.Newtype name); parts = x ∷ [] } in
       let named = test_some (name == program.newtype.name) (newtype_clause program.newtype nodes n x k) added line in
       let below = both (nat_lt x (length nodes)) true (each_below depth program assignment nodes n node all e) in
-      let sort = same_sort_is (sort_at nodes x) sorts.Number (parts_taken nodes n node all e) in
+      let sort = same_sort_equal (sort_at nodes x) sorts.Number (parts_taken nodes n node all e) in
       newtype_line nodes n x name k added all e named.0 (record { below = ltb-true x (length nodes) below.0; sort = sort }) named.1
 
   is_line : (nodes : List Node) (n k : ℕ) (op : Op) (parts : List ℕ) (added : Added) → AreSorted nodes → slice_get nodes n ≡ Some (record { op = op; parts = parts }) → is_clause program nodes n k op parts ≡ Some added
@@ -129,7 +131,7 @@ module _ (depth : ℕ) (program : Program) (assignment : Assignment) where
       let tested = test_some (is_number nodes n && fits (k +ℤ pos 1)) (Some (split_clause nodes n k)) added line in
       let number_and_fits = both (is_number nodes n) (fits (k +ℤ pos 1)) tested.0 in
       let parts = both (nat_lt n (length nodes)) (same_sort (sort_at nodes n) sorts.Number) number_and_fits.0 in
-      let is : IsNumber nodes n = record { below = ltb-true n (length nodes) parts.0; sort = same_sort_is (sort_at nodes n) sorts.Number parts.1 } in
+      let is : IsNumber nodes n = record { below = ltb-true n (length nodes) parts.0; sort = same_sort_equal (sort_at nodes n) sorts.Number parts.1 } in
       let below = made_at_most nodes n k in
       let above = made_at_least below.nodes (k +ℤ pos 1) n in
       let now = above.nodes in

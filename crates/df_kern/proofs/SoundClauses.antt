@@ -12,8 +12,8 @@ use Rattle.df_form.specs.Truth.{Assignment, truth, same_truth}
 use Rattle.df_form.specs.Clause.{Clause, negation, same_literal, is_among, literal_truth, are_literals}
 use Rattle.df_kern.specs.Connective.{Added}
 use Rattle.df_kern.specs.Propagation.{left, only, is_empty, if_some, propagates, clauses_at, propagation_of, propagation_line}
-use Rattle.df_kern.proofs.SoundBasics.{then_some, map_some, test_some, some_is, both, both_true, either, first_true, second_true, neither, any_weaker}
-use Rattle.df_kern.proofs.SoundValues.{Grows, grown_below, grown_value, AreSorted}
+use Rattle.df_form.proofs.Lists.{then_some, map_some, test_some, some_is, both, both_true, either, first_true, second_true, neither, any_weaker}
+use Rattle.df_form.proofs.Values.{Grows, grown_below, grown_value, AreSorted}
 
 same_truth_is : (a b : Bool) → same_truth a b ≡ true → a ≡ b
 same_truth_is true true e = refl

@@ -16,9 +16,11 @@ use Rattle.df_form.specs.Truth.{Assignment, has_sort, truth, values, value_at, n
 use Rattle.df_form.specs.Clause.{Clause, yes, no}
 use Rattle.df_kern.specs.Bound.{at_most}
 use Rattle.df_kern.specs.Connective.{Added, chosen, not_clauses, and_clauses, or_clauses, implies_clauses, iff_clauses, equal_clause, equal_by_sort, connective_clause, connective_line}
-use Rattle.df_kern.proofs.SoundBasics.{then_some, map_some, some_is, both, both_true, all_weaker, get_within, get_below}
-use Rattle.df_kern.proofs.SoundValues.{grows_not, grows_twice, grown_get, AreSorted, parts_below, parts_taken, worth, value_is}
-use Rattle.df_kern.proofs.SoundNodes.{made_stands, IsNumber, grown_number, at_most_sorted, same_sort_is, sort_is}
+use Rattle.df_form.proofs.Lists.{then_some, map_some, some_is, both, both_true, all_weaker, get_within, get_below}
+use Rattle.df_form.proofs.Values.{grows_not, grows_twice, grown_get, AreSorted, parts_below, parts_taken, worth, value_is}
+use Rattle.df_form.proofs.Making.{made_stands, IsNumber, grown_number, sort_is}
+use Rattle.df_form.proofs.Same.{same_sort_equal}
+use Rattle.df_kern.proofs.SoundNodes.{at_most_sorted}
 use Rattle.df_kern.proofs.SoundClauses.{Holds, is_held, chosen_holds, IsLine}
 
 -- The tests of clauses, by the truths of their nodes: b, c and d are that the nodes stand there.
@@ -368,7 +370,7 @@ module _ (depth : ℕ) (program : Program) (assignment : Assignment) where
       let node : Node = record { op = ops.Equal; parts = a ∷ b ∷ [] } in
       let first = both (nat_lt a (length nodes)) (nat_lt b (length nodes) && true) (each_below nodes n node all e) in
       let second = both (nat_lt b (length nodes)) true first.1 in
-      let alike = same_sort_is (sort_at nodes a) (sort_at nodes b) (parts_taken nodes n node all e) in
+      let alike = same_sort_equal (sort_at nodes a) (sort_at nodes b) (parts_taken nodes n node all e) in
       equal_line nodes n k a b added all e (record { below = ltb-true a (length nodes) first.0; sort = sort }) (record { below = ltb-true b (length nodes) second.0; sort = sym alike ∙ sort }) is
   by_sort sorts.Truth nodes n k a b added sort all e is = absurd cc
 

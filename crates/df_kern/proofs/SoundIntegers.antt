@@ -5,7 +5,7 @@ use Rattle.std.proofs.lemmas.Bool.{eqb-false}
 use borrow.Author.Differences.{up, down, sum_is_lem, product_is}
 use Rattle.df_linear.specs.Row.{with_coefficient}
 use Rattle.df_linear.specs.Linear.{all_below, quotient}
-use Rattle.df_kern.proofs.SoundBasics.{both}
+use Rattle.df_form.proofs.Lists.{both}
 
 pub times_over_sum : (a b c : ℤ) → (a +ℤ b) *ℤ c ≡ (a *ℤ c) +ℤ (b *ℤ c)
 times_over_sum a b c = omega (arith, ints, ap (λ (z : ℕ). z * up c) (sum_is_lem a b), ap (λ (z : ℕ). z * down c) (sum_is_lem a b))

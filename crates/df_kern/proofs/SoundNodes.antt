@@ -16,76 +16,9 @@ use Rattle.df_form.specs.Node.{Node, same_sort, same_type, same_op, same_node, n
 use Rattle.df_form.specs.Sorting.{sort_at, sort_of, is_well_sorted}
 use Rattle.df_form.specs.Made.{Made, made, made_where}
 use Rattle.df_kern.specs.Bound.{number, at_most, made_at_least, made_at_most}
-use Rattle.df_kern.proofs.SoundBasics.{both, get_last, get_within}
-use Rattle.df_kern.proofs.SoundValues.{Grows, grows_not, grows_by, grows_twice, grown_get, grown_length, grown_sort, AreSorted, one_more_sorted}
-
--- what the tests of sameness say
-pub same_sort_is : (a b : Sort) → same_sort a b ≡ true → a ≡ b
-same_sort_is sorts.Number sorts.Number e = refl
-same_sort_is sorts.Truth sorts.Truth e = refl
-same_sort_is a b e = absurd cc
-
-same_type_is : (a b : Ty) → same_type a b ≡ true → a ≡ b
-same_type_is (types.Newtype a) (types.Newtype b) e = ap types.Newtype (eqb-true a b e)
-
-same_free_is : (a b : Free) → (a.number == b.number && same_sort a.sort b.sort) ≡ true → a ≡ b
-same_free_is a b e =
-    let parts = both (a.number == b.number) (same_sort a.sort b.sort) e in
-    let numbers = eqb-true a.number b.number parts.0 in
-    let sorts_are = same_sort_is a.sort b.sort parts.1 in
-    λ i. record { number = numbers i; sort = sorts_are i }
-
-same_op_is : (a b : Op) → same_op a b ≡ true → a ≡ b
-same_op_is (ops.Number a) (ops.Number b) e = ap ops.Number ((Decides-int_eq a b).0 e)
-same_op_is (ops.Free a) (ops.Free b) e = ap ops.Free (same_free_is a b e)
-same_op_is ops.Plus ops.Plus e = refl
-same_op_is ops.Times ops.Times e = refl
-same_op_is (ops.Is a) (ops.Is b) e = ap ops.Is (same_type_is a b e)
-same_op_is ops.Equal ops.Equal e = refl
-same_op_is ops.AtMost ops.AtMost e = refl
-same_op_is ops.Not ops.Not e = refl
-same_op_is ops.And ops.And e = refl
-same_op_is ops.Or ops.Or e = refl
-same_op_is ops.Implies ops.Implies e = refl
-same_op_is ops.Iff ops.Iff e = refl
-same_op_is a b e = absurd cc
-
-pub same_node_is : (a b : Node) → same_node a b ≡ true → a ≡ b
-same_node_is a b e =
-    let parts = both (same_op a.op b.op) (pointwise nat_eq a.parts b.parts) e in
-    let same = same_op_is a.op b.op parts.0 in
-    let alike = (bytes_decides a.parts b.parts).0 parts.1 in
-    λ i. record { op = same i; parts = alike i }
-
--- the node that was asked for stands at its number, among nodes that begin with those before
-pub record Stands (nodes : List Node) (node : Node) (m : Made) : Type 0 where
-  pub grows : Grows nodes m.nodes
-  pub sorted : AreSorted m.nodes
-  pub there : slice_get m.nodes m.number ≡ Some node
-
-stands_where : (nodes : List Node) (node : Node) (found : Option ℕ) → number_of nodes node ≡ found → AreSorted nodes → is_well_sorted nodes node ≡ true → Stands nodes node (made_where nodes node found)
-stands_where nodes node (Some n) e all one =
-    let place = position-Some (same_node node) nodes n node e in
-    let same = same_node_is node (get_or nodes n node) place.1 in
-    record { grows = grows_not nodes; sorted = all; there = slice_get-get_or nodes n node place.0 ∙ ap (λ z. Some z) (sym same) }
-stands_where nodes node None e all one = record { grows = grows_by nodes node; sorted = one_more_sorted nodes node all one; there = get_last nodes node }
-
-pub made_stands : (nodes : List Node) (node : Node) → AreSorted nodes → is_well_sorted nodes node ≡ true → Stands nodes node (made nodes node)
-made_stands nodes node all one = stands_where nodes node (number_of nodes node) refl all one
-
-pub sort_is : (nodes : List Node) (n : ℕ) (node : Node) → slice_get nodes n ≡ Some node → sort_at nodes n ≡ sort_of node.op
-sort_is nodes n node e = ap (λ o. option_map_or (λ (node : Node). sort_of node.op) o sorts.Number) e
-
--- a number stands in a list of nodes
-pub record IsNumber (nodes : List Node) (n : ℕ) : Type 0 where
-  pub below : n < length nodes
-  pub sort : sort_at nodes n ≡ sorts.Number
-
-pub grown_number : (before now : List Node) → Grows before now → (n : ℕ) → IsNumber before n → IsNumber now n
-grown_number before now g n h = let le = grown_length before now g in record { below = omega arith; sort = grown_sort before now g n h.below ∙ h.sort }
-
-pub number_of_op : (nodes : List Node) (n : ℕ) (node : Node) → slice_get nodes n ≡ Some node → sort_of node.op ≡ sorts.Number → IsNumber nodes n
-number_of_op nodes n node e is = record { below = get_within nodes n node e; sort = sort_is nodes n node e ∙ is }
+use Rattle.df_form.proofs.Lists.{both, get_last, get_within}
+use Rattle.df_form.proofs.Values.{Grows, grows_not, grows_by, grows_twice, grown_get, grown_length, grown_sort, AreSorted, one_more_sorted}
+use Rattle.df_form.proofs.Making.{IsNumber, grown_number, made_stands, number_of_op}
 
 all_of_two : (a b c d : Bool) → a ≡ true → b ≡ true → c ≡ true → d ≡ true → ((a && (b && true)) && (c && d)) ≡ true
 all_of_two a b c d p q r s = rw (p, q, r, s) refl

@@ -7,7 +7,7 @@ use Rattle.df_form.specs.declared.node.Op.{Op}
 use Rattle.df_form.specs.declared.node.Op.TheVariants as ops
 use Rattle.df_form.specs.Node.{Node}
 use Rattle.df_linear.specs.Row.{Row, fits, with_coefficient, constant_row, with_more, with_constant, without, if_fits, number_of_op, literal_number, with_product, expanded_parts, expanded_at, expanded_below, difference}
-use Rattle.df_kern.proofs.SoundBasics.{then_some, test_some, some_is, both}
+use Rattle.df_form.proofs.Lists.{then_some, test_some, some_is, both}
 use Rattle.df_kern.proofs.SoundIntegers.{times_over_sum, sum_times, times_twice, zero_times, sum_below, no_sum, changed}
 
 -- the constant and the coefficients times the numbers of the nodes

@@ -10,7 +10,7 @@ use Rattle.df_form.specs.declared.node.Sort.{Sort}
 use Rattle.df_form.specs.Node.{Node}
 use Rattle.df_form.specs.Sorting.{takes, sort_at, sort_of, is_well_sorted}
 use Rattle.df_form.specs.Truth.{Assignment, value_at, apply, values_after, values}
-use Rattle.df_kern.proofs.SoundBasics.{both, get_grown, get_below, get_within, get_split, get_pushed, map_agree}
+use Rattle.df_form.proofs.Lists.{both, get_grown, get_below, get_within, get_split, get_pushed, map_agree}
 
 -- nodes that begin with others
 pub record Grows (before now : List Node) : Type 0 where

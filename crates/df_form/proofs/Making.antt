@@ -1,0 +1,50 @@
+-- Nodes that are made: they stand where the answer says, well sorted after those before them.
+use Rattle.std.proofs.Common.{◌≡◌, ℕ, ◌<◌, true, ◌&&◌, ◌==◌, nat_eq, List, length, get_or, Option, Some, None, slice_get, refl, sym, ap, ◌∙◌, arith, eqb-true}
+use Rattle.std.specs.Option.{option_map_or}
+use Rattle.std.specs.Cmp.Lexicographic.{pointwise, bytes_decides}
+use Rattle.std.proofs.lemmas.Bool.Decides.{Decides-int_eq}
+use Rattle.std.proofs.lemmas.Option.{slice_get-get_or}
+use Rattle.std.proofs.lemmas.List.Quantifiers.{position-Some}
+use Rattle.df_types.specs.declared.program.Ty.{Ty}
+use Rattle.df_types.specs.declared.program.Ty.TheVariants as types
+use Rattle.df_form.specs.declared.node.Sort.{Sort}
+use Rattle.df_form.specs.declared.node.Sort.TheVariants as sorts
+use Rattle.df_form.specs.declared.node.Free.{Free}
+use Rattle.df_form.specs.declared.node.Op.{Op}
+use Rattle.df_form.specs.declared.node.Op.TheVariants as ops
+use Rattle.df_form.specs.Node.{Node, same_sort, same_type, same_op, same_node, number_of}
+use Rattle.df_form.specs.Sorting.{sort_at, sort_of, is_well_sorted}
+use Rattle.df_form.specs.Made.{Made, made, made_where}
+use Rattle.df_form.proofs.Same.{same_node_equal, same_sort_equal}
+use Rattle.df_form.proofs.Lists.{both, get_last, get_within}
+use Rattle.df_form.proofs.Values.{Grows, grows_not, grows_by, grown_length, grown_sort, AreSorted, one_more_sorted}
+
+-- the node that was asked for stands at its number, among nodes that begin with those before
+pub record Stands (nodes : List Node) (node : Node) (m : Made) : Type 0 where
+  pub grows : Grows nodes m.nodes
+  pub sorted : AreSorted m.nodes
+  pub there : slice_get m.nodes m.number ≡ Some node
+
+stands_where : (nodes : List Node) (node : Node) (found : Option ℕ) → number_of nodes node ≡ found → AreSorted nodes → is_well_sorted nodes node ≡ true → Stands nodes node (made_where nodes node found)
+stands_where nodes node (Some n) e all one =
+    let place = position-Some (same_node node) nodes n node e in
+    let same = same_node_equal node (get_or nodes n node) place.1 in
+    record { grows = grows_not nodes; sorted = all; there = slice_get-get_or nodes n node place.0 ∙ ap (λ z. Some z) (sym same) }
+stands_where nodes node None e all one = record { grows = grows_by nodes node; sorted = one_more_sorted nodes node all one; there = get_last nodes node }
+
+pub made_stands : (nodes : List Node) (node : Node) → AreSorted nodes → is_well_sorted nodes node ≡ true → Stands nodes node (made nodes node)
+made_stands nodes node all one = stands_where nodes node (number_of nodes node) refl all one
+
+pub sort_is : (nodes : List Node) (n : ℕ) (node : Node) → slice_get nodes n ≡ Some node → sort_at nodes n ≡ sort_of node.op
+sort_is nodes n node e = ap (λ o. option_map_or (λ (node : Node). sort_of node.op) o sorts.Number) e
+
+-- a number stands in a list of nodes
+pub record IsNumber (nodes : List Node) (n : ℕ) : Type 0 where
+  pub below : n < length nodes
+  pub sort : sort_at nodes n ≡ sorts.Number
+
+pub grown_number : (before now : List Node) → Grows before now → (n : ℕ) → IsNumber before n → IsNumber now n
+grown_number before now g n h = let le = grown_length before now g in record { below = omega arith; sort = grown_sort before now g n h.below ∙ h.sort }
+
+pub number_of_op : (nodes : List Node) (n : ℕ) (node : Node) → slice_get nodes n ≡ Some node → sort_of node.op ≡ sorts.Number → IsNumber nodes n
+number_of_op nodes n node e is = record { below = get_within nodes n node e; sort = sort_is nodes n node e ∙ is }
