@@ -1,0 +1,10 @@
+pub mod Lists
+pub mod Moments
+pub mod Steps
+pub mod Expressions
+pub mod Statements
+pub mod Laws
+pub mod Numbers
+pub mod Folds
+pub mod Typed
+pub mod Programs

@@ -1,0 +1,32 @@
+use Rattle.std.proofs.Common.{◌≡◌, Result, Ok, Err, IfOk, map, subst, sym}
+use Rattle.std.specs.List.{AllByRecursion}
+use Rattle.df_types.specs.View.{program_of}
+use Rattle.df_pass.specs.Modular.{IsModularlySafe}
+use Rattle.df_form.specs.Sequent.{IsValid}
+use Rattle.df_pass.specs.Obligation.{Obligation, obligation_of, AreValid, IsOwed}
+use Rattle.df_pass.specs.Passing.{obligations_of}
+use Rattle.df_pass.proofs.Laws.{valid_is_safe, refuted_is_wrong}
+use Rattle.df_pass.proofs.Programs.{obligations_are_of}
+use Rattle.df_pass.proofs.pass.obligations.Goals as goal
+
+if_ok : {A E : Type 0} (r : Result A E) (P Q : A → Type 0) → IfOk r P → ((x : A) → P x → Q x) → IfOk r Q
+if_ok (Ok x) P Q h step = step x h
+if_ok (Err e) P Q h step = tt
+
+pub returns-clause-safe : goal.returns-clause-safe
+returns-clause-safe c =
+    let p = program_of c.args.program.now in
+    if_ok c.all_obligations.result (λ all. map obligation_of all.items ≡ obligations_of p) (λ all. AreValid all.items → IsModularlySafe p) c.all_obligations.ensures
+    (λ all same valid. valid_is_safe p c.args.program.now.is_well_typed (subst (AllByRecursion (λ (o : Obligation). IsValid o.sequent)) same valid))
+
+pub returns-clause-owed : goal.returns-clause-owed
+returns-clause-owed c =
+    let p = program_of c.args.program.now in
+    if_ok c.all_obligations.result (λ all. map obligation_of all.items ≡ obligations_of p) (λ all. AllByRecursion IsOwed (map obligation_of all.items)) c.all_obligations.ensures
+    (λ all same. subst (AllByRecursion IsOwed) (sym same) (refuted_is_wrong p c.args.program.now.is_well_typed))
+
+pub returns-clause-program : goal.returns-clause-program
+returns-clause-program c =
+    let p = program_of c.args.program.now in
+    if_ok c.all_obligations.result (λ all. map obligation_of all.items ≡ obligations_of p) (λ all. AllByRecursion (λ (o : Obligation). o.sequent.program ≡ p) (map obligation_of all.items)) c.all_obligations.ensures
+    (λ all same. subst (AllByRecursion (λ (o : Obligation). o.sequent.program ≡ p)) (sym same) (obligations_are_of p))

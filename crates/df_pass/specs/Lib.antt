@@ -1,0 +1,4 @@
+pub mod Modular
+pub mod Obligation
+pub mod Passing
+pub mod State
