@@ -45,15 +45,15 @@ module _ (depth : ℕ) (program : Program) (assignment : Assignment) where
   literal_is nodes n k all e = ap number_of (value_is depth program assignment nodes n (number k) all e)
 
   -- k <= n, and n <= k
-  at_least_truth : (nodes : List Node) (literal m n : ℕ) (k : ℤ) → AreSorted nodes → slice_get nodes literal ≡ Some (number k) → slice_get nodes m ≡ Some (at_most literal n)
+  pub at_least_truth : (nodes : List Node) (literal m n : ℕ) (k : ℤ) → AreSorted nodes → slice_get nodes literal ≡ Some (number k) → slice_get nodes m ≡ Some (at_most literal n)
       → truth depth program assignment nodes m ≡ int_le k (number_in depth program assignment nodes n)
   at_least_truth nodes literal m n k all e f = at_most_truth depth program assignment nodes m literal n all f ∙ ap (λ z. int_le z (number_in depth program assignment nodes n)) (literal_is nodes literal k all e)
 
-  up_to_truth : (nodes : List Node) (literal m n : ℕ) (k : ℤ) → AreSorted nodes → slice_get nodes literal ≡ Some (number k) → slice_get nodes m ≡ Some (at_most n literal)
+  pub up_to_truth : (nodes : List Node) (literal m n : ℕ) (k : ℤ) → AreSorted nodes → slice_get nodes literal ≡ Some (number k) → slice_get nodes m ≡ Some (at_most n literal)
       → truth depth program assignment nodes m ≡ int_le (number_in depth program assignment nodes n) k
   up_to_truth nodes literal m n k all e f = at_most_truth depth program assignment nodes m n literal all f ∙ ap (λ z. int_le (number_in depth program assignment nodes n) z) (literal_is nodes literal k all e)
 
-  of_newtype : (nodes : List Node) (n x name : ℕ) → AreSorted nodes → slice_get nodes n ≡ Some (record { op = ops.Is (types.Newtype name); parts = x ∷ [] }) → (name == program.newtype.name) ≡ true
+  pub of_newtype : (nodes : List Node) (n x name : ℕ) → AreSorted nodes → slice_get nodes n ≡ Some (record { op = ops.Is (types.Newtype name); parts = x ∷ [] }) → (name == program.newtype.name) ≡ true
       → truth depth program assignment nodes n ≡ (int_le program.newtype.low (number_in depth program assignment nodes x) && int_le (number_in depth program assignment nodes x) program.newtype.high)
   of_newtype nodes n x name all e named =
       node_truth depth program assignment nodes n (record { op = ops.Is (types.Newtype name); parts = x ∷ [] }) all e

@@ -20,9 +20,9 @@ enum Left {
     Several,
 }
 
-/// A set of literals.
+/// A set of literals that are taken to be true.
 #[derive(Drop)]
-pub(crate) struct Known {
+pub struct Known {
     /// Nodes that are true.
     yes: BTreeSet<usize>,
     /// Nodes that are false.
@@ -30,7 +30,8 @@ pub(crate) struct Known {
 }
 
 impl Known {
-    fn new(alloc: Global) -> Known
+    /// No literals.
+    pub fn new(alloc: Global) -> Known
         ensures { (l : Lit) → knows result l ≡ false }
     {
         Known {
@@ -39,7 +40,8 @@ impl Known {
         }
     }
 
-    fn has(&self, literal: Lit) -> bool
+    /// Whether the literal is among them.
+    pub fn has(&self, literal: Lit) -> bool
         ensures { result ≡ knows self.now literal }
     {
         if literal.positive {
@@ -50,7 +52,7 @@ impl Known {
     }
 
     /// One more literal.
-    pub(crate) fn insert(&mut self, literal: Lit) -> Result<(), AllocError>
+    pub fn insert(&mut self, literal: Lit) -> Result<(), AllocError>
         ensures { OnOk result ((l : Lit) → knows self.new l ≡ (same_literal l literal || knows self.old l)) }
     {
         if literal.positive {
@@ -73,7 +75,7 @@ impl Known {
     }
 
     /// The one literal that is left of a clause.
-    pub(crate) fn only_left(&self, clause: &[Lit]) -> Option<Lit>
+    pub fn only_left(&self, clause: &[Lit]) -> Option<Lit>
         ensures { (literals : List Lit) → IsSetOf literals self.now → result ≡ only (left literals clause.now) }
     {
         match self.left_of(clause) {
@@ -83,7 +85,7 @@ impl Known {
     }
 
     /// Whether nothing is left of a clause.
-    pub(crate) fn refutes(&self, clause: &[Lit]) -> bool
+    pub fn refutes(&self, clause: &[Lit]) -> bool
         ensures { (literals : List Lit) → IsSetOf literals self.now → result ≡ is_empty (left literals clause.now) }
     {
         match self.left_of(clause) {

@@ -4,7 +4,7 @@
 
 mod bound;
 mod checker;
-mod connective;
+mod connecting;
 mod fault;
 mod instances;
 mod known;
@@ -19,5 +19,6 @@ mod tests;
 
 pub use checker::{Checker, check};
 pub use fault::KernFault;
-pub use instances::{AxiomFault, instance};
+pub use instances::{AxiomFault, connective, instance};
+pub use known::Known;
 pub use law::{derivations_are_valid, logs_derive_or_are_refused};

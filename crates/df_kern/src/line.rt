@@ -11,7 +11,7 @@ ghost use Rattle.df_kern.specs.Propagation.{propagation_line};
 ghost use Rattle.df_linear.specs.Linear.{linear_line};
 ghost use Rattle.df_form.specs.Log.{combination_of};
 
-use crate::connective::connective_clause_of;
+use crate::connecting::connective_clause_of;
 use crate::propagation::is_propagation;
 use crate::schema::schema_clause_of;
 use crate::step::{goal_clause, hypothesis_clause, make, split_clause};

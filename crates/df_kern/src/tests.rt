@@ -601,7 +601,6 @@ fn gives_instances(rt: HostRuntime) -> Result<(), Fail> {
     assert_eq!(rt; clause.as_slice(), expected.as_slice());
     assert_eq!(rt; nodes.len(), 6);
     let other = instance(alloc, &program, &mut nodes, 74, 3, &[1]);
-    assert_eq!(rt; other.err(), Some(AxiomFault::NoSuch));
-    assert_eq!(rt; nodes.len(), 6);
+    assert_eq!(rt; (other.err(), nodes.len()), (Some(AxiomFault::NoSuch), 6));
     Ok(())
 }

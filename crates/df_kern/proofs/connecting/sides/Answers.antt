@@ -3,7 +3,7 @@ use Rattle.df_form.specs.declared.node.Op.TheVariants as ops
 use Rattle.df_form.specs.Node.{Node, node_of}
 use Rattle.df_form.specs.Sorting.{is_well_sorted}
 use Rattle.df_kern.proofs.Growth.{equality-numbers, two}
-use Rattle.df_kern.proofs.connective.sides.Goals as goal
+use Rattle.df_kern.proofs.connecting.sides.Goals as goal
 
 pub returns-in-Number-clause-numbers : goal.returns-in-Number-clause-numbers
 returns-in-Number-clause-numbers c =
