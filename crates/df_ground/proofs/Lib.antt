@@ -1,0 +1,5 @@
+pub mod Complete
+pub mod Listing
+pub mod Literals
+pub mod Presence
+pub mod Running
