@@ -1,0 +1,4 @@
+pub mod Lists
+pub mod Rounds
+pub mod FullLists
+pub mod Lines

@@ -1,0 +1,48 @@
+-- Lists of literals beside which nothing is open.
+use Rattle.std.specs.Prelude.{◌≡◌, ℕ, Bool, true, false, ◌==◌, ◌||◌, List, [], ◌∷◌, slice_get, Some}
+use Rattle.std.specs.List.{list_any}
+use Rattle.df_types.specs.declared.program.Ty.TheVariants as types
+use Rattle.df_types.specs.Program.{Program}
+use Rattle.df_form.specs.declared.log.Lit.{Lit}
+use Rattle.df_form.specs.declared.node.Sort.TheVariants as sorts
+use Rattle.df_form.specs.declared.node.Op.{Op}
+use Rattle.df_form.specs.declared.node.Op.TheVariants as ops
+use Rattle.df_form.specs.Node.{Node}
+use Rattle.df_form.specs.Sorting.{sort_at}
+use Rattle.df_form.specs.Truth.{Assignment, truth, same_truth}
+use Rattle.df_form.specs.Clause.{yes, no, negation, is_among}
+use Rattle.df_kern.specs.Connective.{Added, connective_line}
+use Rattle.df_kern.specs.Schema.{schema_line}
+
+-- the nodes hold what the clause needs, and one of its literals is known
+pub record IsMet (nodes : List Node) (known : List Lit) (added : Added) : Type 0 where
+  pub stands : added.nodes ≡ nodes
+  pub one : list_any (is_among known) added.clause ≡ true
+
+-- the node or its negation is known
+abbrev pub knows_of : List Lit → ℕ → Bool
+knows_of known n = is_among known (yes n) || is_among known (no n)
+
+-- Each clause that a known node means has a known literal.
+pub record IsFull (program : Program) (nodes : List Node) (known : List Lit) : Type 0 where
+  pub connectives : (n k : ℕ) (added : Added) → knows_of known n ≡ true → connective_line nodes n k ≡ Some added → IsMet nodes known added
+  pub types : (n k : ℕ) (added : Added) → knows_of known n ≡ true → schema_line program nodes 74 k (n ∷ []) ≡ Some added → IsMet nodes known added
+
+-- no literal is known with its negation
+abbrev pub IsConsistent : List Lit → Type 0
+IsConsistent known = (l : Lit) → is_among known l ≡ true → is_among known (negation l) ≡ true → ⊥
+
+-- equalities are of numbers, and a type is the program's newtype
+pub record IsArithmetic (program : Program) (nodes : List Node) : Type 0 where
+  pub equalities : (n a b : ℕ) → slice_get nodes n ≡ Some (record { op = ops.Equal; parts = a ∷ b ∷ [] }) → sort_at nodes a ≡ sorts.Number
+  pub types : (n name : ℕ) (parts : List ℕ) → slice_get nodes n ≡ Some (record { op = ops.Is (types.Newtype name); parts = parts }) → (name == program.newtype.name) ≡ true
+
+-- a free term, or a comparison
+abbrev pub is_basic : Op → Bool
+is_basic (ops.Free free) = true
+is_basic ops.AtMost = true
+is_basic op = false
+
+-- an assignment makes the known free terms and comparisons true
+abbrev pub Agrees : ℕ → Program → Assignment → List Node → List Lit → Type 0
+Agrees depth program assignment nodes known = (l : Lit) (node : Node) → is_among known l ≡ true → slice_get nodes l.node ≡ Some node → is_basic node.op ≡ true → same_truth l.positive (truth depth program assignment nodes l.node) ≡ true

@@ -1,0 +1,5 @@
+pub mod Closure
+pub mod Closing
+pub mod Closes
+pub mod Full
+pub mod Lines

@@ -1,0 +1,12 @@
+//! Closure under unit propagation: a list of literals, with what the clauses of a ground set teach
+//! beside it.
+#![tactic(auto)]
+
+mod closing;
+mod closure;
+mod law;
+#[cfg(test)]
+mod tests;
+
+pub use closure::{Closure, close};
+pub use law::{closed_lists_are_lines, full_lists_hold, refuted_lists_are_lines};
