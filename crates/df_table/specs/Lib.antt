@@ -1,0 +1,2 @@
+pub mod TableModel
+pub mod Testing

@@ -1,0 +1,12 @@
+//! Table models: tables of numbers in which a ground set cannot be told from one of a counterexample.
+#![tactic(auto)]
+
+mod congruence;
+mod exactness;
+mod model;
+mod table;
+#[cfg(test)]
+mod tests;
+
+pub use model::is_model;
+pub use table::Table;
