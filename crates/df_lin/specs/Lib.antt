@@ -1,0 +1,6 @@
+pub mod Exact
+pub mod Entries
+pub mod Row
+pub mod Merge
+pub mod Division
+pub mod Levels

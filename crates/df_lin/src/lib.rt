@@ -1,0 +1,13 @@
+//! The search's linear arithmetic: sparse rows, and variables eliminated from them.
+#![tactic(auto)]
+
+mod division;
+mod entries;
+mod exact;
+mod fault;
+mod level;
+mod row;
+
+pub use fault::RowFault;
+pub use level::Level;
+pub use row::Row;
