@@ -7,3 +7,10 @@ pub mod Statements
 pub mod Declarations
 pub mod Law
 pub mod Examples
+pub mod ExprTokens
+pub mod ExprSound
+pub mod ExprOperands
+pub mod ExprComplete
+pub mod ExprWhole
+pub mod ExprLaw
+pub mod ExprExamples

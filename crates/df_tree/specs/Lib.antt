@@ -4,3 +4,7 @@ pub use Rattle.df_tok.specs.Division
 pub mod Tree
 pub mod Spelling
 pub mod Reading
+pub mod Operator
+pub mod Expr
+pub mod ExprSpelling
+pub mod ExprReading

@@ -5,9 +5,13 @@ ghost use Rattle.std.specs.Prelude.{◌≡◌, ℕ, List};
 ghost use Rattle.df_tok.specs.Token as token;
 ghost use Rattle.df_tree.specs.Tree as pure;
 ghost use Rattle.df_tree.specs.Spelling.{Spells};
+ghost use Rattle.df_tree.specs.Expr as pure_expr;
+ghost use Rattle.df_tree.specs.ExprSpelling.{IsExpressionAt};
 
+mod expr;
 mod tree;
 
+pub use expr::{BinaryOperator, Expr, Group, Level, Operation, TreeType, UnaryOperator};
 pub use tree::{
     Ident, Literal, Member, Newtype, Operand, Order, Plus, Range, SourceTree, Stmt, TreeExpr,
 };
@@ -15,4 +19,10 @@ pub use tree::{
 /// Tokens spell at most one tree.
 pub fn one_tree()
     ensures { (tokens : List token.Token) (tree other : pure.Tree) → Spells tree tokens → Spells other tokens → tree ≡ other }
+{}
+
+/// From one token on, tokens spell at most one expression that ends before a token that cannot
+/// continue it.
+pub fn one_expression()
+    ensures { (tokens : List token.Token) (start after other_after : ℕ) (e other : pure_expr.Expr) → IsExpressionAt tokens start e after → IsExpressionAt tokens start other other_after → (e ≡ other) × (after ≡ other_after) }
 {}

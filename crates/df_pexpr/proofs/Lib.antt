@@ -1,0 +1,4 @@
+mod Measure
+mod Loop
+mod Readers
+mod Parts
