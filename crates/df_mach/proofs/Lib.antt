@@ -1,0 +1,4 @@
+pub mod Same
+pub mod Equal
+pub mod Runs
+pub mod Examples

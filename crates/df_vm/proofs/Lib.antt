@@ -1,0 +1,7 @@
+pub mod Lists
+pub mod Held
+pub mod Read
+pub mod Begins
+pub mod Reached
+pub mod Ending
+pub mod Sampled

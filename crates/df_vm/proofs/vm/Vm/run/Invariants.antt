@@ -1,0 +1,15 @@
+use Rattle.std.proofs.Common.{◌≡◌, ◌≤◌, []}
+use Rattle.df_vm.specs.Vm.{machine_of, code_in}
+use Rattle.df_vm.proofs.Reached.{Reached}
+use Rattle.df_vm.proofs.vm.Vm.run.Given as goal
+
+-- so many steps were made, and their text is put
+abbrev pub invariant-loop : goal.invariant-loop
+invariant-loop g l =
+    let sink = g.S.Sink in
+    record {
+      reached : Reached (code_in l.fn.self) (machine_of l.fn.self []) l.counter (machine_of l.self []) (sink.taken l.fn.sink) (sink.taken l.sink);
+      code : code_in l.self ≡ code_in l.fn.self;
+      counted : sink.fault_count l.fn.sink ≤ sink.fault_count l.sink;
+      stays : sink.takes_memory l.sink ≡ sink.takes_memory l.fn.sink;
+    }

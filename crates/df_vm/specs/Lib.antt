@@ -1,0 +1,16 @@
+pub use Rattle.df_mach.specs.Value
+pub use Rattle.df_mach.specs.State
+pub use Rattle.df_mach.specs.View
+pub use Rattle.df_mach.specs.Step
+pub use Rattle.df_mach.specs.Run
+pub mod Fault
+pub mod Operands
+pub mod Frame
+pub mod Rows
+pub mod Turns
+pub mod Operators
+pub mod Machine
+pub mod Vm
+pub mod Runs
+pub mod Finishes
+pub mod Sample

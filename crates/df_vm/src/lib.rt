@@ -1,0 +1,15 @@
+//! The machine that runs code: a step does a row of the table of instructions, and a run does steps until
+//! the end or until the fuel is spent. There is no answer for a fault, since none can come.
+#![tactic(auto)]
+
+mod frame;
+mod halt;
+mod operands;
+mod operators;
+mod printing;
+#[cfg(test)]
+mod tests;
+mod turn;
+mod vm;
+
+pub use vm::{Ran, Results, Stepped, Vm};

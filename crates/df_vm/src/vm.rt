@@ -1,0 +1,159 @@
+//! The machine.
+
+ghost use Rattle.std.specs.Prelude.{◌≡◌, ◌≤◌, [], IfOk, OnOk, Err, length, take, reverse};
+ghost use Rattle.df_base.specs.Outside.{HasCause};
+ghost use Rattle.df_mach.specs.Run.{NeverFaults, start_of};
+ghost use Rattle.df_mach.specs.Step.{On};
+ghost use Rattle.df_mach.specs.View.{values_of, heap_of, code_of};
+ghost use Rattle.df_vm.specs.Machine.{state_at};
+ghost use Rattle.df_vm.specs.Finishes.{Finishes};
+ghost use Rattle.df_vm.specs.Operands.{operands_of};
+
+use crate::frame::Frame;
+use crate::halt::{Halt, Turn};
+use crate::turn::turn;
+use df_base::Sink;
+use df_mach::{Code, Heap, Value};
+use std::alloc::{AllocError, Global};
+
+/// What a step came to.
+#[derive(Clone, Copy, Debug, PartialEq, Eq)]
+pub enum Stepped {
+    /// The machine stands after the step, and its text is put.
+    On,
+    /// The step is the last one: it returns from the last frame.
+    Ended,
+    /// The sink met a fault.
+    Write,
+    /// Memory was refused.
+    Memory,
+}
+
+/// The results of a method, in their order.
+pub type Results = Vec<Value>;
+
+/// How a run ended.
+#[derive(Drop)]
+pub enum Ran {
+    /// The method returned its results and left the heap.
+    Ended(Results, Heap),
+    /// The fuel is spent.
+    FuelSpent,
+    /// The sink met a fault.
+    Write,
+    /// Memory was refused.
+    Memory,
+}
+
+/// What a step came to, with the number of results at the end.
+#[derive(Clone, Copy, Debug, PartialEq, Eq)]
+enum Advanced {
+    On,
+    Ended(usize),
+    Write,
+    Memory,
+}
+
+/// A machine that stands somewhere in a run that breaks no demand.
+#[derive(Drop)]
+pub struct Vm<'a> {
+    code: &'a Code,
+    heap: Heap,
+    running: Frame,
+    ghost never_faults: { NeverFaults (code_of code.now) (On (state_at heap running [])) },
+}
+
+/// The end of a run, with so many results.
+fn finish(running: Frame, heap: Heap, count: usize) -> Ran
+    requires { count ≤ length (operands_of running.operands) }
+    ensures { Finishes result (reverse (take count (operands_of running.operands))) (heap_of heap) }
+{
+    Ran::Ended(running.operands.into_top(count), heap)
+}
+
+impl<'a> Vm<'a> {
+    ghost use Rattle.df_vm.specs.Vm.{code_in, machine_of, room_in};
+    ghost use Rattle.df_vm.specs.Runs.{Advances, Steps, Runs};
+
+    /// The machine at the beginning of a method with these arguments. No number of steps from there may
+    /// break a demand. It fails for want of memory.
+    pub fn new(
+        alloc: Global,
+        code: &'a Code,
+        method: usize,
+        heap: Heap,
+        arguments: Vec<Value>,
+    ) -> Result<Vm<'a>, AllocError>
+        requires { NeverFaults (code_of code.now) (start_of (code_of code.now) method (heap_of heap) (values_of arguments.items)) }
+        ensures start { IfOk result (λ vm. start_of (code_of code.now) method (heap_of heap) (values_of arguments.items) ≡ On (machine_of vm [])) }
+        ensures code { IfOk result (λ vm. code_in vm ≡ code_of code.now) }
+    {
+        let running = Frame::begin(alloc, method, &code.methods[method], arguments)?;
+        Ok(Vm {
+            code,
+            heap,
+            running,
+        })
+    }
+
+    /// Makes room for so many more words, which are locals and operands, and for so many more frames. No
+    /// instruction makes a frame yet, so frames take no room. It fails for want of memory, and the machine
+    /// stands as before in any case.
+    pub fn reserve(&mut self, words: u64, _frames: u64) -> Result<(), AllocError>
+        ensures room { OnOk result (words ≤ room_in self.new) }
+        ensures machine { machine_of self.new [] ≡ machine_of self.old [] }
+        ensures code { code_in self.new ≡ code_in self.old }
+    {
+        self.running.operands.reserve(words as usize)
+    }
+
+    /// Does a step, and tells how many results a last one returns.
+    fn advance<S: Sink>(&mut self, sink: &mut S) -> Advanced
+        ensures advances { Advances result (code_in self.old) (machine_of self.old []) (machine_of self.new []) (operands_of self.new.running.operands) (S.taken sink.old) (S.taken sink.new) }
+        ensures cause { HasCause (S.fault_count sink.old) (S.fault_count sink.new) (result ≡ Advanced.Write) }
+        ensures stays { S.takes_memory sink.new ≡ S.takes_memory sink.old }
+        ensures code { code_in self.new ≡ code_in self.old }
+    {
+        match turn(self.code, &mut self.running, sink) {
+            Ok(Turn::On) => Advanced::On,
+            Ok(Turn::Returned(count)) => Advanced::Ended(count),
+            Err(Halt::Fault) => unreachable!(),
+            Err(Halt::Write) => Advanced::Write,
+            Err(Halt::Memory) => Advanced::Memory,
+        }
+    }
+
+    /// Does a step. Where it does not go on, the machine stands as before.
+    pub fn step<S: Sink>(&mut self, sink: &mut S) -> Stepped
+        ensures steps { Steps result (code_in self.old) (machine_of self.old []) (machine_of self.new []) (S.taken sink.old) (S.taken sink.new) }
+        // A failed write is a counted fault of the sink.
+        ensures cause { HasCause (S.fault_count sink.old) (S.fault_count sink.new) (result ≡ Stepped.Write) }
+        ensures stays { S.takes_memory sink.new ≡ S.takes_memory sink.old }
+        ensures code { code_in self.new ≡ code_in self.old }
+    {
+        match self.advance(sink) {
+            Advanced::On => Stepped::On,
+            Advanced::Ended(_) => Stepped::Ended,
+            Advanced::Write => Stepped::Write,
+            Advanced::Memory => Stepped::Memory,
+        }
+    }
+
+    /// Does so many steps, or fewer if the end comes first.
+    pub fn run<S: Sink>(mut self, fuel: u64, sink: &mut S) -> Ran
+        ensures runs { Runs result (code_in self.entry) (machine_of self.entry []) fuel (S.taken sink.old) (S.taken sink.new) }
+        // A failed write is a counted fault of the sink.
+        ensures cause { HasCause (S.fault_count sink.old) (S.fault_count sink.new) (result ≡ Ran.Write) }
+        ensures stays { S.takes_memory sink.new ≡ S.takes_memory sink.old }
+    {
+        for _ in 0..fuel {
+            match self.advance(sink) {
+                Advanced::On => {}
+                Advanced::Ended(count) => return finish(self.running, self.heap, count),
+                Advanced::Write => return Ran::Write,
+                Advanced::Memory => return Ran::Memory,
+            }
+        }
+        Ran::FuelSpent
+    }
+}
