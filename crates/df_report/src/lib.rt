@@ -1,0 +1,10 @@
+//! The report: what is verified, and why each other obligation is unproved.
+#![tactic(auto)]
+
+mod outcome;
+mod report;
+#[cfg(test)]
+mod tests;
+
+pub use outcome::{Evidence, Failure, Outcome, Parameter};
+pub use report::lines;
