@@ -1,0 +1,4 @@
+pub mod Line
+pub mod View
+pub mod Reading
+pub mod Reads

@@ -1,0 +1,12 @@
+//! The command line: the command that the words ask for.
+#![tactic(auto)]
+
+mod choosing;
+mod command;
+mod reading;
+mod setting;
+#[cfg(test)]
+mod tests;
+
+pub use choosing::{line, one_line};
+pub use command::{Budget, Command, LineFault};
