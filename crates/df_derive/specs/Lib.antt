@@ -1,0 +1,2 @@
+pub use Rattle.df_kern.specs.Derivation
+pub mod Runs
