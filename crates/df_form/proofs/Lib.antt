@@ -9,3 +9,4 @@ pub mod Renamings
 pub mod Lists
 pub mod Values
 pub mod Making
+pub mod Arithmetic

@@ -1,22 +1,14 @@
 -- Nodes that are made: they stand where the answer says, well sorted after those before them.
-use Rattle.std.proofs.Common.{◌≡◌, ℕ, ◌<◌, true, ◌&&◌, ◌==◌, nat_eq, List, length, get_or, Option, Some, None, slice_get, refl, sym, ap, ◌∙◌, arith, eqb-true}
+use Rattle.std.proofs.Common.{◌≡◌, ℕ, ◌<◌, true, List, length, get_or, Option, Some, None, slice_get, refl, sym, ap, ◌∙◌, arith}
 use Rattle.std.specs.Option.{option_map_or}
-use Rattle.std.specs.Cmp.Lexicographic.{pointwise, bytes_decides}
-use Rattle.std.proofs.lemmas.Bool.Decides.{Decides-int_eq}
 use Rattle.std.proofs.lemmas.Option.{slice_get-get_or}
 use Rattle.std.proofs.lemmas.List.Quantifiers.{position-Some}
-use Rattle.df_types.specs.declared.program.Ty.{Ty}
-use Rattle.df_types.specs.declared.program.Ty.TheVariants as types
-use Rattle.df_form.specs.declared.node.Sort.{Sort}
 use Rattle.df_form.specs.declared.node.Sort.TheVariants as sorts
-use Rattle.df_form.specs.declared.node.Free.{Free}
-use Rattle.df_form.specs.declared.node.Op.{Op}
-use Rattle.df_form.specs.declared.node.Op.TheVariants as ops
-use Rattle.df_form.specs.Node.{Node, same_sort, same_type, same_op, same_node, number_of}
+use Rattle.df_form.specs.Node.{Node, same_node, number_of}
 use Rattle.df_form.specs.Sorting.{sort_at, sort_of, is_well_sorted}
 use Rattle.df_form.specs.Made.{Made, made, made_where}
-use Rattle.df_form.proofs.Same.{same_node_equal, same_sort_equal}
-use Rattle.df_form.proofs.Lists.{both, get_last, get_within}
+use Rattle.df_form.proofs.Same.{same_node_equal}
+use Rattle.df_form.proofs.Lists.{get_last, get_within}
 use Rattle.df_form.proofs.Values.{Grows, grows_not, grows_by, grown_length, grown_sort, AreSorted, one_more_sorted}
 
 -- the node that was asked for stands at its number, among nodes that begin with those before

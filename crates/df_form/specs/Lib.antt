@@ -6,6 +6,7 @@ pub mod Made
 pub mod Sorting
 pub mod Truth
 pub mod Sequent
+pub mod Arithmetic
 pub mod Log
 pub mod Clause
 pub mod SequentView

@@ -22,14 +22,14 @@ use Rattle.df_ground.specs.Lines.{sides_count, connective_count, type_count, sch
 use Rattle.df_ground.specs.Among.{Among}
 use Rattle.df_ground.proofs.Presence.{and_length, or_length}
 
-in_left : {A : Type 0} (xs ys : List A) (x : A) → Among xs x → Among (xs ++ ys) x
+pub in_left : {A : Type 0} (xs ys : List A) (x : A) → Among xs x → Among (xs ++ ys) x
 in_left xs ys x h = (h.0, get_grown xs ys h.0 x h.1)
 
-in_right : {A : Type 0} (xs ys : List A) (x : A) → Among ys x → Among (xs ++ ys) x
+pub in_right : {A : Type 0} (xs ys : List A) (x : A) → Among ys x → Among (xs ++ ys) x
 in_right [] ys x h = h
 in_right (y ∷ xs) ys x h = let r = in_right xs ys x h in (suc r.0, r.1)
 
-in_mapped : {A B : Type 0} (f : A → B) (xs : List A) (x : A) → Among xs x → Among (map f xs) (f x)
+pub in_mapped : {A B : Type 0} (f : A → B) (xs : List A) (x : A) → Among xs x → Among (map f xs) (f x)
 in_mapped f xs x h = (h.0, slice_get-map f xs h.0 ∙ ap (option_map f) h.1)
 
 in_numbers : (a n i : ℕ) → i < n → Among (range_with_len a n) (a + i)
@@ -40,7 +40,7 @@ in_numbers a (suc n) (suc i) less =
     let e : a + 1 + i ≡ a + suc i = omega arith in
     (suc r.0, r.1 ∙ ap (λ (k : ℕ). Some k) e)
 
-below : (n k : ℕ) → k < n → Among (range_with_len 0 n) k
+pub below : (n k : ℕ) → k < n → Among (range_with_len 0 n) k
 below n k less = let e : 0 + k ≡ k = omega arith in subst (λ (k : ℕ). Among (range_with_len 0 n) k) e (in_numbers 0 n k less)
 
 in_flat : (f : ℕ → List Step) (ns : List ℕ) (n : ℕ) (x : Step) → Among ns n → Among (f n) x → Among (flat_map f ns) x

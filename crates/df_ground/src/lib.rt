@@ -16,5 +16,5 @@ mod tests;
 
 pub use clause::GroundClause;
 pub use fault::GroundFault;
-pub use law::no_clause_is_left_out;
+pub use law::{grounds_stay_arithmetic, no_clause_is_left_out};
 pub use set::Ground;

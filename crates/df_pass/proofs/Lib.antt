@@ -8,3 +8,4 @@ pub mod Numbers
 pub mod Folds
 pub mod Typed
 pub mod Programs
+pub mod Arithmetic

@@ -9,7 +9,7 @@ use Rattle.df_types.specs.Program.{Program, Expr, Operand, Text, Value, Stmt, Va
 use Rattle.df_pass.specs.Obligation.{Obligation}
 use Rattle.df_pass.specs.Passing.{Passed, begin, passed_member, passed_plus, passed_expr, passed_operand, passed_stmt, obligations_of}
 
-fold_keeps : {A B : Type 0} (P : A → Type 0) (f : A → B → A) (a : A) (xs : List B) → P a → ((x : A) (y : B) → P x → P (f x y)) → P (fold f a xs)
+pub fold_keeps : {A B : Type 0} (P : A → Type 0) (f : A → B → A) (a : A) (xs : List B) → P a → ((x : A) (y : B) → P x → P (f x y)) → P (fold f a xs)
 fold_keeps P f a [] h step = h
 fold_keeps P f a (x ∷ xs) h step = fold_keeps P f (f a x) xs (step a x h) step
 

@@ -6,6 +6,7 @@ ghost use Rattle.df_pass.specs.Modular.{IsModularlySafe};
 ghost use Rattle.df_types.specs.Typing.{is_declared, is_expr, is_operand, are_well_typed};
 ghost use Rattle.df_types.specs.Program.{expr_of, operand_of, stmt_of};
 ghost use Rattle.df_types.specs.View.{program_of};
+ghost use Rattle.df_form.specs.Arithmetic.{IsArithmeticSequent};
 ghost use Rattle.df_form.specs.Sorting.{takes, sort_at, sort_of, is_formula};
 ghost use Rattle.df_pass.specs.Obligation.{obligation_of, AreValid, IsOwed};
 ghost use Rattle.df_pass.specs.Passing.{with_term, assumed, owed, demanded, passed_member, passed_plus, passed_expr, declared, passed_operand, passed_stmt, obligations_of};
@@ -254,6 +255,8 @@ pub fn obligations<'a>(
     ensures safe { IfOk result (λ all. AreValid all.items → IsModularlySafe (program_of program.now)) }
     // Where one is refuted some modular run is wrong by its kind at its place.
     ensures owed { IfOk result (λ all. AllByRecursion IsOwed (map obligation_of all.items)) }
+    // Each is of sums and comparisons of numbers.
+    ensures arithmetic { IfOk result (λ all. AllByRecursion (λ obligation. IsArithmeticSequent obligation.sequent) (map obligation_of all.items)) }
     ensures program { IfOk result (λ all. AllByRecursion (λ obligation. obligation.sequent.program ≡ program_of program.now) (map obligation_of all.items)) }
 {
     let _main = &program.main;

@@ -1,3 +1,4 @@
 pub mod Below
 pub mod Deciding
 pub mod Mapped
+pub mod Falsifying

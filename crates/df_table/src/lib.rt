@@ -3,10 +3,12 @@
 
 mod congruence;
 mod exactness;
+mod law;
 mod model;
 mod table;
 #[cfg(test)]
 mod tests;
 
+pub use law::models_falsify_sequents;
 pub use model::is_model;
 pub use table::Table;

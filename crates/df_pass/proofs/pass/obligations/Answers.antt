@@ -3,8 +3,10 @@ use Rattle.std.specs.List.{AllByRecursion}
 use Rattle.df_types.specs.View.{program_of}
 use Rattle.df_pass.specs.Modular.{IsModularlySafe}
 use Rattle.df_form.specs.Sequent.{IsValid}
+use Rattle.df_form.specs.Arithmetic.{IsArithmeticSequent}
 use Rattle.df_pass.specs.Obligation.{Obligation, obligation_of, AreValid, IsOwed}
 use Rattle.df_pass.specs.Passing.{obligations_of}
+use Rattle.df_pass.proofs.Arithmetic.{obligations_are_arithmetic}
 use Rattle.df_pass.proofs.Laws.{valid_is_safe, refuted_is_wrong}
 use Rattle.df_pass.proofs.Programs.{obligations_are_of}
 use Rattle.df_pass.proofs.pass.obligations.Goals as goal
@@ -30,3 +32,9 @@ returns-clause-program c =
     let p = program_of c.args.program.now in
     if_ok c.all_obligations.result (λ all. map obligation_of all.items ≡ obligations_of p) (λ all. AllByRecursion (λ (o : Obligation). o.sequent.program ≡ p) (map obligation_of all.items)) c.all_obligations.ensures
     (λ all same. subst (AllByRecursion (λ (o : Obligation). o.sequent.program ≡ p)) (sym same) (obligations_are_of p))
+
+pub returns-clause-arithmetic : goal.returns-clause-arithmetic
+returns-clause-arithmetic c =
+    let p = program_of c.args.program.now in
+    if_ok c.all_obligations.result (λ all. map obligation_of all.items ≡ obligations_of p) (λ all. AllByRecursion (λ (o : Obligation). IsArithmeticSequent o.sequent) (map obligation_of all.items)) c.all_obligations.ensures
+    (λ all same. subst (AllByRecursion (λ (o : Obligation). IsArithmeticSequent o.sequent)) (sym same) (obligations_are_arithmetic p c.args.program.now.is_well_typed))

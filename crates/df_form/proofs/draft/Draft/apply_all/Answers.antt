@@ -1,4 +1,4 @@
-use Rattle.std.proofs.Common.{sym, arith}
+use Rattle.std.proofs.Common.{arith}
 use Rattle.df_form.proofs.Drafts.{sorts_stacked, nodes_stacked, stack_stacked}
 use Rattle.df_form.proofs.draft.Draft.apply_all.Goals as goal
 

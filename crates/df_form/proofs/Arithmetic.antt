@@ -1,0 +1,124 @@
+-- Nodes that are made stay arithmetic where each is.
+use Rattle.std.proofs.Common.{◌≡◌, ℕ, ◌⊎◌, inl, inr, Bool, true, false, ◌==◌, List, [], ◌∷◌, ◌++◌, ◌&&◌, nat_lt, ◌<◌, length, get_or, Option, Some, None, slice_get, refl, sym, ap, ◌∙◌, subst, arith, ltb-true, true≢false}
+use Rattle.std.proofs.lemmas.Option.{slice_get-get_or}
+use Rattle.std.proofs.lemmas.List.Quantifiers.{position-Some}
+use Rattle.df_types.specs.declared.program.Ty.TheVariants as types
+use Rattle.df_types.specs.Program.{Program}
+use Rattle.df_form.specs.declared.node.Op.{Op}
+use Rattle.df_form.specs.declared.node.Op.TheVariants as ops
+use Rattle.df_form.specs.Node.{Node, same_node, number_of}
+use Rattle.df_form.specs.Made.{made, made_where}
+use Rattle.df_form.specs.Arithmetic.{IsLiteral, IsArithmetic}
+use Rattle.df_form.proofs.Same.{same_node_equal}
+use Rattle.df_form.proofs.Lists.{both, get_last, get_pushed, get_within}
+use Rattle.df_form.proofs.Values.{Grows, grows_by, grown_get, AreSorted, parts_below}
+use Rattle.df_form.proofs.Making.{IsNumber, grown_number}
+
+-- the node that was asked for stands at its number
+there_where : (nodes : List Node) (node : Node) (found : Option ℕ) → number_of nodes node ≡ found → slice_get (made_where nodes node found).nodes (made_where nodes node found).number ≡ Some node
+there_where nodes node (Some n) e =
+    let place = position-Some (same_node node) nodes n node e in
+    slice_get-get_or nodes n node place.0 ∙ ap (λ z. Some z) (sym (same_node_equal node (get_or nodes n node) place.1))
+there_where nodes node None e = get_last nodes node
+
+pub made_there : (nodes : List Node) (node : Node) → slice_get (made nodes node).nodes (made nodes node).number ≡ Some node
+made_there nodes node = there_where nodes node (number_of nodes node) refl
+
+-- the node is arithmetic after others
+pub record Fits (program : Program) (nodes : List Node) (node : Node) : Type 0 where
+  pub equalities : (a b : ℕ) → node ≡ record { op = ops.Equal; parts = a ∷ b ∷ [] } → IsNumber nodes a
+  pub types : (name : ℕ) (parts : List ℕ) → node ≡ record { op = ops.Is (types.Newtype name); parts = parts } → (name == program.newtype.name) ≡ true
+  pub products : (a b : ℕ) → node ≡ record { op = ops.Times; parts = a ∷ b ∷ [] } → IsLiteral nodes a
+
+-- neither an equality nor a type nor a product
+abbrev pub is_plain : Op → Bool
+is_plain ops.Equal = false
+is_plain (ops.Is ty) = false
+is_plain ops.Times = false
+is_plain op = true
+
+abbrev is_equality : Op → Bool
+is_equality ops.Equal = true
+is_equality op = false
+
+abbrev is_of_type : Op → Bool
+is_of_type (ops.Is ty) = true
+is_of_type op = false
+
+abbrev name_in : Op → ℕ
+name_in (ops.Is (types.Newtype name)) = name
+name_in op = 0
+
+-- a test tells two nodes apart
+apart : (test : Op → Bool) (one other : Node) → test one.op ≡ true → test other.op ≡ false → one ≡ other → ⊥
+apart test one other passes fails e = true≢false (sym passes ∙ ap (λ (node : Node). test node.op) e ∙ fails)
+
+pub record AreArithmetic (program : Program) (nodes : List Node) : Type 0 where
+  pub fits : (n : ℕ) (node : Node) → slice_get nodes n ≡ Some node → Fits program nodes node
+
+module _ (program : Program) where
+  pub plain_fits : (nodes : List Node) (node : Node) → is_plain node.op ≡ true → Fits program nodes node
+  plain_fits nodes node plain = record {
+    equalities = λ a b e. absurd (apart is_plain node _ plain refl e);
+    types = λ name parts e. absurd (apart is_plain node _ plain refl e);
+    products = λ a b e. absurd (apart is_plain node _ plain refl e);
+  }
+
+  pub equality_fits : (nodes : List Node) (a b : ℕ) → IsNumber nodes a → Fits program nodes (record { op = ops.Equal; parts = a ∷ b ∷ [] })
+  equality_fits nodes a b is = record {
+    equalities = λ c d e. subst (IsNumber nodes) (ap (λ (node : Node). get_or node.parts 0 0) e) is;
+    types = λ name parts e. absurd (apart is_equality (record { op = ops.Equal; parts = a ∷ b ∷ [] }) _ refl refl e);
+    products = λ c d e. absurd (apart is_equality (record { op = ops.Equal; parts = a ∷ b ∷ [] }) _ refl refl e);
+  }
+
+  pub type_fits : (nodes : List Node) (name : ℕ) (parts : List ℕ) → (name == program.newtype.name) ≡ true → Fits program nodes (record { op = ops.Is (types.Newtype name); parts = parts })
+  type_fits nodes name parts is = record {
+    equalities = λ a b e. absurd (apart is_of_type (record { op = ops.Is (types.Newtype name); parts = parts }) _ refl refl e);
+    types = λ other others e. subst (λ (k : ℕ). (k == program.newtype.name) ≡ true) (ap (λ (node : Node). name_in node.op) e) is;
+    products = λ a b e. absurd (apart is_of_type (record { op = ops.Is (types.Newtype name); parts = parts }) _ refl refl e);
+  }
+
+  pub grown_fits : (before now : List Node) → Grows before now → (node : Node) → Fits program before node → Fits program now node
+  grown_fits before now g node h = record {
+    equalities = λ a b e. grown_number before now g a (h.equalities a b e);
+    types = h.types;
+    products = λ a b e. let literal = h.products a b e in (literal.0, grown_get before now g a _ literal.1);
+  }
+
+  one_more : (nodes : List Node) (node : Node) → AreArithmetic program nodes → Fits program nodes node → AreArithmetic program (nodes ++ node ∷ [])
+  one_more nodes node all one = record { fits = λ n other e. grown_fits nodes (nodes ++ node ∷ []) (grows_by nodes node) other (next n other (get_pushed nodes node n other e)) }
+    where
+      next : (n : ℕ) (other : Node) → (slice_get nodes n ≡ Some other) ⊎ ((n ≡ length nodes) × (node ≡ other)) → Fits program nodes other
+      next n other (inl e) = all.fits n other e
+      next n other (inr e) = subst (Fits program nodes) e.1 one
+
+  stay_where : (nodes : List Node) (node : Node) (found : Option ℕ) → AreArithmetic program nodes → Fits program nodes node → AreArithmetic program (made_where nodes node found).nodes
+  stay_where nodes node (Some n) all one = all
+  stay_where nodes node None all one = one_more nodes node all one
+
+  pub made_stay : (nodes : List Node) (node : Node) → AreArithmetic program nodes → Fits program nodes node → AreArithmetic program (made nodes node).nodes
+  made_stay nodes node all one = stay_where nodes node (number_of nodes node) all one
+
+  pub are_arithmetic : (nodes : List Node) → AreArithmetic program nodes → IsArithmetic program nodes
+  are_arithmetic nodes all = record {
+    numbers = record {
+      equalities = λ n a b e. ((all.fits n _ e).equalities a b refl).sort;
+      types = λ n name parts e. (all.fits n _ e).types name parts refl;
+    };
+    products = λ n a b e. (all.fits n _ e).products a b refl;
+  }
+
+  first_below : (nodes : List Node) (n a b : ℕ) (op : Op) → AreSorted nodes → slice_get nodes n ≡ Some (record { op = op; parts = a ∷ b ∷ [] }) → a < length nodes
+  first_below nodes n a b op sorted e =
+      let below = ltb-true a n (both (nat_lt a n) (nat_lt b n && true) (parts_below nodes n (record { op = op; parts = a ∷ b ∷ [] }) sorted e)).0 in
+      let within = get_within nodes n (record { op = op; parts = a ∷ b ∷ [] }) e in
+      omega arith
+
+  pub all_fit : (nodes : List Node) → AreSorted nodes → IsArithmetic program nodes → AreArithmetic program nodes
+  all_fit nodes sorted is = record {
+    fits = λ n node there. record {
+      equalities = λ a b e. let at = there ∙ ap (λ z. Some z) e in record { below = first_below nodes n a b ops.Equal sorted at; sort = is.numbers.equalities n a b at };
+      types = λ name parts e. is.numbers.types n name parts (there ∙ ap (λ z. Some z) e);
+      products = λ a b e. is.products n a b (there ∙ ap (λ z. Some z) e);
+    };
+  }
