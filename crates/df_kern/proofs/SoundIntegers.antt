@@ -5,6 +5,7 @@ use Rattle.std.proofs.lemmas.Bool.{eqb-false}
 use borrow.Author.Differences.{up, down, sum_is_lem, product_is}
 use Rattle.df_linear.specs.Row.{with_coefficient}
 use Rattle.df_linear.specs.Linear.{all_below, quotient}
+use Rattle.df_linear.specs.Value.{sum_below}
 use Rattle.df_form.proofs.Lists.{both}
 
 pub times_over_sum : (a b c : ℤ) → (a +ℤ b) *ℤ c ≡ (a *ℤ c) +ℤ (b *ℤ c)
@@ -79,11 +80,6 @@ rounded d (negsuc s) (negsuc c) lt h = absurd (next h.0 h.1)
   where
     next : (k : ℕ) → (pos d *ℤ negsuc s) +ℤ negsuc c ≡ pos k → ⊥
     next k e = omega (arith, ints, e)
-
--- f 0 + f 1 + .. below a number
-abbrev pub sum_below : ℕ → (ℕ → ℤ) → ℤ
-sum_below zero f = pos 0
-sum_below (suc n) f = f n +ℤ sum_below n f
 
 pub same_sums : (count : ℕ) (f g : ℕ → ℤ) → ((n : ℕ) → n < count → f n ≡ g n) → sum_below count f ≡ sum_below count g
 same_sums zero f g h = refl

@@ -19,13 +19,14 @@ use Rattle.df_form.specs.Truth.{Assignment, truth, same_truth}
 use Rattle.df_form.specs.Clause.{Clause, negation, literal_truth, are_literals}
 use Rattle.df_linear.specs.Row.{Row, constant_row, difference}
 use Rattle.df_linear.specs.Linear.{one_row, two_rows, comparison_rows, rows_by_sort, rows_of_parts, rows_of_node, rows_of, all_below, sum_fits, sum_of, with_multiple, sum_from, quotient, divides, divided, combined, is_false, if_row, refutes, linear_of, linear_line}
+use Rattle.df_linear.specs.Value.{sum_below, row_value}
 use Rattle.df_form.proofs.Lists.{then_some, map_some, test_some, some_is, both}
 use Rattle.df_form.proofs.Values.{AreSorted, parts_taken, value_is}
 use Rattle.df_form.proofs.Same.{same_sort_equal}
 use Rattle.df_kern.proofs.SoundClauses.{Holds, is_held, AllPass, holds_unless}
 use Rattle.df_kern.proofs.SoundConnectives.{all_appended, number_in, at_most_truth, equal_truth, each_below}
-use Rattle.df_kern.proofs.SoundIntegers.{IsNatural, natural_by, natural_above, sum_of_naturals, no_natural, rounded, sum_below, no_sum, sum_added, sum_scaled, all_below_at, zero_times, sum_times}
-use Rattle.df_kern.proofs.SoundRows.{row_value, AreNumbers, constant_value, two_below, difference_value}
+use Rattle.df_kern.proofs.SoundIntegers.{IsNatural, natural_by, natural_above, sum_of_naturals, no_natural, rounded, no_sum, sum_added, sum_scaled, all_below_at, zero_times, sum_times}
+use Rattle.df_kern.proofs.SoundRows.{AreNumbers, constant_value, two_below, difference_value}
 
 module _ (count : ℕ) (v : ℕ → ℤ) where
   -- the row's value is at least 0

@@ -7,12 +7,9 @@ use Rattle.df_form.specs.declared.node.Op.{Op}
 use Rattle.df_form.specs.declared.node.Op.TheVariants as ops
 use Rattle.df_form.specs.Node.{Node}
 use Rattle.df_linear.specs.Row.{Row, fits, with_coefficient, constant_row, with_more, with_constant, without, if_fits, number_of_op, literal_number, with_product, expanded_parts, expanded_at, expanded_below, difference}
+use Rattle.df_linear.specs.Value.{sum_below, row_value}
 use Rattle.df_form.proofs.Lists.{then_some, test_some, some_is, both}
-use Rattle.df_kern.proofs.SoundIntegers.{times_over_sum, sum_times, times_twice, zero_times, sum_below, no_sum, changed}
-
--- the constant and the coefficients times the numbers of the nodes
-abbrev pub row_value : ℕ → (ℕ → ℤ) → Row → ℤ
-row_value count v row = sum_below count (λ n. row.coefficient n *ℤ v n) +ℤ row.constant
+use Rattle.df_kern.proofs.SoundIntegers.{times_over_sum, sum_times, times_twice, zero_times, no_sum, changed}
 
 -- numbers that nodes have: a literal its own, a sum and a product those of their parts
 pub record AreNumbers (nodes : List Node) (v : ℕ → ℤ) : Type 0 where

@@ -1,5 +1,5 @@
 -- The rows of literals, one literal after another.
-use Rattle.std.proofs.Common.{◌≡◌, ℕ, suc, ◌+◌, ◌<◌, Bool, true, false, not, List, [], ◌∷◌, ◌++◌, map, length, drop, get_or, slice_get, Option, Some, None, refl, sym, ap, ◌∙◌, add-one, append_assoc}
+use Rattle.std.proofs.Common.{◌≡◌, ℕ, suc, ◌+◌, ◌<◌, Bool, true, false, List, [], ◌∷◌, ◌++◌, length, drop, get_or, slice_get, Option, Some, None, refl, sym, ap, ◌∙◌, add-one, append_assoc}
 use Rattle.std.proofs.Math.Seq.{drop-cons}
 use Rattle.std.proofs.lemmas.Option.{none-some, same_Some}
 use Rattle.std.specs.Option.{option_and_then, option_map}
@@ -10,7 +10,6 @@ use Rattle.df_form.specs.declared.node.Op.{Op}
 use Rattle.df_form.specs.declared.node.Op.TheVariants as ops
 use Rattle.df_form.specs.Node.{Node}
 use Rattle.df_form.specs.Sorting.{sort_at}
-use Rattle.df_form.specs.Clause.{negation}
 use Rattle.df_linear.specs.declared.linear.Comparison.{Comparison}
 use Rattle.df_linear.specs.declared.row.RowFault.{RowFault}
 use Rattle.df_linear.specs.declared.row.RowFault.TheVariants as faults
@@ -44,10 +43,10 @@ node_rows nodes positive (Some node) = parts_rows nodes positive node.op node.pa
 
 -- rows, in front of those of the literals that are left
 abbrev pub gathered : List Node → List Row → List Lit → Option (List Row)
-gathered nodes rows left = option_map (λ more. rows ++ more) (rows_of nodes (map negation left))
+gathered nodes rows left = option_map (λ more. rows ++ more) (rows_of nodes left)
 
 pub record IsGathering (nodes : List Node) (all : List Lit) (i : ℕ) (rows : List Row) : Type 0 where
-  pub same : gathered nodes rows (drop i all) ≡ rows_of nodes (map negation all)
+  pub same : gathered nodes rows (drop i all) ≡ rows_of nodes all
 
 map_none : {A B : Type 0} (f : A → B) (o : Option A) → option_map f o ≡ None → o ≡ None
 map_none f None e = refl
@@ -65,19 +64,19 @@ map_some f (Some x) y e go = go x refl (same_Some (f x) y e)
 abbrev pub no_literal : Lit
 no_literal = record { positive = false; node = 0 }
 
-module _ (nodes : List Node) (all : List Lit) (i : ℕ) (rows : List Row) (comparison : Comparison) (less : i < length all) (so_far : IsGathering nodes all i rows) (is : let l = get_or all i no_literal in comparison ≡ comparison_of nodes (not l.positive) (slice_get nodes l.node)) where
+module _ (nodes : List Node) (all : List Lit) (i : ℕ) (rows : List Row) (comparison : Comparison) (less : i < length all) (so_far : IsGathering nodes all i rows) (is : let l = get_or all i no_literal in comparison ≡ comparison_of nodes l.positive (slice_get nodes l.node)) where
   abbrev here : Lit
   here = get_or all i no_literal
 
   abbrev goes : List Lit → Option (List Row) → Option (List Row)
-  goes left own = option_map (λ more. rows ++ more) (option_and_then (λ first. option_map (λ more. first ++ more) (rows_of nodes (map negation left))) own)
+  goes left own = option_map (λ more. rows ++ more) (option_and_then (λ first. option_map (λ more. first ++ more) (rows_of nodes left)) own)
 
-  opened : rows_of nodes (map negation all) ≡ goes (drop (suc i) all) (rows_of_comparison nodes (length nodes) comparison)
-  opened = sym so_far.same ∙ ap (gathered nodes rows) (drop-cons all i no_literal less) ∙ ap (goes (drop (suc i) all)) (node_rows nodes (not here.positive) (slice_get nodes here.node) ∙ ap (rows_of_comparison nodes (length nodes)) (sym is))
+  opened : rows_of nodes all ≡ goes (drop (suc i) all) (rows_of_comparison nodes (length nodes) comparison)
+  opened = sym so_far.same ∙ ap (gathered nodes rows) (drop-cons all i no_literal less) ∙ ap (goes (drop (suc i) all)) (node_rows nodes here.positive (slice_get nodes here.node) ∙ ap (rows_of_comparison nodes (length nodes)) (sym is))
 
   pub gathers : (new : List Row) → option_map (λ more. rows ++ more) (rows_of_comparison nodes (length nodes) comparison) ≡ Some new → IsGathering nodes all (i + 1) new
-  gathers new e = map_some (λ more. rows ++ more) (rows_of_comparison nodes (length nodes) comparison) new e (λ own at join. record { same = sym (opened ∙ ap (goes (drop (suc i) all)) at ∙ front rows own (rows_of nodes (map negation (drop (suc i) all))) ∙ ap (λ r. gathered nodes r (drop (suc i) all)) join ∙ ap (λ k. gathered nodes new (drop k all)) (sym (add-one i))) })
+  gathers new e = map_some (λ more. rows ++ more) (rows_of_comparison nodes (length nodes) comparison) new e (λ own at join. record { same = sym (opened ∙ ap (goes (drop (suc i) all)) at ∙ front rows own (rows_of nodes (drop (suc i) all)) ∙ ap (λ r. gathered nodes r (drop (suc i) all)) join ∙ ap (λ k. gathered nodes new (drop k all)) (sym (add-one i))) })
 
-  pub gathering_fails : (fault : RowFault) → Fails fault (option_map (λ more. rows ++ more) (rows_of_comparison nodes (length nodes) comparison)) → Fails fault (rows_of nodes (map negation all))
+  pub gathering_fails : (fault : RowFault) → Fails fault (option_map (λ more. rows ++ more) (rows_of_comparison nodes (length nodes) comparison)) → Fails fault (rows_of nodes all)
   gathering_fails faults.Memory none = tt
   gathering_fails faults.Refused none = opened ∙ ap (goes (drop (suc i) all)) (map_none (λ more. rows ++ more) (rows_of_comparison nodes (length nodes) comparison) none)

@@ -2,3 +2,4 @@ pub mod Row
 pub mod Linear
 pub mod RowView
 pub mod LinearView
+pub mod Value

@@ -1,7 +1,8 @@
-//! The kernel's linear arithmetic: rows of literals, and combinations that refute them.
+//! Linear arithmetic: rows of literals, and combinations that refute them.
 #![tactic(auto)]
 
 mod linear;
 mod row;
 
-pub use linear::is_linear;
+pub use linear::{is_linear, rows_of_literals};
+pub use row::{Row, RowFault};

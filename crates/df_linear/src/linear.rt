@@ -77,23 +77,51 @@ fn push_rows(
     }
 }
 
+/// The rows of the literals, in order: a <= b is 0 <= b - a, its negation is 0 <= a - b - 1, and an
+/// equality of numbers is both ways of <=. Other literals have none. It is `Refused` exactly where a
+/// number of a row, or one on the way to it, is past 128 bits.
+pub fn rows_of_literals(
+    alloc: Global,
+    nodes: &Nodes,
+    literals: &[Lit],
+) -> Result<Vec<Row>, RowFault>
+    ensures { Finds (λ rows. map row_of rows.items) result (rows_of nodes.now literals.now) }
+{
+    let mut rows = Vec::new(alloc);
+    for literal in literals {
+        let comparison = comparison_at(nodes, literal.positive, literal.node);
+        push_rows(alloc, nodes, comparison, &mut rows)?;
+    }
+    Ok(rows)
+}
+
+/// The negations of the literals, in order.
+fn negations(alloc: Global, literals: &[Lit]) -> Result<Vec<Lit>, AllocError>
+    ensures { IfOk result (λ negated. negated.items ≡ map negation literals.now) }
+{
+    let mut negated = Vec::new(alloc);
+    for literal in literals {
+        negated.push(Lit {
+            positive: !literal.positive,
+            node: literal.node,
+        })?;
+    }
+    Ok(negated)
+}
+
 /// The rows of the negated literals, in order.
 fn rows_of_negations(alloc: Global, nodes: &Nodes, conclusion: &[Lit]) -> Result<Vec<Row>, RowFault>
     ensures { Finds (λ rows. map row_of rows.items) result (rows_of nodes.now (map negation conclusion.now)) }
 {
-    let mut rows = Vec::new(alloc);
-    for literal in conclusion {
-        let comparison = comparison_at(nodes, !literal.positive, literal.node);
-        push_rows(alloc, nodes, comparison, &mut rows)?;
-    }
-    Ok(rows)
+    let negated = negations(alloc, conclusion)?;
+    rows_of_literals(alloc, nodes, &negated)
 }
 
 /// The row that a combination of rows gives.
 fn combine(alloc: Global, rows: &[Row], combination: &Combination) -> Result<Row, RowFault>
     ensures { (count : ℕ) → AreWithin count (map row_of rows.now) → Finds row_of result (combined count (map row_of rows.now) (combination_of combination.now)) }
 {
-    let mut sum = Row::constant(alloc, 0);
+    let mut sum = Row::of_constant(alloc, 0);
     for multiple in &combination.members {
         let Some(row) = rows.get(multiple.row) else {
             return Err(RowFault::Refused);
@@ -268,6 +296,45 @@ mod tests {
         Ok(())
     }
 
+    /// A literal by its sign and its node, and its rows: the coefficient of x, and the constant.
+    const ROWS: [(bool, usize, &[(i128, i128)]); 6] = [
+        (true, 3, &[(-2, 1)]),
+        (true, 4, &[(2, -1)]),
+        (false, 3, &[(2, -2)]),
+        // x + x = 1, its negation, and a free formula
+        (true, 5, &[(-2, 1), (2, -1)]),
+        (false, 5, &[]),
+        (true, 6, &[]),
+    ];
+
+    #[test]
+    fn finds_rows_of_literals(rt: HostRuntime) -> Result<(), Fail> {
+        let alloc = rt.alloc();
+        let mut nodes = table(alloc)?;
+        add(&mut nodes, Op::Equal, vec![in alloc; 1, 2]?)?;
+        let free = Op::Free(Free {
+            number: 1,
+            sort: Sort::Truth,
+        });
+        add(&mut nodes, free, Vec::new(alloc))?;
+        let mut literals = Vec::new(alloc);
+        let mut wanted = Vec::new(alloc);
+        for (positive, node, own) in ROWS {
+            literals.push(Lit { positive, node })?;
+            wanted.extend_from_slice(own)?;
+        }
+        let Ok(rows) = rows_of_literals(alloc, &nodes, &literals) else {
+            return Err(Fail::new("there are no rows"));
+        };
+        assert_eq!(rt; rows.len(), wanted.len());
+        for (row, (coefficient, constant)) in rows.iter().zip(&wanted) {
+            let found = row.coefficients().get(&0).copied();
+            assert_eq!(rt; found, Some(*coefficient));
+            assert_eq!(rt; row.constant(), *constant);
+        }
+        Ok(())
+    }
+
     #[test]
     fn refuses_rows_past_128_bits(rt: HostRuntime) -> Result<(), Fail> {
         let alloc = rt.alloc();
@@ -279,6 +346,8 @@ mod tests {
         let sums = combinations(alloc, &[HALF, OTHER_HALF, BOTH])?;
         assert!(rt; is_linear(alloc, &nodes, &[no(3), no(4)], &sums)?);
         assert!(rt; !is_linear(alloc, &nodes, &[no(3), no(4), no(above)], &sums)?);
+        let found = rows_of_literals(alloc, &nodes, &[no(3), no(above)]).err();
+        assert_eq!(rt; found, Some(RowFault::Refused));
         // a number is no formula
         assert!(rt; !is_linear(alloc, &nodes, &[no(3), no(4), no(0)], &sums)?);
         Ok(())

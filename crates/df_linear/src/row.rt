@@ -2,7 +2,7 @@
 
 ghost use Rattle.std.specs.Prelude.{◌≡◌, ◌+ℤ◌, ◌*ℤ◌, ◌≤ℤ◌, ℕ, slice_get, length, pos, Some};
 ghost use Rattle.df_linear.specs.Row.{without, with_more, with_constant, constant_row, literal_number, number_of_op, expanded_at, expanded_below, difference as difference_of};
-ghost use Rattle.df_linear.specs.RowView.{row_of, Finds, narrow, IsNarrow, IsWithin, IsLastBelow, term_of, exact};
+ghost use Rattle.df_linear.specs.RowView.{row_of, coefficient_at, Finds, narrow, IsNarrow, IsWithin, IsLastBelow, term_of, exact};
 ghost use Rattle.df_linear.specs.Linear.{with_multiple, divided as divided_row, is_false as is_false_row};
 ghost use Rattle.std.specs.Ordering.{int_eq, nat_cmp};
 ghost use Rattle.std.specs.List.{list_all};
@@ -14,7 +14,7 @@ use std::collections::BTreeMap;
 
 /// Why there is no row.
 #[derive(Clone, Copy, Debug, PartialEq, Eq)]
-pub(crate) enum RowFault {
+pub enum RowFault {
     /// A number is past 128 bits, or what was asked for is no row.
     Refused,
     Memory,
@@ -105,20 +105,34 @@ fn exact_quotient(number: i128, divisor: i128) -> Result<i128, RowFault>
 
 /// A row: 0 is at most the sum of the coefficients times their nodes, and the constant.
 #[derive(Drop)]
-pub(crate) struct Row {
+pub struct Row {
     coefficients: BTreeMap<usize, i128>,
     constant: i128,
 }
 
 impl Row {
     /// 0 <= 0, with another constant.
-    pub(crate) fn constant(alloc: Global, constant: i128) -> Row
+    pub(crate) fn of_constant(alloc: Global, constant: i128) -> Row
         ensures { row_of result ≡ constant_row constant }
     {
         Row {
             coefficients: BTreeMap::new(alloc),
             constant,
         }
+    }
+
+    /// The coefficient of each node that has an entry, in order of nodes. It may be 0, as it is for each
+    /// other node.
+    pub fn coefficients(&self) -> &BTreeMap<usize, i128>
+        ensures { coefficient_at result.now.entries ≡ (row_of self.now).coefficient }
+    {
+        &self.coefficients
+    }
+
+    pub fn constant(&self) -> i128
+        ensures { result ≡ (row_of self.now).constant }
+    {
+        self.constant
     }
 
     fn coefficient(&self, node: usize) -> i128
@@ -208,7 +222,7 @@ impl Row {
     ) -> Result<Row, RowFault>
         ensures { Finds row_of result (difference_of nodes.now (length nodes.now) a b k) }
     {
-        let mut row = Row::constant(alloc, k);
+        let mut row = Row::of_constant(alloc, k);
         row.add(b, 1)?;
         row.add(a, -1)?;
         row.expand(nodes)?;

@@ -21,7 +21,7 @@ row_past : (rows : List Row) (k : ℕ) → length rows ≤ k → slice_get (map 
 row_past rows k past = slice_get-map row_of rows k ∙ ap (option_map row_of) (slice_get_past rows k past)
 
 pub loop-multiple-init : goal.loop-multiple-init
-loop-multiple-init c = λ count inside. combining_starts count (map row_of c.args.rows.now) c.args.combination.now.members.items (row_of c.constant-sum.result) c.constant-sum.ensures
+loop-multiple-init c = λ count inside. combining_starts count (map row_of c.args.rows.now) c.args.combination.now.members.items (row_of c.of_constant-sum.result) c.of_constant-sum.ensures
 
 pub returns-in_default : goal.returns-in_default
 returns-in_default c = λ count inside.
