@@ -50,7 +50,7 @@ both false b e = absurd (true≢false (sym e))
 from_le : (a b : ℕ) → nat_le a b ≡ true → a ≤ b
 from_le a b e = grind (arith, nat_tests)
 
-to_le : (a b : ℕ) → a ≤ b → nat_le a b ≡ true
+pub to_le : (a b : ℕ) → a ≤ b → nat_le a b ≡ true
 to_le a b h = grind (arith, nat_tests)
 
 pub from_test : (low : ℕ) (es : List (ℕ × ℤ)) → ascends low es ≡ true → IsFrom low es
@@ -63,6 +63,10 @@ from_test low ((m, c) ∷ es) e =
 pub to_test : (low high : ℕ) (es : List (ℕ × ℤ)) → IsBetween low high es → ascends low es ≡ true
 to_test low high [] h = refl
 to_test low high ((m, c) ∷ es) h = rw (to_le low m h.0, h.1) (to_test (suc m) high es h.2)
+
+pub from_ascends : (low : ℕ) (es : List (ℕ × ℤ)) → IsFrom low es → ascends low es ≡ true
+from_ascends low [] h = refl
+from_ascends low ((m, c) ∷ es) h = rw (to_le low m h.0, h.1) (from_ascends (suc m) es h.2)
 
 pub none_below : (low : ℕ) (es : List (ℕ × ℤ)) (n : ℕ) → IsFrom low es → n < low → coefficient_of es n ≡ pos 0
 none_below low [] n h less = refl

@@ -11,7 +11,7 @@ use Rattle.std.specs.Int.{IsGcd, ◌∣◌}
 use Rattle.std.specs.Int.RustNames.{unsigned_abs}
 use Rattle.df_linear.specs.Linear.{quotient}
 use Rattle.df_lin.specs.Entries.{coefficient_of, has_coefficient, ascends}
-use Rattle.df_lin.specs.Division.{IsContent, divisor_of, quotient_entry, IsDivided}
+use Rattle.df_lin.specs.Division.{IsContent, divisor_of, quotient_entry, quotient_row, IsDivisor as IsRowDivisor}
 use Rattle.df_lin.proofs.Ascending.{IsFrom, equal, from_equal, both, from_test, none_below}
 use Rattle.df_lin.specs.Row.{entries_row}
 
@@ -139,28 +139,23 @@ at_least_one (suc g) = omega arith
 one_divides : (n : ℕ) → 1 ∣ n
 one_divides n = one-dvd n
 
-divisor_divides : (g n : ℕ) → g ∣ n → divisor_of g ∣ n
+pub divisor_divides : (g n : ℕ) → g ∣ n → divisor_of g ∣ n
 divisor_divides zero n h = one_divides n
 divisor_divides (suc g) n h = h
 
-some_divisor : (g : ℕ) → 0 < divisor_of g
+pub some_divisor : (g : ℕ) → 0 < divisor_of g
 some_divisor zero = omega arith
 some_divisor (suc g) = omega arith
 
 pub divided_ascends : (g : ℕ) (es : List (ℕ × ℤ)) → IsContent (coefficient_of es) g → ascends 0 es ≡ true → ascends 0 (map (quotient_entry (divisor_of g)) es) ≡ true
 divided_ascends g es h e = quotients_ascend (divisor_of g) 0 es (some_divisor g) (divides_each (divisor_of g) 0 es (from_test 0 es e) (λ n. divisor_divides g (unsigned_abs (coefficient_of es n)) (h.each n))) e
 
-pub divided_row : (g d : ℕ) (es quotients : List (ℕ × ℤ)) (k z : ℤ) → IsContent (coefficient_of es) g → d ≡ max g 1 → quotients ≡ map (quotient_entry d) es → z ≡ quotient k (pos d) → IsDivided (entries_row es k) (entries_row quotients z)
-divided_row g d es quotients k z h e q r =
-    let same : d ≡ divisor_of g = e ∙ at_least_one g in
-    record { content = g; is_content = h; is = rw (q, r, same) (λ i. record { coefficient = λ n. quotient_coefficient (divisor_of g) es n i; constant = quotient k (pos (divisor_of g)) }) }
+pub quotient_ordered : (d : ℕ) (es quotients : List (ℕ × ℤ)) (k : ℤ) → IsRowDivisor (entries_row es k) d → ascends 0 es ≡ true → quotients ≡ map (quotient_entry d) es → ascends 0 quotients ≡ true
+quotient_ordered d es quotients k h e is = rw (is, h.is) (divided_ascends h.content es h.is_content e)
 
-pub divided_result : (g d : ℕ) (es all quotients : List (ℕ × ℤ)) → IsContent (coefficient_of all) g → all ≡ es → ascends 0 es ≡ true → d ≡ max g 1 → quotients ≡ map (quotient_entry d) es → ascends 0 quotients ≡ true
-divided_result g d es all quotients h same e is q =
-    let P : List (ℕ × ℤ) → Type 0 = λ x. IsContent (coefficient_of x) g in
-    rw (q, is, at_least_one g) (divided_ascends g es (subst P same h) e)
+pub quotient_of_row : (d : ℕ) (es quotients : List (ℕ × ℤ)) (k z : ℤ) → quotients ≡ map (quotient_entry d) es → z ≡ quotient k (pos d) → entries_row quotients z ≡ quotient_row d (entries_row es k)
+quotient_of_row d es quotients k z q r = rw (q, r) (λ i. record { coefficient = λ n. quotient_coefficient d es n i; constant = quotient k (pos d) })
 
-pub divided_gives : (g d : ℕ) (es all quotients : List (ℕ × ℤ)) (k z : ℤ) → IsContent (coefficient_of all) g → all ≡ es → d ≡ max g 1 → quotients ≡ map (quotient_entry d) es → z ≡ quotient k (pos d) → IsDivided (entries_row es k) (entries_row quotients z)
-divided_gives g d es all quotients k z h same is q r =
-    let P : List (ℕ × ℤ) → Type 0 = λ x. IsContent (coefficient_of x) g in
-    divided_row g d es quotients k z (subst P same h) is q r
+-- the greatest common divisor, or 1
+pub divisor_is : (g d : ℕ) (z : ℤ) (es all : List (ℕ × ℤ)) → IsContent (coefficient_of all) g → all ≡ es → d ≡ max g 1 → IsRowDivisor (entries_row es z) d
+divisor_is g d z es all h same e = let P : List (ℕ × ℤ) → Type 0 = λ x. IsContent (coefficient_of x) g in record { content = g; is_content = subst P same h; is = e ∙ at_least_one g }

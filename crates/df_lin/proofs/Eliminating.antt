@@ -8,9 +8,11 @@ use Rattle.std.specs.Int.RustNames.{unsigned_abs}
 use Rattle.df_linear.specs.Row.{Row}
 use Rattle.df_lin.specs.declared.fault.RowFault.{RowFault}
 use Rattle.df_lin.specs.declared.fault.RowFault.TheVariants as faults
-use Rattle.df_lin.specs.Row.{weighted_row, GivesRow}
+use Rattle.df_lin.specs.declared.level.Sum.{Sum}
 use Rattle.df_lin.specs.Division.{divisor_of, quotient_row, IsDivided}
-use Rattle.df_lin.specs.Levels.{Stands, IsCancelling, IsCancelled, of_factor, of_other_factor, of_sum, IsMade, kept, cancelled, IsNextLevel, IsFirstLevel, GivesFactor, GivesCancelled, GivesSums, AddsRow, AddsSum, AddsSums, ExtendsLevel, IsSoFar, GivesOneSum, GivesMade, GivesLevel}
+use Rattle.df_lin.specs.Levels.{Stands, IsCancelling, IsCancelled, of_factor, of_other_factor, of_sum, IsMade, kept, cancelled, IsNextLevel, IsFirstLevel, GivesFactor, GivesSumBy, GivesCancelled, GivesSums, AddsDivided, AddsRow, AddsSum, AddsSums, ExtendsLevel, IsSoFar, GivesOneSum, GivesMade, GivesLevel}
+use Rattle.df_lin.proofs.Ways.{is_sum}
+use Rattle.df_lin.specs.Row.{weighted_row}
 use Rattle.df_lin.proofs.Sets.{stands_left, stands_last, stands_cases}
 
 -- a row has one quotient
@@ -58,12 +60,11 @@ module _ (n : ℕ) (first second : Row) where
   other_factor_fails faults.Wide k f c h = of_other_factor f (pos k) c h
   other_factor_fails faults.Memory k f c h = absurd h
 
-  pub sum_fails : (fault : RowFault) (f g : ℤ) → IsCancelling n first second f g → GivesRow (Err fault) (weighted_row f first g second) → GivesCancelled n first second (Err fault)
-  sum_fails faults.Wide f g c h = of_sum f g c h
-  sum_fails faults.Memory f g c h = tt
-
-  pub sum_divided : (f g : ℤ) (sum row : Row) → IsCancelling n first second f g → sum ≡ weighted_row f first g second → IsDivided sum row → IsCancelled n first second row
-  sum_divided f g sum row c e d = let P : Row → Type 0 = λ r. IsDivided r row in record { factor = f; other_factor = g; cancelling = c; divided = subst P e d }
+  -- the answer, from that of the sum by the factors
+  pub sum_gives : (f g : ℤ) (result : Result Sum RowFault) → IsCancelling n first second f g → GivesSumBy f first g second result → GivesCancelled n first second result
+  sum_gives f g (Ok sum) c h = is_sum n first second f g sum c h
+  sum_gives f g (Err faults.Wide) c h = of_sum f g c h
+  sum_gives f g (Err faults.Memory) c h = tt
 
 -- sums of one row and others
 module _ (n : ℕ) (first : Row) where
@@ -154,6 +155,9 @@ module _ (n : ℕ) (seconds : List Row) where
 pub first_none : IsFirstLevel [] []
 first_none = record { each = λ r h. absurd h; all = λ r row h d. absurd h; once = tt }
 
+pub first_begins : (level : List Row) → level ≡ [] → IsFirstLevel [] level
+first_begins level e = let P : List Row → Type 0 = λ k. IsFirstLevel [] k in subst P (sym e) first_none
+
 pub first_more : (rows : List Row) (r x : Row) (now next : List Row) → IsFirstLevel rows now → IsDivided r x → AddsRow x now next → IsFirstLevel (rows ++ r ∷ []) next
 first_more rows r x now next h d more = record { each = each; all = all; once = more.once h.once }
   where
@@ -200,8 +204,8 @@ sums_go n first s seconds more old before after h e is = let P : List Row → Ty
 pub sums_end : (n : ℕ) (first : Row) (rows seconds old now : List Row) → AddsSums n first seconds old now → seconds ≡ rows → AddsSums n first rows old now
 sums_end n first rows seconds old now h e = let P : List Row → Type 0 = λ k. AddsSums n first k old now in subst P e h
 
-pub first_goes : (r x : Row) (rows more now next : List Row) → IsFirstLevel rows now → IsDivided r x → AddsRow x now next → more ≡ rows ++ r ∷ [] → IsFirstLevel more next
-first_goes r x rows more now next h d a is = let P : List Row → Type 0 = λ k. IsFirstLevel k next in subst P (sym is) (first_more rows r x now next h d a)
+pub first_goes : (r : Row) (rows more now next : List Row) → IsFirstLevel rows now → AddsDivided r now next → more ≡ rows ++ r ∷ [] → IsFirstLevel more next
+first_goes r rows more now next h a is = let P : List Row → Type 0 = λ k. IsFirstLevel k next in subst P (sym is) (first_more rows r a.quotient now next h a.divided a.adds)
 
 pub first_ends : (rows taken level : List Row) → IsFirstLevel taken level → taken ≡ rows → IsFirstLevel rows level
 first_ends rows taken level h e = let P : List Row → Type 0 = λ k. IsFirstLevel k level in subst P e h

@@ -9,7 +9,7 @@ use Rattle.df_lin.specs.Row.{function_row}
 use Rattle.df_lin.specs.contracts.row.RowPartialEq.TheImpl as key
 use Rattle.df_lin.proofs.Ascending.{both, IsFrom, equal, more_unequal, from_test, none_below}
 
-first_coefficient : (m : ℕ) (c : ℤ) (es : List (ℕ × ℤ)) → coefficient_of ((m, c) ∷ es) m ≡ c
+pub first_coefficient : (m : ℕ) (c : ℤ) (es : List (ℕ × ℤ)) → coefficient_of ((m, c) ∷ es) m ≡ c
 first_coefficient m c es = ap (λ t. cond t c (coefficient_of es m)) (equal m m refl)
 
 -- an entry below another list's

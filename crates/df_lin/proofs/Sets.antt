@@ -30,7 +30,7 @@ distinct_last r [] h none = (λ k. k, tt)
 distinct_last r (s ∷ a) h none = (λ k. ⊎_elim (λ there. h.0 there) (λ e. none (inl (sym e))) (stands_cases s r a k), distinct_last r a h.1 (λ k. none (inr k)))
 
 module _ (v : declared.Row) where
-  abbrev same : declared.Row → Bool
+  abbrev pub same : declared.Row → Bool
   same k = eq v k
 
   found : (keys : List declared.Row) → list_any same keys ≡ true → Stands (function_row v) (rows_of keys)

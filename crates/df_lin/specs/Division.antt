@@ -19,6 +19,12 @@ divisor_of (suc d) = suc d
 abbrev pub quotient_row : ℕ → Row → Row
 quotient_row d row = record { coefficient = λ n. quotient (row.coefficient n) (pos d); constant = quotient row.constant (pos d) }
 
+-- what a row is divided by
+pub record IsDivisor (row : Row) (divisor : ℕ) : Type 0 where
+  pub content : ℕ
+  pub is_content : IsContent row.coefficient content
+  pub is : divisor ≡ divisor_of content
+
 pub record IsDivided (row after : Row) : Type 0 where
   pub content : ℕ
   pub is_content : IsContent row.coefficient content

@@ -1,6 +1,7 @@
 -- The entries of sparse rows.
-use Rattle.std.specs.Prelude.{ℕ, suc, ℤ, pos, Bool, true, false, ◌&&◌, ◌==◌, nat_le, List, [], ◌∷◌, if◌then◌else◌}
+use Rattle.std.specs.Prelude.{◌≡◌, ℕ, suc, ℤ, ◌*ℤ◌, pos, Bool, true, false, ◌&&◌, ◌==◌, nat_le, List, [], ◌∷◌, if◌then◌else◌}
 use Rattle.std.specs.Ordering.{int_eq}
+use Rattle.df_linear.specs.Row.{fits}
 
 -- the coefficient of a node among entries, 0 where it has none
 abbrev pub coefficient_of : List (ℕ × ℤ) → ℕ → ℤ
@@ -14,3 +15,16 @@ has_coefficient c = if int_eq c (pos 0) then false else true
 abbrev pub ascends : ℕ → List (ℕ × ℤ) → Bool
 ascends low [] = true
 ascends low (e ∷ es) = nat_le low e.0 && (has_coefficient e.1 && ascends (suc e.0) es)
+
+-- each coefficient has 128 bits
+pub record AreNarrow (entries : List (ℕ × ℤ)) : Type 0 where
+  pub each : (n : ℕ) → fits (coefficient_of entries n) ≡ true
+
+-- and so many times each
+pub record HaveMultiples (factor : ℤ) (entries : List (ℕ × ℤ)) : Type 0 where
+  pub each : (n : ℕ) → fits (factor *ℤ coefficient_of entries n) ≡ true
+
+-- or not
+pub record LackMultiple (factor : ℤ) (entries : List (ℕ × ℤ)) : Type 0 where
+  pub node : ℕ
+  pub wide : fits (factor *ℤ coefficient_of entries node) ≡ false

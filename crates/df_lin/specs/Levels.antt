@@ -1,14 +1,19 @@
 -- Levels of rows: each is the one before it with a variable eliminated.
-use Rattle.std.specs.Prelude.{◌≡◌, ℕ, ◌/◌, ℤ, pos, ◌<ℤ◌, false, ◌⊎◌, List, [], ◌∷◌, ◌++◌, map, Result, Ok, Err}
+use Rattle.std.specs.Prelude.{◌≡◌, ℕ, ◌/◌, ℤ, pos, ◌<ℤ◌, false, ◌⊎◌, List, [], ◌∷◌, ◌++◌, map, slice_get, Option, Some, None, Result, Ok, Err}
 use Rattle.std.specs.Int.{IsGcd}
 use Rattle.std.specs.Int.RustNames.{unsigned_abs}
 use Rattle.df_linear.specs.Row.{Row, fits}
+use Rattle.df_linear.specs.RowView.{IsNarrow}
 use Rattle.df_lin.specs.declared.level.Level.{Level}
 use Rattle.df_lin.specs.declared.row.Row as declared
 use Rattle.df_lin.specs.declared.fault.RowFault.{RowFault}
 use Rattle.df_lin.specs.declared.fault.RowFault.TheVariants as faults
-use Rattle.df_lin.specs.Row.{function_row, weighted_row, IsWide}
-use Rattle.df_lin.specs.Division.{IsDivided}
+use Rattle.df_lin.specs.Row.{function_row, weighted_row, IsWide, IsFalse}
+use Rattle.df_lin.specs.Division.{IsDivided, IsDivisor, quotient_row}
+use Rattle.df_form.specs.declared.log.Multiple.{Multiple}
+use Rattle.df_form.specs.Log.{Combination, combination_of}
+use Rattle.df_lin.specs.declared.level.Sum.{Sum}
+use Rattle.df_lin.specs.Way.{multiple_row, Comes, AllCome, of_two}
 
 -- the row is one of these
 abbrev pub Stands : Row → List Row → Type 0
@@ -36,11 +41,24 @@ pub record IsCancelled (n : ℕ) (first second row : Row) : Type 0 where
   pub cancelling : IsCancelling n first second factor other_factor
   pub divided : IsDivided (weighted_row factor first other_factor second) row
 
--- a factor or a number of the sum is past 128 bits
+-- what a row is divided by is past 128 bits
+pub record HasWideDivisor (row : Row) : Type 0 where
+  pub divisor : ℕ
+  pub is_divisor : IsDivisor row divisor
+  pub wide : fits (pos divisor) ≡ false
+
+-- A number on the way to the sum by factors is past 128 bits: one of a multiple or of the sum, or what that is divided by.
+pub data IsWideBy (f : ℤ) (first : Row) (g : ℤ) (second : Row) : Type 0 where
+  at_multiple : IsWide (multiple_row f first) → IsWideBy f first g second
+  at_other_multiple : IsWide (multiple_row g second) → IsWideBy f first g second
+  at_sum : IsWide (weighted_row f first g second) → IsWideBy f first g second
+  at_divisor : HasWideDivisor (weighted_row f first g second) → IsWideBy f first g second
+
+-- a factor, or a number on the way to the sum, is past 128 bits
 pub data IsOverflow (n : ℕ) (first second : Row) : Type 0 where
   of_factor : (f g : ℤ) → IsCancelling n first second f g → fits f ≡ false → IsOverflow n first second
   of_other_factor : (f g : ℤ) → IsCancelling n first second f g → fits g ≡ false → IsOverflow n first second
-  of_sum : (f g : ℤ) → IsCancelling n first second f g → IsWide (weighted_row f first g second) → IsOverflow n first second
+  of_sum : (f g : ℤ) → IsCancelling n first second f g → IsWideBy f first g second → IsOverflow n first second
 
 -- one of the first rows, which has no coefficient for the node, or a sum of one of them and one of the second
 pub data IsMade (n : ℕ) (firsts seconds : List Row) (row : Row) : Type 0 where
@@ -60,6 +78,17 @@ pub record IsNextLevel (n : ℕ) (before after : List Row) : Type 0 where
   pub all : (row : Row) → IsMade n before before row → Stands row after
   pub once : AreDistinct after
 
+-- one of the rows is false
+pub record HasFalse (rows : List Row) : Type 0 where
+  pub row : Row
+  pub stands : Stands row rows
+  pub is_false : IsFalse row
+
+-- where one of them stands, or that there is none
+abbrev pub TellsFalse : List Row → Option ℕ → Type 0
+TellsFalse rows (Some i) = (row : Row) × (slice_get rows i ≡ Some row) × IsFalse row
+TellsFalse rows None = HasFalse rows → ⊥
+
 -- a sum that cancels the node is past 128 bits
 pub record Overflows (n : ℕ) (rows : List Row) : Type 0 where
   pub first : Row
@@ -75,14 +104,59 @@ rows_of rows = map function_row rows
 abbrev pub level_rows : Level → List Row
 level_rows level = rows_of level.rows.keys
 
+-- how each row comes of others
+abbrev pub level_ways : Level → List Combination
+level_ways level = map combination_of level.ways.items
+
+-- each row of the level comes of the rows by its combination
+abbrev pub AreWays : List Row → Level → Type 0
+AreWays before level = AllCome before (level_ways level) (level_rows level)
+
+abbrev pub KeepsWays : List Row → Level → Level → Type 0
+KeepsWays before old new = AreWays before old → AreWays before new
+
+-- that of one of the rows
+pub record HaveWideDivisor (rows : List Row) : Type 0 where
+  pub row : Row
+  pub stands : Stands row rows
+  pub wide : HasWideDivisor row
+
+-- the first level, or that a divisor is too wide; want of memory says nothing
+abbrev pub GivesFirst : List Row → Result Level RowFault → Type 0
+GivesFirst rows (Ok level) = IsFirstLevel rows (level_rows level)
+GivesFirst rows (Err faults.Wide) = HaveWideDivisor rows
+GivesFirst rows (Err faults.Memory) = Unit
+
 -- the level after, or that a number of it is too wide; want of memory says nothing
 abbrev pub GivesLevel : ℕ → List Row → Result Level RowFault → Type 0
 GivesLevel n before (Ok after) = IsNextLevel n before (level_rows after)
 GivesLevel n before (Err faults.Wide) = Overflows n before
 GivesLevel n before (Err faults.Memory) = Unit
 
-abbrev pub GivesCancelled : ℕ → Row → Row → Result declared.Row RowFault → Type 0
-GivesCancelled n first second (Ok row) = IsCancelled n first second (function_row row)
+-- such a sum with its factors, which is a combination of the two rows
+pub record IsSumOf (n : ℕ) (first second : Row) (sum : Sum) : Type 0 where
+  pub cancelled : IsCancelled n first second (function_row sum.row)
+  pub comes : (rows : List Row) (i j : ℕ) → slice_get rows i ≡ Some first → slice_get rows j ≡ Some second → Comes rows (of_two sum.divisor (record { factor = sum.factor; row = i }) (record { factor = sum.other_factor; row = j })) (function_row sum.row)
+
+-- the sum of two rows by factors, divided
+pub record IsSumBy (f : ℤ) (first : Row) (g : ℤ) (second : Row) (sum : Sum) : Type 0 where
+  pub is_factor : sum.factor ≡ f
+  pub is_other_factor : sum.other_factor ≡ g
+  pub small : IsNarrow (multiple_row f first)
+  pub other_small : IsNarrow (multiple_row g second)
+  pub sum_small : IsNarrow (weighted_row f first g second)
+  pub content : ℕ
+  pub is_divisor : IsDivisor (weighted_row f first g second) content
+  pub divisor : sum.divisor ≡ pos content
+  pub is : function_row sum.row ≡ quotient_row content (weighted_row f first g second)
+
+abbrev pub GivesSumBy : ℤ → Row → ℤ → Row → Result Sum RowFault → Type 0
+GivesSumBy f first g second (Ok sum) = IsSumBy f first g second sum
+GivesSumBy f first g second (Err faults.Wide) = IsWideBy f first g second
+GivesSumBy f first g second (Err faults.Memory) = Unit
+
+abbrev pub GivesCancelled : ℕ → Row → Row → Result Sum RowFault → Type 0
+GivesCancelled n first second (Ok sum) = IsSumOf n first second sum
 GivesCancelled n first second (Err faults.Wide) = IsOverflow n first second
 GivesCancelled n first second (Err faults.Memory) = Unit
 
@@ -98,6 +172,30 @@ pub record AddsRow (row : Row) (before after : List Row) : Type 0 where
   pub stays : (r : Row) → Stands r before → Stands r after
   pub added : Stands row after
   pub once : AreDistinct before → AreDistinct after
+
+-- a level with one more row, and its combination
+abbrev pub AddsWay : Combination → Row → Level → Level → Type 0
+AddsWay way row old new = (before : List Row) → Comes before way row → KeepsWays before old new
+
+abbrev pub KeepsOne : Row → ℕ → Level → Level → Type 0
+KeepsOne row i old new = (before : List Row) → slice_get before i ≡ Some row → KeepsWays before old new
+
+abbrev pub KeepsTwo : Row → ℕ → Row → ℕ → Level → Level → Type 0
+KeepsTwo first i second j old new = (before : List Row) → slice_get before i ≡ Some first → slice_get before j ≡ Some second → KeepsWays before old new
+
+abbrev pub KeepsAll : List Row → Row → ℕ → Level → Level → Type 0
+KeepsAll before row i old new = slice_get before i ≡ Some row → KeepsWays before old new
+
+-- rows with a quotient
+pub record AddsDivided (row : Row) (before after : List Row) : Type 0 where
+  pub quotient : Row
+  pub divided : IsDivided row quotient
+  pub adds : AddsRow quotient before after
+
+abbrev pub GivesDivided : Row → List Row → List Row → Result Unit RowFault → Type 0
+GivesDivided row before after (Ok done) = AddsDivided row before after
+GivesDivided row before after (Err faults.Wide) = HasWideDivisor row
+GivesDivided row before after (Err faults.Memory) = Unit
 
 -- rows with the sums of one row and others that cancel the node
 pub record AddsSums (n : ℕ) (first : Row) (seconds before after : List Row) : Type 0 where

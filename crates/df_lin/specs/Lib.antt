@@ -4,3 +4,5 @@ pub mod Row
 pub mod Merge
 pub mod Division
 pub mod Levels
+pub mod Way
+pub mod Elimination

@@ -1,5 +1,5 @@
 -- Sparse rows, and their sums.
-use Rattle.std.specs.Prelude.{◌≡◌, ℕ, ℤ, false, List, Result, Ok, Err}
+use Rattle.std.specs.Prelude.{◌≡◌, ℕ, ℤ, pos, ◌<ℤ◌, false, List, Result, Ok, Err}
 use Rattle.df_linear.specs.Row.{Row, fits}
 use Rattle.df_linear.specs.RowView.{IsNarrow}
 use Rattle.df_lin.specs.declared.row.Row as declared
@@ -30,3 +30,8 @@ abbrev pub GivesRow : Result declared.Row RowFault → Row → Type 0
 GivesRow (Ok r) row = (function_row r ≡ row) × IsNarrow row
 GivesRow (Err faults.Wide) row = IsWide row
 GivesRow (Err faults.Memory) row = Unit
+
+-- 0 <= c for a c below 0
+pub record IsFalse (row : Row) : Type 0 where
+  pub zeros : (n : ℕ) → row.coefficient n ≡ pos 0
+  pub below : row.constant <ℤ pos 0

@@ -1,19 +1,23 @@
 //! The entries of sparse rows: nodes with their coefficients.
 
-ghost use Rattle.std.specs.Prelude.{◌≡◌, true, OnOk};
-ghost use Rattle.df_lin.specs.Entries.{ascends, coefficient_of};
+ghost use Rattle.std.specs.Prelude.{◌≡◌, true, OnOk, IfOk};
+ghost use Rattle.std.specs.Bool.{MatchBool};
+ghost use Rattle.df_linear.specs.RowView.{coefficient_at as coefficient_at_of};
+ghost use Rattle.df_lin.specs.Entries.{ascends, coefficient_of, AreNarrow, HaveMultiples, LackMultiple};
 ghost use Rattle.df_lin.specs.Merge.{lowest, first_coefficient, others_after, with_entry, GivesSum};
 
-use crate::exact::weighted_sum;
+use crate::exact::{has_product, weighted_sum};
 use crate::fault::RowFault;
 use std::alloc::{AllocError, Global};
+use std::collections::BTreeMap;
 
 /// A node with its coefficient.
 pub(crate) type Entry = (usize, i128);
 
 /// Whether the nodes ascend, and none has coefficient 0.
 pub(crate) fn are_in_order(entries: &[Entry]) -> bool
-    ensures { result ≡ ascends 0 entries.now }
+    ensures order { result ≡ ascends 0 entries.now }
+    ensures narrow { result ≡ true → AreNarrow entries.now }
 {
     let mut low = 0;
     for entry in entries {
@@ -36,6 +40,19 @@ pub(crate) fn coefficient_at(entries: &[Entry], node: usize) -> i128
         }
     }
     0
+}
+
+/// Whether so many times each coefficient has 128 bits.
+pub(crate) fn have_multiples(entries: &[Entry], factor: i128) -> bool
+    requires { ascends 0 entries.now ≡ true }
+    ensures { MatchBool result (HaveMultiples factor entries.now) (LackMultiple factor entries.now) }
+{
+    for entry in entries {
+        if !has_product(factor, entry.1) {
+            return false;
+        }
+    }
+    true
 }
 
 /// The lowest node of entries whose nodes ascend.
@@ -62,12 +79,29 @@ fn split_node(entries: &[Entry], node: usize) -> (i128, &[Entry])
 
 /// Adds an entry, unless its coefficient is 0.
 fn push_entry(entries: &mut Vec<Entry>, node: usize, coefficient: i128) -> Result<(), AllocError>
-    ensures { OnOk result (entries.new.items ≡ with_entry entries.old.items node coefficient) }
+    ensures entry { OnOk result (entries.new.items ≡ with_entry entries.old.items node coefficient) }
+    ensures narrow { OnOk result (AreNarrow entries.old.items → AreNarrow entries.new.items) }
 {
     if coefficient != 0 {
         entries.push((node, coefficient))?;
     }
     Ok(())
+}
+
+/// The entries of a map, without those of coefficient 0.
+pub(crate) fn nonzero_entries(
+    alloc: Global,
+    map: &BTreeMap<usize, i128>,
+) -> Result<Vec<Entry>, AllocError>
+    ensures ordered { IfOk result (λ entries. ascends 0 entries.items ≡ true) }
+    ensures coefficients { IfOk result (λ entries. coefficient_of entries.items ≡ coefficient_at_of map.now.entries) }
+    ensures narrow { IfOk result (λ entries. AreNarrow entries.items) }
+{
+    let mut entries = Vec::new(alloc);
+    for (node, coefficient) in map {
+        push_entry(&mut entries, *node, *coefficient)?;
+    }
+    Ok(entries)
 }
 
 /// The entries of the sum of two rows by factors.

@@ -1,29 +1,77 @@
 //! Levels of rows: each is the one before it with a variable eliminated.
 
-ghost use Rattle.std.specs.Prelude.{◌≡◌, ◌/◌, ◌≤◌, ◌<ℤ◌, pos, [], OnOk, IfOk};
+ghost use Rattle.std.specs.Prelude.{◌≡◌, ◌/◌, ◌≤◌, ◌<ℤ◌, pos, [], map, OnOk, IfOk};
 ghost use Rattle.df_lin.specs.Row.{function_row};
-ghost use Rattle.df_lin.specs.Levels.{rows_of, level_rows, IsFirstLevel, AddsRow, GivesCancelled, GivesFactor, GivesLevel, GivesMade, GivesOneSum, GivesSums};
+ghost use Rattle.std.specs.Bool.{Decides};
+ghost use Rattle.df_form.specs.Log.{combination_of};
+ghost use Rattle.df_lin.specs.Levels.{HasFalse, rows_of, level_rows, level_ways, AddsRow, AddsWay, AreWays, GivesCancelled, GivesDivided, GivesFactor, GivesFirst, GivesLevel, GivesMade, GivesOneSum, GivesSumBy, GivesSums, KeepsAll, KeepsOne, KeepsTwo, TellsFalse};
 
 use crate::division::gcd;
 use crate::fault::RowFault;
 use crate::row::Row;
+use crate::way::{way_of_one, way_of_two};
+use df_form::{Combination, Multiple};
 use indexmap::IndexSet;
 use std::alloc::{AllocError, Global};
+
+/// The number, where it has 128 bits.
+fn signed(number: u128) -> Result<i128, RowFault>
+    ensures { GivesFactor number result }
+{
+    match i128::try_from(number) {
+        Ok(signed) => Ok(signed),
+        Err(_) => Err(RowFault::Wide),
+    }
+}
 
 /// The quotient, as a factor.
 fn factor_of(number: u128, divisor: u128) -> Result<i128, RowFault>
     requires { 1 ≤ divisor }
     ensures { GivesFactor (number / divisor) result }
 {
-    match i128::try_from(number / divisor) {
-        Ok(factor) => Ok(factor),
-        Err(_) => Err(RowFault::Wide),
-    }
+    signed(number / divisor)
 }
 
-/// The sum of two rows that cancels the node by least factors, divided. It is `Wide` only where a factor
-/// or a number of the sum is past 128 bits.
-fn cancelled(alloc: Global, first: &Row, second: &Row, node: usize) -> Result<Row, RowFault>
+/// A sum of two rows by factors, divided.
+#[derive(Drop)]
+struct Sum {
+    row: Row,
+    factor: i128,
+    other_factor: i128,
+    divisor: i128,
+}
+
+/// The sum of two rows by these factors, divided.
+fn divided_sum(
+    alloc: Global,
+    first: &Row,
+    factor: i128,
+    second: &Row,
+    other_factor: i128,
+) -> Result<Sum, RowFault>
+    ensures { GivesSumBy factor (function_row first.now) other_factor (function_row second.now) result }
+{
+    if !first.has_multiple(factor) {
+        return Err(RowFault::Wide);
+    }
+    if !second.has_multiple(other_factor) {
+        return Err(RowFault::Wide);
+    }
+    let sum = first.combine(alloc, factor, second, other_factor)?;
+    let content = sum.divisor();
+    let divisor = signed(content)?;
+    let row = sum.quotient(alloc, content)?;
+    Ok(Sum {
+        row,
+        factor,
+        other_factor,
+        divisor,
+    })
+}
+
+/// The sum of two rows that cancels the node by least factors, divided. It is `Wide` only where a number
+/// on the way is past 128 bits.
+fn cancelled(alloc: Global, first: &Row, second: &Row, node: usize) -> Result<Sum, RowFault>
     requires positive { pos 0 <ℤ (function_row first.now).coefficient node }
     requires negative { (function_row second.now).coefficient node <ℤ pos 0 }
     ensures { GivesCancelled node (function_row first.now) (function_row second.now) result }
@@ -33,49 +81,69 @@ fn cancelled(alloc: Global, first: &Row, second: &Row, node: usize) -> Result<Ro
     let divisor = gcd(own, others);
     let factor = factor_of(others, divisor)?;
     let other_factor = factor_of(own, divisor)?;
-    let sum = first.combine(alloc, factor, second, other_factor)?;
-    Ok(sum.divided(alloc)?)
+    divided_sum(alloc, first, factor, second, other_factor)
 }
 
 /// The rows of a level, in the order in which they were found. No two are equal.
 #[derive(Drop)]
 pub struct Level {
     rows: IndexSet<Row>,
+    /// How each row comes of those of the level before, or at the first level of the given ones.
+    ways: Vec<Combination>,
 }
 
 impl Level {
     fn new(alloc: Global) -> Level
-        ensures { level_rows result ≡ [] }
+        ensures rows { level_rows result ≡ [] }
+        ensures ways { level_ways result ≡ [] }
     {
         Level {
             rows: IndexSet::new(alloc),
+            ways: Vec::new(alloc),
         }
     }
 
     /// Adds a row, unless an equal one is there.
-    fn add(&mut self, row: Row) -> Result<(), AllocError>
-        ensures { OnOk result (AddsRow (function_row row) (level_rows self.old) (level_rows self.new)) }
+    fn add(&mut self, row: Row, way: Combination) -> Result<(), AllocError>
+        ensures row { OnOk result (AddsRow (function_row row) (level_rows self.old) (level_rows self.new)) }
+        ensures way { OnOk result (AddsWay (combination_of way) (function_row row) self.old self.new) }
     {
-        self.rows.insert(row)?;
+        let (_, is_new) = self.rows.insert_full(row)?;
+        if !is_new {
+            return Ok(());
+        }
+        self.ways.push(way)?;
         Ok(())
     }
 
-    /// Adds the sum of two rows, where it cancels the node.
+    /// Adds the sum of two rows, each with its number, where it cancels the node.
     fn add_sum(
         &mut self,
         alloc: Global,
+        number: usize,
         first: &Row,
+        other: usize,
         second: &Row,
         node: usize,
     ) -> Result<(), RowFault>
         requires { pos 0 <ℤ (function_row first.now).coefficient node }
-        ensures { GivesOneSum node (function_row first.now) (function_row second.now) (level_rows self.old) (level_rows self.new) result }
+        ensures row { GivesOneSum node (function_row first.now) (function_row second.now) (level_rows self.old) (level_rows self.new) result }
+        ensures way { OnOk result (KeepsTwo (function_row first.now) number (function_row second.now) other self.old self.new) }
     {
         if second.coefficient(node) >= 0 {
             return Ok(());
         }
         let sum = cancelled(alloc, first, second, node)?;
-        self.add(sum)?;
+        let own = Multiple {
+            factor: sum.factor,
+            row: number,
+        };
+        let others = Multiple {
+            factor: sum.other_factor,
+            row: other,
+        };
+        let way = way_of_two(alloc, sum.divisor, own, others)?;
+        self.add(sum.row, way)?;
         Ok(())
     }
 
@@ -83,15 +151,17 @@ impl Level {
     fn add_sums(
         &mut self,
         alloc: Global,
+        number: usize,
         first: &Row,
         rows: &[Row],
         node: usize,
     ) -> Result<(), RowFault>
         requires { pos 0 <ℤ (function_row first.now).coefficient node }
-        ensures { GivesSums node (function_row first.now) (rows_of rows.now) (level_rows self.old) (level_rows self.new) result }
+        ensures row { GivesSums node (function_row first.now) (rows_of rows.now) (level_rows self.old) (level_rows self.new) result }
+        ensures way { OnOk result (KeepsAll (rows_of rows.now) (function_row first.now) number self.old self.new) }
     {
-        for second in rows {
-            self.add_sum(alloc, first, second, node)?;
+        for (other, second) in rows.iter().enumerate() {
+            self.add_sum(alloc, number, first, other, second, node)?;
         }
         Ok(())
     }
@@ -100,34 +170,58 @@ impl Level {
     fn add_made(
         &mut self,
         alloc: Global,
+        number: usize,
         first: &Row,
         rows: &[Row],
         node: usize,
     ) -> Result<(), RowFault>
-        ensures { GivesMade node (function_row first.now) (rows_of rows.now) (level_rows self.old) (level_rows self.new) result }
+        ensures row { GivesMade node (function_row first.now) (rows_of rows.now) (level_rows self.old) (level_rows self.new) result }
+        ensures way { OnOk result (KeepsAll (rows_of rows.now) (function_row first.now) number self.old self.new) }
     {
         let coefficient = first.coefficient(node);
         if coefficient < 0 {
             return Ok(());
         }
         if coefficient > 0 {
-            return self.add_sums(alloc, first, rows, node);
+            return self.add_sums(alloc, number, first, rows, node);
         }
         let copy = first.copy(alloc)?;
-        self.add(copy)?;
+        let way = way_of_one(alloc, 1, number)?;
+        self.add(copy, way)?;
+        Ok(())
+    }
+
+    /// Adds the row divided by the greatest common divisor of its coefficients.
+    fn add_divided(&mut self, alloc: Global, number: usize, row: &Row) -> Result<(), RowFault>
+        ensures row { GivesDivided (function_row row.now) (level_rows self.old) (level_rows self.new) result }
+        ensures way { OnOk result (KeepsOne (function_row row.now) number self.old self.new) }
+    {
+        let content = row.divisor();
+        let divisor = signed(content)?;
+        let quotient = row.quotient(alloc, content)?;
+        let way = way_of_one(alloc, divisor, number)?;
+        self.add(quotient, way)?;
         Ok(())
     }
 
     /// The first level: each row divided by the greatest common divisor of its coefficients, its constant
-    /// rounded down; equal ones once.
-    pub fn first(alloc: Global, rows: &[Row]) -> Result<Level, AllocError>
-        ensures { IfOk result (λ level. IsFirstLevel (rows_of rows.now) (level_rows level)) }
+    /// rounded down; equal ones once. It is `Wide` only where such a divisor is past 128 bits.
+    pub fn first(alloc: Global, rows: &[Row]) -> Result<Level, RowFault>
+        ensures rows { GivesFirst (rows_of rows.now) result }
+        ensures ways { IfOk result (λ level. AreWays (rows_of rows.now) level) }
     {
         let mut level = Level::new(alloc);
-        for row in rows {
-            level.add(row.divided(alloc)?)?;
+        for (number, row) in rows.iter().enumerate() {
+            level.add_divided(alloc, number, row)?;
         }
         Ok(level)
+    }
+
+    /// How each row comes of those of the level before, or at the first level of the given ones.
+    pub fn ways(&self) -> &[Combination]
+        ensures { map combination_of result.now ≡ level_ways self.now }
+    {
+        self.ways.as_slice()
     }
 
     pub fn rows(&self) -> &[Row]
@@ -136,23 +230,50 @@ impl Level {
         self.rows.as_slice()
     }
 
+    /// Whether a row is 0 <= c for a c below 0.
+    pub fn has_false(&self) -> bool
+        ensures { Decides result (HasFalse (level_rows self.now)) }
+    {
+        self.false_row().is_some()
+    }
+
+    /// The number of a row that is 0 <= c for a c below 0.
+    pub fn false_row(&self) -> Option<usize>
+        ensures { TellsFalse (level_rows self.now) result }
+    {
+        false_among(self.rows())
+    }
+
     /// The next level, from which the node is eliminated: the rows without the node, and all sums of two
-    /// rows that cancel it by least factors, divided; equal ones once. It is `Wide` only where a factor
-    /// or a number of such a sum is past 128 bits.
+    /// rows that cancel it by least factors, divided; equal ones once. It is `Wide` only where a number on
+    /// the way to such a sum is past 128 bits.
     pub fn next(&self, alloc: Global, node: usize) -> Result<Level, RowFault>
-        ensures { GivesLevel node (level_rows self.now) result }
+        ensures rows { GivesLevel node (level_rows self.now) result }
+        ensures ways { IfOk result (λ level. AreWays (level_rows self.now) level) }
     {
         eliminated(alloc, self.rows(), node)
     }
 }
 
+fn false_among(rows: &[Row]) -> Option<usize>
+    ensures { TellsFalse (rows_of rows.now) result }
+{
+    for (number, row) in rows.iter().enumerate() {
+        if row.is_false() {
+            return Some(number);
+        }
+    }
+    None
+}
+
 /// The level after these rows.
 fn eliminated(alloc: Global, rows: &[Row], node: usize) -> Result<Level, RowFault>
-    ensures { GivesLevel node (rows_of rows.now) result }
+    ensures rows { GivesLevel node (rows_of rows.now) result }
+    ensures ways { IfOk result (λ level. AreWays (rows_of rows.now) level) }
 {
     let mut level = Level::new(alloc);
-    for row in rows {
-        level.add_made(alloc, row, rows, node)?;
+    for (number, row) in rows.iter().enumerate() {
+        level.add_made(alloc, number, row, rows, node)?;
     }
     Ok(level)
 }
@@ -232,6 +353,13 @@ mod tests {
         Ok(rows)
     }
 
+    fn first(alloc: Global, rows: &[Row]) -> Result<Level, Fail> {
+        match Level::first(alloc, rows) {
+            Ok(level) => Ok(level),
+            Err(_) => Err(Fail::new("there is no level")),
+        }
+    }
+
     fn next(alloc: Global, level: &Level, node: usize) -> Result<Level, Fail> {
         match level.next(alloc, node) {
             Ok(level) => Ok(level),
@@ -244,7 +372,7 @@ mod tests {
         let alloc = rt.alloc();
         for (number, (given, count, wanted)) in LEVELS.iter().enumerate() {
             let given = rows(alloc, *given)?;
-            let mut level = Level::first(alloc, &given)?;
+            let mut level = first(alloc, &given)?;
             for node in 0..*count {
                 level = next(alloc, &level, node)?;
             }
@@ -261,7 +389,7 @@ mod tests {
             alloc,
             &[(&[(0, MAX), (1, 1)], 0), (&[(0, 1 - MAX), (1, 1)], 0)],
         )?;
-        let level = Level::first(alloc, &given)?;
+        let level = first(alloc, &given)?;
         assert_eq!(rt; level.next(alloc, 0).err(), Some(RowFault::Wide));
         assert_eq!(rt; next(alloc, &level, 2)?.rows().len(), 2);
         Ok(())

@@ -7,6 +7,7 @@ mod exact;
 mod fault;
 mod level;
 mod row;
+mod way;
 
 pub use fault::RowFault;
 pub use level::Level;

@@ -1,11 +1,14 @@
 //! Sparse rows of linear arithmetic.
 
 ghost use Rattle.std.specs.Prelude.{◌≡◌, true};
-ghost use Rattle.df_lin.specs.Entries.{ascends};
+ghost use Rattle.df_linear.specs.Row.{fits};
+ghost use Rattle.df_lin.specs.Entries.{ascends, coefficient_of, AreNarrow};
 
 use crate::division::{content, floor_quotient, quotients};
-use crate::entries::{are_in_order, coefficient_at, weighted_entries};
-use crate::exact::weighted_sum;
+use crate::entries::{
+    are_in_order, coefficient_at, have_multiples, nonzero_entries, weighted_entries,
+};
+use crate::exact::{has_product, weighted_sum};
 use crate::fault::RowFault;
 use std::alloc::{AllocError, Global};
 
@@ -16,13 +19,20 @@ pub struct Row {
     coefficients: Vec<(usize, i128)>,
     constant: i128,
     ghost ordered: { ascends 0 coefficients.items ≡ true },
+    ghost narrow: { AreNarrow coefficients.items },
+    ghost fitting: { fits constant ≡ true },
 }
 
 impl Row {
     ghost use Rattle.std.specs.Prelude.{IfOk, IfSome};
     ghost use Rattle.std.specs.Option.{is_some};
-    ghost use Rattle.df_lin.specs.Row.{function_row, entries_row, weighted_row, GivesRow};
-    ghost use Rattle.df_lin.specs.Division.{IsDivided};
+    ghost use Rattle.std.specs.Bool.{Decides};
+    ghost use Rattle.df_lin.specs.Row.{IsFalse, function_row, entries_row, weighted_row, GivesRow};
+    ghost use Rattle.std.specs.Bool.{MatchBool};
+    ghost use Rattle.df_linear.specs.RowView.{row_of, IsNarrow};
+    ghost use Rattle.df_lin.specs.Row.{IsWide};
+    ghost use Rattle.df_lin.specs.Way.{multiple_row};
+    ghost use Rattle.df_lin.specs.Division.{IsDivided, IsDivisor, quotient_row};
 
     /// The row of these coefficients, each with its node, and of the constant. It is `None` exactly where
     /// the nodes don't ascend, or a coefficient is 0.
@@ -40,6 +50,17 @@ impl Row {
         }
     }
 
+    /// The kernel's row, without its entries of coefficient 0.
+    pub fn of(alloc: Global, row: &df_linear::Row) -> Result<Row, AllocError>
+        ensures { IfOk result (λ found. function_row found ≡ row_of row.now) }
+    {
+        let coefficients = nonzero_entries(alloc, row.coefficients())?;
+        Ok(Row {
+            coefficients,
+            constant: row.constant(),
+        })
+    }
+
     /// The coefficient of a node, 0 where it has none.
     pub fn coefficient(&self, node: usize) -> i128
         ensures { result ≡ (function_row self.now).coefficient node }
@@ -47,10 +68,28 @@ impl Row {
         coefficient_at(&self.coefficients, node)
     }
 
+    /// Each node that has a coefficient, with it, in order of nodes.
+    pub fn entries(&self) -> &[(usize, i128)]
+        ensures coefficients { coefficient_of result.now ≡ (function_row self.now).coefficient }
+        ensures ordered { ascends 0 result.now ≡ true }
+    {
+        &self.coefficients
+    }
+
     pub fn constant(&self) -> i128
         ensures { result ≡ (function_row self.now).constant }
     {
         self.constant
+    }
+
+    /// Whether the row is 0 <= c for a c below 0.
+    pub fn is_false(&self) -> bool
+        ensures { Decides result (IsFalse (function_row self.now)) }
+    {
+        if !self.coefficients.is_empty() {
+            return false;
+        }
+        self.constant < 0
     }
 
     /// The same row once more.
@@ -92,12 +131,36 @@ impl Row {
         })
     }
 
+    /// Whether so many times each number of the row has 128 bits.
+    pub(crate) fn has_multiple(&self, factor: i128) -> bool
+        ensures { MatchBool result (IsNarrow (multiple_row factor (function_row self.now))) (IsWide (multiple_row factor (function_row self.now))) }
+    {
+        if !has_product(factor, self.constant) {
+            return false;
+        }
+        have_multiples(&self.coefficients, factor)
+    }
+
     /// The row divided by the greatest common divisor of its coefficients, its constant rounded down. A
     /// row without coefficients stays as it is.
     pub fn divided(&self, alloc: Global) -> Result<Row, AllocError>
         ensures { IfOk result (λ row. IsDivided (function_row self.now) (function_row row)) }
     {
-        let divisor = content(&self.coefficients).max(1);
+        self.quotient(alloc, self.divisor())
+    }
+
+    /// The greatest common divisor of the coefficients, 1 where there are none.
+    pub(crate) fn divisor(&self) -> u128
+        ensures { IsDivisor (function_row self.now) result }
+    {
+        content(&self.coefficients).max(1)
+    }
+
+    /// The row divided by that, its constant rounded down.
+    pub(crate) fn quotient(&self, alloc: Global, divisor: u128) -> Result<Row, AllocError>
+        requires { IsDivisor (function_row self.now) divisor }
+        ensures { IfOk result (λ row. function_row row ≡ quotient_row divisor (function_row self.now)) }
+    {
         let coefficients = quotients(alloc, &self.coefficients, divisor)?;
         let constant = floor_quotient(self.constant, divisor);
         Ok(Row {
@@ -110,6 +173,7 @@ impl Row {
 #[cfg(test)]
 mod tests {
     use super::*;
+    use df_form::{Free, Lit, Node, Nodes, Op, Sort};
     use std::test::Fail;
 
     /// Coefficients by node, and a constant.
@@ -210,6 +274,46 @@ mod tests {
             let found = row(alloc, *given)?.divided(alloc)?;
             let wanted = row(alloc, *quotient)?;
             assert!(rt; found == wanted, "at {number}");
+        }
+        Ok(())
+    }
+
+    fn add(nodes: &mut Nodes, op: Op, parts: Vec<usize>) -> Result<usize, Fail> {
+        let node = Node { op, parts };
+        if !nodes.admits(&node) {
+            return Err(Fail::new("the node is not well sorted"));
+        }
+        Ok(nodes.add(node)?)
+    }
+
+    /// A free number.
+    fn free(number: usize) -> Op {
+        Op::Free(Free {
+            number,
+            sort: Sort::Number,
+        })
+    }
+
+    #[test]
+    fn takes_rows_of_literals(rt: HostRuntime) -> Result<(), Fail> {
+        let alloc = rt.alloc();
+        let mut nodes = Nodes::new(alloc);
+        let x = add(&mut nodes, free(0), Vec::new(alloc))?;
+        let y = add(&mut nodes, free(1), Vec::new(alloc))?;
+        let sum = add(&mut nodes, Op::Plus, vec![in alloc; x, y]?)?;
+        // x + y <= x, whose row is -y, and its negation, whose row is y - 1
+        let node = add(&mut nodes, Op::AtMost, vec![in alloc; sum, x]?)?;
+        for (positive, entries, constant) in [(true, (y, -1), 0), (false, (y, 1), -1)] {
+            let literal = Lit { positive, node };
+            let Ok(rows) = df_linear::rows_of_literals(alloc, &nodes, &[literal]) else {
+                return Err(Fail::new("there are no rows"));
+            };
+            let [given] = rows.as_slice() else {
+                return Err(Fail::new("a comparison has one row"));
+            };
+            let found = Row::of(alloc, given)?;
+            let wanted = row(alloc, (&[entries], constant))?;
+            assert!(rt; found == wanted);
         }
         Ok(())
     }

@@ -35,7 +35,7 @@ loop-node-preserved c =
     let y_passes : passed y ≡ y = search (rules, to_z-of_z) in
     let s_passes : passed s ≡ s = search (rules, to_z-of_z) in
     let some = number_at f g (passed x) (passed y) (first_coefficient n a) (first_coefficient n b) (Some s) (c.in-Some-weighted_sum.ensures) (x_passes ∙ c.split_node-a.ensures.coefficient) (y_passes ∙ c.split_node-b.ensures.coefficient) in
-    merging_next f left g right a b c.loop-node.sum.items c.split_node-a.result.1.now c.split_node-b.result.1.now c.push_entry.new.entries.items n s (passed s) c.loop-node.invariant (sym c.lowest_node.ensures ∙ c.in-Some.is) some c.split_node-a.ensures.others c.split_node-b.ensures.others (c.in_ok-push_entry.ensures) s_passes
+    merging_next f left g right a b c.loop-node.sum.items c.split_node-a.result.1.now c.split_node-b.result.1.now c.push_entry.new.entries.items n s (passed s) c.loop-node.invariant (sym c.lowest_node.ensures ∙ c.in-Some.is) some c.split_node-a.ensures.others c.split_node-b.ensures.others (c.in_ok-push_entry.ensures.entry) s_passes
 
 pub returns-in_default-weighted_sum : goal.returns-in_default-weighted_sum
 returns-in_default-weighted_sum c =

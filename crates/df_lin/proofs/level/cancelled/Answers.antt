@@ -5,7 +5,7 @@ use Rattle.std.specs.Int.RustNames.{unsigned_abs}
 use Rattle.df_linear.proofs.Rows.{passed}
 use Rattle.df_lin.specs.Row.{function_row}
 use Rattle.df_lin.specs.Levels.{IsCancelling}
-use Rattle.df_lin.proofs.Eliminating.{cancelling, factor_fails, sum_fails, sum_divided, some_gcd}
+use Rattle.df_lin.proofs.Eliminating.{cancelling, factor_fails, sum_gives, some_gcd}
 use Rattle.df_lin.proofs.level.cancelled.Goals as goal
 
 pub factor_of-requires : goal.factor_of-requires
@@ -35,24 +35,6 @@ returns-in_err-factor c =
     let p = err_from_is_err_and c.from_residual.result c.from_residual.ensures.1 in
     rw (p.1, p.2) (factor_fails n first second c.in_err-factor.field-0.0 (others / d) (pos (own / d)) (cancelling n first second own others d (pos (others / d)) (pos (own / d)) c.requires.positive c.requires.negative a b c.gcd-divisor.ensures (λ i. pos (others / d)) (λ i. pos (own / d))) c.in_err-factor.ensures)
 
-pub returns-in_err-sum : goal.returns-in_err-sum
-returns-in_err-sum c =
-    let first = function_row c.args.first.now in
-    let second = function_row c.args.second.now in
-    let n = c.args.node in
-    let own = c.unsigned_abs-own.result in
-    let others = c.unsigned_abs-others.result in
-    let d = c.gcd-divisor.result in
-    let f = passed c.in_ok-factor.factor in
-    let g = passed c.in_ok-other_factor.other_factor in
-    let a : own ≡ unsigned_abs (first.coefficient n) = search (rules, to_z-of_z) in
-    let b : others ≡ unsigned_abs (second.coefficient n) = search (rules, to_z-of_z) in
-    let f_passes : f ≡ c.in_ok-factor.factor = search (rules, to_z-of_z) in
-    let g_passes : g ≡ c.in_ok-other_factor.other_factor = search (rules, to_z-of_z) in
-    let by : IsCancelling n first second f g = cancelling n first second own others d f g c.requires.positive c.requires.negative a b c.gcd-divisor.ensures (f_passes ∙ c.in_ok-factor.ensures) (g_passes ∙ c.in_ok-other_factor.ensures) in
-    let p = err_from_is_err_and c.from_residual-in_err-sum.result c.from_residual-in_err-sum.ensures.1 in
-    rw (p.1, p.2) (sum_fails n first second c.in_err-sum.field-0.0 f g by c.in_err-sum.ensures)
-
 pub returns : goal.returns
 returns c =
     let first = function_row c.args.first.now in
@@ -68,4 +50,4 @@ returns c =
     let f_passes : f ≡ c.in_ok-factor.factor = search (rules, to_z-of_z) in
     let g_passes : g ≡ c.in_ok-other_factor.other_factor = search (rules, to_z-of_z) in
     let by : IsCancelling n first second f g = cancelling n first second own others d f g c.requires.positive c.requires.negative a b c.gcd-divisor.ensures (f_passes ∙ c.in_ok-factor.ensures) (g_passes ∙ c.in_ok-other_factor.ensures) in
-    sum_divided n first second f g (function_row c.in_ok-sum.sum) (function_row c.in_ok-divided.field-0) by c.in_ok-sum.ensures.0 c.in_ok-divided.ensures
+    sum_gives n first second f g c.divided_sum.result by c.divided_sum.ensures

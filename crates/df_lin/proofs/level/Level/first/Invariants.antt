@@ -1,6 +1,6 @@
 use Rattle.std.proofs.Common.{take}
-use Rattle.df_lin.specs.Levels.{rows_of, level_rows, IsFirstLevel}
+use Rattle.df_lin.specs.Levels.{rows_of, level_rows, IsFirstLevel, AreWays}
 use Rattle.df_lin.proofs.level.Level.first.Given as goal
 
-abbrev pub invariant-loop-row : goal.invariant-loop-row
-invariant-loop-row l = IsFirstLevel (rows_of (take l.row-index l.rows)) (level_rows l.level)
+abbrev pub invariant-loop-number : goal.invariant-loop-number
+invariant-loop-number l = IsFirstLevel (rows_of (take l.number l.rows)) (level_rows l.level) × AreWays (rows_of l.rows) l.level

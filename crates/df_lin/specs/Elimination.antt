@@ -1,0 +1,60 @@
+-- Elimination: a level for each variable, in order of nodes.
+use Rattle.std.specs.Prelude.{◌≡◌, ℕ, suc, ◌≤◌, ◌<◌, pos, List, [], ◌∷◌}
+use Rattle.df_linear.specs.Row.{Row}
+use Rattle.df_lin.specs.Levels.{Stands, HasFalse, HaveWideDivisor, IsFirstLevel, IsNextLevel, Overflows}
+
+-- no row has a coefficient for a node from the low one on and below the high one
+abbrev pub AreFree : ℕ → ℕ → List Row → Type 0
+AreFree low high rows = (row : Row) (n : ℕ) → Stands row rows → low ≤ n → n < high → row.coefficient n ≡ pos 0
+
+-- nor for any node from the low one on
+abbrev pub AreFreeFrom : ℕ → List Row → Type 0
+AreFreeFrom low rows = (row : Row) (n : ℕ) → Stands row rows → low ≤ n → row.coefficient n ≡ pos 0
+
+-- some row has a coefficient for the node
+pub record HasCoefficient (n : ℕ) (rows : List Row) : Type 0 where
+  pub row : Row
+  pub stands : Stands row rows
+  pub nonzero : row.coefficient n ≡ pos 0 → ⊥
+
+-- The next variable: from the low node on, the first one for which some row has a coefficient.
+pub record IsVariable (low n : ℕ) (rows : List Row) : Type 0 where
+  pub at_least : low ≤ n
+  pub free_below : AreFree low n rows
+  pub has : HasCoefficient n rows
+
+-- Each variable from a node on, in order, with the level after it; in the last level no row has a coefficient from there on.
+pub data Eliminates : ℕ → List Row → List ℕ → List (List Row) → Type 0 where
+  ends : {low : ℕ} {rows : List Row} → AreFreeFrom low rows → Eliminates low rows [] []
+  next : {low n : ℕ} {rows after : List Row} {variables : List ℕ} {levels : List (List Row)}
+      → IsVariable low n rows → IsNextLevel n rows after → Eliminates (suc n) after variables levels → Eliminates low rows (n ∷ variables) (after ∷ levels)
+
+-- Some variables from a node on, eliminated in order, lead to a level; from there on the next ones are looked for.
+pub data Reaches : ℕ → List Row → ℕ → List Row → Type 0 where
+  here : {low : ℕ} {rows : List Row} → Reaches low rows low rows
+  further : {low n from : ℕ} {rows after level : List Row}
+      → IsVariable low n rows → IsNextLevel n rows after → Reaches (suc n) after from level → Reaches low rows from level
+
+abbrev pub last_level : List Row → List (List Row) → List Row
+last_level first [] = first
+last_level first (level ∷ levels) = last_level level levels
+
+-- a level of the rows has a row 0 <= c for a c below 0
+pub record AreRefuted (rows : List Row) : Type 0 where
+  pub first : List Row
+  pub is_first : IsFirstLevel rows first
+  pub from : ℕ
+  pub level : List Row
+  pub reaches : Reaches 0 first from level
+  pub has_false : HasFalse level
+
+-- All levels of the rows. None has such a row: it would stay in the last one.
+pub record IsElimination (rows first : List Row) (variables : List ℕ) (levels : List (List Row)) : Type 0 where
+  pub is_first : IsFirstLevel rows first
+  pub eliminates : Eliminates 0 first variables levels
+  pub stands : HasFalse (last_level first levels) → ⊥
+
+-- A number on the way to the levels of the rows is past 128 bits, where no level before has a row 0 <= c for a c below 0.
+pub data AreOverflowing (rows : List Row) : Type 0 where
+  at_first : HaveWideDivisor rows → AreOverflowing rows
+  at_level : (first level : List Row) (from n : ℕ) → IsFirstLevel rows first → Reaches 0 first from level → (HasFalse level → ⊥) → IsVariable from n level → Overflows n level → AreOverflowing rows
