@@ -1,8 +1,7 @@
 -- Full lists hold: by the numbers of nodes, each known connective is true by its parts.
-use Rattle.std.proofs.Common.{◌≡◌, ℕ, zero, suc, ◌<◌, ◌⊎◌, inl, inr, ℤ, int_le, Bool, true, false, not, ◌&&◌, ◌||◌, ◌==◌, List, [], ◌∷◌, ◌++◌, map, length, Option, Some, None, slice_get, if◌then◌else◌, nat_lt, refl, sym, ap, ◌∙◌, arith, subst, true≢false, ltb-true}
+use Rattle.std.proofs.Common.{◌≡◌, ℕ, zero, suc, ◌<◌, ◌⊎◌, inl, inr, int_le, Bool, true, false, not, ◌&&◌, ◌||◌, List, [], ◌∷◌, ◌++◌, map, length, Option, Some, None, slice_get, if◌then◌else◌, nat_lt, refl, sym, ap, ◌∙◌, arith, subst, true≢false, ltb-true}
 use Rattle.std.specs.Option.{option_and_then}
 use Rattle.std.specs.List.{list_all, list_any}
-use Rattle.df_types.specs.declared.program.Ty.{Ty}
 use Rattle.df_types.specs.declared.program.Ty.TheVariants as types
 use Rattle.df_types.specs.Program.{Program}
 use Rattle.df_meaning.specs.Value.{truth_of}
@@ -14,13 +13,14 @@ use Rattle.df_form.specs.declared.node.Op.TheVariants as ops
 use Rattle.df_form.specs.Node.{Node, same_sort}
 use Rattle.df_form.specs.Made.{made}
 use Rattle.df_form.specs.Sorting.{sort_of, sort_at, is_formula, takes}
+use Rattle.df_form.specs.Arithmetic.{IsOfNumbers}
 use Rattle.df_form.specs.Truth.{Assignment, truth, same_truth}
 use Rattle.df_form.specs.Clause.{Clause, yes, no, negation, same_literal, is_among, are_literals}
 use Rattle.df_kern.specs.Bound.{number, at_most, made_at_least, made_at_most}
-use Rattle.df_kern.specs.Connective.{Added, not_clauses, and_clauses, or_clauses, implies_clauses, iff_clauses, equal_by_sort, connective_clause, connective_line}
-use Rattle.df_kern.specs.Schema.{newtype_clause, is_clause, schema_line}
-use Rattle.df_closure.specs.Full.{IsMet, knows_of, IsFull, IsConsistent, IsArithmetic, is_basic, Agrees}
-use Rattle.df_form.proofs.Lists.{some_is, both, both_true, either, first_true, second_true, get_below, get_last}
+use Rattle.df_kern.specs.Connective.{Added, and_clauses, equal_by_sort, connective_clause}
+use Rattle.df_kern.specs.Schema.{newtype_clause, is_clause}
+use Rattle.df_closure.specs.Full.{IsMet, knows_of, IsFull, IsConsistent, is_basic, Agrees}
+use Rattle.df_form.proofs.Lists.{both, both_true, either, first_true, second_true, get_below, get_last}
 use Rattle.df_form.proofs.Values.{grown_get, AreSorted, parts_below, parts_taken, worth}
 use Rattle.df_form.proofs.Making.{made_stands, IsNumber, grown_number, sort_is}
 use Rattle.df_form.proofs.Same.{same_sort_equal}
@@ -76,7 +76,7 @@ any_of_mapped : {A B : Type 0} (test : B → Bool) (f : A → B) (xs : List A) �
 any_of_mapped test f [] = refl
 any_of_mapped test f (x ∷ xs) = ap (λ b. test (f x) || b) (any_of_mapped test f xs)
 
-module _ (depth : ℕ) (program : Program) (assignment : Assignment) (nodes : List Node) (known : List Lit) (sorted : AreSorted nodes) (arithmetic : IsArithmetic program nodes) (full : IsFull program nodes known)
+module _ (depth : ℕ) (program : Program) (assignment : Assignment) (nodes : List Node) (known : List Lit) (sorted : AreSorted nodes) (arithmetic : IsOfNumbers program nodes) (full : IsFull program nodes known)
     (consistent : IsConsistent known) (agrees : Agrees depth program assignment nodes known) where
   abbrev IsTrue : ℕ → Bool
   IsTrue m = truth depth program assignment nodes m

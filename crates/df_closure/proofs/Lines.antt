@@ -3,8 +3,8 @@ use Rattle.std.proofs.Common.{◌≡◌, ℕ, Bool, true, false, not, List, [], 
 use Rattle.std.specs.Option.{option_and_then, option_map}
 use Rattle.df_form.specs.declared.log.Lit.{Lit}
 use Rattle.df_form.specs.Node.{Node}
-use Rattle.df_form.specs.Clause.{Clause, negation, same_literal, is_among, are_literals}
-use Rattle.df_kern.specs.Propagation.{left, only, is_empty, propagates, clauses_at, propagation_of, propagation_line}
+use Rattle.df_form.specs.Clause.{Clause, negation, are_literals}
+use Rattle.df_kern.specs.Propagation.{left, is_empty, clauses_at, propagation_of, propagation_line}
 use Rattle.df_kern.specs.Learning.{learned, learned_from, refutes}
 use Rattle.df_closure.specs.Lines.{AreIn}
 use Rattle.df_closure.specs.Closure.{GroundClause, Taught, nothing, more, after, IsClosed, IsRefuted}

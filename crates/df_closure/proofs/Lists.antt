@@ -19,7 +19,7 @@ pub taught_more : (clauses : List GroundClause) (known : List Lit) (numbers : Li
 taught_more clauses known numbers literals n l nothing t = more t nothing
 taught_more clauses known numbers literals n l (more {numbers = ns} {literal = m} {literals = ms} first rest) t = more first (taught_more clauses (m ∷ known) ns ms n l rest t)
 
-same_self : (l : Lit) → same_literal l l ≡ true
+pub same_self : (l : Lit) → same_literal l l ≡ true
 same_self l = by l.positive
   where
     by : (b : Bool) → (same_truth b b && l.node == l.node) ≡ true

@@ -1,14 +1,11 @@
 -- Lists of literals beside which nothing is open.
-use Rattle.std.specs.Prelude.{◌≡◌, ℕ, Bool, true, false, ◌==◌, ◌||◌, List, [], ◌∷◌, slice_get, Some}
+use Rattle.std.specs.Prelude.{◌≡◌, ℕ, Bool, true, false, ◌||◌, List, [], ◌∷◌, slice_get, Some}
 use Rattle.std.specs.List.{list_any}
-use Rattle.df_types.specs.declared.program.Ty.TheVariants as types
 use Rattle.df_types.specs.Program.{Program}
 use Rattle.df_form.specs.declared.log.Lit.{Lit}
-use Rattle.df_form.specs.declared.node.Sort.TheVariants as sorts
 use Rattle.df_form.specs.declared.node.Op.{Op}
 use Rattle.df_form.specs.declared.node.Op.TheVariants as ops
 use Rattle.df_form.specs.Node.{Node}
-use Rattle.df_form.specs.Sorting.{sort_at}
 use Rattle.df_form.specs.Truth.{Assignment, truth, same_truth}
 use Rattle.df_form.specs.Clause.{yes, no, negation, is_among}
 use Rattle.df_kern.specs.Connective.{Added, connective_line}
@@ -31,11 +28,6 @@ pub record IsFull (program : Program) (nodes : List Node) (known : List Lit) : T
 -- no literal is known with its negation
 abbrev pub IsConsistent : List Lit → Type 0
 IsConsistent known = (l : Lit) → is_among known l ≡ true → is_among known (negation l) ≡ true → ⊥
-
--- equalities are of numbers, and a type is the program's newtype
-pub record IsArithmetic (program : Program) (nodes : List Node) : Type 0 where
-  pub equalities : (n a b : ℕ) → slice_get nodes n ≡ Some (record { op = ops.Equal; parts = a ∷ b ∷ [] }) → sort_at nodes a ≡ sorts.Number
-  pub types : (n name : ℕ) (parts : List ℕ) → slice_get nodes n ≡ Some (record { op = ops.Is (types.Newtype name); parts = parts }) → (name == program.newtype.name) ≡ true
 
 -- a free term, or a comparison
 abbrev pub is_basic : Op → Bool

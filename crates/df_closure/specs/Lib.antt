@@ -3,3 +3,5 @@ pub mod Closing
 pub mod Closes
 pub mod Full
 pub mod Lines
+pub mod Comparisons
+pub mod Atoms

@@ -9,4 +9,7 @@ mod law;
 mod tests;
 
 pub use closure::{Closure, close};
-pub use law::{closed_lists_are_lines, full_lists_hold, refuted_lists_are_lines};
+pub use law::{
+    closed_lists_are_lines, full_lists_hold, refuted_lists_are_lines, rows_hold_by_atoms,
+    rows_hold_where_comparisons_do, rows_make_lists_agree,
+};

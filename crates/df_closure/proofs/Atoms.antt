@@ -1,0 +1,182 @@
+-- Rows have coefficients for atoms alone.
+use Rattle.std.proofs.Common.{◌≡◌, ℕ, zero, suc, ◌<◌, ◌≤◌, ◌⊎◌, inl, inr, ℤ, pos, negsuc, ◌+ℤ◌, ◌*ℤ◌, int_le, Bool, true, false, ◌&&◌, cond, nat_eq, nat_lt, List, [], ◌∷◌, ◌++◌, length, Option, Some, None, slice_get, refl, sym, ap, ◌∙◌, arith, subst, true≢false, ltb-true}
+use Rattle.std.proofs.lemmas.Bool.Decides.{nat_tests}
+use Rattle.std.specs.Option.{is_none, option_and_then, option_map}
+use Rattle.std.specs.List.{list_all, AllByRecursion}
+use Rattle.df_form.specs.declared.log.Lit.{Lit}
+use Rattle.df_form.specs.declared.node.Sort.{Sort}
+use Rattle.df_form.specs.declared.node.Sort.TheVariants as sorts
+use Rattle.df_form.specs.declared.node.Op.{Op}
+use Rattle.df_form.specs.declared.node.Op.TheVariants as ops
+use Rattle.df_form.specs.Node.{Node}
+use Rattle.df_form.specs.Sorting.{sort_at}
+use Rattle.df_linear.specs.Row.{Row, fits, if_fits, constant_row, with_coefficient, with_more, with_constant, without, literal_number, with_product, expanded_parts, expanded_at, expanded_below, difference}
+use Rattle.df_linear.specs.Linear.{one_row, two_rows, comparison_rows, rows_by_sort, rows_of_parts, rows_of_node, rows_of}
+use Rattle.df_linear.specs.Value.{sum_below, row_value, row_holds, rows_hold}
+use Rattle.df_form.proofs.Lists.{then_some, map_some, test_some, some_is, both, get_below}
+use Rattle.df_form.proofs.Values.{AreSorted, parts_below}
+use Rattle.df_kern.proofs.SoundConnectives.{all_appended}
+use Rattle.df_kern.proofs.SoundIntegers.{same_sums, zero_times}
+use Rattle.df_closure.specs.Atoms.{is_atom, AreAlike}
+
+two_below : (n a b : ℕ) → list_all (λ part. nat_lt part n) (a ∷ b ∷ []) ≡ true → (a < n) × (b < n)
+two_below n a b e =
+    let first = both (nat_lt a n) (nat_lt b n && true) e in
+    let second = both (nat_lt b n) true first.1 in
+    (ltb-true a n first.0, ltb-true b n second.0)
+
+unequal : (n k : ℕ) → k < n → nat_eq n k ≡ false
+unequal n k less = grind (arith, nat_tests)
+
+equal : (n : ℕ) → nat_eq n n ≡ true
+equal n = grind (arith, nat_tests)
+
+-- steps that leave the coefficient of a node as it is
+more_elsewhere : (n k : ℕ) (c : ℤ) (row new : Row) → with_more k c row ≡ Some new → k < n → new.coefficient n ≡ row.coefficient n
+more_elsewhere n k c row new e less =
+    let sum = row.coefficient k +ℤ c in
+    let tested = test_some (fits sum) (Some (record { coefficient = with_coefficient row.coefficient k sum; constant = row.constant })) new e in
+    ap (λ (r : Row). r.coefficient n) (sym (some_is _ new tested.1)) ∙ ap (λ t. cond t sum (row.coefficient n)) (unequal n k less)
+
+constant_elsewhere : (n : ℕ) (c : ℤ) (row new : Row) → with_constant c row ≡ Some new → new.coefficient n ≡ row.coefficient n
+constant_elsewhere n c row new e =
+    let sum = row.constant +ℤ c in
+    let tested = test_some (fits sum) (Some (record { coefficient = row.coefficient; constant = sum })) new e in
+    ap (λ (r : Row). r.coefficient n) (sym (some_is _ new tested.1))
+
+abbrev AreBelow : ℕ → List ℕ → Type 0
+AreBelow m parts = list_all (λ part. nat_lt part m) parts ≡ true
+
+module _ (nodes : List Node) (sorted : AreSorted nodes) where
+  product_elsewhere : (n b : ℕ) (c : ℤ) (o : Option ℤ) (row taken new : Row) → with_product c b o row taken ≡ Some new → b < n → is_none o ≡ false → new.coefficient n ≡ taken.coefficient n
+  product_elsewhere n b c None row taken new e less other = absurd (true≢false other)
+  product_elsewhere n b c (Some k) row taken new e less other = more_elsewhere n b (c *ℤ k) taken new (test_some (fits (c *ℤ k)) (with_more b (c *ℤ k) taken) new e).1 less
+
+  parts_elsewhere : (n m : ℕ) (c : ℤ) (op : Op) (parts : List ℕ) (row taken new : Row) → expanded_parts nodes c op parts row taken ≡ Some new → AreBelow m parts → m ≤ n → is_atom nodes op parts ≡ false → new.coefficient n ≡ taken.coefficient n
+  parts_elsewhere n m c (ops.Number k) parts row taken new e below le other = constant_elsewhere n (c *ℤ k) taken new (test_some (fits (c *ℤ k)) (with_constant (c *ℤ k) taken) new e).1
+  parts_elsewhere n m c ops.Plus (a ∷ b ∷ []) row taken new e below le other =
+      let found = then_some (with_more b c) (with_more a c taken) new e in
+      let less = two_below m a b below in
+      more_elsewhere n b c found.0 new found.2 (omega (arith, less.1)) ∙ more_elsewhere n a c taken found.0 found.1 (omega (arith, less.0))
+  parts_elsewhere n m c ops.Times (a ∷ b ∷ []) row taken new e below le other = let less = two_below m a b below in product_elsewhere n b c (literal_number (slice_get nodes a)) row taken new e (omega (arith, less.1)) other
+  parts_elsewhere n m c op parts row taken new e below le other = absurd (true≢false other)
+
+  product_kept : (b : ℕ) (c : ℤ) (o : Option ℤ) (row taken new : Row) → with_product c b o row taken ≡ Some new → is_none o ≡ true → row ≡ new
+  product_kept b c None row taken new e atom = some_is row new e
+  product_kept b c (Some k) row taken new e atom = absurd (true≢false (sym atom))
+
+  atom_kept : (c : ℤ) (op : Op) (parts : List ℕ) (row taken new : Row) → expanded_parts nodes c op parts row taken ≡ Some new → is_atom nodes op parts ≡ true → row ≡ new
+  atom_kept c (ops.Number k) parts row taken new e atom = absurd (true≢false (sym atom))
+  atom_kept c ops.Plus (a ∷ b ∷ []) row taken new e atom = absurd (true≢false (sym atom))
+  atom_kept c ops.Times (a ∷ b ∷ []) row taken new e atom = product_kept b c (literal_number (slice_get nodes a)) row taken new e atom
+  atom_kept c op parts row taken new e atom = some_is row new e
+
+  at_elsewhere : (n m : ℕ) (o : Option Node) (row new : Row) → slice_get nodes m ≡ o → expanded_at nodes m o row ≡ Some new → m < n → new.coefficient n ≡ row.coefficient n
+  at_elsewhere n m None row new at e less = ap (λ (r : Row). r.coefficient n) (sym (some_is row new e))
+  at_elsewhere n m (Some node) row new at e less = by (is_atom nodes node.op node.parts) refl
+    where
+      by : (b : Bool) → is_atom nodes node.op node.parts ≡ b → new.coefficient n ≡ row.coefficient n
+      by true atom = ap (λ (r : Row). r.coefficient n) (sym (atom_kept (row.coefficient m) node.op node.parts row (without m row) new e atom))
+      by false other =
+          parts_elsewhere n m (row.coefficient m) node.op node.parts row (without m row) new e (parts_below nodes m node sorted at) (omega (arith, less)) other
+          ∙ ap (λ t. cond t (pos 0) (row.coefficient n)) (unequal n m less)
+
+  -- the node stands for others
+  abbrev IsOther : ℕ → Type 0
+  IsOther n = (node : Node) × (slice_get nodes n ≡ Some node) × (is_atom nodes node.op node.parts ≡ false)
+
+  at_clears : (n : ℕ) (row new : Row) → expanded_at nodes n (slice_get nodes n) row ≡ Some new → IsOther n → new.coefficient n ≡ pos 0
+  at_clears n row new e other =
+      let node = other.0 in
+      parts_elsewhere n n (row.coefficient n) node.op node.parts row (without n row) new (ap (λ o. expanded_at nodes n o row) (sym other.1) ∙ e) (parts_below nodes n node sorted other.1) (omega arith) other.2
+      ∙ ap (λ t. cond t (pos 0) (row.coefficient n)) (equal n)
+
+  below_elsewhere : (k : ℕ) (row new : Row) → expanded_below nodes k row ≡ Some new → (n : ℕ) → k ≤ n → new.coefficient n ≡ row.coefficient n
+  below_elsewhere zero row new e n le = ap (λ (r : Row). r.coefficient n) (sym (some_is row new e))
+  below_elsewhere (suc k) row new e n le =
+      let found = then_some (expanded_below nodes k) (expanded_at nodes k (slice_get nodes k) row) new e in
+      below_elsewhere k found.0 new found.2 n (omega arith) ∙ at_elsewhere n k (slice_get nodes k) row found.0 refl found.1 (omega arith)
+
+  below_clears : (k : ℕ) (row new : Row) → expanded_below nodes k row ≡ Some new → (n : ℕ) → n < k → IsOther n → new.coefficient n ≡ pos 0
+  below_clears zero row new e n less other = absurd (omega arith)
+  below_clears (suc k) row new e n less other =
+      let found = then_some (expanded_below nodes k) (expanded_at nodes k (slice_get nodes k) row) new e in
+      next found.0 found.1 found.2 (split n k less) (below_clears k found.0 new found.2 n)
+    where
+      split : (n k : ℕ) → n < suc k → (n < k) ⊎ (k ≡ n)
+      split n k less = grind arith
+
+      next : (mid : Row) → expanded_at nodes k (slice_get nodes k) row ≡ Some mid → expanded_below nodes k mid ≡ Some new → (n < k) ⊎ (k ≡ n) → (n < k → IsOther n → new.coefficient n ≡ pos 0) → new.coefficient n ≡ pos 0
+      next mid at then (inl below) go = go below other
+      next mid at then (inr same) go = below_elsewhere k mid new then n (omega arith) ∙ at_clears n row mid (ap (λ m. expanded_at nodes m (slice_get nodes m) row) (sym same) ∙ at) other
+
+  -- no node but an atom has a coefficient
+  abbrev IsClear : Row → Type 0
+  IsClear row = (n : ℕ) → n < length nodes → IsOther n → row.coefficient n ≡ pos 0
+
+  difference_clear : (a b : ℕ) (k : ℤ) (row : Row) → difference nodes (length nodes) a b k ≡ Some row → IsClear row
+  difference_clear a b k row e =
+      let outer = then_some (expanded_below nodes (length nodes)) (option_and_then (with_more a (negsuc 0)) (with_more b (pos 1) (constant_row k))) row e in
+      below_clears (length nodes) outer.0 row outer.2
+
+  one_clear : (o : Option Row) (rows : List Row) → ((row : Row) → o ≡ Some row → IsClear row) → one_row o ≡ Some rows → AllByRecursion IsClear rows
+  one_clear o rows clear e =
+      let found = map_some (λ (r : Row). r ∷ []) o rows e in
+      subst (AllByRecursion IsClear) found.2 (clear found.0 found.1, tt)
+
+  two_clear : (first second : Option Row) (rows : List Row) → ((row : Row) → first ≡ Some row → IsClear row) → ((row : Row) → second ≡ Some row → IsClear row) → two_rows first second ≡ Some rows → AllByRecursion IsClear rows
+  two_clear first second rows clear its e =
+      let one = then_some (λ r. option_map (λ s. r ∷ s ∷ []) second) first rows e in
+      let other = map_some (λ (s : Row). one.0 ∷ s ∷ []) second rows one.2 in
+      subst (AllByRecursion IsClear) other.2 (clear one.0 one.1, (its other.0 other.1, tt))
+
+  none_clear : (rows : List Row) → Some [] ≡ Some rows → AllByRecursion IsClear rows
+  none_clear rows e = subst (AllByRecursion IsClear) (some_is [] rows e) tt
+
+  op_clear : (positive : Bool) (op : Op) (a b : ℕ) (rows : List Row) → comparison_rows nodes positive op a b ≡ Some rows → AllByRecursion IsClear rows
+  op_clear true ops.AtMost a b rows e = one_clear (difference nodes (length nodes) a b (pos 0)) rows (λ row found. difference_clear a b (pos 0) row found) e
+  op_clear false ops.AtMost a b rows e = one_clear (difference nodes (length nodes) b a (negsuc 0)) rows (λ row found. difference_clear b a (negsuc 0) row found) e
+  op_clear true ops.Equal a b rows e = two_clear (difference nodes (length nodes) a b (pos 0)) (difference nodes (length nodes) b a (pos 0)) rows (λ row found. difference_clear a b (pos 0) row found) (λ row found. difference_clear b a (pos 0) row found) e
+  op_clear positive op a b rows e = none_clear rows e
+
+  sort_clear : (sort : Sort) (positive : Bool) (op : Op) (a b : ℕ) (rows : List Row) → rows_by_sort sort nodes positive op a b ≡ Some rows → AllByRecursion IsClear rows
+  sort_clear sorts.Number positive op a b rows e = op_clear positive op a b rows e
+  sort_clear sorts.Truth positive op a b rows e = none_clear rows e
+
+  parts_clear : (positive : Bool) (op : Op) (parts : List ℕ) (rows : List Row) → rows_of_parts nodes positive op parts ≡ Some rows → AllByRecursion IsClear rows
+  parts_clear positive op (a ∷ b ∷ []) rows e = sort_clear (sort_at nodes a) positive op a b rows e
+  parts_clear positive op [] rows e = none_clear rows e
+  parts_clear positive op (a ∷ []) rows e = none_clear rows e
+  parts_clear positive op (a ∷ b ∷ c ∷ others) rows e = none_clear rows e
+
+  node_clear : (positive : Bool) (o : Option Node) (rows : List Row) → rows_of_node nodes positive o ≡ Some rows → AllByRecursion IsClear rows
+  node_clear positive None rows e = none_clear rows e
+  node_clear positive (Some node) rows e = parts_clear positive node.op node.parts rows e
+
+  literals_clear : (literals : List Lit) (rows : List Row) → rows_of nodes literals ≡ Some rows → AllByRecursion IsClear rows
+  literals_clear [] rows e = none_clear rows e
+  literals_clear (l ∷ others) rows e =
+      let one = then_some (λ found. option_map (λ more. found ++ more) (rows_of nodes others)) (rows_of_node nodes l.positive (slice_get nodes l.node)) rows e in
+      let rest = map_some (λ (more : List Row). one.0 ++ more) (rows_of nodes others) rows one.2 in
+      subst (AllByRecursion IsClear) rest.2 (all_appended IsClear one.0 rest.0 (node_clear l.positive (slice_get nodes l.node) one.0 one.1) (literals_clear others rest.0 rest.1))
+
+  module _ (x y : ℕ → ℤ) (alike : AreAlike nodes x y) where
+    same_product : (row : Row) → IsClear row → (n : ℕ) → n < length nodes → row.coefficient n *ℤ x n ≡ row.coefficient n *ℤ y n
+    same_product row clear n less = let at = get_below nodes n less in by at.0 at.1 (is_atom nodes at.0.op at.0.parts) refl
+      where
+        cleared : (c a b : ℤ) → c ≡ pos 0 → c *ℤ a ≡ c *ℤ b
+        cleared c a b e = ap (λ z. z *ℤ a) e ∙ zero_times a ∙ sym (zero_times b) ∙ ap (λ z. z *ℤ b) (sym e)
+
+        by : (node : Node) → slice_get nodes n ≡ Some node → (b : Bool) → is_atom nodes node.op node.parts ≡ b → row.coefficient n *ℤ x n ≡ row.coefficient n *ℤ y n
+        by node at true atom = ap (λ z. row.coefficient n *ℤ z) (alike n node at atom)
+        by node at false other = cleared (row.coefficient n) (x n) (y n) (clear n less (node, at, other))
+
+    same_value : (row : Row) → IsClear row → row_value (length nodes) x row ≡ row_value (length nodes) y row
+    same_value row clear = ap (λ z. z +ℤ row.constant) (same_sums (length nodes) (λ n. row.coefficient n *ℤ x n) (λ n. row.coefficient n *ℤ y n) (same_product row clear))
+
+    clear_alike : (rows : List Row) → AllByRecursion IsClear rows → rows_hold (length nodes) x rows ≡ rows_hold (length nodes) y rows
+    clear_alike [] all = refl
+    clear_alike (row ∷ rows) all = (λ i. int_le (pos 0) (same_value row all.0 i) && clear_alike rows all.1 i)
+
+    pub rows_alike : (literals : List Lit) (rows : List Row) → rows_of nodes literals ≡ Some rows → rows_hold (length nodes) x rows ≡ rows_hold (length nodes) y rows
+    rows_alike literals rows e = clear_alike rows (literals_clear literals rows e)

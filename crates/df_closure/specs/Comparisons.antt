@@ -1,0 +1,28 @@
+-- Literals of which rows speak.
+use Rattle.std.specs.Prelude.{◌≡◌, ℕ, ℤ, true, List, [], ◌∷◌, slice_get, Some}
+use Rattle.df_types.specs.Program.{Program}
+use Rattle.df_form.specs.declared.log.Lit.{Lit}
+use Rattle.df_form.specs.declared.node.Sort.TheVariants as sorts
+use Rattle.df_form.specs.declared.node.Free.{Free}
+use Rattle.df_form.specs.declared.node.Op.TheVariants as ops
+use Rattle.df_form.specs.Node.{Node}
+use Rattle.df_form.specs.Sorting.{sort_at}
+use Rattle.df_form.specs.Truth.{Assignment, values, number_at, truth}
+use Rattle.df_form.specs.Clause.{is_among, literal_truth}
+
+-- a comparison of numbers or its negation, or an equality of numbers
+pub data IsComparison (nodes : List Node) (l : Lit) : Type 0 where
+  at_most : (a b : ℕ) → slice_get nodes l.node ≡ Some (record { op = ops.AtMost; parts = a ∷ b ∷ [] }) → IsComparison nodes l
+  equal : (a b : ℕ) → l.positive ≡ true → slice_get nodes l.node ≡ Some (record { op = ops.Equal; parts = a ∷ b ∷ [] }) → sort_at nodes a ≡ sorts.Number → IsComparison nodes l
+
+-- the number of each node under an assignment
+abbrev pub numbers_of : ℕ → Program → Assignment → List Node → ℕ → ℤ
+numbers_of depth program assignment nodes n = number_at (values depth program assignment nodes) n
+
+-- each comparison among the literals is true
+abbrev pub ComparisonsHold : ℕ → Program → Assignment → List Node → List Lit → Type 0
+ComparisonsHold depth program assignment nodes literals = (l : Lit) → is_among literals l ≡ true → IsComparison nodes l → literal_truth (truth depth program assignment nodes) l ≡ true
+
+-- each free formula among the literals is true, or false where it is negated
+abbrev pub FreeFormulasHold : ℕ → Program → Assignment → List Node → List Lit → Type 0
+FreeFormulasHold depth program assignment nodes literals = (l : Lit) (free : Free) (parts : List ℕ) → is_among literals l ≡ true → slice_get nodes l.node ≡ Some (record { op = ops.Free free; parts = parts }) → literal_truth (truth depth program assignment nodes) l ≡ true
