@@ -1,6 +1,6 @@
 //! Lines that are added to a log.
 
-ghost use Rattle.std.specs.Prelude.{◌≡◌, ◌++◌, ◌∷◌, [], List, map, true, false, Some, IfOk, OnOk, OnErr};
+ghost use Rattle.std.specs.Prelude.{◌≡◌, ◌≤◌, ◌++◌, ◌∷◌, [], List, map, length, suc, true, false, Some, IfOk, OnOk, OnErr};
 ghost use Rattle.df_form.specs.Sequent.{Sequent};
 ghost use Rattle.df_form.specs.Clause.{Clause};
 ghost use Rattle.df_form.specs.Node.{node_of};
@@ -22,6 +22,7 @@ impl Derivation {
         ensures number { IfOk result (λ number. number ≡ self.old.clauses) }
         ensures added { OnOk result ((s : Sequent) (clauses : List Clause) (clause : Clause) → Runs s self.old clauses → after s (state_of self.old clauses) (step_of line) ≡ Some (state_of self.old (clauses ++ clause ∷ [])) → Runs s self.new (clauses ++ clause ∷ [])) }
         ensures nodes { self.new.nodes ≡ self.old.nodes }
+        ensures longer { OnOk result (length self.new.lines.items ≡ suc (length self.old.lines.items)) }
         ensures unchanged { OnErr result (self.new.lines.items ≡ self.old.lines.items) }
         ensures uncounted { OnErr result (self.new.clauses ≡ self.old.clauses) }
     {
@@ -40,6 +41,7 @@ impl Derivation {
         ensures number { IfOk result (λ number. number ≡ self.old.clauses) }
         ensures added { OnOk result ((s : Sequent) (all : List Clause) → Runs s self.old all → propagation_line self.old.nodes all clauses.items conclusion.items ≡ Some conclusion.items → Runs s self.new (all ++ conclusion.items ∷ [])) }
         ensures nodes { self.new.nodes ≡ self.old.nodes }
+        ensures longer { OnOk result (length self.new.lines.items ≡ suc (length self.old.lines.items)) }
         ensures unchanged { OnErr result (self.new.lines.items ≡ self.old.lines.items) }
         ensures uncounted { OnErr result (self.new.clauses ≡ self.old.clauses) }
     {
@@ -58,6 +60,7 @@ impl Derivation {
         ensures number { IfOk result (λ number. number ≡ self.old.clauses) }
         ensures added { OnOk result ((s : Sequent) (all : List Clause) → Runs s self.old all → linear_line self.old.nodes conclusion.items (map combination_of combinations.items) ≡ Some conclusion.items → Runs s self.new (all ++ conclusion.items ∷ [])) }
         ensures nodes { self.new.nodes ≡ self.old.nodes }
+        ensures longer { OnOk result (length self.new.lines.items ≡ suc (length self.old.lines.items)) }
         ensures unchanged { OnErr result (self.new.lines.items ≡ self.old.lines.items) }
         ensures uncounted { OnErr result (self.new.clauses ≡ self.old.clauses) }
     {
@@ -76,6 +79,7 @@ impl Derivation {
         ensures runs { OnOk result ((s : Sequent) (all : List Clause) → Runs s self.old all → Runs s self.new all) }
         ensures unchanged { OnErr result (self.new.nodes ≡ self.old.nodes) }
         ensures lines { OnErr result (self.new.lines.items ≡ self.old.lines.items) }
+        ensures longer { length self.old.lines.items ≤ length self.new.lines.items }
         ensures clauses { self.new.clauses ≡ self.old.clauses }
     {
         let before = self.nodes.len();

@@ -1,0 +1,2 @@
+pub use Rattle.df_derive.specs.Runs
+pub mod Trail

@@ -1,0 +1,11 @@
+//! The branch of a search: literals that were decided, one after another, and what closes the other sides
+//! of those that were turned.
+#![tactic(auto)]
+
+mod decision;
+#[cfg(test)]
+mod tests;
+mod trail;
+
+pub use decision::Decision;
+pub use trail::{Retreat, Trail};

@@ -1,0 +1,132 @@
+//! Trails of decisions.
+
+ghost use Rattle.std.specs.Prelude.{◌≡◌, ◌≤◌, ◌++◌, ◌∷◌, [], List, map, length, IfOk, OnOk};
+ghost use Rattle.df_form.specs.declared.log.Lit.{Lit};
+ghost use Rattle.df_form.specs.Clause.{Clause, negation};
+ghost use Rattle.df_trail.specs.Trail.{branch_of, decided, turned, JoinsSides, RetreatsFrom, Turns};
+
+use crate::decision::Decision;
+use df_derive::Derivation;
+use df_form::Lit;
+use std::alloc::{AllocError, Global};
+
+/// What is left after a branch was closed.
+#[derive(Clone, Copy, Debug, PartialEq, Eq)]
+pub enum Retreat {
+    /// The last open decision is turned to its other side.
+    Turned,
+    /// There is none: the log ends with the empty clause.
+    Ended,
+}
+
+/// Decisions in the order in which they were made.
+#[derive(Debug, Drop)]
+pub struct Trail {
+    pub decisions: Vec<Decision>,
+}
+
+fn negated(literal: Lit) -> Lit
+    ensures { result ≡ negation literal }
+{
+    Lit {
+        positive: !literal.positive,
+        node: literal.node,
+    }
+}
+
+impl Trail {
+    /// No decisions.
+    pub fn new(alloc: Global) -> Trail
+        ensures { result.decisions.items ≡ [] }
+    {
+        Trail {
+            decisions: Vec::new(alloc),
+        }
+    }
+
+    /// The literals of the branch.
+    pub fn branch(&self, alloc: Global) -> Result<Vec<Lit>, AllocError>
+        ensures { IfOk result (λ branch. branch.items ≡ branch_of self.now) }
+    {
+        let mut branch = Vec::new(alloc);
+        for decision in &self.decisions {
+            branch.push(decision.literal)?;
+        }
+        Ok(branch)
+    }
+
+    /// The clause that the branch is not.
+    pub fn negations(&self, alloc: Global) -> Result<Vec<Lit>, AllocError>
+        ensures { IfOk result (λ clause. clause.items ≡ map negation (branch_of self.now)) }
+    {
+        let mut clause = Vec::new(alloc);
+        for decision in &self.decisions {
+            clause.push(negated(decision.literal))?;
+        }
+        Ok(clause)
+    }
+
+    /// Decides a literal.
+    pub fn decide(&mut self, literal: Lit) -> Result<(), AllocError>
+        ensures { OnOk result (self.new.decisions.items ≡ self.old.decisions.items ++ decided literal ∷ []) }
+    {
+        self.decisions.push(Decision {
+            literal,
+            closed: None,
+        })?;
+        Ok(())
+    }
+
+    /// Turns to the other side of a literal that the clause of this number closes.
+    fn turn(&mut self, literal: Lit, closed: usize) -> Result<(), AllocError>
+        ensures { OnOk result (self.new.decisions.items ≡ self.old.decisions.items ++ turned literal closed ∷ []) }
+    {
+        self.decisions.push(Decision {
+            literal: negated(literal),
+            closed: Some(closed),
+        })?;
+        Ok(())
+    }
+
+    /// Adds that the branch is not, where both sides of a further literal are closed by clauses.
+    fn join(
+        &self,
+        alloc: Global,
+        derivation: &mut Derivation,
+        other: usize,
+        closed: usize,
+    ) -> Result<usize, AllocError>
+        ensures joins { OnOk result (JoinsSides (branch_of self.now) other closed derivation.old derivation.new) }
+        ensures number { IfOk result (λ number. number ≡ derivation.old.clauses) }
+        ensures nodes { derivation.new.nodes ≡ derivation.old.nodes }
+        ensures longer { length derivation.old.lines.items ≤ length derivation.new.lines.items }
+    {
+        let conclusion = self.negations(alloc)?;
+        derivation.propagate(vec![in alloc; other, closed]?, conclusion)
+    }
+
+    /// Closes the branch by the log's last clause, which has this number and says that the branch is not:
+    /// decisions of which both sides are closed are taken back, and the log says so; the last one whose other
+    /// side is open is turned.
+    pub fn retreat(
+        &mut self,
+        alloc: Global,
+        derivation: &mut Derivation,
+        closed: usize,
+    ) -> Result<Retreat, AllocError>
+        ensures retreats { IfOk result (RetreatsFrom derivation.old self.old closed derivation.new self.new) }
+        ensures turns { IfOk result (Turns self.old self.new) }
+        ensures longer { length derivation.old.lines.items ≤ length derivation.new.lines.items }
+        ensures nodes { derivation.new.nodes ≡ derivation.old.nodes }
+    {
+        let mut number = closed;
+        while let Some(decision) = self.decisions.pop() {
+            let Some(other) = decision.closed else {
+                self.turn(decision.literal, number)?;
+                return Ok(Retreat::Turned);
+            };
+            number = self.join(alloc, derivation, other, number)?;
+        }
+        Ok(Retreat::Ended)
+    }
+}
