@@ -1,0 +1,4 @@
+pub mod Variables
+pub mod Growing
+pub mod Keeping
+pub mod Telling
