@@ -1,0 +1,107 @@
+-- Tables of the numbers of the first nodes.
+use Rattle.std.proofs.Common.{◌≡◌, ℕ, ◌+◌, ◌<◌, ◌≤◌, ℤ, pos, ◌+ℤ◌, ◌*ℤ◌, Bool, true, false, List, [], ◌∷◌, ◌++◌, map, length, None, Some, slice_get, nat_lt, refl, sym, ap, ◌∙◌, arith, cond, ltb-true}
+use Rattle.std.proofs.lemmas.List.{length-append, get_or_append_left, get_or_push, ext_get_or}
+use Rattle.df_types.specs.Program.{Program}
+use Rattle.df_form.specs.declared.node.Free.{Free}
+use Rattle.df_form.specs.declared.node.Op.{Op}
+use Rattle.df_form.specs.declared.node.Op.TheVariants as ops
+use Rattle.df_form.specs.Node.{Node}
+use Rattle.df_form.specs.Sorting.{IsTable}
+use Rattle.df_form.specs.Truth.{Assignment}
+use Rattle.df_form.proofs.Lists.{get_below, get_within, some_is, map_agree}
+use Rattle.df_form.proofs.Values.{parts_below}
+use Rattle.df_linear.specs.Row.{fits}
+use Rattle.df_linear.specs.RowView.{narrow}
+use Rattle.df_table.specs.TableModel.{number_at}
+use Rattle.df_model.specs.Valuation.{number_of_value, assignment_of, numbers_of_nodes, IsWide}
+use Rattle.df_model.specs.Numbers.{number_by, narrow_by, free_by}
+use Rattle.df_model.proofs.NodeNumbers.{number_in, number_is, table_number, table_length}
+use Rattle.df_model.proofs.Atoms.{free_number}
+
+-- a table has the numbers of the first nodes
+pub record IsTabled (program : Program) (assignment : Assignment) (nodes : List Node) (table : List ℤ) : Type 0 where
+  pub short : length table ≤ length nodes
+  pub numbers : (depth n : ℕ) → n < length table → number_at table n ≡ number_in depth program assignment nodes n
+
+narrow_some : (z y : ℤ) → narrow z ≡ Some y → z ≡ y
+narrow_some z y e = by (fits z) e
+  where
+    by : (b : Bool) → cond b (Some z) None ≡ Some y → z ≡ y
+    by true e = some_is z y e
+    by false e = absurd cc
+
+narrow_none : (z : ℤ) → narrow z ≡ None → fits z ≡ false
+narrow_none z e = by (fits z) e
+  where
+    by : (b : Bool) → cond b (Some z) None ≡ None → b ≡ false
+    by true e = absurd cc
+    by false e = refl
+
+-- the number, where it has 128 bits
+number_some : (program : Program) (free : Free → ℤ) (op : Op) (parts : List ℤ) (z : ℤ) → narrow_by program free op parts ≡ Some z → number_by program free op parts ≡ z
+number_some program free ops.Plus parts z e = narrow_some (number_at parts 0 +ℤ number_at parts 1) z e
+number_some program free ops.Times parts z e = narrow_some (number_at parts 0 *ℤ number_at parts 1) z e
+number_some program free op parts z e = some_is _ z e
+
+number_none : (program : Program) (free : Free → ℤ) (op : Op) (parts : List ℤ) → narrow_by program free op parts ≡ None → fits (number_by program free op parts) ≡ false
+number_none program free ops.Plus parts e = narrow_none (number_at parts 0 +ℤ number_at parts 1) e
+number_none program free ops.Times parts e = narrow_none (number_at parts 0 *ℤ number_at parts 1) e
+number_none program free op parts e = absurd cc
+
+-- only a free term looks at the numbers of free terms
+same_free : (program : Program) (f g : Free → ℤ) (op : Op) (parts : List ℤ) → ((free : Free) → op ≡ ops.Free free → f free ≡ g free) → number_by program f op parts ≡ number_by program g op parts
+same_free program f g (ops.Free free) parts same = same free refl
+same_free program f g op parts same = refl
+
+pub tabled_none : (program : Program) (assignment : Assignment) (nodes : List Node) (table : List ℤ) → table ≡ [] → IsTabled program assignment nodes table
+tabled_none program assignment nodes table e = let long = ap (λ (all : List ℤ). length all) e in record { short = omega arith; numbers = λ depth n less. absurd (omega arith) }
+
+module _ (program : Program) (numbers : ℕ → ℤ) (truths : ℕ → Bool) (nodes : List Node) (table : List ℤ) (n : ℕ) (node : Node)
+    (is_table : IsTable nodes) (has : IsTabled program (assignment_of nodes numbers truths) nodes table) (next : length table ≡ n) (at : slice_get nodes n ≡ Some node) where
+  abbrev free_here : Free → ℤ
+  free_here free = free_by (numbers n) (truths n) free.sort
+
+  next_is : (depth : ℕ) → number_in depth program (assignment_of nodes numbers truths) nodes n ≡ number_by program free_here node.op (map (number_at table) node.parts)
+  next_is depth =
+      let assignment = assignment_of nodes numbers truths in
+      let parts = map_agree (λ p. nat_lt p n) (number_at table) (number_in depth program assignment nodes) node.parts (λ p below. has.numbers depth p (omega (arith, ltb-true p n below))) (parts_below nodes n node (record { sorted = is_table.sorted }) at) in
+      number_is depth program assignment nodes n node (record { sorted = is_table.sorted }) at
+      ∙ same_free program (λ free. number_of_value (assignment.value free)) free_here node.op (map (number_in depth program assignment nodes) node.parts) (λ free is. free_number numbers truths nodes n node free is_table at is)
+      ∙ ap (number_by program free_here node.op) (sym parts)
+
+  pub tabled_more : (z : ℤ) (longer : List ℤ) → narrow_by program free_here node.op (map (number_at table) node.parts) ≡ Some z → longer ≡ table ++ z ∷ [] → IsTabled program (assignment_of nodes numbers truths) nodes longer
+  tabled_more z longer e is =
+      let long = ap (λ (all : List ℤ). length all) is ∙ length-append table (z ∷ []) in
+      let within = get_within nodes n node at in
+      record { short = omega arith; numbers = λ depth m less. ap (λ (all : List ℤ). number_at all m) is ∙ by depth m (omega (arith, less)) }
+    where
+      by : (depth m : ℕ) → m < length table + 1 → number_at (table ++ z ∷ []) m ≡ number_in depth program (assignment_of nodes numbers truths) nodes m
+      by depth m less = case (nat_lt m (length table)) refl
+        where
+          case : (b : Bool) → nat_lt m (length table) ≡ b → number_at (table ++ z ∷ []) m ≡ number_in depth program (assignment_of nodes numbers truths) nodes m
+          case true before = let inside = ltb-true m (length table) before in get_or_append_left table (z ∷ []) (pos 0) m inside ∙ has.numbers depth m inside
+          case false before =
+              let last : length table ≡ m = grind arith in
+              get_or_push table z (pos 0) m last ∙ sym (number_some program free_here node.op (map (number_at table) node.parts) z e) ∙ sym (next_is depth)
+              ∙ ap (number_in depth program (assignment_of nodes numbers truths) nodes) (sym next ∙ last)
+
+  pub tabled_wide : narrow_by program free_here node.op (map (number_at table) node.parts) ≡ None → IsWide program (assignment_of nodes numbers truths) nodes
+  tabled_wide e = record {
+    node = n;
+    wide = λ depth. ap fits (table_number depth program (assignment_of nodes numbers truths) nodes n ∙ next_is depth) ∙ number_none program free_here node.op (map (number_at table) node.parts) e;
+  }
+
+pub tabled_all : (program : Program) (assignment : Assignment) (nodes : List Node) (table : List ℤ) → IsTabled program assignment nodes table → slice_get nodes (length table) ≡ None → (depth : ℕ) → table ≡ numbers_of_nodes depth program assignment nodes
+tabled_all program assignment nodes table has e depth =
+    ext_get_or (pos 0) table (numbers_of_nodes depth program assignment nodes) (long ∙ sym (table_length depth program assignment nodes))
+    (λ n less. has.numbers depth n less ∙ sym (table_number depth program assignment nodes n))
+  where
+    long : length table ≡ length nodes
+    long = by (nat_lt (length table) (length nodes)) refl
+      where
+        by : (b : Bool) → nat_lt (length table) (length nodes) ≡ b → length table ≡ length nodes
+        by true less = let at = get_below nodes (length table) (ltb-true (length table) (length nodes) less) in absurd (none_some at.0 (sym e ∙ at.1))
+          where
+            none_some : (node : Node) → None ≡ Some node → ⊥
+            none_some node e = cc
+        by false past = let least = has.short in grind arith

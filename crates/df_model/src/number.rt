@@ -1,0 +1,128 @@
+//! The numbers of nodes by those of their parts.
+
+ghost use Rattle.std.specs.Prelude.{◌≡◌, length, map};
+ghost use Rattle.std.specs.List.{list_all, list_any};
+ghost use Rattle.df_types.specs.View.{program_of};
+ghost use Rattle.df_form.specs.Clause.{yes};
+ghost use Rattle.df_form.specs.Truth.{is_of, same_truth};
+ghost use Rattle.df_kern.specs.Known.{knows};
+ghost use Rattle.df_table.specs.TableModel.{number_at, is_true};
+ghost use Rattle.df_model.specs.Valuation.{number_of_truth};
+ghost use Rattle.df_model.specs.Numbers.{truth_by, narrow_by, free_by};
+
+use df_form::{Free, Lit, Node, Op, Sort};
+use df_kern::Known;
+use df_types::{Program, Ty};
+
+/// The number at a place; 0 past the end.
+fn number_at(numbers: &[i128], place: usize) -> i128
+    ensures { result ≡ number_at numbers.now place }
+{
+    match numbers.get(place) {
+        Some(number) => *number,
+        None => 0,
+    }
+}
+
+fn number_of_truth(truth: bool) -> i128
+    ensures { result ≡ number_of_truth truth }
+{
+    if truth { 1 } else { 0 }
+}
+
+fn is_same_truth(a: bool, b: bool) -> bool
+    ensures { result ≡ same_truth a b }
+{
+    a == b
+}
+
+/// The number of a part by its place among the parts.
+fn part(table: &[i128], parts: &[usize], place: usize) -> i128
+    ensures { result ≡ number_at (map (number_at table.now) parts.now) place }
+{
+    match parts.get(place) {
+        Some(part) => number_at(table, *part),
+        None => 0,
+    }
+}
+
+fn is_part_true(table: &[i128], parts: &[usize], place: usize) -> bool
+    ensures { result ≡ is_true (map (number_at table.now) parts.now) place }
+{
+    1 <= part(table, parts, place)
+}
+
+fn are_all_true(table: &[i128], parts: &[usize]) -> bool
+    ensures { result ≡ list_all (λ part. is_true table.now part) parts.now }
+{
+    parts.iter().all(|part| 1 <= number_at(table, *part))
+}
+
+fn is_any_true(table: &[i128], parts: &[usize]) -> bool
+    ensures { result ≡ list_any (λ part. is_true table.now part) parts.now }
+{
+    parts.iter().any(|part| 1 <= number_at(table, *part))
+}
+
+fn is_of(program: &Program, ty: Ty, number: i128) -> bool
+    ensures { result ≡ is_of (program_of program.now) ty number }
+{
+    match ty {
+        Ty::Newtype(name) => {
+            name == program.newtype.declared.name && program.newtype.interval.holds(number)
+        }
+    }
+}
+
+/// Whether a formula is true.
+#[tactic(auto, using(crate::proofs::Mapping::all_mapped, crate::proofs::Mapping::any_mapped))]
+fn is_formula_true(program: &Program, table: &[i128], op: Op, parts: &[usize]) -> bool
+    ensures { result ≡ truth_by (program_of program.now) op (map (number_at table.now) parts.now) }
+{
+    match op {
+        Op::Is(ty) => is_of(program, ty, part(table, parts, 0)),
+        Op::Equal => part(table, parts, 0) == part(table, parts, 1),
+        Op::AtMost => part(table, parts, 0) <= part(table, parts, 1),
+        Op::Not => !is_part_true(table, parts, 0),
+        Op::And => are_all_true(table, parts),
+        Op::Or => is_any_true(table, parts),
+        Op::Implies => !is_part_true(table, parts, 0) || is_part_true(table, parts, 1),
+        Op::Iff => is_same_truth(is_part_true(table, parts, 0), is_part_true(table, parts, 1)),
+        Op::Number(_) | Op::Free(_) | Op::Plus | Op::Times => false,
+    }
+}
+
+/// The number of a free term by its node.
+fn free_number(numbers: &[i128], known: &Known, sort: Sort, node: usize) -> i128
+    ensures { result ≡ free_by (number_at numbers.now node) (knows known.now (yes node)) sort }
+{
+    match sort {
+        Sort::Number => number_at(numbers, node),
+        Sort::Truth => number_of_truth(known.has(Lit {
+            positive: true,
+            node,
+        })),
+    }
+}
+
+/// The number of the node that comes next after those of the table, where it has 128 bits.
+pub(crate) fn next_number(
+    program: &Program,
+    numbers: &[i128],
+    known: &Known,
+    table: &[i128],
+    node: &Node,
+) -> Option<i128>
+    ensures { result ≡ narrow_by (program_of program.now) (λ free. free_by (number_at numbers.now (length table.now)) (knows known.now (yes (length table.now))) free.sort) node.now.op (map (number_at table.now) node.now.parts.items) }
+{
+    let parts = node.parts.as_slice();
+    match node.op {
+        Op::Number(number) => Some(number),
+        Op::Free(Free { sort, .. }) => Some(free_number(numbers, known, sort, table.len())),
+        Op::Plus => part(table, parts, 0).checked_add(part(table, parts, 1)),
+        Op::Times => part(table, parts, 0).checked_mul(part(table, parts, 1)),
+        Op::Is(_) | Op::Equal | Op::AtMost | Op::Not | Op::And | Op::Or | Op::Implies | Op::Iff => {
+            Some(number_of_truth(is_formula_true(program, table, node.op, parts)))
+        }
+    }
+}
