@@ -1,0 +1,11 @@
+pub mod Integers
+pub mod Additions
+pub mod Bounds
+pub mod Narrowing
+pub mod Choosing
+pub mod Levels
+pub mod Chains
+pub mod Places
+pub mod Divisors
+pub mod Freshness
+pub mod Steps

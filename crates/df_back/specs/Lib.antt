@@ -1,0 +1,3 @@
+pub mod BackSubstitution
+pub mod BackView
+pub mod Ranges

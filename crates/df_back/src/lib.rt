@@ -1,0 +1,10 @@
+//! Numbers for the variables that were eliminated from rows, from the last one back.
+#![tactic(auto)]
+
+mod answer;
+mod range;
+mod substitution;
+mod value;
+
+pub use answer::Back;
+pub use substitution::back;

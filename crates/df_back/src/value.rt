@@ -1,0 +1,37 @@
+//! The values of rows.
+
+ghost use Rattle.std.specs.Prelude.{◌≡◌, ◌+ℤ◌, ◌*ℤ◌, length};
+ghost use Rattle.df_linear.specs.RowView.{narrow, IsWithin};
+ghost use Rattle.df_lin.specs.Row.{function_row};
+ghost use Rattle.df_back.specs.BackView.{numbers_of};
+ghost use Rattle.df_back.specs.Ranges.{TellsValue};
+
+use df_lin::Row;
+
+/// The product, where it has 128 bits.
+fn product(a: i128, b: i128) -> Option<i128>
+    ensures { result ≡ narrow (a *ℤ b) }
+{
+    a.checked_mul(b)
+}
+
+/// The sum, where it has 128 bits.
+fn sum(a: i128, b: i128) -> Option<i128>
+    ensures { result ≡ narrow (a +ℤ b) }
+{
+    a.checked_add(b)
+}
+
+/// The value of the row at the numbers. It is `None` only where a number on the way is past 128 bits.
+pub(crate) fn value(row: &Row, numbers: &[i128]) -> Option<i128>
+    requires { IsWithin (length numbers.now) (function_row row.now) }
+    ensures { TellsValue (length numbers.now) (numbers_of numbers.now) (function_row row.now) result }
+{
+    let mut value = row.constant();
+    for entry in row.entries() {
+        let term = product(entry.1, numbers[entry.0])?;
+        let next = sum(value, term)?;
+        value = next;
+    }
+    Some(value)
+}
