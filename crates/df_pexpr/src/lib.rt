@@ -8,7 +8,7 @@ ghost use Rattle.df_tok.specs.Token.{view};
 ghost use Rattle.df_tree.specs.Expr as pure;
 ghost use Rattle.df_tree.specs.Expr.{expr_of};
 ghost use Rattle.df_tree.specs.declared.expr.TreeType.{TreeType};
-ghost use Rattle.df_tree.specs.ExprSpelling.{IsExpressionAt, IsTypeAt};
+ghost use Rattle.df_tree.specs.ExprSpelling.{IsExpressionAt, IsTypeAt, height};
 ghost use Rattle.df_tree.specs.ExprReading.{expression_at, type_at};
 ghost use Rattle.df_pexpr.specs.Reads.{Reads};
 ghost use Rattle.df_pexpr.specs.Rest.{rest_of};
@@ -24,7 +24,8 @@ use cursor::{Cursor, syntax};
 use df_base::{Global, Pos, Stop};
 use df_tok::{Token, Tokens};
 use df_tree::{Expr, Level, TreeType};
-use part::HEIGHT;
+pub use part::Front;
+use part::{HEIGHT, Part};
 
 /// The place of the last token.
 fn end(tokens: &[Token]) -> Pos {
@@ -49,12 +50,13 @@ fn from<'t, 's>(tokens: &'t [Token<'s>], start: usize) -> &'t [Token<'s>]
 impl Cursor<'_, '_> {
     /// Takes an expression that no operator follows.
     #[tactic(auto, unfolding(df_tree::specs::ExprReading::expression_at))]
-    fn expression(&mut self, alloc: Global) -> Result<Expr, Stop>
-        ensures { Reads (λ x. (expr_of x, rest_of self.new)) result (expression_at (rest_of self.old)) }
+    fn expression(&mut self, alloc: Global) -> Result<Part, Stop>
+        ensures expression { Reads (λ x. (expr_of x.tree, rest_of self.new)) result (expression_at (rest_of self.old)) }
+        ensures height { IfOk result (λ x. x.height ≡ height (expr_of x.tree)) }
     {
         let part = self.level(alloc, HEIGHT, Level::Equivalence)?;
         match self.operator() {
-            None => Ok(part.tree),
+            None => Ok(part),
             Some(_) => Err(syntax(self.place())),
         }
     }
@@ -80,8 +82,25 @@ pub fn expression(alloc: Global, tokens: &Tokens, start: usize) -> Result<(Expr,
 {
     let all = tokens.all.as_slice();
     let mut cursor = Cursor::new(from(all, start), end(all));
-    let tree = cursor.expression(alloc)?;
-    Ok((tree, all.len() - cursor.len()))
+    let part = cursor.expression(alloc)?;
+    Ok((part.tree, all.len() - cursor.len()))
+}
+
+/// The expression that the tokens begin with, its height, and how many tokens it takes; refused as
+/// by `expression`.
+pub fn front(alloc: Global, tokens: &[Token]) -> Result<Front, Stop>
+    ensures expression { IfOk result (λ x. IsExpressionAt (map view tokens.now) 0 (expr_of x.tree) x.len) }
+    ensures height { IfOk result (λ x. x.height ≡ height (expr_of x.tree)) }
+    ensures refused { (r : Refusal) → result ≡ Err (Stop.Refused r) → (e : pure.Expr) (after : ℕ) → IsExpressionAt (map view tokens.now) 0 e after → ⊥ }
+    ensures syntax { (r : Refusal) → result ≡ Err (Stop.Refused r) → r.code ≡ codes.Syntax }
+{
+    let mut cursor = Cursor::new(tokens, end(tokens));
+    let part = cursor.expression(alloc)?;
+    Ok(Front {
+        tree: part.tree,
+        height: part.height,
+        len: tokens.len() - cursor.len(),
+    })
 }
 
 /// The type that the tokens spell from token `start` on, counted from 0, and the token after it.

@@ -25,3 +25,13 @@ pub(crate) struct Row {
     pub(crate) operations: Vec<Operation>,
     pub(crate) height: usize,
 }
+
+/// An expression that tokens begin with.
+#[derive(Debug, Drop)]
+pub struct Front {
+    pub tree: Expr,
+    /// How many expressions stand inside one another in it.
+    pub height: usize,
+    /// How many tokens it takes.
+    pub len: usize,
+}

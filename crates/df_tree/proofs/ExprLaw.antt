@@ -87,7 +87,7 @@ type_sound tokens ty rest e =
     let b = bind_some (name_at tokens) (λ name. got (types.Named name.0) name.1) (ty, rest) e in
     finish (λ (y : TreeType) (ts : List Token). Begins (spell_type y) tokens ts) (types.Named b.0.0) ty b.0.1 rest b.2 (name_begins b.0.0 tokens b.0.1 (name_sound tokens b.0.1 b.0.0 b.1))
 
-type_complete : (ty : TreeType) (tokens rest : List Token) → Begins (spell_type ty) tokens rest → type_at tokens ≡ Some (ty, rest)
+pub type_complete : (ty : TreeType) (tokens rest : List Token) → Begins (spell_type ty) tokens rest → type_at tokens ≡ Some (ty, rest)
 unfolding type_at
 type_complete (types.Named x) tokens rest b = rw (name_complete x tokens rest (begins_name x tokens rest b)) refl
 

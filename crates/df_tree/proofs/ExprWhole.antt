@@ -145,7 +145,7 @@ tall_number : (negative : Bool) → 1 ≤ if_negative negative
 tall_number true = omega arith
 tall_number false = omega arith
 
-tall : (e : Expr) → 1 ≤ height e
+pub tall : (e : Expr) → 1 ≤ height e
 tall (Number literal) = tall_number literal.negative
 tall (Truth value pos) = omega arith
 tall (Name ident) = omega arith

@@ -14,3 +14,9 @@ pub mod ExprComplete
 pub mod ExprWhole
 pub mod ExprLaw
 pub mod ExprExamples
+pub mod FileTokens
+pub mod FileParts
+pub mod FileStatements
+pub mod FileNesting
+pub mod FileLaw
+pub mod FileExamples

@@ -56,21 +56,21 @@ all_from_Eats (w ∷ a) (t ∷ tokens) p = (p.0, all_from_Eats a tokens p.1)
 
 -- ---- words and signs
 
-word_true : (word : Word) (kind : Kind) → is_word word kind ≡ true → kind ≡ kinds.Word word
+pub word_true : (word : Word) (kind : Kind) → is_word word kind ≡ true → kind ≡ kinds.Word word
 word_true word (kinds.Word other) e = ap kinds.Word (same_true declared_word.the_type tt other word e)
 word_true word _ e = absurd cc
 
-word_is : (word : Word) (kind : Kind) → kind ≡ kinds.Word word → is_word word kind ≡ true
+pub word_is : (word : Word) (kind : Kind) → kind ≡ kinds.Word word → is_word word kind ≡ true
 word_is word kind e = subst (λ (k : Kind). is_word word k ≡ true) (sym e) (true_same declared_word.the_type word word refl)
 
-sign_true : (sign : Sign) (kind : Kind) → is_sign sign kind ≡ true → kind ≡ kinds.Sign sign
+pub sign_true : (sign : Sign) (kind : Kind) → is_sign sign kind ≡ true → kind ≡ kinds.Sign sign
 sign_true sign (kinds.Sign other) e = ap kinds.Sign (same_true declared_sign.the_type tt other sign e)
 sign_true sign _ e = absurd cc
 
-sign_is : (sign : Sign) (kind : Kind) → kind ≡ kinds.Sign sign → is_sign sign kind ≡ true
+pub sign_is : (sign : Sign) (kind : Kind) → kind ≡ kinds.Sign sign → is_sign sign kind ≡ true
 sign_is sign kind e = subst (λ (k : Kind). is_sign sign k ≡ true) (sym e) (true_same declared_sign.the_type sign sign refl)
 
-guard_some : {A : Type 0} (b : Bool) (x y : A) → cond b (Some x) None ≡ Some y → (b ≡ true) × (x ≡ y)
+pub guard_some : {A : Type 0} (b : Bool) (x y : A) → cond b (Some x) None ≡ Some y → (b ≡ true) × (x ≡ y)
 guard_some true x y e = (refl, cc)
 guard_some false x y e = absurd cc
 

@@ -8,3 +8,6 @@ pub mod Operator
 pub mod Expr
 pub mod ExprSpelling
 pub mod ExprReading
+pub mod File
+pub mod FileSpelling
+pub mod FileReading

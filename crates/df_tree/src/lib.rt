@@ -7,11 +7,18 @@ ghost use Rattle.df_tree.specs.Tree as pure;
 ghost use Rattle.df_tree.specs.Spelling.{Spells};
 ghost use Rattle.df_tree.specs.Expr as pure_expr;
 ghost use Rattle.df_tree.specs.ExprSpelling.{IsExpressionAt};
+ghost use Rattle.df_tree.specs.File as pure_file;
+ghost use Rattle.df_tree.specs.FileSpelling.{SpellsFile};
 
 mod expr;
+mod file;
 mod tree;
 
 pub use expr::{BinaryOperator, Expr, Group, Level, Operation, TreeType, UnaryOperator};
+pub use file::{
+    Block, Branch, Clause, ClauseKind, Declaration, File, MethodDeclaration, NewtypeDeclaration,
+    Parameter, PrintOperand, Statement,
+};
 pub use tree::{
     Ident, Literal, Member, Newtype, Operand, Order, Plus, Range, SourceTree, Stmt, TreeExpr,
 };
@@ -25,4 +32,9 @@ pub fn one_tree()
 /// continue it.
 pub fn one_expression()
     ensures { (tokens : List token.Token) (start after other_after : ℕ) (e other : pure_expr.Expr) → IsExpressionAt tokens start e after → IsExpressionAt tokens start other other_after → (e ≡ other) × (after ≡ other_after) }
+{}
+
+/// Tokens spell at most one file.
+pub fn one_file()
+    ensures { (tokens : List token.Token) (file other : pure_file.File) → SpellsFile file tokens → SpellsFile other tokens → file ≡ other }
 {}
