@@ -55,7 +55,7 @@ cancelled_zero n first second f g h =
     ap (λ z. weighted z a g b) h.is_factor ∙ ap (λ z. weighted (pos (unsigned_abs b / h.divisor)) a z b) h.is_other_factor ∙ cancels a b h.divisor h.positive h.negative h.is_gcd.0 h.is_gcd.1
 
 -- what is 0 in all rows is 0 in the rows made of them
-made_zero : (n m : ℕ) (rows : List Row) (row : Row) → IsMade n rows rows row → ((r : Row) → Stands r rows → r.coefficient m ≡ pos 0) → row.coefficient m ≡ pos 0
+pub made_zero : (n m : ℕ) (rows : List Row) (row : Row) → IsMade n rows rows row → ((r : Row) → Stands r rows → r.coefficient m ≡ pos 0) → row.coefficient m ≡ pos 0
 made_zero n m rows row (kept there none) zeros = zeros row there
 made_zero n m rows row (cancelled first second there other c) zeros =
     divided_zero (weighted_row c.factor first c.other_factor second) row m c.divided (weighted_zero c.factor (first.coefficient m) c.other_factor (second.coefficient m) (zeros first there) (zeros second other))

@@ -9,3 +9,4 @@ pub mod Places
 pub mod Divisors
 pub mod Freshness
 pub mod Steps
+pub mod TwoVariables

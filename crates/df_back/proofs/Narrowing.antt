@@ -10,7 +10,7 @@ use Rattle.df_back.specs.declared.range.Range.{Range}
 use Rattle.df_back.specs.declared.range.Choice.{Choice}
 use Rattle.df_back.specs.declared.range.Choice.TheVariants as choices
 use Rattle.df_back.specs.BackSubstitution.{with_number, Allows, IsNearest}
-use Rattle.df_back.specs.Ranges.{IsLow, IsHigh, IsRowBound, IsHighest, LowOf, HighOf, IsRange, IsGreater, IsLesser, Narrows, TellsRowBound, TellsNarrowed, TellsRange, IsFrom, IsUpTo, IsNearestIn, IsEmpty, TellsNearest, IsBetweenBounds, TellsChoice}
+use Rattle.df_back.specs.Ranges.{IsLow, IsHigh, IsRowBound, IsLowest, IsHighest, LowOf, HighOf, IsRange, IsGreater, IsLesser, Narrows, TellsRowBound, TellsNarrowed, TellsRange, IsFrom, IsUpTo, IsNearestIn, IsEmpty, TellsNearest, IsBetweenBounds, TellsChoice}
 
 -- signs
 pub signs : (c : ℤ) → (c ≡ pos 0 → ⊥) → (pos 0 <ℤ c) ⊎ (c <ℤ pos 0)
@@ -70,28 +70,14 @@ module _ (count : ℕ) (numbers : ℕ → ℤ) (n : ℕ) where
         under = λ v less. own.under v (omega (arith, ints));
         from = low_from z own (omega (arith, ints)) (λ r v there above at. absurd (h r there above));
       }
-      low_more (Some a) z h own positive g = record {
-        row = (⊎_elim (λ e. h.row) (λ e. row) g.either);
-        stands = by g.either;
-        positive = sign g.either;
-        under = under g.either;
-        from = low_from z own g.second (λ r v there above at. h.from r v there above (let le = g.first in omega (arith, ints)));
-      }
+      low_more (Some a) z h own positive g = by g.either
         where
-          pick : (z ≡ a) ⊎ (z ≡ b) → Row
-          pick x = ⊎_elim (λ e. h.row) (λ e. row) x
+          from : (r : Row) (v : ℤ) → Stands r (rows ++ row ∷ []) → pos 0 <ℤ r.coefficient n → z ≤ℤ v → holds r v
+          from = low_from z own g.second (λ r v there above at. h.from r v there above (let le = g.first in omega (arith, ints)))
 
-          by : (x : (z ≡ a) ⊎ (z ≡ b)) → Stands (⊎_elim (λ e. h.row) (λ e. row) x) (rows ++ row ∷ [])
-          by (inl e) = stands_left h.row rows (row ∷ []) h.stands
-          by (inr e) = stands_last row rows
-
-          sign : (x : (z ≡ a) ⊎ (z ≡ b)) → let r : Row = ⊎_elim (λ e. h.row) (λ e. row) x in pos 0 <ℤ r.coefficient n
-          sign (inl e) = h.positive
-          sign (inr e) = positive
-
-          under : (x : (z ≡ a) ⊎ (z ≡ b)) → (v : ℤ) → v <ℤ z → fails (⊎_elim (λ e. h.row) (λ e. row) x) v
-          under (inl e) v less = h.under v (omega (arith, ints))
-          under (inr e) v less = own.under v (omega (arith, ints))
+          by : (z ≡ a) ⊎ (z ≡ b) → IsLowest count numbers n (rows ++ row ∷ []) z
+          by (inl e) = record { row = h.row; stands = stands_left h.row rows (row ∷ []) h.stands; positive = h.positive; under = λ v less. h.under v (omega (arith, ints)); from = from }
+          by (inr e) = record { row = row; stands = stands_last row rows; positive = positive; under = λ v less. own.under v (omega (arith, ints)); from = from }
 
       pub high_more : (o : Option ℤ) (z : ℤ) → HighOf count numbers n rows o → IsHigh count numbers n row b → row.coefficient n <ℤ pos 0 → IsLesser o b z → HighOf count numbers n (rows ++ row ∷ []) (Some z)
       high_more None z h own negative e = record {

@@ -74,17 +74,14 @@ module _ (count : ℕ) (first : List Row) (variables : List ℕ) (levels : List 
     after : BackSubstitution count (level_at first levels (suc i)) (drop (suc i) variables) (drop (suc i) levels) (numbers_of numbers)
     after = let P : ℕ → Type 0 = λ k. BackSubstitution count (level_at first levels k) (drop k variables) (drop k levels) (numbers_of numbers) in subst P next so_far.so_far
 
-    pub place_below : i < length variables
-    place_below = less
-
     pub variable_inside : n < count
     variable_inside = let Q : ℕ → Type 0 = λ m. m < count in subst Q (sym is) (node_below count 0 first variables levels whole i less)
 
     pub variable_zero : numbers_of numbers n ≡ pos 0
     variable_zero = ap (numbers_of numbers) is ∙ zero_here count 0 first variables levels whole i less (numbers_of numbers) after
 
-    pub rows_inside : (length numbers ≡ count) → AreInside count (level_at first levels i)
-    rows_inside size = (chain_at count 0 first variables levels i whole (omega (arith, less))).chain.inside
+    pub rows_inside : AreInside count (level_at first levels i)
+    rows_inside = (chain_at count 0 first variables levels i whole (omega (arith, less))).chain.inside
 
     pub back_goes : (v : ℤ) (new : List ℤ) → new ≡ set numbers n v → IsNearest count (level_at first levels i) (numbers_of numbers) n v → IsBack count first variables levels i new
     back_goes v new e nearest = record { size = ap length e ∙ length-set numbers n v ∙ so_far.size; at_most = omega (arith, less); so_far = there }

@@ -4,6 +4,8 @@
 mod answer;
 mod range;
 mod substitution;
+#[cfg(test)]
+mod tests;
 mod value;
 
 pub use answer::Back;

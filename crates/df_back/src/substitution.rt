@@ -1,11 +1,11 @@
 //! Back substitution.
 
-ghost use Rattle.std.specs.Prelude.{◌≡◌, ◌≤◌, pos, map, length, IfOk};
+ghost use Rattle.std.specs.Prelude.{◌≡◌, ◌≤◌, map, length, IfOk};
 ghost use Rattle.df_linear.specs.RowView.{IsWithin};
 ghost use Rattle.df_linear.specs.Row.{Row as FunctionRow};
 ghost use Rattle.df_lin.specs.Levels.{level_rows, HasFalse, Stands};
 ghost use Rattle.df_lin.specs.Elimination.{Eliminates, last_level};
-ghost use Rattle.df_back.specs.BackView.{numbers_of, TellsBack};
+ghost use Rattle.df_back.specs.BackView.{TellsBack};
 ghost use Rattle.df_back.specs.Ranges.{level_at};
 
 use crate::answer::Back;

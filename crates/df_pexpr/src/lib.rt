@@ -87,14 +87,14 @@ pub fn expression(alloc: Global, tokens: &Tokens, start: usize) -> Result<(Expr,
 }
 
 /// The expression that the tokens begin with, its height, and how many tokens it takes; refused as
-/// by `expression`.
-pub fn front(alloc: Global, tokens: &[Token]) -> Result<Front, Stop>
+/// by `expression`. Where reading stops behind the last token, a refusal tells the place `end`.
+pub fn front(alloc: Global, tokens: &[Token], end: Pos) -> Result<Front, Stop>
     ensures expression { IfOk result (λ x. IsExpressionAt (map view tokens.now) 0 (expr_of x.tree) x.len) }
     ensures height { IfOk result (λ x. x.height ≡ height (expr_of x.tree)) }
     ensures refused { (r : Refusal) → result ≡ Err (Stop.Refused r) → (e : pure.Expr) (after : ℕ) → IsExpressionAt (map view tokens.now) 0 e after → ⊥ }
     ensures syntax { (r : Refusal) → result ≡ Err (Stop.Refused r) → r.code ≡ codes.Syntax }
 {
-    let mut cursor = Cursor::new(tokens, end(tokens));
+    let mut cursor = Cursor::new(tokens, end);
     let part = cursor.expression(alloc)?;
     Ok(Front {
         tree: part.tree,

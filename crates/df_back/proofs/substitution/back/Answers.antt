@@ -36,7 +36,7 @@ choose-requires-clause-within c =
     let next : c.loop-number.number ≡ suc i = omega arith in
     let level : rows_of c.rows.result.now ≡ level_at first levels i = c.rows.ensures ∙ c.level_before-level.ensures in
     seen_inside c.args.count c.deref.result.now numbers (rows_of c.rows.result.now) (level_at first levels i) c.deref.ensures.value c.loop-number.invariant.size level
-    (rows_inside c.args.count first variables levels chain c.loop-number.number i (get_or variables i 0) numbers c.loop-number.invariant next refl c.loop-number.invariant.size)
+    (rows_inside c.args.count first variables levels chain c.loop-number.number i (get_or variables i 0) numbers c.loop-number.invariant next refl)
 
 pub choose-requires-clause-zero : goal.choose-requires-clause-zero
 choose-requires-clause-zero c =

@@ -1,0 +1,131 @@
+-- More nodes leave rows as they are.
+use Rattle.std.proofs.Common.{◌≡◌, ℕ, zero, suc, ◌<◌, ◌≤◌, ℤ, pos, negsuc, ◌+ℤ◌, Bool, true, false, ◌&&◌, cond, nat_eq, nat_lt, List, [], ◌∷◌, ◌++◌, take, length, Option, Some, None, slice_get, refl, sym, ap, ◌∙◌, arith, subst, ltb-true}
+use Rattle.std.proofs.lemmas.Bool.Decides.{nat_tests}
+use Rattle.std.proofs.lemmas.List.{take-append-le}
+use Rattle.std.specs.Option.{option_and_then, option_map}
+use Rattle.std.specs.List.{list_all}
+use Rattle.df_form.specs.declared.log.Lit.{Lit}
+use Rattle.df_form.specs.declared.node.Sort.{Sort}
+use Rattle.df_form.specs.declared.node.Sort.TheVariants as sorts
+use Rattle.df_form.specs.declared.node.Op.{Op}
+use Rattle.df_form.specs.declared.node.Op.TheVariants as ops
+use Rattle.df_form.specs.Node.{Node, same_sort}
+use Rattle.df_form.specs.Clause.{are_literals}
+use Rattle.df_form.specs.Sorting.{IsTable, sort_at, is_formula, is_well_sorted}
+use Rattle.df_linear.specs.Row.{Row, fits, constant_row, with_coefficient, with_more, literal_number, with_product, without, expanded_parts, expanded_at, expanded_below, difference}
+use Rattle.df_linear.specs.Linear.{one_row, two_rows, comparison_rows, rows_by_sort, rows_of_parts, rows_of_node, rows_of}
+use Rattle.df_linear.proofs.Rows.{skip, narrow_difference}
+use Rattle.df_form.proofs.Lists.{then_some, test_some, some_is, both, get_below, get_within}
+use Rattle.df_form.proofs.Values.{Grows, grown_get, grown_sort, grown_length, AreSorted, parts_below}
+use Rattle.df_ground.proofs.Running.{grown_from}
+
+pub two_below : (n a b : ℕ) → list_all (λ part. nat_lt part n) (a ∷ b ∷ []) ≡ true → (a < n) × (b < n)
+two_below n a b e =
+    let first = both (nat_lt a n) (nat_lt b n && true) e in
+    let second = both (nat_lt b n) true first.1 in
+    (ltb-true a n first.0, ltb-true b n second.0)
+
+unequal : (n k : ℕ) → k < n → nat_eq n k ≡ false
+unequal n k less = grind (arith, nat_tests)
+
+more_elsewhere : (n k : ℕ) (c : ℤ) (row new : Row) → with_more k c row ≡ Some new → k < n → new.coefficient n ≡ row.coefficient n
+more_elsewhere n k c row new e less =
+    let sum = row.coefficient k +ℤ c in
+    let tested = test_some (fits sum) (Some (record { coefficient = with_coefficient row.coefficient k sum; constant = row.constant })) new e in
+    ap (λ (r : Row). r.coefficient n) (sym (some_is _ new tested.1)) ∙ ap (λ t. cond t sum (row.coefficient n)) (unequal n k less)
+
+module _ (nodes more : List Node) (g : Grows nodes more) where
+  -- the nodes that stand first are sorted
+  pub sorted_first : AreSorted more → AreSorted nodes
+  sorted_first all = record { sorted = λ n node at. by n node at }
+    where
+      by : (n : ℕ) (node : Node) → slice_get nodes n ≡ Some node → is_well_sorted (take n nodes) node ≡ true
+      by n node at =
+          let within = get_within nodes n node at in
+          let le : n ≤ length nodes = omega (arith, within) in
+          let same = ap (take n) g.is ∙ take-append-le n nodes g.more le in
+          subst (λ (front : List Node). is_well_sorted front node ≡ true) same (all.sorted n node (grown_get nodes more g n node at))
+
+  same_get : (n : ℕ) → n < length nodes → slice_get more n ≡ slice_get nodes n
+  same_get n less = let at = get_below nodes n less in grown_get nodes more g n at.0 at.1 ∙ sym at.1
+
+  module _ (sorted : AreSorted nodes) where
+    same_parts : (m : ℕ) (c : ℤ) (op : Op) (parts : List ℕ) (row taken : Row) → m ≤ length nodes → list_all (λ part. nat_lt part m) parts ≡ true → expanded_parts more c op parts row taken ≡ expanded_parts nodes c op parts row taken
+    same_parts m c (ops.Number k) parts row taken le below = refl
+    same_parts m c ops.Plus (a ∷ b ∷ []) row taken le below = refl
+    same_parts m c ops.Times (a ∷ b ∷ []) row taken le below =
+        let less = two_below m a b below in
+        ap (λ (o : Option Node). with_product c b (literal_number o) row taken) (same_get a (omega (arith, less.0)))
+    same_parts m c op parts row taken le below = refl
+
+    same_at : (n : ℕ) (row : Row) → n < length nodes → expanded_at more n (slice_get more n) row ≡ expanded_at nodes n (slice_get nodes n) row
+    same_at n row less =
+        let at = get_below nodes n less in
+        ap (λ (o : Option Node). expanded_at more n o row) (grown_get nodes more g n at.0 at.1)
+        ∙ same_parts n (row.coefficient n) at.0.op at.0.parts row (without n row) (omega (arith, less)) (parts_below nodes n at.0 sorted at.1)
+        ∙ ap (λ (o : Option Node). expanded_at nodes n o row) (sym at.1)
+
+    same_then : (n : ℕ) (o : Option Row) → ((row : Row) → expanded_below more n row ≡ expanded_below nodes n row) → option_and_then (expanded_below more n) o ≡ option_and_then (expanded_below nodes n) o
+    same_then n None same = refl
+    same_then n (Some row) same = same row
+
+    same_below : (n : ℕ) → n ≤ length nodes → (row : Row) → expanded_below more n row ≡ expanded_below nodes n row
+    same_below zero le row = refl
+    same_below (suc n) le row =
+        ap (option_and_then (expanded_below more n)) (same_at n row (omega arith))
+        ∙ same_then n (expanded_at nodes n (slice_get nodes n) row) (same_below n (omega arith))
+
+    started : (a b : ℕ) (k : ℤ) (row : Row) → fits k ≡ true → a < length nodes → b < length nodes → option_and_then (with_more a (negsuc 0)) (with_more b (pos 1) (constant_row k)) ≡ Some row → expanded_below more (length more) row ≡ expanded_below nodes (length nodes) row
+    started a b k row small less_a less_b e =
+        let found = then_some (with_more a (negsuc 0)) (with_more b (pos 1) (constant_row k)) row e in
+        let narrow = narrow_difference a b k (constant_row k) found.0 row refl small found.1 found.2 in
+        skip more row (length nodes) (length more) narrow (grown_length nodes more g)
+        (λ m low high. more_elsewhere m a (negsuc 0) found.0 row found.2 (omega (arith, low, less_a)) ∙ more_elsewhere m b (pos 1) (constant_row k) found.0 found.1 (omega (arith, low, less_b)))
+        ∙ same_below (length nodes) (omega arith) row
+
+    same_difference : (a b : ℕ) (k : ℤ) → fits k ≡ true → a < length nodes → b < length nodes → difference more (length more) a b k ≡ difference nodes (length nodes) a b k
+    same_difference a b k small less_a less_b = by (option_and_then (with_more a (negsuc 0)) (with_more b (pos 1) (constant_row k))) refl
+      where
+        by : (o : Option Row) → option_and_then (with_more a (negsuc 0)) (with_more b (pos 1) (constant_row k)) ≡ o → option_and_then (expanded_below more (length more)) o ≡ option_and_then (expanded_below nodes (length nodes)) o
+        by None e = refl
+        by (Some row) e = started a b k row small less_a less_b e
+
+    same_comparison : (positive : Bool) (op : Op) (a b : ℕ) → a < length nodes → b < length nodes → comparison_rows more positive op a b ≡ comparison_rows nodes positive op a b
+    same_comparison true ops.AtMost a b less_a less_b = ap one_row (same_difference a b (pos 0) refl less_a less_b)
+    same_comparison false ops.AtMost a b less_a less_b = ap one_row (same_difference b a (negsuc 0) refl less_b less_a)
+    same_comparison true ops.Equal a b less_a less_b = (λ i. two_rows (same_difference a b (pos 0) refl less_a less_b i) (same_difference b a (pos 0) refl less_b less_a i))
+    same_comparison positive op a b less_a less_b = refl
+
+    same_by_sort : (sort : Sort) (positive : Bool) (op : Op) (a b : ℕ) → a < length nodes → b < length nodes → rows_by_sort sort more positive op a b ≡ rows_by_sort sort nodes positive op a b
+    same_by_sort sorts.Number positive op a b less_a less_b = same_comparison positive op a b less_a less_b
+    same_by_sort sorts.Truth positive op a b less_a less_b = refl
+
+    same_of_parts : (m : ℕ) (positive : Bool) (op : Op) (parts : List ℕ) → m ≤ length nodes → list_all (λ part. nat_lt part m) parts ≡ true → rows_of_parts more positive op parts ≡ rows_of_parts nodes positive op parts
+    same_of_parts m positive op [] le below = refl
+    same_of_parts m positive op (a ∷ []) le below = refl
+    same_of_parts m positive op (a ∷ b ∷ []) le below =
+        let less = two_below m a b below in
+        let less_a : a < length nodes = omega (arith, less.0) in
+        ap (λ (sort : Sort). rows_by_sort sort more positive op a b) (grown_sort nodes more g a less_a) ∙ same_by_sort (sort_at nodes a) positive op a b less_a (omega (arith, less.1))
+    same_of_parts m positive op (a ∷ b ∷ c ∷ others) le below = refl
+
+    same_of_node : (positive : Bool) (n : ℕ) → n < length nodes → rows_of_node more positive (slice_get more n) ≡ rows_of_node nodes positive (slice_get nodes n)
+    same_of_node positive n less =
+        let at = get_below nodes n less in
+        ap (rows_of_node more positive) (grown_get nodes more g n at.0 at.1)
+        ∙ same_of_parts n positive at.0.op at.0.parts (omega (arith, less)) (parts_below nodes n at.0 sorted at.1)
+        ∙ ap (rows_of_node nodes positive) (sym at.1)
+
+    pub rows_same : (literals : List Lit) → are_literals nodes literals ≡ true → rows_of more literals ≡ rows_of nodes literals
+    rows_same [] all = refl
+    rows_same (l ∷ others) all =
+        let parts = both (is_formula nodes l.node) (are_literals nodes others) all in
+        let formula = both (nat_lt l.node (length nodes)) (same_sort (sort_at nodes l.node) sorts.Truth) parts.0 in
+        let here = same_of_node l.positive l.node (ltb-true l.node (length nodes) formula.0) in
+        let rest = rows_same others parts.1 in
+        (λ i. option_and_then (λ rows. option_map (λ more. rows ++ more) (rest i)) (here i))
+
+pub rows_later : (nodes more : List Node) → IsTable more → take (length nodes) more ≡ nodes → (literals : List Lit) → are_literals nodes literals ≡ true → rows_of more literals ≡ rows_of nodes literals
+rows_later nodes more table first literals all =
+    let g = grown_from nodes more first in
+    rows_same nodes more g (sorted_first nodes more g (record { sorted = table.sorted })) literals all
