@@ -1,0 +1,4 @@
+mod Loop
+mod Fronts
+mod Rows
+mod Refusals
