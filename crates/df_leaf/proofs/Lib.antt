@@ -1,0 +1,10 @@
+pub mod Lists
+pub mod OpenClauses
+pub mod Refutations
+pub mod Zeros
+pub mod Leaves
+pub mod Consistency
+pub mod Points
+pub mod FilledLeaves
+pub mod Modelling
+pub mod Gaps
