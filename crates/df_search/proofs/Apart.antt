@@ -1,0 +1,252 @@
+-- Branches of which one lacks the last literal of the other share no list that is shut.
+use Rattle.std.proofs.Common.{◌≡◌, ◌⊎◌, inl, inr, ⊎_elim, ℕ, zero, suc, ◌+◌, ◌<◌, ◌≤◌, ◌-◌, IsTrue, Vec, map, drop, length, get_or, arith, Bool, true, false, not, ◌&&◌, ◌||◌, cond, List, [], ◌∷◌, ◌++◌, slice_get, Option, None, Some, refl, sym, ap, ◌∙◌, subst, append_assoc, append-nil}
+use Rattle.std.specs.Option.{option_map}
+use Rattle.std.specs.List.{list_all}
+use Rattle.df_form.specs.declared.log.Lit.{Lit}
+use Rattle.df_form.specs.Node.{Node}
+use Rattle.df_form.specs.Clause.{Clause, yes, no, negation, same_literal, is_among}
+use Rattle.df_linear.specs.Row.{Row}
+use Rattle.df_linear.specs.Linear.{rows_of, rows_of_node}
+use Rattle.df_kern.specs.Propagation.{left, only, is_empty}
+use Rattle.df_closure.specs.Closure.{GroundClause, counts_for, Teaches, Refutes, Taught, nothing, more, after}
+use Rattle.df_closure.specs.Closing.{IsSettled}
+use Rattle.df_lin.specs.Levels.{Stands}
+use Rattle.df_elim.specs.Elimination.{AreAmong}
+use Rattle.df_leaf.specs.Evidence.{IsShut, by_clauses, by_rows, IsUnshut, MayFollow, IsBranchAfter, IsBranch, ShareNothingShut}
+use Rattle.std.specs.declared.alloc.Global.{Global}
+use Rattle.df_search.specs.Searching.{Lacks, AreApart, AllApart}
+use Rattle.df_form.proofs.Lists.{both, either, first_true, second_true, some_is, then_some, map_some, true_is_not_false}
+use Rattle.df_kern.proofs.SoundClauses.{same_literal_is}
+use Rattle.df_closure.proofs.Lists.{same_self}
+use Rattle.df_lin.proofs.Sets.{stands_left}
+use Rattle.df_elim.proofs.Keeping.{stay_refuted}
+
+-- the one list holds all that the other does
+pub record Covers (wide known : List Lit) : Type 0 where
+  pub has : (l : Lit) → is_among known l ≡ true → is_among wide l ≡ true
+
+pub counts_more : (wide known : List Lit) → Covers wide known → (bound : Option ℕ) → counts_for known bound ≡ true → counts_for wide bound ≡ true
+counts_more wide known covers None e = refl
+counts_more wide known covers (Some node) e =
+    ⊎_elim (λ here. first_true (is_among wide (yes node)) (is_among wide (no node)) (covers.has (yes node) here))
+    (λ there. second_true (is_among wide (yes node)) (is_among wide (no node)) (covers.has (no node) there))
+    (either (is_among known (yes node)) (is_among known (no node)) e)
+
+module _ (wide known : List Lit) (covers : Covers wide known) where
+  none_left : (clause : Clause) → is_empty (left known clause) ≡ true → is_empty (left wide clause) ≡ true
+  none_left [] e = refl
+  none_left (q ∷ others) e = by (is_among known (negation q)) (is_among wide (negation q)) (covers.has (negation q)) (none_left others) e
+    where
+      by : (b c : Bool) → (b ≡ true → c ≡ true) → (is_empty (left known others) ≡ true → is_empty (left wide others) ≡ true) → is_empty (cond (not b) (q ∷ left known others) (left known others)) ≡ true → is_empty (cond (not c) (q ∷ left wide others) (left wide others)) ≡ true
+      by true true h go e = go e
+      by true false h go e = absurd (true_is_not_false true refl (sym (h refl)))
+      by false c h go e = absurd (true_is_not_false true refl (sym e))
+
+  same_left : (l : Lit) (clause : Clause) → list_all (same_literal l) (left known clause) ≡ true → list_all (same_literal l) (left wide clause) ≡ true
+  same_left l [] e = refl
+  same_left l (q ∷ others) e = by (is_among known (negation q)) (is_among wide (negation q)) (covers.has (negation q)) (same_left l others) e
+    where
+      by : (b c : Bool) → (b ≡ true → c ≡ true) → (list_all (same_literal l) (left known others) ≡ true → list_all (same_literal l) (left wide others) ≡ true) → list_all (same_literal l) (cond (not b) (q ∷ left known others) (left known others)) ≡ true → list_all (same_literal l) (cond (not c) (q ∷ left wide others) (left wide others)) ≡ true
+      by true true h go e = go e
+      by true false h go e = absurd (true_is_not_false true refl (sym (h refl)))
+      by false true h go e = go (both (same_literal l q) (list_all (same_literal l) (left known others)) e).1
+      by false false h go e = let parts = both (same_literal l q) (list_all (same_literal l) (left known others)) e in rw (parts.0, go parts.1) refl
+
+only_same : (l : Lit) (literals : List Lit) → only literals ≡ Some l → list_all (same_literal l) literals ≡ true
+only_same l [] e = absurd cc
+only_same l (m ∷ others) e = by (list_all (same_literal m) others) refl e
+  where
+    by : (b : Bool) → list_all (same_literal m) others ≡ b → cond b (Some m) None ≡ Some l → list_all (same_literal l) (m ∷ others) ≡ true
+    by true is e = subst (λ (q : Lit). (same_literal q m && list_all (same_literal q) others) ≡ true) (some_is m l e) (rw (same_self m, is) refl)
+    by false is e = absurd cc
+
+same_only : (l : Lit) (literals : List Lit) → list_all (same_literal l) literals ≡ true → (is_empty literals ≡ true) ⊎ (only literals ≡ Some l)
+same_only l [] e = inl refl
+same_only l (m ∷ others) e =
+    let parts = both (same_literal l m) (list_all (same_literal l) others) e in
+    let is = same_literal_is l m parts.0 in
+    inr (ap (λ b. cond b (Some m) None) (subst (λ (q : Lit). list_all (same_literal q) others ≡ true) is parts.1) ∙ ap (λ (q : Lit). Some q) (sym is))
+
+covers_one : (wide known : List Lit) (l : Lit) → Covers wide known → is_among wide l ≡ true → Covers wide (l ∷ known)
+covers_one wide known l covers there = record {
+  has = λ q e. ⊎_elim (λ same. subst (λ (p : Lit). is_among wide p ≡ true) (sym (same_literal_is q l same)) there) (λ rest. covers.has q rest) (either (same_literal q l) (is_among known q) e);
+}
+
+pub covers_after : (known learned : List Lit) → Covers (after known learned) known
+covers_after known [] = record { has = λ l e. e }
+covers_after known (m ∷ learned) = record { has = λ l e. (covers_after (m ∷ known) learned).has l (second_true (same_literal l m) (is_among known l) e) }
+
+-- what is taught beside fewer literals is known beside more
+module _ (clauses : List GroundClause) (more_known : List Lit) (settled : IsSettled clauses more_known) where
+  taught_known : (known : List Lit) (n : ℕ) (l : Lit) → Covers more_known known → Teaches clauses known n l → is_among more_known l ≡ true
+  taught_known known n l covers teaches =
+      ⊎_elim
+      (λ empty. absurd (settled.stands n (record { clause = teaches.clause; there = teaches.there; counts = counts; left = empty })))
+      (λ one. settled.settled n l (record { clause = teaches.clause; there = teaches.there; counts = counts; left = one }))
+      (same_only l (left more_known teaches.clause.literals) (same_left more_known known covers l teaches.clause.literals (only_same l (left known teaches.clause.literals) teaches.left)))
+    where
+      counts : counts_for more_known teaches.clause.bound ≡ true
+      counts = counts_more more_known known covers teaches.clause.bound teaches.counts
+
+  covers_taught : (known : List Lit) (numbers : List ℕ) (literals : List Lit) → Covers more_known known → Taught clauses known numbers literals → Covers more_known (after known literals)
+  covers_taught known numbers literals covers nothing = covers
+  covers_taught known numbers literals covers (more {number = n} {numbers = ns} {literal = l} {literals = ls} first rest) =
+      covers_taught (l ∷ known) ns ls (covers_one more_known known l covers (taught_known known n l covers first)) rest
+
+  none_refuted : (known : List Lit) (n : ℕ) → Covers more_known known → Refutes clauses known n → ⊥
+  none_refuted known n covers refutes = settled.stands n (record {
+    clause = refutes.clause;
+    there = refutes.there;
+    counts = counts_more more_known known covers refutes.clause.bound refutes.counts;
+    left = none_left more_known known covers refutes.clause.literals refutes.left;
+  })
+
+-- a row of literals is one of a literal's
+record IsRowOf (nodes : List Node) (known : List Lit) (row : Row) : Type 0 where
+  literal : Lit
+  there : is_among known literal ≡ true
+  rows : List Row
+  rows_are : rows_of_node nodes literal.positive (slice_get nodes literal.node) ≡ Some rows
+  stands : Stands row rows
+
+stands_split : (x : Row) (a b : List Row) → Stands x (a ++ b) → Stands x a ⊎ Stands x b
+stands_split x [] b h = inr h
+stands_split x (r ∷ a) b (inl e) = inl (inl e)
+stands_split x (r ∷ a) b (inr h) = ⊎_elim (λ k. inl (inr k)) (λ k. inr k) (stands_split x a b h)
+
+stands_right : (x : Row) (a b : List Row) → Stands x b → Stands x (a ++ b)
+stands_right x [] b h = h
+stands_right x (r ∷ a) b h = inr (stands_right x a b h)
+
+find_row : (nodes : List Node) (known : List Lit) (rows : List Row) (row : Row) → rows_of nodes known ≡ Some rows → Stands row rows → IsRowOf nodes known row
+find_row nodes [] rows row e stands = absurd (subst (Stands row) (sym (some_list e)) stands)
+  where
+    some_list : Some [] ≡ Some rows → [] ≡ rows
+    some_list e = cc
+find_row nodes (l ∷ others) rows row e stands =
+    let first = then_some (λ rows. option_map (λ more. rows ++ more) (rows_of nodes others)) (rows_of_node nodes l.positive (slice_get nodes l.node)) rows e in
+    let rest = map_some (λ more. first.0 ++ more) (rows_of nodes others) rows first.2 in
+    by first.0 rest.0 first.1 (λ k. find_row nodes others rest.0 row rest.1 k) (stands_split row first.0 rest.0 (subst (Stands row) (sym rest.2) stands))
+  where
+    by : (here there : List Row) → rows_of_node nodes l.positive (slice_get nodes l.node) ≡ Some here → (Stands row there → IsRowOf nodes others row) → Stands row here ⊎ Stands row there → IsRowOf nodes (l ∷ others) row
+    by here there is go (inl k) = record { literal = l; there = first_true (same_literal l l) (is_among others l) (same_self l); rows = here; rows_are = is; stands = k }
+    by here there is go (inr k) =
+        let found = go k in
+        record { literal = found.literal; there = second_true (same_literal found.literal l) (is_among others found.literal) found.there; rows = found.rows; rows_are = found.rows_are; stands = found.stands }
+
+put_row : (nodes : List Node) (known : List Lit) (rows : List Row) (row : Row) (l : Lit) (own : List Row) → rows_of nodes known ≡ Some rows → is_among known l ≡ true → rows_of_node nodes l.positive (slice_get nodes l.node) ≡ Some own → Stands row own → Stands row rows
+put_row nodes [] rows row l own e there is stands = absurd (true_is_not_false true refl (sym there))
+put_row nodes (m ∷ others) rows row l own e there is stands =
+    let first = then_some (λ rows. option_map (λ more. rows ++ more) (rows_of nodes others)) (rows_of_node nodes m.positive (slice_get nodes m.node)) rows e in
+    let rest = map_some (λ more. first.0 ++ more) (rows_of nodes others) rows first.2 in
+    subst (Stands row) rest.2 (by first.0 rest.0 first.1 (λ k. put_row nodes others rest.0 row l own rest.1 k is stands) (either (same_literal l m) (is_among others l) there))
+  where
+    same_rows : (here : List Row) → rows_of_node nodes m.positive (slice_get nodes m.node) ≡ Some here → l ≡ m → own ≡ here
+    same_rows here at same = some_lists (sym is ∙ ap (λ (q : Lit). rows_of_node nodes q.positive (slice_get nodes q.node)) same ∙ at)
+      where
+        some_lists : Some own ≡ Some here → own ≡ here
+        some_lists e = cc
+
+    by : (here after_it : List Row) → rows_of_node nodes m.positive (slice_get nodes m.node) ≡ Some here → (is_among others l ≡ true → Stands row after_it) → (same_literal l m ≡ true) ⊎ (is_among others l ≡ true) → Stands row (here ++ after_it)
+    by here after_it at go (inl same) = stands_left row here after_it (subst (Stands row) (same_rows here at (same_literal_is l m same)) stands)
+    by here after_it at go (inr rest) = stands_right row here after_it (go rest)
+
+rows_among : (nodes : List Node) (more_known known : List Lit) (rows more_rows : List Row) → Covers more_known known → rows_of nodes known ≡ Some rows → rows_of nodes more_known ≡ Some more_rows → AreAmong rows more_rows
+rows_among nodes more_known known rows more_rows covers e f row stands =
+    let found = find_row nodes known rows row e stands in
+    put_row nodes more_known more_rows row found.literal found.rows f (covers.has found.literal found.there) found.rows_are found.stands
+
+module _ (nodes : List Node) (clauses : List GroundClause) where
+  -- a list that an unshut one holds is not shut
+  pub covered_unshut : (before learned list : List Lit) → IsUnshut nodes clauses before learned → Covers before list → IsShut nodes clauses list → ⊥
+  covered_unshut before learned list unshut covers shut = by shut
+    where
+      settled : IsSettled clauses (after before learned)
+      settled = record { settled = unshut.closed.settled; stands = unshut.closed.stands }
+
+      whole : Covers (after before learned) list
+      whole = record { has = λ l e. (covers_after before learned).has l (covers.has l e) }
+
+      by : IsShut nodes clauses list → ⊥
+      by (by_clauses numbers is) = none_refuted clauses (after before learned) settled (after list is.learned) is.last (covers_taught clauses (after before learned) settled list is.reasons is.learned whole is.taught) is.refutes
+      by (by_rows reasons taught rows closed formulas rows_are refuted) =
+          stay_refuted rows unshut.rows (rows_among nodes (after before learned) (after list taught) rows unshut.rows (covers_taught clauses (after before learned) settled list reasons taught whole closed.taught) rows_are unshut.rows_are) refuted
+          unshut.first unshut.variables unshut.levels unshut.elimination
+
+  -- the last literal may follow those before it
+  pub last_follows : (before first : List Lit) (last : Lit) → IsBranchAfter nodes clauses before (first ++ last ∷ []) → MayFollow nodes clauses (before ++ first) last
+  last_follows before [] last is = subst (λ (ls : List Lit). MayFollow nodes clauses ls last) (sym (append-nil before)) is.0
+  last_follows before (l ∷ first) last is = subst (λ (ls : List Lit). MayFollow nodes clauses ls last) (append_assoc before (l ∷ []) first) (last_follows (before ++ l ∷ []) first last is.1)
+
+among_first : (first : List Lit) (last l : Lit) → is_among (first ++ last ∷ []) l ≡ true → (is_among first l ≡ true) ⊎ (same_literal l last ≡ true)
+among_first [] last l e = inr (by (same_literal l last) e)
+  where
+    by : (b : Bool) → (b || false) ≡ true → b ≡ true
+    by true e = refl
+    by false e = e
+among_first (m ∷ first) last l e =
+    ⊎_elim (λ here. inl (first_true (same_literal l m) (is_among first l) here)) (λ rest. ⊎_elim (λ k. inl (second_true (same_literal l m) (is_among first l) k)) (λ k. inr k) (among_first first last l rest))
+    (either (same_literal l m) (is_among (first ++ last ∷ []) l) e)
+
+lacks_shares : (nodes : List Node) (clauses : List GroundClause) (branch other : List Lit) → Lacks branch other → IsBranch nodes clauses branch → ShareNothingShut nodes clauses branch other
+lacks_shares nodes clauses branch other lacks is_branch list shared shut =
+    let follows = last_follows nodes clauses [] lacks.first lacks.last (subst (IsBranchAfter nodes clauses []) lacks.is is_branch) in
+    covered_unshut nodes clauses lacks.first follows.learned list follows.unshut (record { has = λ l e. in_first l (shared l e) }) shut
+  where
+    in_first : (l : Lit) → (is_among branch l ≡ true) × (is_among other l ≡ true) → is_among lacks.first l ≡ true
+    in_first l e =
+        ⊎_elim (λ here. here) (λ same. absurd (true_is_not_false (is_among other lacks.last) (subst (λ (q : Lit). is_among other q ≡ true) (same_literal_is l lacks.last same) e.1) lacks.lacks))
+        (among_first lacks.first lacks.last l (subst (λ (ls : List Lit). is_among ls l ≡ true) lacks.is e.0))
+
+pub first_apart : (branch other : List Lit) → Lacks branch other → AreApart branch other
+first_apart branch other lacks nodes clauses one two = lacks_shares nodes clauses branch other lacks one
+
+pub second_apart : (branch other : List Lit) → Lacks other branch → AreApart branch other
+second_apart branch other lacks nodes clauses one two = λ list shared shut. lacks_shares nodes clauses other branch lacks two list (λ l e. let parts = shared l e in (parts.1, parts.0)) shut
+
+-- those that are left are all that is to be looked at
+pub record RestApart (branch : List Lit) (rest all : List (Vec Lit Global)) : Type 0 where
+  pub so_far : AllApart branch (map (λ (other : Vec Lit Global). other.items) rest) → AllApart branch (map (λ (other : Vec Lit Global). other.items) all)
+
+pub rest_begins : (branch : List Lit) (all : List (Vec Lit Global)) → RestApart branch all all
+rest_begins branch all = record { so_far = λ h. h }
+
+pub rest_goes : (branch : List Lit) (i : ℕ) (other : Vec Lit Global) (all : List (Vec Lit Global)) → i < length all → other ≡ get_or all i other → AreApart branch other.items → RestApart branch (drop i all) all → RestApart branch (drop (i + 1) all) all
+rest_goes branch i other all less is apart rest = record { so_far = λ h. rest.so_far (next all i less is (subst (λ (k : ℕ). AllApart branch (map (λ (other : Vec Lit Global). other.items) (drop k all))) one_more h)) }
+  where
+    one_more : i + 1 ≡ suc i
+    one_more = omega arith
+
+    next : (all : List (Vec Lit Global)) (i : ℕ) → i < length all → other ≡ get_or all i other → AllApart branch (map (λ (other : Vec Lit Global). other.items) (drop (suc i) all)) → AllApart branch (map (λ (other : Vec Lit Global). other.items) (drop i all))
+    next [] i less is h = absurd (omega arith)
+    next (first ∷ others) zero less is h = (subst (λ (v : Vec Lit Global). AreApart branch v.items) is apart, h)
+    next (first ∷ others) (suc n) less is h = next others n (omega arith) is h
+
+pub rest_ends : (branch : List Lit) (i : ℕ) (all : List (Vec Lit Global)) → length all ≤ i → RestApart branch (drop i all) all → AllApart branch (map (λ (other : Vec Lit Global). other.items) all)
+rest_ends branch i all whole rest = rest.so_far (none all i whole)
+  where
+    none : (all : List (Vec Lit Global)) (i : ℕ) → length all ≤ i → AllApart branch (map (λ (other : Vec Lit Global). other.items) (drop i all))
+    none [] zero whole = tt
+    none [] (suc n) whole = tt
+    none (first ∷ others) zero whole = absurd (omega arith)
+    none (first ∷ others) (suc n) whole = none others n (omega arith)
+
+is_false : (b : Bool) → IsTrue (not b) → b ≡ false
+is_false true h = absurd cc
+is_false false h = refl
+
+front_of : (l : Lit) (others : List Lit) (other : Lit) → (first : List Lit) × (l ∷ others ≡ first ++ get_or (l ∷ others) (length others) other ∷ [])
+front_of l [] other = ([], refl)
+front_of l (m ∷ others) other = let rest = front_of m others other in (l ∷ rest.0, ap (λ (ls : List Lit). l ∷ ls) rest.1)
+
+pub last_lacks : (branch other : List Lit) (l : Lit) (b : Bool) → 1 ≤ length branch → b ≡ is_among other (get_or branch (length branch - 1) l) → IsTrue (not b) → Lacks branch other
+last_lacks [] other l b some is h = absurd (omega arith)
+last_lacks (m ∷ others) other l b some is h =
+    let found = front_of m others l in
+    let one_less : suc (length others) - 1 ≡ length others = omega arith in
+    record {
+      first = found.0;
+      last = get_or (m ∷ others) (length others) l;
+      is = found.1;
+      lacks = ap (λ (k : ℕ). is_among other (get_or (m ∷ others) k l)) (sym one_less) ∙ sym is ∙ is_false b h;
+    }

@@ -1,0 +1,96 @@
+-- A search begins.
+use Rattle.std.proofs.Common.{◌≡◌, ℕ, zero, suc, ◌≤◌, true, List, [], ◌∷◌, map, length, take, Vec, Option, None, Some, slice_get, sym, ap, ◌∙◌, subst, arith}
+use Rattle.std.proofs.lemmas.List.{take_all}
+use Rattle.std.specs.List.{list_all}
+use Rattle.std.specs.declared.alloc.Global.{Global}
+use Rattle.df_types.specs.View.{program_of}
+use Rattle.df_form.specs.declared.log.Lit.{Lit}
+use Rattle.df_form.specs.Node.{Node}
+use Rattle.df_form.specs.Clause.{Clause, are_literals}
+use Rattle.df_form.specs.Sorting.{IsTable}
+use Rattle.df_form.specs.Sequent.{Sequent}
+use Rattle.df_form.specs.Log.{step_of}
+use Rattle.df_kern.specs.Derivation.{begin, after_all}
+use Rattle.df_ground.specs.declared.set.Ground.{Ground}
+use Rattle.df_ground.specs.declared.clause.GroundClause as declared
+use Rattle.df_ground.specs.GroundView.{IsGroundOf, state_of}
+use Rattle.df_ground.specs.Lines.{ground_lines, bound_of}
+use Rattle.df_closure.specs.Closure.{GroundClause, ground_of}
+use Rattle.df_closure.specs.Full.{IsConsistent}
+use Rattle.df_trail.specs.declared.decision.Decision.{Decision}
+use Rattle.df_trail.specs.Trail.{literals_of, branch_of, AreDecided}
+use Rattle.df_leaf.specs.Evidence.{IsBranch}
+use Rattle.df_leaf.specs.Leaf.{IsPlace}
+use Rattle.df_search.specs.declared.searching.State.{State}
+use Rattle.df_search.specs.Searching.{clauses_of, AreCounted, AllLeave, Searches}
+use Rattle.df_form.proofs.Lists.{get_within}
+use Rattle.df_form.proofs.Sorts.{all_mapped}
+use Rattle.df_search.proofs.Consistent.{none_consistent}
+use Rattle.df_closure.proofs.Rounds.{length_mapped}
+
+ground_clause_at : (clauses : List declared.GroundClause) (n : ℕ) (clause : GroundClause) → slice_get (map ground_of clauses) n ≡ Some clause → slice_get (map (λ (c : declared.GroundClause). c.literals.items) clauses) n ≡ Some clause.literals
+ground_clause_at [] n clause e = absurd cc
+ground_clause_at (c ∷ others) zero clause e = ap (λ (g : Option GroundClause). literals_in g) e
+  where
+    literals_in : Option GroundClause → Option Clause
+    literals_in (Some g) = Some g.literals
+    literals_in None = None
+ground_clause_at (c ∷ others) (suc n) clause e = ground_clause_at others n clause e
+
+pub begins : (s : Sequent) (g : Ground) (state : State) → IsGroundOf s g → program_of state.program.now ≡ s.program → state.set ≡ g.nodes → state.clauses ≡ g.clauses → state.derivation.nodes ≡ g.nodes → state.derivation.lines ≡ g.lines → state.derivation.clauses ≡ length g.clauses.items
+    → state.trail.decisions.items ≡ [] → state.closed.items ≡ [] → Searches s state
+begins s g state is program_is set_is clauses_are nodes_are lines_are count_is trail_is closed_is = record {
+  all = all;
+  is = record {
+    standing = record {
+      ground_set = g;
+      is_of = is;
+      set_is = set_is;
+      clauses_are = ground_clauses;
+      program_is = program_is;
+      lines = record { at = λ n clause there. ground_clause_at g.clauses.items n clause (sym (ap (λ (cs : List GroundClause). slice_get cs n) ground_clauses) ∙ there) };
+      place = place;
+      trail = subst (AreDecided all []) (sym trail_is) tt;
+      branch = subst (λ (ds : List Decision). IsBranch state.derivation.nodes (clauses_of state) (literals_of ds)) (sym trail_is) tt;
+      counted = subst (λ (vs : List (Vec Lit Global)). AreCounted s state.derivation.nodes (clauses_of state) (map (λ (v : Vec Lit Global). v.items) vs)) (sym closed_is) tt;
+    };
+    runs = record {
+      run = (λ i. after_all s (begin s) (map step_of (lines_are i).items)) ∙ ap (after_all s (begin s)) is.lines ∙ is.run ∙ (λ i. Some (record { nodes = sym nodes_are i; clauses = all }));
+      count = length_mapped (λ (c : declared.GroundClause). c.literals.items) g.clauses.items ∙ sym count_is;
+    };
+    leave = subst (λ (vs : List (Vec Lit Global)). AllLeave state.trail.decisions.items (map (λ (v : Vec Lit Global). v.items) vs)) (sym closed_is) tt;
+  };
+}
+  where
+    all : List Clause
+    all = (state_of g).clauses
+
+    ground_clauses : clauses_of state ≡ map ground_of g.clauses.items
+    ground_clauses = λ i. map ground_of (clauses_are i).items
+
+    over : (n : ℕ) (node : Node) → length state.set ≤ n → slice_get state.derivation.nodes n ≡ Some node → ⊥
+    over n node past there = let inside = get_within state.derivation.nodes n node there in omega (arith, ap length nodes_are, ap length set_is)
+
+    formulas : list_all (λ (clause : GroundClause). are_literals state.set clause.literals) (clauses_of state) ≡ true
+    formulas =
+        (λ i. list_all (λ (clause : GroundClause). are_literals (set_is i) clause.literals) (ground_clauses i))
+        ∙ all_mapped (λ (clause : GroundClause). are_literals g.nodes clause.literals) ground_of g.clauses.items
+        ∙ sym (all_mapped (are_literals g.nodes) (λ (c : declared.GroundClause). c.literals.items) g.clauses.items)
+        ∙ is.literals
+
+    place : IsPlace state.set (clauses_of state) state.derivation.nodes (branch_of state.trail)
+    place = record {
+      table = subst IsTable (sym nodes_are) is.table;
+      begins = (λ i. take (length (set_is i)) (nodes_are i)) ∙ take_all (length g.nodes) g.nodes (omega arith) ∙ sym set_is;
+      made = λ n node past there. absurd (over n node past there);
+      formulas = ap (λ (ds : List Decision). are_literals state.derivation.nodes (literals_of ds)) trail_is;
+      consistent = subst IsConsistent (sym (ap literals_of trail_is)) none_consistent;
+      clause_formulas = formulas;
+    }
+
+-- a ground set has as many clauses as lines
+pub as_many_lines : (s : Sequent) (g : Ground) → IsGroundOf s g → length g.clauses.items ≤ length g.lines.items
+as_many_lines s g is =
+    let clauses = sym (length_mapped (λ (c : declared.GroundClause). c.bound) g.clauses.items) ∙ ap length is.bounds ∙ length_mapped (bound_of s.nodes) (ground_lines s) in
+    let lines = sym (length_mapped step_of g.lines.items) ∙ ap length is.lines in
+    omega (arith, clauses, lines)

@@ -1,0 +1,144 @@
+-- What comes at a leaf.
+use Rattle.std.proofs.Common.{◌≡◌, inl, ⊎_elim, ℕ, zero, suc, true, false, List, [], ◌∷◌, ◌++◌, Some, slice_get, refl, sym, ap, ◌∙◌, subst, append_assoc, append-nil}
+use Rattle.std.specs.List.{list_all, list_any}
+use Rattle.df_types.specs.Program.{Program}
+use Rattle.df_types.specs.View.{program_of}
+use Rattle.df_table.specs.declared.table.Table.{Table}
+use Rattle.df_form.specs.declared.log.Lit.{Lit}
+use Rattle.df_form.specs.Node.{Node}
+use Rattle.df_form.specs.Sorting.{is_formula}
+use Rattle.df_form.specs.Arithmetic.{IsArithmeticSequent}
+use Rattle.df_form.specs.Clause.{Clause, negation, same_literal, is_among, are_literals}
+use Rattle.df_form.specs.Sequent.{Sequent, IsSequent}
+use Rattle.df_closure.specs.Closure.{GroundClause, after}
+use Rattle.df_closure.specs.Full.{IsConsistent}
+use Rattle.df_trail.specs.declared.trail.Trail.{Trail}
+use Rattle.df_trail.specs.Trail.{literals_of, branch_of, decided, IsUndecided, AreDecided}
+use Rattle.df_leaf.specs.Evidence.{of_clause, MayFollow, IsBranchAfter, IsBranch}
+use Rattle.df_leaf.specs.Leaf.{IsOpenLeaf, IsWideLeaf, IsManyLeaf, IsModelOf}
+use Rattle.df_search.specs.declared.searching.State.{State}
+use Rattle.df_search.specs.Found.{HasModel, IsTooWide, HasManyRows}
+use Rattle.df_search.specs.Searching.{clauses_of, branches_of, IsSearching}
+use Rattle.df_form.proofs.Lists.{both, both_true, either, neither, some_is, is_true_or_false, true_is_not_false}
+use Rattle.df_kern.proofs.SoundClauses.{same_literal_is}
+use Rattle.df_ground.proofs.Running.{grown_from}
+use Rattle.df_ground.proofs.Literals.{literals_grown}
+use Rattle.df_trail.proofs.Retreated.{put_last}
+use Rattle.df_search.proofs.Apart.{Covers, covers_after}
+use Rattle.df_search.proofs.Consistent.{consistent_more}
+use Rattle.df_search.proofs.Leaving.{literals_split, all_leave_decided}
+use Rattle.df_search.proofs.Turning.{place_for, ground_in}
+
+uncovered : (wide known : List Lit) (l : Lit) → Covers wide known → is_among wide l ≡ false → is_among known l ≡ false
+uncovered wide known l covers e = ⊎_elim (λ there. absurd (true_is_not_false (is_among wide l) (covers.has l there) e)) (λ not_there. not_there) (is_true_or_false (is_among known l))
+
+branch_more : (nodes : List Node) (clauses : List GroundClause) (earlier first : List Lit) (l : Lit) → IsBranchAfter nodes clauses earlier first → MayFollow nodes clauses (earlier ++ first) l → IsBranchAfter nodes clauses earlier (first ++ l ∷ [])
+branch_more nodes clauses earlier [] l is follows = (subst (λ (ls : List Lit). MayFollow nodes clauses ls l) (append-nil earlier) follows, tt)
+branch_more nodes clauses earlier (m ∷ first) l is follows = (is.0, branch_more nodes clauses (earlier ++ m ∷ []) first l is.1 (subst (λ (ls : List Lit). MayFollow nodes clauses ls l) (sym (append_assoc earlier (m ∷ []) first)) follows))
+
+formulas_more : (nodes : List Node) (literals : List Lit) (l : Lit) → are_literals nodes literals ≡ true → is_formula nodes l.node ≡ true → are_literals nodes (literals ++ l ∷ []) ≡ true
+formulas_more nodes [] l e f = both_true (is_formula nodes l.node) true f refl
+formulas_more nodes (m ∷ literals) l e f =
+    let parts = both (is_formula nodes m.node) (are_literals nodes literals) e in
+    both_true (is_formula nodes m.node) (are_literals nodes (literals ++ l ∷ [])) parts.0 (formulas_more nodes literals l parts.1 f)
+
+-- a further decision
+pub decides : (s : Sequent) (all : List Clause) (old : State) → IsSearching s all old → (l : Lit) → MayFollow old.derivation.nodes (clauses_of old) (branch_of old.trail) l → is_formula old.derivation.nodes l.node ≡ true
+    → (trail : Trail) → trail.decisions.items ≡ old.trail.decisions.items ++ decided l ∷ [] → IsSearching s all (record old { trail = trail })
+decides s all old is l follows formula trail trail_is = record {
+  standing = record {
+    ground_set = is.standing.ground_set;
+    is_of = is.standing.is_of;
+    set_is = is.standing.set_is;
+    clauses_are = is.standing.clauses_are;
+    program_is = is.standing.program_is;
+    lines = is.standing.lines;
+    place = place_for old.set (clauses_of old) old.derivation.nodes branch (branch_of trail) is.standing.place
+        (ap (are_literals old.derivation.nodes) branch_is ∙ formulas_more old.derivation.nodes branch l is.standing.place.formulas formula)
+        (subst IsConsistent (sym branch_is) (consistent_more branch l undecided is.standing.place.consistent));
+    trail = subst (AreDecided all []) (sym trail_is) (put_last all [] old.trail.decisions.items (decided l) (record { others = is.standing.trail; undecided = undecided; closed = tt }));
+    branch = subst (IsBranch old.derivation.nodes (clauses_of old)) (sym branch_is) (branch_more old.derivation.nodes (clauses_of old) [] branch l is.standing.branch follows);
+    counted = is.standing.counted;
+  };
+  runs = is.runs;
+  leave = all_leave_decided old.trail.decisions.items trail.decisions.items (decided l) (branches_of old) trail_is is.leave;
+}
+  where
+    branch : List Lit
+    branch = branch_of old.trail
+
+    branch_is : branch_of trail ≡ branch ++ l ∷ []
+    branch_is = ap literals_of trail_is ∙ literals_split old.trail.decisions.items (decided l ∷ [])
+
+    undecided : IsUndecided branch l
+    undecided = record {
+      not_true = uncovered (after branch follows.learned) branch l (covers_after branch follows.learned) follows.not_true;
+      not_false = uncovered (after branch follows.learned) branch (negation l) (covers_after branch follows.learned) follows.not_false;
+    }
+
+-- a literal of an open clause
+none_among : (known clause : List Lit) (l : Lit) → list_any (is_among known) clause ≡ false → is_among clause l ≡ true → is_among known l ≡ false
+none_among known [] l none there = absurd (true_is_not_false false there refl)
+none_among known (m ∷ others) l none there =
+    let parts = neither (is_among known m) (list_any (is_among known) others) none in
+    ⊎_elim (λ here. subst (λ (q : Lit). is_among known q ≡ false) (sym (same_literal_is l m here)) parts.0) (λ rest. none_among known others l parts.1 rest) (either (same_literal l m) (is_among others l) there)
+
+pub literal_formula : (nodes : List Node) (clause : Clause) (l : Lit) → are_literals nodes clause ≡ true → is_among clause l ≡ true → is_formula nodes l.node ≡ true
+literal_formula nodes [] l e there = absurd (true_is_not_false false there refl)
+literal_formula nodes (m ∷ others) l e there =
+    let parts = both (is_formula nodes m.node) (are_literals nodes others) e in
+    ⊎_elim (λ here. subst (λ (q : Lit). is_formula nodes q.node ≡ true) (sym (same_literal_is l m here)) parts.0) (λ rest. literal_formula nodes others l parts.1 rest) (either (same_literal l m) (is_among others l) there)
+
+clause_formulas : (nodes : List Node) (clauses : List GroundClause) (n : ℕ) (clause : GroundClause) → list_all (λ (c : GroundClause). are_literals nodes c.literals) clauses ≡ true → slice_get clauses n ≡ Some clause → are_literals nodes clause.literals ≡ true
+clause_formulas nodes [] n clause e there = absurd cc
+clause_formulas nodes (c ∷ others) zero clause e there =
+    subst (λ (g : GroundClause). are_literals nodes g.literals ≡ true) (some_is c clause there) (both (are_literals nodes c.literals) (list_all (λ (c : GroundClause). are_literals nodes c.literals) others) e).0
+clause_formulas nodes (c ∷ others) (suc n) clause e there = clause_formulas nodes others n clause (both (are_literals nodes c.literals) (list_all (λ (c : GroundClause). are_literals nodes c.literals) others) e).1 there
+
+pub open_follows : (clauses : List GroundClause) (nodes : List Node) (branch : List Lit) (l : Lit) → IsOpenLeaf clauses nodes branch l → MayFollow nodes clauses branch l
+open_follows clauses nodes branch l leaf = record {
+  learned = leaf.learned;
+  unshut = leaf.unshut;
+  not_true = none_among (after branch leaf.learned) leaf.member.clause.literals l leaf.member.is_open.none leaf.member.in_clause;
+  not_false = leaf.member.not_false;
+  decision = inl (of_clause leaf.member.clause leaf.member.is_open leaf.member.in_clause);
+}
+
+module _ (s : Sequent) (all : List Clause) (state : State) (is : IsSearching s all state) where
+  pub open_formula : (l : Lit) → IsOpenLeaf (clauses_of state) state.derivation.nodes (branch_of state.trail) l → is_formula state.derivation.nodes l.node ≡ true
+  open_formula l leaf =
+      literal_formula state.derivation.nodes leaf.member.clause.literals l
+      (literals_grown state.set state.derivation.nodes (grown_from state.set state.derivation.nodes is.standing.place.begins) leaf.member.clause.literals
+      (clause_formulas state.set (clauses_of state) leaf.member.is_open.number leaf.member.clause is.standing.place.clause_formulas leaf.member.is_open.there))
+      leaf.member.in_clause
+
+  pub open_decides : (l : Lit) → IsOpenLeaf (clauses_of state) state.derivation.nodes (branch_of state.trail) l → (trail : Trail) → trail.decisions.items ≡ state.trail.decisions.items ++ decided l ∷ [] → IsSearching s all (record state { trail = trail })
+  open_decides l leaf trail trail_is = decides s all state is l (open_follows (clauses_of state) state.derivation.nodes (branch_of state.trail) l leaf) (open_formula l leaf) trail trail_is
+
+  pub modelled : (table : Table) → IsModelOf (program_of state.program.now) state.set (clauses_of state) table → IsSequent s → IsArithmeticSequent s → HasModel s table
+  modelled table model sequent arithmetic = record {
+    set = is.standing.ground_set;
+    is_of = is.standing.is_of;
+    model = model s is.standing.ground_set sequent is.standing.is_of arithmetic (sym is.standing.program_is) (sym is.standing.set_is) (sym is.standing.clauses_are);
+  }
+
+  pub too_wide : IsWideLeaf (program_of state.program.now) state.set (clauses_of state) state.derivation.nodes (branch_of state.trail) → IsTooWide s
+  too_wide wide = record {
+    nodes = state.derivation.nodes;
+    clauses = clauses_of state;
+    of_sequent = ground_in s all state is.standing;
+    branch = branch_of state.trail;
+    is_branch = is.standing.branch;
+    wide = subst (λ (p : Program). IsWideLeaf p is.standing.ground_set.nodes (clauses_of state) state.derivation.nodes (branch_of state.trail)) is.standing.program_is
+        (subst (λ (ns : List Node). IsWideLeaf (program_of state.program.now) ns (clauses_of state) state.derivation.nodes (branch_of state.trail)) is.standing.set_is wide);
+  }
+
+  pub many_rows : (count : ℕ) → IsManyLeaf (clauses_of state) state.derivation.nodes (branch_of state.trail) count → HasManyRows s count
+  many_rows count many = record {
+    nodes = state.derivation.nodes;
+    clauses = clauses_of state;
+    of_sequent = ground_in s all state is.standing;
+    branch = branch_of state.trail;
+    is_branch = is.standing.branch;
+    many = many;
+  }

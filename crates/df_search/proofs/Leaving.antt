@@ -1,0 +1,177 @@
+-- Closed branches leave the decisions, before and after a turn.
+use Rattle.std.proofs.Common.{◌≡◌, inl, inr, ⊎_elim, ℕ, true, List, [], ◌∷◌, ◌++◌, None, Some, refl, sym, ap, ◌∙◌, subst, append_assoc}
+use Rattle.df_form.specs.declared.log.Lit.{Lit}
+use Rattle.df_form.specs.Node.{Node}
+use Rattle.df_form.specs.Clause.{negation, same_literal, is_among}
+use Rattle.df_form.specs.Sequent.{Sequent}
+use Rattle.df_closure.specs.Closure.{GroundClause, after}
+use Rattle.df_trail.specs.declared.decision.Decision.{Decision}
+use Rattle.df_trail.specs.declared.trail.Trail.{Trail}
+use Rattle.df_trail.specs.Trail.{literals_of, branch_of, turned, IsTurned}
+use Rattle.df_leaf.specs.Evidence.{IsSideOf, IsDecision, MayFollow, IsBranchAfter, IsBranch, AreIncompatible, IsClosedBranch, IsApart, AreClosedBranches}
+use Rattle.df_search.specs.Searching.{Leaves, AllLeave, AllLeaveOr, AreApart, AllApart, AllDiffer, AreCounted}
+use Rattle.df_form.proofs.Lists.{first_true, second_true}
+use Rattle.df_closure.proofs.Lists.{same_self}
+use Rattle.df_trail.proofs.Joined.{negated_twice}
+
+-- where a decision stands in a list that is taken apart at another
+data Place (kept : List Decision) (d : Decision) (taken kept_too : List Decision) (e : Decision) (rest : List Decision) : Type 0 where
+  before : (others : List Decision) → kept ≡ kept_too ++ e ∷ others → Place kept d taken kept_too e rest
+  here : kept ≡ kept_too → d ≡ e → Place kept d taken kept_too e rest
+  behind : (front : List Decision) → kept_too ≡ kept ++ d ∷ front → taken ≡ front ++ e ∷ rest → Place kept d taken kept_too e rest
+
+heads : (x y : Decision) (xs ys : List Decision) → x ∷ xs ≡ y ∷ ys → x ≡ y
+heads x y xs ys e = cc
+
+tails : (x y : Decision) (xs ys : List Decision) → x ∷ xs ≡ y ∷ ys → xs ≡ ys
+tails x y xs ys e = cc
+
+place_of : (kept : List Decision) (d : Decision) (taken kept_too : List Decision) (e : Decision) (rest : List Decision) → kept ++ d ∷ taken ≡ kept_too ++ e ∷ rest → Place kept d taken kept_too e rest
+place_of [] d taken [] e rest is = here refl (heads d e taken rest is)
+place_of [] d taken (y ∷ ys) e rest is = behind ys (ap (λ (x : Decision). x ∷ ys) (sym (heads d y taken (ys ++ e ∷ rest) is))) (tails d y taken (ys ++ e ∷ rest) is)
+place_of (x ∷ xs) d taken [] e rest is = before xs (ap (λ (y : Decision). y ∷ xs) (heads x e (xs ++ d ∷ taken) rest is))
+place_of (x ∷ xs) d taken (y ∷ ys) e rest is = by (heads x y (xs ++ d ∷ taken) (ys ++ e ∷ rest) is) (place_of xs d taken ys e rest (tails x y (xs ++ d ∷ taken) (ys ++ e ∷ rest) is))
+  where
+    by : x ≡ y → Place xs d taken ys e rest → Place (x ∷ xs) d taken (y ∷ ys) e rest
+    by same (before others e_is) = before others (λ i. same i ∷ e_is i)
+    by same (here kept_is e_is) = here (λ i. same i ∷ kept_is i) e_is
+    by same (behind front kept_is taken_is) = behind front (λ i. sym same i ∷ kept_is i) taken_is
+
+pub literals_split : (xs ys : List Decision) → literals_of (xs ++ ys) ≡ literals_of xs ++ literals_of ys
+literals_split [] ys = refl
+literals_split (x ∷ xs) ys = ap (λ (ls : List Lit). x.literal ∷ ls) (literals_split xs ys)
+
+-- what leaves decisions leaves them after a turn, and so does what they were
+module _ (old new : List Decision) (kept : List Decision) (decision : Decision) (taken : List Decision) (number : ℕ) (old_is : old ≡ kept ++ decision ∷ taken) (side_open : decision.closed ≡ None) (new_is : new ≡ kept ++ turned decision.literal number ∷ []) where
+  leaves_turned : (tail : List Lit) (branch : List Lit) → branch ≡ literals_of kept ++ decision.literal ∷ tail → Leaves new branch
+  leaves_turned tail branch is = record {
+    kept = kept;
+    decision = turned decision.literal number;
+    rest = [];
+    tail = tail;
+    is = new_is;
+    side_closed = λ e. some_is_not e;
+    branch_is = is ∙ ap (λ (l : Lit). literals_of kept ++ l ∷ tail) (sym (negated_twice decision.literal));
+  }
+    where
+      some_is_not : Some number ≡ None → ⊥
+      some_is_not e = cc
+
+  pub old_leaves : (branch : List Lit) → branch ≡ literals_of old → Leaves new branch
+  old_leaves branch is = leaves_turned (literals_of taken) branch (is ∙ ap literals_of old_is ∙ literals_split kept (decision ∷ taken))
+
+  pub still_leaves : (branch : List Lit) → Leaves old branch → Leaves new branch
+  still_leaves branch leaves = by (place_of kept decision taken leaves.kept leaves.decision leaves.rest (sym old_is ∙ leaves.is))
+    where
+      by : Place kept decision taken leaves.kept leaves.decision leaves.rest → Leaves new branch
+      by (before others is) = record {
+        kept = leaves.kept;
+        decision = leaves.decision;
+        rest = others ++ turned decision.literal number ∷ [];
+        tail = leaves.tail;
+        is = new_is ∙ ap (λ (ds : List Decision). ds ++ turned decision.literal number ∷ []) is ∙ append_assoc leaves.kept (leaves.decision ∷ others) (turned decision.literal number ∷ []);
+        side_closed = leaves.side_closed;
+        branch_is = leaves.branch_is;
+      }
+      by (here kept_is same) = absurd (leaves.side_closed (ap (λ (d : Decision). d.closed) (sym same) ∙ side_open))
+      by (behind front kept_is taken_is) =
+          leaves_turned (literals_of front ++ negation leaves.decision.literal ∷ leaves.tail) branch
+          (leaves.branch_is
+          ∙ ap (λ (ds : List Decision). literals_of ds ++ negation leaves.decision.literal ∷ leaves.tail) kept_is
+          ∙ ap (λ (ls : List Lit). ls ++ negation leaves.decision.literal ∷ leaves.tail) (literals_split kept (decision ∷ front))
+          ∙ append_assoc (literals_of kept) (decision.literal ∷ literals_of front) (negation leaves.decision.literal ∷ leaves.tail))
+
+  pub all_leave : (branches : List (List Lit)) → AllLeaveOr old branches → AllLeave new branches
+  all_leave [] all = tt
+  all_leave (branch ∷ others) all = (⊎_elim (λ leaves. still_leaves branch leaves) (λ is. old_leaves branch is) all.0, all_leave others all.1)
+
+-- a further decision
+pub leaves_decided : (old new : List Decision) (d : Decision) (branch : List Lit) → new ≡ old ++ d ∷ [] → Leaves old branch → Leaves new branch
+leaves_decided old new d branch is leaves = record {
+  kept = leaves.kept;
+  decision = leaves.decision;
+  rest = leaves.rest ++ d ∷ [];
+  tail = leaves.tail;
+  is = is ∙ ap (λ (ds : List Decision). ds ++ d ∷ []) leaves.is ∙ append_assoc leaves.kept (leaves.decision ∷ leaves.rest) (d ∷ []);
+  side_closed = leaves.side_closed;
+  branch_is = leaves.branch_is;
+}
+
+pub all_leave_decided : (old new : List Decision) (d : Decision) (branches : List (List Lit)) → new ≡ old ++ d ∷ [] → AllLeave old branches → AllLeave new branches
+all_leave_decided old new d [] is all = tt
+all_leave_decided old new d (branch ∷ others) is all = (leaves_decided old new d branch is all.0, all_leave_decided old new d others is all.1)
+
+pub leave_or : (decisions : List Decision) (branches : List (List Lit)) → AllLeave decisions branches → AllLeaveOr decisions branches
+leave_or decisions [] all = tt
+leave_or decisions (branch ∷ others) all = (inl all.0, leave_or decisions others all.1)
+
+pub leave_or_last : (decisions : List Decision) (branches : List (List Lit)) (last : List Lit) → last ≡ literals_of decisions → AllLeave decisions branches → AllLeaveOr decisions (branches ++ last ∷ [])
+leave_or_last decisions [] last is all = (inr is, tt)
+leave_or_last decisions (branch ∷ others) last is all = (inl all.0, leave_or_last decisions others last is all.1)
+
+among_middle : (xs ys : List Lit) (l : Lit) → is_among (xs ++ l ∷ ys) l ≡ true
+among_middle [] ys l = first_true (same_literal l l) (is_among ys l) (same_self l)
+among_middle (x ∷ xs) ys l = second_true (same_literal l x) (is_among (xs ++ l ∷ ys) l) (among_middle xs ys l)
+
+-- what leaves the decisions is incompatible with their branch
+pub incompatible : (decisions : List Decision) (branch : List Lit) → Leaves decisions branch → AreIncompatible branch (literals_of decisions)
+incompatible decisions branch leaves = record {
+  literal = negation leaves.decision.literal;
+  in_one = subst (λ (ls : List Lit). is_among ls (negation leaves.decision.literal) ≡ true) (sym leaves.branch_is) (among_middle (literals_of leaves.kept) leaves.tail (negation leaves.decision.literal));
+  in_other =
+      subst (λ (l : Lit). is_among (literals_of decisions) l ≡ true) (sym (negated_twice leaves.decision.literal))
+      (subst (λ (ls : List Lit). is_among ls leaves.decision.literal ≡ true) (sym (ap literals_of leaves.is ∙ literals_split leaves.kept (leaves.decision ∷ leaves.rest)))
+      (among_middle (literals_of leaves.kept) (literals_of leaves.rest) leaves.decision.literal));
+}
+
+-- one more closed branch, apart from the others
+module _ (s : Sequent) (nodes : List Node) (clauses : List GroundClause) (decisions : List Decision) (branch : List Lit) (branch_is : branch ≡ literals_of decisions) (closed : IsClosedBranch s nodes clauses branch) where
+  apart_back : (other : List Lit) → AreApart branch other → AreApart other branch
+  apart_back other apart ns cs first second list shared shut = apart ns cs second first list (λ l e. let parts = shared l e in (parts.1, parts.0)) shut
+
+  differs_last : (one : List Lit) (others : List (List Lit)) → AreIncompatible one branch → AreApart one branch → AllDiffer one others → AllDiffer one (others ++ branch ∷ [])
+  differs_last one [] not_both apart all = (not_both, apart, tt)
+  differs_last one (other ∷ others) not_both apart all = (all.0, all.1, differs_last one others not_both apart all.2)
+
+  pub counted_last : (branches : List (List Lit)) → AllLeave decisions branches → AllApart branch branches → AreCounted s nodes clauses branches → AreCounted s nodes clauses (branches ++ branch ∷ [])
+  counted_last [] leave apart all = (closed, tt, tt)
+  counted_last (one ∷ others) leave apart all = (
+    all.0,
+    differs_last one others (subst (AreIncompatible one) (sym branch_is) (incompatible decisions one leave.0)) (apart_back one apart.0) all.1,
+    counted_last others leave.1 apart.1 all.2,
+  )
+
+-- counted branches are closed ones, each apart from those after it
+module _ (s : Sequent) (nodes : List Node) (clauses : List GroundClause) where
+  apart_of : (branch : List Lit) → IsBranch nodes clauses branch → (others : List (List Lit)) → AllDiffer branch others → AreCounted s nodes clauses others → IsApart nodes clauses branch others
+  apart_of branch is [] differ all = tt
+  apart_of branch is (other ∷ others) differ all = (differ.0, differ.1 nodes clauses is all.0.branch_is, apart_of branch is others differ.2 all.2)
+
+  pub closed_of : (branches : List (List Lit)) → AreCounted s nodes clauses branches → AreClosedBranches s nodes clauses branches
+  closed_of [] all = tt
+  closed_of (branch ∷ others) all = (all.0, apart_of branch all.0.branch_is others all.1 all.2, closed_of others all.2)
+
+-- the branch after a turn is one
+side_turned : (decides : Lit → Type 0) (l : Lit) → IsSideOf decides l → IsSideOf decides (negation l)
+side_turned decides l (inl d) = inr (subst decides (sym (negated_twice l)) d)
+side_turned decides l (inr d) = inl d
+
+module _ (nodes : List Node) (clauses : List GroundClause) where
+  follows_turned : (list : List Lit) (l : Lit) → MayFollow nodes clauses list l → MayFollow nodes clauses list (negation l)
+  follows_turned list l is = record {
+    learned = is.learned;
+    unshut = is.unshut;
+    not_true = is.not_false;
+    not_false = ap (is_among (after list is.learned)) (negated_twice l) ∙ is.not_true;
+    decision = side_turned (IsDecision nodes clauses list is.learned) l is.decision;
+  }
+
+  turned_after : (earlier first : List Lit) (l : Lit) (rest : List Lit) → IsBranchAfter nodes clauses earlier (first ++ l ∷ rest) → IsBranchAfter nodes clauses earlier (first ++ negation l ∷ [])
+  turned_after earlier [] l rest is = (follows_turned earlier l is.0, tt)
+  turned_after earlier (m ∷ first) l rest is = (is.0, turned_after (earlier ++ m ∷ []) first l rest is.1)
+
+  pub branch_turned : (old new : Trail) → IsTurned old new → IsBranch nodes clauses (branch_of old) → IsBranch nodes clauses (branch_of new)
+  branch_turned old new turned_it is =
+      subst (IsBranchAfter nodes clauses []) (sym (ap literals_of turned_it.new_is ∙ literals_split turned_it.kept (turned turned_it.decision.literal turned_it.number ∷ [])))
+      (turned_after [] (literals_of turned_it.kept) turned_it.decision.literal (literals_of turned_it.taken)
+      (subst (IsBranchAfter nodes clauses []) (ap literals_of turned_it.old_is ∙ literals_split turned_it.kept (turned_it.decision ∷ turned_it.taken)) is))

@@ -1,0 +1,9 @@
+pub mod Consistent
+pub mod Apart
+pub mod Leaving
+pub mod Turning
+pub mod Refuting
+pub mod Beginning
+pub mod Coming
+pub mod Growing
+pub mod Splitting

@@ -1,0 +1,110 @@
+-- A branch that is closed, counted, and left.
+use Rattle.std.proofs.Common.{◌≡◌, ℕ, true, List, [], ◌∷◌, ◌++◌, map, length, take, Vec, sym, ap, ◌∙◌, subst}
+use Rattle.std.proofs.lemmas.List.{map-append}
+use Rattle.std.specs.declared.alloc.Global.{Global}
+use Rattle.df_form.specs.declared.log.Lit.{Lit}
+use Rattle.df_form.specs.Node.{Node}
+use Rattle.df_form.specs.Clause.{Clause, negation, are_literals}
+use Rattle.df_form.specs.Sequent.{Sequent}
+use Rattle.df_form.specs.Log.{step_of}
+use Rattle.df_kern.specs.Derivation.{Derives}
+use Rattle.df_closure.specs.Closure.{GroundClause}
+use Rattle.df_closure.specs.Full.{IsConsistent}
+use Rattle.df_closure.specs.Lines.{AreIn}
+use Rattle.df_derive.specs.declared.derivation.Derivation.{Derivation}
+use Rattle.df_trail.specs.declared.trail.Trail.{Trail}
+use Rattle.df_trail.specs.Trail.{branch_of, IsTurned, HasTurned, HasEnded}
+use Rattle.df_leaf.specs.Evidence.{IsGroundIn, HasLog, IsClosedBranch, IsBranch}
+use Rattle.df_leaf.specs.Leaf.{IsPlace}
+use Rattle.df_search.specs.declared.searching.State.{State}
+use Rattle.df_search.specs.Found.{AreSpent}
+use Rattle.df_search.specs.Searching.{clauses_of, branches_of, AreCounted, AllApart, AllLeaveOr, IsStanding, IsSearching, IsFinished, IsCounted}
+use Rattle.df_form.proofs.Lists.{get_grown, get_last}
+use Rattle.df_closure.proofs.Rounds.{length_mapped}
+use Rattle.df_derive.proofs.Added.{finished}
+use Rattle.df_search.proofs.Consistent.{trail_consistent}
+use Rattle.df_search.proofs.Leaving.{counted_last, closed_of, leave_or, leave_or_last, all_leave, branch_turned}
+
+pub in_longer : (clauses : List GroundClause) (log more : List Clause) → AreIn clauses log → AreIn clauses (log ++ more)
+in_longer clauses log more are = record { at = λ n clause there. get_grown log more n clause.literals (are.at n clause there) }
+
+-- a place is one for another branch, where its literals are of formulas
+pub place_for : (set : List Node) (clauses : List GroundClause) (nodes : List Node) (branch other : List Lit) → IsPlace set clauses nodes branch → are_literals nodes other ≡ true → IsConsistent other → IsPlace set clauses nodes other
+place_for set clauses nodes branch other place formulas consistent = record { table = place.table; begins = place.begins; made = place.made; formulas = formulas; consistent = consistent; clause_formulas = place.clause_formulas }
+
+module _ (s : Sequent) (front : List Clause) (number : ℕ) (old : State) (is : IsFinished s front old number) where
+  pub counts_not : IsCounted s front old number
+  counts_not = record { standing = is.standing; closed = is.closed; leave = leave_or old.trail.decisions.items (branches_of old) is.leave }
+
+  has_log : HasLog s old.derivation.nodes (branch_of old.trail)
+  has_log = record {
+    log = map step_of old.derivation.lines.items;
+    clauses = front ++ map negation (branch_of old.trail) ∷ [];
+    run = is.closed.runs.run;
+    number = length front;
+    there = get_last front (map negation (branch_of old.trail));
+  }
+
+  closed_branch : IsClosedBranch s old.derivation.nodes (clauses_of old) (branch_of old.trail)
+  closed_branch = record { branch_is = is.standing.branch; shut = is.shut; has_log = has_log }
+
+  pub counts_it : (branch : Vec Lit Global) (closed : Vec (Vec Lit Global) Global) → branch.items ≡ branch_of old.trail → AllApart branch.items (branches_of old) → closed.items ≡ old.closed.items ++ branch ∷ [] → IsCounted s front (record old { closed = closed }) number
+  counts_it branch closed branch_is apart closed_is =
+      let same : map (λ (b : Vec Lit Global). b.items) closed.items ≡ branches_of old ++ branch.items ∷ [] = ap (map (λ (b : Vec Lit Global). b.items)) closed_is ∙ map-append (λ (b : Vec Lit Global). b.items) old.closed.items (branch ∷ []) in
+      record {
+        standing = record {
+          ground_set = is.standing.ground_set;
+          is_of = is.standing.is_of;
+          set_is = is.standing.set_is;
+          clauses_are = is.standing.clauses_are;
+          program_is = is.standing.program_is;
+          lines = is.standing.lines;
+          place = is.standing.place;
+          trail = is.standing.trail;
+          branch = is.standing.branch;
+          counted = subst (AreCounted s old.derivation.nodes (clauses_of old)) (sym same)
+              (counted_last s old.derivation.nodes (clauses_of old) old.trail.decisions.items branch.items branch_is (subst (IsClosedBranch s old.derivation.nodes (clauses_of old)) (sym branch_is) closed_branch) (branches_of old) is.leave apart is.standing.counted);
+        };
+        closed = is.closed;
+        leave = subst (AllLeaveOr old.trail.decisions.items) (sym same) (leave_or_last old.trail.decisions.items (branches_of old) branch.items branch_is is.leave);
+      }
+
+module _ (s : Sequent) (front : List Clause) (number : ℕ) (mid : State) (is : IsCounted s front mid number) (derivation : Derivation) (trail : Trail) (nodes : derivation.nodes ≡ mid.derivation.nodes) where
+  pub turned_searches : (has : HasTurned s derivation trail front) → IsTurned mid.trail trail → IsSearching s (front ++ has.more) (record mid { derivation = derivation; trail = trail })
+  turned_searches has turned_it = record {
+    standing = record {
+      ground_set = is.standing.ground_set;
+      is_of = is.standing.is_of;
+      set_is = is.standing.set_is;
+      clauses_are = is.standing.clauses_are;
+      program_is = is.standing.program_is;
+      lines = in_longer (clauses_of mid) front has.more is.standing.lines;
+      place = place_for mid.set (clauses_of mid) derivation.nodes (branch_of mid.trail) (branch_of trail) (subst (λ (ns : List Node). IsPlace mid.set (clauses_of mid) ns (branch_of mid.trail)) (sym nodes) is.standing.place) has.formulas (trail_consistent (front ++ has.more) trail has.trail);
+      trail = has.trail;
+      branch = subst (λ (ns : List Node). IsBranch ns (clauses_of mid) (branch_of trail)) (sym nodes) (branch_turned mid.derivation.nodes (clauses_of mid) mid.trail trail turned_it is.standing.branch);
+      counted = subst (λ (ns : List Node). AreCounted s ns (clauses_of mid) (branches_of mid)) (sym nodes) is.standing.counted;
+    };
+    runs = has.runs;
+    leave = all_leave mid.trail.decisions.items trail.decisions.items turned_it.kept turned_it.decision turned_it.taken turned_it.number turned_it.old_is turned_it.side_open turned_it.new_is (branches_of mid) is.leave;
+  }
+
+pub ended_derives : (s : Sequent) (front : List Clause) (derivation : Derivation) → HasEnded s derivation front → Derives s (map step_of derivation.lines.items)
+ended_derives s front derivation has = finished s derivation (front ++ has.more) has.runs
+
+abbrev pub ground_in : (s : Sequent) (all : List Clause) (state : State) → IsStanding s all state → IsGroundIn s state.derivation.nodes (clauses_of state)
+ground_in s all state is = record {
+  set = is.ground_set;
+  is_of = is.is_of;
+  clauses_are = is.clauses_are;
+  table = is.place.table;
+  begins = subst (λ (ns : List Node). take (length ns) state.derivation.nodes ≡ ns) is.set_is is.place.begins;
+}
+
+pub spent : (s : Sequent) (all : List Clause) (state : State) (steps : ℕ) → IsSearching s all state → length state.closed.items ≡ steps → AreSpent s steps (branches_of state)
+spent s all state steps is count = record {
+  nodes = state.derivation.nodes;
+  clauses = clauses_of state;
+  of_sequent = ground_in s all state is.standing;
+  closed = closed_of s state.derivation.nodes (clauses_of state) (branches_of state) is.standing.counted;
+  count = length_mapped (λ (b : Vec Lit Global). b.items) state.closed.items ∙ count;
+}

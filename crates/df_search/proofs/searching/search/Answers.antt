@@ -1,0 +1,42 @@
+use Rattle.std.proofs.Common.{subst}
+use Rattle.df_form.specs.SequentView.{sequent_of}
+use Rattle.df_search.specs.Searching.{Comes}
+use Rattle.df_search.proofs.Beginning.{as_many_lines}
+use Rattle.df_search.proofs.searching.search.Goals as goal
+
+pub returns-in-Err : goal.returns-in-Err
+returns-in-Err c = c.without_ground.ensures (sequent_of c.args.sequent.now) c.args.budget.steps c.in-Err.ensures.ground_set
+
+pub new-requires-2 : goal.new-requires-2
+new-requires-2 c = as_many_lines (sequent_of c.args.sequent.now) c.in-Ok.set c.in-Ok.ensures.ground_set
+
+pub loop-search-preserved : goal.loop-search-preserved
+loop-search-preserved c =
+    let s = sequent_of c.args.sequent.now in
+    let comes = subst (Comes s c.args.budget.steps c.turn.new.self) c.in-On.is (c.in_ok-turn.ensures.turns s c.loop-search.invariant.searches c.loop-search.invariant.few) in
+    record { searches = comes.0; few = comes.1 }
+
+pub returns-in-Proved : goal.returns-in-Proved
+returns-in-Proved c =
+    let s = sequent_of c.args.sequent.now in
+    subst (Comes s c.args.budget.steps c.turn.new.self) c.in-Proved.is (c.in_ok-turn.ensures.turns s c.loop-search.invariant.searches c.loop-search.invariant.few)
+
+pub returns-in-Spent : goal.returns-in-Spent
+returns-in-Spent c =
+    let s = sequent_of c.args.sequent.now in
+    subst (Comes s c.args.budget.steps c.turn.new.self) c.in-Spent.is (c.in_ok-turn.ensures.turns s c.loop-search.invariant.searches c.loop-search.invariant.few)
+
+pub returns-in-Modelled : goal.returns-in-Modelled
+returns-in-Modelled c =
+    let s = sequent_of c.args.sequent.now in
+    subst (Comes s c.args.budget.steps c.turn.new.self) c.in-Modelled.is (c.in_ok-turn.ensures.turns s c.loop-search.invariant.searches c.loop-search.invariant.few) c.args.sequent.now.is_sequent c.requires.arithmetic
+
+pub returns-in-Wide : goal.returns-in-Wide
+returns-in-Wide c =
+    let s = sequent_of c.args.sequent.now in
+    subst (Comes s c.args.budget.steps c.turn.new.self) c.in-Wide.is (c.in_ok-turn.ensures.turns s c.loop-search.invariant.searches c.loop-search.invariant.few)
+
+pub returns-in-Many : goal.returns-in-Many
+returns-in-Many c =
+    let s = sequent_of c.args.sequent.now in
+    subst (Comes s c.args.budget.steps c.turn.new.self) c.in-Many.is (c.in_ok-turn.ensures.turns s c.loop-search.invariant.searches c.loop-search.invariant.few)

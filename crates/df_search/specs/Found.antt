@@ -1,0 +1,57 @@
+-- What a search finds.
+use Rattle.std.specs.Prelude.{◌≡◌, ℕ, ℤ, ◌≤◌, List, map, length}
+use Rattle.df_form.specs.declared.log.Lit.{Lit}
+use Rattle.df_form.specs.Node.{Node}
+use Rattle.df_form.specs.Log.{step_of}
+use Rattle.df_form.specs.Sequent.{Sequent}
+use Rattle.df_kern.specs.Derivation.{Derives}
+use Rattle.df_ground.specs.declared.set.Ground.{Ground}
+use Rattle.df_ground.specs.GroundView.{IsGroundOf, state_of}
+use Rattle.df_ground.specs.Lines.{ground_lines, unbound_count}
+use Rattle.df_table.specs.TableModel.{IsTableModel}
+use Rattle.df_closure.specs.Closure.{GroundClause}
+use Rattle.df_search.specs.declared.found.Found.{Found}
+use Rattle.df_search.specs.declared.found.Found.TheVariants as found
+use Rattle.df_search.specs.declared.found.What.TheVariants as whats
+use Rattle.df_leaf.specs.Evidence.{IsGroundIn, IsBranch, AreClosedBranches}
+use Rattle.df_leaf.specs.Leaf.{IsWideLeaf, IsManyLeaf}
+
+-- a table model of the ground set of the sequent
+pub record HasModel (s : Sequent) (table : List ℤ) : Type 0 where
+  pub set : Ground
+  pub is_of : IsGroundOf s set
+  pub model : IsTableModel (state_of set) table
+
+-- so many closed branches
+pub record AreSpent (s : Sequent) (steps : ℕ) (branches : List (List Lit)) : Type 0 where
+  pub nodes : List Node
+  pub clauses : List GroundClause
+  pub of_sequent : IsGroundIn s nodes clauses
+  pub closed : AreClosedBranches s nodes clauses branches
+  pub count : length branches ≡ steps
+
+-- on a branch a number is past 128 bits
+pub record IsTooWide (s : Sequent) : Type 0 where
+  pub nodes : List Node
+  pub clauses : List GroundClause
+  pub of_sequent : IsGroundIn s nodes clauses
+  pub branch : List Lit
+  pub is_branch : IsBranch nodes clauses branch
+  pub wide : IsWideLeaf s.program of_sequent.set.nodes clauses nodes branch
+
+-- on a branch a level has so many rows
+pub record HasManyRows (s : Sequent) (count : ℕ) : Type 0 where
+  pub nodes : List Node
+  pub clauses : List GroundClause
+  pub of_sequent : IsGroundIn s nodes clauses
+  pub branch : List Lit
+  pub is_branch : IsBranch nodes clauses branch
+  pub many : IsManyLeaf clauses nodes branch count
+
+abbrev pub Finds : Sequent → ℕ → Found → Type 0
+Finds s steps (found.Proved log) = Derives s (map step_of log.items)
+Finds s steps (found.Modelled table) = HasModel s table
+Finds s steps (found.Spent branches) = AreSpent s steps (map (λ branch. branch.items) branches.items)
+Finds s steps found.Wide = IsTooWide s
+Finds s steps (found.Many (whats.Instances count)) = (count ≡ 200000) × (count ≤ unbound_count s.nodes (ground_lines s))
+Finds s steps (found.Many (whats.Rows count)) = HasManyRows s count

@@ -1,0 +1,169 @@
+-- A search so far.
+use Rattle.std.specs.Prelude.{◌≡◌, ◌⊎◌, ℕ, suc, ℤ, ◌≤◌, ◌<◌, true, false, List, [], ◌∷◌, ◌++◌, map, length, None, Some, Vec}
+use Rattle.std.specs.declared.alloc.Global.{Global}
+use Rattle.df_types.specs.View.{program_of}
+use Rattle.df_form.specs.declared.log.Lit.{Lit}
+use Rattle.df_form.specs.declared.log.Combination.{Combination}
+use Rattle.df_form.specs.Node.{Node}
+use Rattle.df_form.specs.Clause.{Clause, negation, is_among}
+use Rattle.df_form.specs.Arithmetic.{IsArithmeticSequent}
+use Rattle.df_form.specs.Sequent.{Sequent, IsSequent}
+use Rattle.df_form.specs.Log.{step_of, combination_of}
+use Rattle.df_linear.specs.Row.{Row}
+use Rattle.df_linear.specs.Linear.{refutes}
+use Rattle.df_kern.specs.Propagation.{propagation_line}
+use Rattle.df_kern.specs.Derivation.{Derives}
+use Rattle.df_ground.specs.declared.set.Ground.{Ground}
+use Rattle.df_ground.specs.GroundView.{IsGroundOf}
+use Rattle.df_closure.specs.Closure.{GroundClause, ground_of}
+use Rattle.df_closure.specs.Lines.{AreIn}
+use Rattle.df_derive.specs.Runs.{Runs}
+use Rattle.df_trail.specs.declared.decision.Decision.{Decision}
+use Rattle.df_trail.specs.Trail.{branch_of, literals_of, IsTrail, IsClosed}
+use Rattle.df_leaf.specs.declared.leaf.Leaf.{Leaf}
+use Rattle.df_leaf.specs.Evidence.{IsBranch, IsShut, IsClosedBranch, AreIncompatible, ShareNothingShut}
+use Rattle.df_leaf.specs.Leaf.{IsPlace, IsUnsolvable, IsBetweenLeaf, TellsLeaf}
+use Rattle.df_search.specs.declared.searching.State.{State}
+use Rattle.df_search.specs.declared.searching.Turn.{Turn}
+use Rattle.df_search.specs.declared.searching.Turn.TheVariants as turns
+use Rattle.df_search.specs.Found.{HasModel, AreSpent, IsTooWide, HasManyRows}
+
+abbrev pub clauses_of : State → List GroundClause
+clauses_of state = map ground_of state.clauses.items
+
+abbrev pub branches_of : State → List (List Lit)
+branches_of state = map (λ (branch : Vec Lit Global). branch.items) state.closed.items
+
+-- A branch leaves decisions at one whose other side is closed: it goes on with that other side.
+pub record Leaves (decisions : List Decision) (branch : List Lit) : Type 0 where
+  pub kept : List Decision
+  pub decision : Decision
+  pub rest : List Decision
+  pub tail : List Lit
+  pub is : decisions ≡ kept ++ decision ∷ rest
+  pub side_closed : decision.closed ≡ None → ⊥
+  pub branch_is : branch ≡ literals_of kept ++ negation decision.literal ∷ tail
+
+abbrev pub AllLeave : List Decision → List (List Lit) → Type 0
+AllLeave decisions [] = Unit {0}
+AllLeave decisions (branch ∷ others) = Leaves decisions branch × AllLeave decisions others
+
+-- or it is the branch of the decisions
+abbrev pub AllLeaveOr : List Decision → List (List Lit) → Type 0
+AllLeaveOr decisions [] = Unit {0}
+AllLeaveOr decisions (branch ∷ others) = (Leaves decisions branch ⊎ (branch ≡ literals_of decisions)) × AllLeaveOr decisions others
+
+-- what both branches hold is not shut
+abbrev pub AreApart : List Lit → List Lit → Type 0
+AreApart branch other = (nodes : List Node) (clauses : List GroundClause) → IsBranch nodes clauses branch → IsBranch nodes clauses other → ShareNothingShut nodes clauses branch other
+
+-- the one branch has a last literal that the other lacks
+pub record Lacks (branch other : List Lit) : Type 0 where
+  pub first : List Lit
+  pub last : Lit
+  pub is : branch ≡ first ++ last ∷ []
+  pub lacks : is_among other last ≡ false
+
+abbrev pub AllApart : List Lit → List (List Lit) → Type 0
+AllApart branch [] = Unit {0}
+AllApart branch (other ∷ others) = AreApart branch other × AllApart branch others
+
+-- the branch is incompatible with each of the others, and apart from it
+abbrev pub AllDiffer : List Lit → List (List Lit) → Type 0
+AllDiffer branch [] = Unit {0}
+AllDiffer branch (other ∷ others) = AreIncompatible branch other × AreApart branch other × AllDiffer branch others
+
+-- closed branches of which each differs from those after it
+abbrev pub AreCounted : Sequent → List Node → List GroundClause → List (List Lit) → Type 0
+AreCounted s nodes clauses [] = Unit {0}
+AreCounted s nodes clauses (branch ∷ others) = IsClosedBranch s nodes clauses branch × AllDiffer branch others × AreCounted s nodes clauses others
+
+-- The nodes and clauses are those of the ground set of the sequent, and the trail's branch is one.
+pub record IsStanding (s : Sequent) (all : List Clause) (state : State) : Type 0 where
+  pub ground_set : Ground
+  pub is_of : IsGroundOf s ground_set
+  pub set_is : state.set ≡ ground_set.nodes
+  pub clauses_are : clauses_of state ≡ map ground_of ground_set.clauses.items
+  pub program_is : program_of state.program.now ≡ s.program
+  pub lines : AreIn (clauses_of state) all
+  pub place : IsPlace state.set (clauses_of state) state.derivation.nodes (branch_of state.trail)
+  pub trail : IsTrail all state.trail
+  pub branch : IsBranch state.derivation.nodes (clauses_of state) (branch_of state.trail)
+  pub counted : AreCounted s state.derivation.nodes (clauses_of state) (branches_of state)
+
+-- what the lines of the log so far add, and the closed branches leave the trail
+pub record IsSearching (s : Sequent) (all : List Clause) (state : State) : Type 0 where
+  pub standing : IsStanding s all state
+  pub runs : Runs s state.derivation all
+  pub leave : AllLeave state.trail.decisions.items (branches_of state)
+
+-- the trail's branch is shut, and the log's last clause says that it is not
+pub record IsFinished (s : Sequent) (front : List Clause) (state : State) (number : ℕ) : Type 0 where
+  pub standing : IsStanding s front state
+  pub closed : IsClosed s state.derivation state.trail front number
+  pub shut : IsShut state.derivation.nodes (clauses_of state) (branch_of state.trail)
+  pub leave : AllLeave state.trail.decisions.items (branches_of state)
+
+-- and the branch may be among the closed ones
+pub record IsCounted (s : Sequent) (front : List Clause) (state : State) (number : ℕ) : Type 0 where
+  pub standing : IsStanding s front state
+  pub closed : IsClosed s state.derivation state.trail front number
+  pub leave : AllLeaveOr state.trail.decisions.items (branches_of state)
+
+pub record Searches (s : Sequent) (state : State) : Type 0 where
+  pub all : List Clause
+  pub is : IsSearching s all state
+
+pub record Finishes (s : Sequent) (state : State) (number : ℕ) : Type 0 where
+  pub front : List Clause
+  pub is : IsFinished s front state number
+
+-- whatever sequent the search is for
+abbrev pub Refutes : State → List ℕ → State → ℕ → Type 0
+Refutes old numbers new number =
+    (s : Sequent) (all : List Clause) → IsSearching s all old → IsShut old.derivation.nodes (clauses_of old) (branch_of old.trail)
+    → propagation_line old.derivation.nodes all numbers (map negation (branch_of old.trail)) ≡ Some (map negation (branch_of old.trail)) → IsFinished s all new number
+
+abbrev pub Solves : State → List ℕ → List Lit → List Combination → State → ℕ → Type 0
+Solves old reasons facts combinations new number =
+    (s : Sequent) (rows : List Row) → Searches s old → IsUnsolvable (clauses_of old) old.derivation.nodes (branch_of old.trail) reasons facts rows
+    → ((count : ℕ) → refutes count rows (map combination_of combinations) ≡ true) → Finishes s new number
+
+abbrev pub Counts : State → State → Type 0
+Counts old new = (s : Sequent) (front : List Clause) (number : ℕ) → IsFinished s front old number → IsCounted s front new number
+
+-- what a turn of a search comes to
+abbrev pub Comes : Sequent → ℕ → State → Turn → Type 0
+Comes s steps state turns.On = Searches s state × (length state.closed.items < steps)
+Comes s steps state turns.Proved = Derives s (map step_of state.derivation.lines.items)
+Comes s steps state turns.Spent = AreSpent s steps (branches_of state)
+Comes s steps state (turns.Modelled table) = IsSequent s → IsArithmeticSequent s → HasModel s table
+Comes s steps state turns.Wide = IsTooWide s
+Comes s steps state (turns.Many count) = HasManyRows s count
+
+abbrev pub Closes : State → ℕ → ℕ → State → Turn → Type 0
+Closes old number steps new turn = (s : Sequent) → Finishes s old number → length old.closed.items < steps → Comes s steps new turn
+
+abbrev pub TurnsTo : State → ℕ → State → Turn → Type 0
+TurnsTo old steps new turn = (s : Sequent) → Searches s old → length old.closed.items < steps → Comes s steps new turn
+
+abbrev pub Tells : State → Leaf → Type 0
+Tells state leaf = TellsLeaf (program_of state.program.now) state.set (clauses_of state) state.derivation.nodes (branch_of state.trail) leaf
+
+-- a further decision, at a bound
+abbrev pub SplitsAt : State → ℕ → ℤ → State → Type 0
+SplitsAt old node bound new = (s : Sequent) → Searches s old → IsBetweenLeaf (clauses_of old) old.derivation.nodes (branch_of old.trail) node bound → Searches s new
+
+-- the log is longer; or it is as long, or longer, and so is the trail
+abbrev pub Grows : State → State → Type 0
+Grows old new =
+    (length old.derivation.lines.items < length new.derivation.lines.items)
+    ⊎ ((length old.derivation.lines.items ≤ length new.derivation.lines.items) × (length new.trail.decisions.items ≡ suc (length old.trail.decisions.items)))
+
+abbrev pub GoesOn : State → State → Turn → Type 0
+GoesOn old new turns.On = Grows old new
+GoesOn old new turns.Proved = Unit {0}
+GoesOn old new turns.Spent = Unit {0}
+GoesOn old new (turns.Modelled table) = Unit {0}
+GoesOn old new turns.Wide = Unit {0}
+GoesOn old new (turns.Many count) = Unit {0}

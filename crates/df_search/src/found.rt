@@ -1,0 +1,36 @@
+//! What a search may use, and what it finds.
+
+use df_form::{Lit, Step};
+use df_table::Table;
+
+/// How far a search may go.
+#[derive(Clone, Copy, Debug, PartialEq, Eq)]
+pub struct Budget {
+    /// How many branches it may close, at least 1.
+    pub steps: u64,
+    /// How many rounds of instances it may add.
+    pub rounds: u32,
+}
+
+/// Of what there is too much.
+#[derive(Clone, Copy, Debug, PartialEq, Eq)]
+pub enum What {
+    /// So many ground clauses.
+    Instances(u64),
+    /// So many rows in a level.
+    Rows(u64),
+}
+
+/// A proof, or why the search stopped without one.
+#[derive(Drop)]
+pub enum Found {
+    /// A log that derives the sequent.
+    Proved(Vec<Step>),
+    /// A table model of its ground set.
+    Modelled(Table),
+    /// Closed branches, as many as it may close.
+    Spent(Vec<Vec<Lit>>),
+    /// A number on the way is past 128 bits.
+    Wide,
+    Many(What),
+}

@@ -1,0 +1,10 @@
+//! The search for a proof: a log that derives a sequent, or evidence for why it stopped.
+#![tactic(auto)]
+
+mod found;
+mod searching;
+#[cfg(test)]
+mod tests;
+
+pub use found::{Budget, Found, What};
+pub use searching::search;
