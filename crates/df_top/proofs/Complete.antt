@@ -1,6 +1,6 @@
 -- What elaborates by the rules elaborates from left to right, so a tree has at most one program.
-use Rattle.std.proofs.Common.{◌≡◌, ◌≢◌, ℕ, ℤ, pos, negsuc, neg_ℤ, ◌+ℤ◌, ◌-ℤ◌, ◌<◌, ◌^◌, ◌≤ℤ◌, ◌<ℤ◌, ◌+◌, Bool, true, false, cond, ◌&&◌, not, nat_lt, nat_eq, eqb, List, [], ◌∷◌, ◌++◌, length, get_or, Option, Some, None, refl, sym, ap, subst, ◌∙◌, ◌⊎◌, inl, inr, arith, length-append}
-use Rattle.std.specs.Prelude.{option_map, position, slice_get, Contains, codes, int_le, int_lt, IsTrue}
+use Rattle.std.proofs.Common.{◌≡◌, ◌≢◌, ℕ, ℤ, pos, neg_ℤ, ◌<◌, ◌^◌, ◌≤ℤ◌, ◌<ℤ◌, Bool, true, false, cond, ◌&&◌, not, nat_eq, eqb, List, [], ◌∷◌, ◌++◌, length, get_or, Option, Some, None, refl, sym, ap, ◌∙◌, ◌⊎◌, inl, inr, arith, length-append}
+use Rattle.std.specs.Prelude.{position, slice_get, Contains, int_le, int_lt}
 use Rattle.std.specs.List.{list_any, position_or_len}
 use Rattle.std.specs.Cmp.{nat_eq_equiv}
 use Rattle.std.proofs.lemmas.Bool.{lt-ltb, eqb-true, cases_lt}
@@ -11,10 +11,7 @@ use Rattle.std.proofs.Math.ListN.{get_or-append}
 use Rattle.std.proofs.lemmas.Bool.Decides.{nat_tests}
 use Rattle.std.proofs.lemmas.Int.{ints}
 use Rattle.indexmap.proofs.CallerLemmas.{Contains-list_any}
-use Rattle.df_types.specs.Interval.{IsWithin}
 use Rattle.df_types.specs.Program as program
-use Rattle.df_types.specs.declared.program.Ty.{Ty}
-use Rattle.df_types.specs.declared.program.Ty.TheVariants as types
 use Rattle.df_types.specs.declared.program.Member as typed_member
 use Rattle.df_types.specs.declared.program.Member.TheVariants as typed
 use Rattle.df_types.specs.declared.program.Plus as typed_plus
@@ -22,14 +19,13 @@ use Rattle.df_tree.specs.Tree as tree
 use Rattle.df_tree.specs.declared.tree.Literal.{Literal}
 use Rattle.df_tree.specs.declared.tree.Order.{Order}
 use Rattle.df_tree.specs.declared.tree.Order.TheVariants as orders
-use Rattle.df_tree.specs.declared.tree.Range.{Range}
 use Rattle.df_tree.specs.declared.tree.Member as source_member
 use Rattle.df_tree.specs.declared.tree.Member.TheVariants as source
 use Rattle.df_tree.specs.declared.tree.Plus as source_plus
 use Rattle.df_tree.specs.declared.tree.Newtype as source_newtype
-use Rattle.df_top.specs.Gives.{◌>>=◌, all_of}
+use Rattle.df_top.specs.Gives.{all_of}
 use Rattle.df_top.specs.Elaboration.{value_of, lowest, highest, IsLiteral, IsDefault, IsNewtype, IsMember, ArePluses, IsExpr, IsOperand, AreOperands, AreStmts, Elaborates}
-use Rattle.df_top.specs.Elaborating.{literal_value, member_of, plus_of, pluses_of, expr_of, operand_of, operands_of, stmt_of, stmts_of, fitting, low_of, high_of, default_of, inside, Bounds, bounds_of, newtype_of, main_of, program_of}
+use Rattle.df_top.specs.Elaborating.{literal_value, member_of, plus_of, pluses_of, expr_of, operand_of, operands_of, stmt_of, stmts_of, fitting, low_of, high_of, default_of, bounds_of, newtype_of, program_of}
 use Rattle.df_top.proofs.Some.{some_is, both_true}
 
 false_by : (b : Bool) → (b ≡ true → ⊥) → b ≡ false

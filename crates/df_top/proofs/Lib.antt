@@ -7,7 +7,11 @@ pub mod Complete
 pub mod Frame
 pub mod Steps
 pub mod Sums
-pub mod Ranges
+pub mod Endings
+pub mod Texts
+pub mod Commands
+pub mod Counted
+pub mod Counting
 pub mod Parts
 pub mod Named
 pub mod Elaborated

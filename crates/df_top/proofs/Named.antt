@@ -1,16 +1,15 @@
 -- The names of a tree that tokens of a source spell are among the source's names.
-use Rattle.std.proofs.Common.{◌≡◌, ℕ, ◌+◌, ◌<◌, ◌≤◌, Bool, true, false, cond, List, [], ◌∷◌, ◌++◌, length, Option, Some, None, refl, sym, ap, subst, ◌∙◌, arith, length-append}
-use Rattle.std.specs.Prelude.{position}
+use Rattle.std.proofs.Common.{◌≡◌, ℕ, ◌<◌, ◌≤◌, Bool, true, false, cond, List, [], ◌∷◌, ◌++◌, length, subst, arith, length-append}
 use Rattle.std.specs.List.{list_any, flat_map}
 use Rattle.df_tok.specs.declared.word.Word.TheVariants as words
 use Rattle.df_tok.specs.declared.sign.Sign.TheVariants as signs
 use Rattle.std.proofs.lemmas.List.Quantifiers.{position-Some}
-use Rattle.df_base.specs.Names.{same_text, with_text}
+use Rattle.df_base.specs.Names.{same_text}
 use Rattle.df_base.specs.declared.pos.Pos.{Pos}
 use Rattle.df_tok.specs.declared.token.Kind.{Kind}
 use Rattle.df_tok.specs.declared.token.Kind.TheVariants as kinds
 use Rattle.df_tok.specs.Token.{Token, HasKind, IsNamed}
-use Rattle.df_tok.specs.Division.{Piece, Blank, LineComment, BlockComment, Lexeme, IsPiece, AreDivided, tokens_of, Divides, after_byte, after_bytes, start}
+use Rattle.df_tok.specs.Division.{Piece, Blank, LineComment, BlockComment, Lexeme, AreDivided, tokens_of, Divides, after_byte, after_bytes, start}
 use Rattle.df_tree.specs.Tree.{Tree}
 use Rattle.df_tree.specs.Spelling.{Wanted, TheWord, TheSign, SignAt, NameAt, TheNumber, NumberAt, TheText, Meets, AllMeet, spell, spell_newtype, spell_stmt, Spells}
 

@@ -1,5 +1,5 @@
 -- What an answer that is there says of the steps that found it.
-use Rattle.std.proofs.Common.{◌≡◌, Bool, true, false, cond, Option, Some, None, refl, sym, ap, ◌∙◌, ◌&&◌}
+use Rattle.std.proofs.Common.{◌≡◌, Bool, true, false, cond, Option, Some, None, refl, ◌&&◌}
 use Rattle.std.specs.Prelude.{option_map}
 use Rattle.df_top.specs.Gives.{◌>>=◌}
 

@@ -1,5 +1,5 @@
 -- When a source is lawful for a program, and that it is for one at most.
-use Rattle.std.proofs.Common.{◌≡◌, ℕ, ◌≤◌, List, [], length, refl, sym, ap, subst, ◌∙◌}
+use Rattle.std.proofs.Common.{◌≡◌, ℕ, ◌≤◌, List, [], length, subst}
 use Rattle.df_tok.specs.Token.{Token}
 use Rattle.df_tok.specs.Division.{Divides}
 use Rattle.df_tree.specs.Tree.{Tree}

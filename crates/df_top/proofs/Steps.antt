@@ -79,7 +79,7 @@ is_wrong ls old mid step go whole place kind shifts so_far wrong =
     sym so_far.goes ∙ ap (λ o. after_stmt o go) (ap step (with_text ls so_far.text) ∙ shifts so_far.text ∙ ap (shifted so_far.text) wrong)
 
 -- a text that goes on after a part of it is put
-prefix_more : (old mid new : Option (List ℕ)) (t u more : List ℕ) → Appends old mid t → AppendsPrefix mid new u → AppendsPrefix old new ((t ++ u) ++ more)
+pub prefix_more : (old mid new : Option (List ℕ)) (t u more : List ℕ) → Appends old mid t → AppendsPrefix mid new u → AppendsPrefix old new ((t ++ u) ++ more)
 prefix_more old mid new t u more a b =
     let part : List ℕ = take b.0 u in
     let rest : List ℕ = drop b.0 u ++ more in

@@ -1,5 +1,5 @@
 -- Elaboration from left to right, against which the code is proved; the relation is in Elaboration.
-use Rattle.std.specs.Prelude.{◌≡◌, ℕ, ℤ, pos, neg_ℤ, ◌<◌, ◌^◌, nat_lt, nat_eq, int_le, int_lt, ◌==◌, ◌&&◌, not, Bool, true, false, if◌then◌else◌, List, [], ◌∷◌, ◌++◌, Option, Some, None, position, codes, slice_get, option_map}
+use Rattle.std.specs.Prelude.{ℕ, ℤ, pos, neg_ℤ, ◌^◌, nat_lt, nat_eq, int_le, int_lt, ◌==◌, ◌&&◌, not, if◌then◌else◌, List, [], ◌∷◌, ◌++◌, Option, Some, None, position, codes, slice_get, option_map}
 use Rattle.std.specs.List.{list_any}
 use Rattle.df_base.specs.Names.{same_text}
 use Rattle.df_types.specs.Program as program

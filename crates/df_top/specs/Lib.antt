@@ -6,6 +6,7 @@ pub mod Elaboration
 pub mod Elaborating
 pub mod Bounds
 pub mod Source
-pub mod Command
 pub mod Answer
+pub mod Ending
+pub mod Telling
 pub mod Running

@@ -1,52 +1,105 @@
 //! The one call of the program.
 
-ghost use Rattle.std.specs.Prelude.{◌≡◌, ◌≢◌, ◌≤◌, ◌⊎◌, ◌↔◌, ℕ, List, Option, map, option_map, IfSome, None, Some, string_bytes};
+ghost use Rattle.std.specs.Prelude.{◌≡◌, ◌≢◌, ◌≤◌, ◌⊎◌, ℕ, List, map, string_bytes};
+ghost use Rattle.df_base.specs.Outside.{Appends, AppendsPrefix};
 ghost use Rattle.df_base.specs.declared.status.Status.TheVariants as statuses;
-ghost use Rattle.df_types.specs.Program as pure;
-ghost use Rattle.df_top.specs.Source.{IsLawful};
-ghost use Rattle.df_top.specs.Command.{file_of};
-ghost use Rattle.df_top.specs.Answer.{Ran, RanInto, IsUnproved, IsUnlawful, OfLoaded, IsTooLong, Rose};
+ghost use Rattle.df_cmd.specs.Line as lines;
+ghost use Rattle.df_cmd.specs.Line.{IsLine, file_of, budget_of as budget_in};
+ghost use Rattle.df_cmd.specs.View.{command_of};
+ghost use Rattle.df_top.specs.Answer.{Puts, IsDoneText, IsVerifyReport, IsRunReport, IsOutText, IsRefused, IsUnreadLine, IsNoLine, usage_line, OutPart, ErrPart, Rose};
+ghost use Rattle.df_top.specs.Ending.{Ends, of_files, Answers};
 
-use crate::running::run_source;
+use crate::ending::End;
+use crate::running::end_source;
+use crate::telling::{tell_memory, tell_unread, tell_usage};
 use df_base::{Files, Global, LoadFault, Sink, Status};
+use df_cmd::{Command, LineFault, line};
 
 /// A source has at most this many bytes.
 const BYTE_LIMIT: u64 = 4_194_304;
 
-/// The file of the words `run FILE`, which are the one command.
-fn file_of_command(words: &[String]) -> Option<&str>
-    ensures { option_map (λ name. name.now) result ≡ file_of (map string_bytes words.now) }
+/// The file of a command.
+fn file(command: &Command) -> &str
+    ensures { result.now ≡ file_of (command_of command.now) }
 {
-    match words {
-        [] | [_] | [_, _, _, ..] => None,
-        [command, name] => (command.as_str() == "run").then_some(name.as_str()),
+    match command {
+        Command::Verify { file, .. } => file.as_str(),
+        Command::Run { file, .. } => file.as_str(),
     }
 }
 
-/// Loads the file, and runs it.
-fn run_file<F: Files, O: Sink>(alloc: Global, name: &str, files: &mut F, out: &mut O) -> Status
-    requires { F.allowed files.old name.now }
-    ensures done { result ≡ statuses.Done → OfLoaded (F.holds files.old) (Some name.now) (λ source. Ran source (O.taken out.old) (O.taken out.new)) }
-    ensures unproved { result ≡ statuses.Unproved → OfLoaded (F.holds files.old) (Some name.now) IsUnproved × (O.taken out.new ≡ O.taken out.old) }
-    ensures usage { result ≢ statuses.Usage }
-    ensures refused { result ≡ statuses.Refused → (OfLoaded (F.holds files.old) (Some name.now) IsUnlawful ⊎ IsTooLong (F.holds files.old) (Some name.now)) × (O.taken out.new ≡ O.taken out.old) }
-    ensures unread { result ≡ statuses.Unread → Rose (F.fault_count files.old) (F.fault_count files.new) × (O.taken out.new ≡ O.taken out.old) }
-    ensures unwritten { result ≡ statuses.Unwritten → Rose (O.fault_count out.old) (O.fault_count out.new) × OfLoaded (F.holds files.old) (Some name.now) (λ source. RanInto source (O.taken out.old) (O.taken out.new)) }
-    ensures memory { result ≡ statuses.Memory → (O.taken out.new ≡ O.taken out.old) ⊎ OfLoaded (F.holds files.old) (Some name.now) (λ source. RanInto source (O.taken out.old) (O.taken out.new)) }
-    ensures others { (result ≢ statuses.FuelSpent) × (result ≢ statuses.NotCompilable) × (result ≢ statuses.NoMain) × (result ≢ statuses.BadLog) }
+/// Loads the file of a command, and carries out the command.
+fn end_command<F: Files, O: Sink, E: Sink>(
+    alloc: Global,
+    command: &Command,
+    files: &mut F,
+    out: &mut O,
+    err: &mut E,
+) -> End
+    requires allowed { F.allowed files.old (file_of (command_of command.now)) }
+    requires steps { 1 ≤ (budget_in (command_of command.now)).steps }
+    ensures ends { Ends (of_files (command_of command.now) (F.holds files.old) (F.fault_count files.old) (F.fault_count files.new)) (record { out = O.taken out.old; err = E.taken err.old; out_faults = O.fault_count out.old; err_faults = E.fault_count err.old }) (record { out = O.taken out.new; err = E.taken err.new; out_faults = O.fault_count out.new; err_faults = E.fault_count err.new }) result }
     ensures held { F.holds files.new ≡ F.holds files.old }
-    ensures counts { (F.fault_count files.old ≤ F.fault_count files.new) × (O.fault_count out.old ≤ O.fault_count out.new) }
+    ensures counts { (F.fault_count files.old ≤ F.fault_count files.new) × (O.fault_count out.old ≤ O.fault_count out.new) × (E.fault_count err.old ≤ E.fault_count err.new) }
 {
-    match files.load(alloc, name, BYTE_LIMIT) {
-        Ok(source) => run_source(alloc, source.as_slice(), out),
-        Err(LoadFault::Failed) => Status::Unread,
-        Err(LoadFault::Large(_)) => Status::Refused,
-        Err(LoadFault::Memory) => Status::Memory,
+    match files.load(alloc, file(command), BYTE_LIMIT) {
+        Ok(source) => end_source(alloc, command, source.as_slice(), out, err),
+        Err(LoadFault::Failed) => End::Unread,
+        Err(LoadFault::Large(_)) => End::Refused,
+        Err(LoadFault::Memory) => End::Memory,
     }
 }
 
-/// Carries out the command of the words, which are those of `run FILE` or no command. Nothing is put on
-/// `err` yet.
+/// Carries out a command, and tells why it has no end of its own.
+fn carry_out<F: Files, O: Sink, E: Sink>(
+    alloc: Global,
+    words: &[String],
+    command: &Command,
+    files: &mut F,
+    out: &mut O,
+    err: &mut E,
+) -> Status
+    requires line { IsLine (map string_bytes words.now) (command_of command.now) }
+    requires allowed { F.allowed files.old (file_of (command_of command.now)) }
+    ensures answers { Answers (map string_bytes words.now) (F.holds files.old) (F.fault_count files.old) (F.fault_count files.new) (record { out = O.taken out.old; err = E.taken err.old; out_faults = O.fault_count out.old; err_faults = E.fault_count err.old }) (record { out = O.taken out.new; err = E.taken err.new; out_faults = O.fault_count out.new; err_faults = E.fault_count err.new }) result }
+    ensures held { F.holds files.new ≡ F.holds files.old }
+    ensures counts { (F.fault_count files.old ≤ F.fault_count files.new) × (O.fault_count out.old ≤ O.fault_count out.new) × (E.fault_count err.old ≤ E.fault_count err.new) }
+{
+    match end_command(alloc, command, files, out, err) {
+        End::Done => Status::Done,
+        End::Unproved => Status::Unproved,
+        End::Refused => Status::Refused,
+        End::Unread => tell_unread(alloc, file(command), err),
+        End::Unwritten => Status::Unwritten,
+        End::Memory => tell_memory(err),
+    }
+}
+
+/// Carries out the command of the words, if there is one.
+fn answer<F: Files, O: Sink, E: Sink>(
+    alloc: Global,
+    words: &[String],
+    files: &mut F,
+    out: &mut O,
+    err: &mut E,
+) -> Status
+    requires { (command : lines.Command) → IsLine (map string_bytes words.now) command → F.allowed files.old (file_of command) }
+    ensures answers { Answers (map string_bytes words.now) (F.holds files.old) (F.fault_count files.old) (F.fault_count files.new) (record { out = O.taken out.old; err = E.taken err.old; out_faults = O.fault_count out.old; err_faults = E.fault_count err.old }) (record { out = O.taken out.new; err = E.taken err.new; out_faults = O.fault_count out.new; err_faults = E.fault_count err.new }) result }
+    ensures held { F.holds files.new ≡ F.holds files.old }
+    ensures counts { (F.fault_count files.old ≤ F.fault_count files.new) × (O.fault_count out.old ≤ O.fault_count out.new) × (E.fault_count err.old ≤ E.fault_count err.new) }
+{
+    match line(alloc, words) {
+        Ok(command) => carry_out(alloc, words, &command, files, out, err),
+        Err(LineFault::Usage) => tell_usage(err),
+        Err(LineFault::Memory) => tell_memory(err),
+    }
+}
+
+/// Carries out the command of the words.
+///
+/// `verify FILE` puts the report on the file's program on `out`. `run FILE` puts the text of Main there,
+/// where all obligations are proved, and else the report on `err`. Status 1 tells that an obligation is
+/// unproved. The statuses 2, 4 and 6 are told by a line on `err`.
 pub fn top<F: Files, O: Sink, E: Sink>(
     alloc: Global,
     words: &[String],
@@ -54,22 +107,21 @@ pub fn top<F: Files, O: Sink, E: Sink>(
     out: &mut O,
     err: &mut E,
 ) -> Status
-    requires { IfSome (file_of (map string_bytes words.now)) (F.allowed files.old) }
-    ensures done { result ≡ statuses.Done → OfLoaded (F.holds files.old) (file_of (map string_bytes words.now)) (λ source. Ran source (O.taken out.old) (O.taken out.new)) }
-    ensures unproved { result ≡ statuses.Unproved → OfLoaded (F.holds files.old) (file_of (map string_bytes words.now)) IsUnproved × (O.taken out.new ≡ O.taken out.old) }
-    ensures usage { (result ≡ statuses.Usage) ↔ (file_of (map string_bytes words.now) ≡ None) }
-    ensures quiet { result ≡ statuses.Usage → O.taken out.new ≡ O.taken out.old }
-    ensures refused { result ≡ statuses.Refused → (OfLoaded (F.holds files.old) (file_of (map string_bytes words.now)) IsUnlawful ⊎ IsTooLong (F.holds files.old) (file_of (map string_bytes words.now))) × (O.taken out.new ≡ O.taken out.old) }
-    ensures unread { result ≡ statuses.Unread → Rose (F.fault_count files.old) (F.fault_count files.new) × (O.taken out.new ≡ O.taken out.old) }
-    ensures unwritten { result ≡ statuses.Unwritten → Rose (O.fault_count out.old) (O.fault_count out.new) × OfLoaded (F.holds files.old) (file_of (map string_bytes words.now)) (λ source. RanInto source (O.taken out.old) (O.taken out.new)) }
-    ensures memory { result ≡ statuses.Memory → (O.taken out.new ≡ O.taken out.old) ⊎ OfLoaded (F.holds files.old) (file_of (map string_bytes words.now)) (λ source. RanInto source (O.taken out.old) (O.taken out.new)) }
+    requires { (command : lines.Command) → IsLine (map string_bytes words.now) command → F.allowed files.old (file_of command) }
+    // The report tells of no failure, or all is proved and Main has run to its end.
+    ensures done { result ≡ statuses.Done → Puts (map string_bytes words.now) (F.holds files.old) IsDoneText (Appends (O.taken out.old) (O.taken out.new)) × (E.taken err.new ≡ E.taken err.old) }
+    // The report tells of a failure: `verify` puts it on `out`, and `run` on `err`.
+    ensures unproved { result ≡ statuses.Unproved → (Puts (map string_bytes words.now) (F.holds files.old) IsVerifyReport (Appends (O.taken out.old) (O.taken out.new)) × (E.taken err.new ≡ E.taken err.old)) ⊎ (Puts (map string_bytes words.now) (F.holds files.old) IsRunReport (Appends (E.taken err.old) (E.taken err.new)) × (O.taken out.new ≡ O.taken out.old)) }
+    ensures usage { result ≡ statuses.Usage → IsNoLine (map string_bytes words.now) × (O.taken out.new ≡ O.taken out.old) × Appends (E.taken err.old) (E.taken err.new) usage_line }
+    ensures no_line { IsNoLine (map string_bytes words.now) → (result ≡ statuses.Usage) ⊎ ((result ≡ statuses.Unwritten) ⊎ (result ≡ statuses.Memory)) }
+    ensures refused { result ≡ statuses.Refused → IsRefused (map string_bytes words.now) (F.holds files.old) × (O.taken out.new ≡ O.taken out.old) × (E.taken err.new ≡ E.taken err.old) }
+    ensures unread { result ≡ statuses.Unread → Rose (F.fault_count files.old) (F.fault_count files.new) × ((line : List ℕ) × IsUnreadLine (map string_bytes words.now) line × (O.taken out.new ≡ O.taken out.old) × Appends (E.taken err.old) (E.taken err.new) line) }
+    // A put failed on `out`, or on `err`.
+    ensures unwritten { result ≡ statuses.Unwritten → (Rose (O.fault_count out.old) (O.fault_count out.new) × Puts (map string_bytes words.now) (F.holds files.old) IsOutText (AppendsPrefix (O.taken out.old) (O.taken out.new)) × (E.taken err.new ≡ E.taken err.old)) ⊎ (Rose (E.fault_count err.old) (E.fault_count err.new) × OutPart (map string_bytes words.now) (F.holds files.old) (O.taken out.old) (O.taken out.new) × ErrPart (map string_bytes words.now) (F.holds files.old) (E.taken err.old) (E.taken err.new)) }
+    ensures memory { result ≡ statuses.Memory → OutPart (map string_bytes words.now) (F.holds files.old) (O.taken out.old) (O.taken out.new) × ErrPart (map string_bytes words.now) (F.holds files.old) (E.taken err.old) (E.taken err.new) }
     ensures others { (result ≢ statuses.FuelSpent) × (result ≢ statuses.NotCompilable) × (result ≢ statuses.NoMain) × (result ≢ statuses.BadLog) }
     ensures held { F.holds files.new ≡ F.holds files.old }
-    ensures counts { (F.fault_count files.old ≤ F.fault_count files.new) × (O.fault_count out.old ≤ O.fault_count out.new) }
-    ensures err { (E.taken err.new ≡ E.taken err.old) × (E.fault_count err.new ≡ E.fault_count err.old) }
+    ensures counts { (F.fault_count files.old ≤ F.fault_count files.new) × (O.fault_count out.old ≤ O.fault_count out.new) × (E.fault_count err.old ≤ E.fault_count err.new) }
 {
-    match file_of_command(words) {
-        Some(name) => run_file(alloc, name, files, out),
-        None => Status::Usage,
-    }
+    answer(alloc, words, files, out, err)
 }

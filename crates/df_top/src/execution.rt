@@ -1,6 +1,6 @@
 //! The run of Main.
 
-ghost use Rattle.std.specs.Prelude.{◌≡◌, ◌≢◌, ◌⊎◌, [], ◌∷◌, map, length, true, OnOk, Err};
+ghost use Rattle.std.specs.Prelude.{◌≡◌, ◌⊎◌, [], ◌∷◌, map, length, true, OnOk, Err};
 ghost use Rattle.df_base.specs.Outside.{Appends, AppendsPrefix, HasCause};
 ghost use Rattle.df_base.specs.declared.pos.Pos.{Pos};
 ghost use Rattle.df_types.specs.Program.{stmt_of};
@@ -17,7 +17,6 @@ mod evaluation;
 mod halt;
 mod printing;
 
-use crate::silent::Silent;
 use df_base::{Global, Pos, Sink};
 use df_meaning::Kind;
 use df_types::{Newtype, Program, Stmt};
@@ -97,13 +96,4 @@ pub(crate) fn run<S: Sink>(alloc: Global, program: &Program, sink: &mut S) -> Ra
         Err(Halt::Write) => Ran::Write,
         Err(Halt::Memory) => Ran::Memory,
     }
-}
-
-/// How the run of Main ends, with nothing put anywhere: no write fails.
-pub(crate) fn rehearse(alloc: Global, program: &Program) -> Ran
-    ensures ended { result ≡ Ran.Ended → (state : State) × (meaning.run 0 (program_of program.now) ≡ Next state) }
-    ensures wrong { (place : Pos) (kind : Kind) → result ≡ Ran.Wrong place kind → meaning.run 0 (program_of program.now) ≡ outcomes.Wrong place kind }
-    ensures written { result ≢ Ran.Write }
-{
-    run(alloc, program, &mut Silent)
 }

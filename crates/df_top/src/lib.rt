@@ -3,10 +3,13 @@
 
 mod command;
 mod elaboration;
+mod ending;
 mod execution;
+mod proving;
+mod putting;
 mod reading;
 mod running;
-mod silent;
+mod telling;
 #[cfg(test)]
 mod tests;
 

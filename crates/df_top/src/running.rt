@@ -1,54 +1,96 @@
-//! A source, run.
+//! Commands on programs and sources.
 
-ghost use Rattle.std.specs.Prelude.{◌≡◌, ◌≢◌, ◌≤◌, ◌⊎◌, ℕ, List};
+ghost use Rattle.std.specs.Prelude.{◌≡◌, ◌≤◌, ℕ, List, true};
 ghost use Rattle.df_base.specs.declared.pos.Pos.{Pos};
-ghost use Rattle.df_base.specs.declared.status.Status.TheVariants as statuses;
-ghost use Rattle.df_base.specs.Outside.{Appends, AppendsPrefix, HasCause};
-ghost use Rattle.df_meaning.specs.declared.kind.Kind.TheVariants as kinds;
-ghost use Rattle.df_meaning.specs.Run.{Prints, IsWrongAt};
+ghost use Rattle.df_cmd.specs.Line.{budget_of as budget_in};
+ghost use Rattle.df_cmd.specs.View.{command_of};
+ghost use Rattle.df_meaning.specs.Run.{Prints};
+ghost use Rattle.df_pass.specs.Modular.{IsModularlySafe};
 ghost use Rattle.df_types.specs.View.{program_of};
-ghost use Rattle.df_top.specs.Answer as answer;
+ghost use Rattle.df_top.specs.Ending.{PutsText, Ends, of_program, of_source};
 
-use crate::execution::{Ran, rehearse, run};
+use crate::ending::End;
+use crate::execution::{Ran, run};
+use crate::proving::prove;
+use crate::putting::put_report;
 use crate::reading::program;
-use df_base::{Global, Sink, Status, Stop};
+use df_base::{Global, Sink, Stop};
+use df_cmd::Command;
+use df_search::Budget;
 use df_types::Program;
+use df_verdict::judged_is_safe;
 
-/// Runs a program once to find out whether it is wrong, and where it isn't, once more to put its text.
-fn run_program<O: Sink>(alloc: Global, program: &Program, out: &mut O) -> Status
-    ensures done { result ≡ statuses.Done → (text : List ℕ) × Prints (program_of program.now) text × Appends (O.taken out.old) (O.taken out.new) text }
-    ensures unproved { result ≡ statuses.Unproved → ((place : Pos) × IsWrongAt (program_of program.now) place kinds.Range) × (O.taken out.new ≡ O.taken out.old) }
-    ensures unwritten { result ≡ statuses.Unwritten → (text : List ℕ) × Prints (program_of program.now) text × AppendsPrefix (O.taken out.old) (O.taken out.new) text }
-    ensures memory { result ≡ statuses.Memory → (O.taken out.new ≡ O.taken out.old) ⊎ ((text : List ℕ) × Prints (program_of program.now) text × AppendsPrefix (O.taken out.old) (O.taken out.new) text) }
-    ensures cause { HasCause (O.fault_count out.old) (O.fault_count out.new) (result ≡ statuses.Unwritten) }
-    ensures others { (result ≡ statuses.Done) ⊎ (result ≡ statuses.Unproved) ⊎ (result ≡ statuses.Unwritten) ⊎ (result ≡ statuses.Memory) }
+/// How far a search may go for a command.
+fn budget(command: &Command) -> Budget
+    ensures { result.steps ≡ (budget_in (command_of command.now)).steps }
 {
-    match rehearse(alloc, program) {
-        Ran::Ended => match run(alloc, program, out) {
-            Ran::Ended => Status::Done,
-            Ran::Write => Status::Unwritten,
-            Ran::Memory => Status::Memory,
-            Ran::Wrong(_, _) => unreachable!(),
-        },
-        Ran::Wrong(_, _) => Status::Unproved,
-        Ran::Write => unreachable!(),
-        Ran::Memory => Status::Memory,
+    let budget = match command {
+        Command::Verify { budget, .. } => *budget,
+        Command::Run { budget, .. } => *budget,
+    };
+    Budget {
+        steps: budget.steps,
+        rounds: u32::try_from(budget.rounds).unwrap_or(u32::MAX),
     }
 }
 
-/// Reads a source, and runs its program.
-pub(crate) fn run_source<O: Sink>(alloc: Global, source: &[u8], out: &mut O) -> Status
-    ensures done { result ≡ statuses.Done → answer.Ran source.now (O.taken out.old) (O.taken out.new) }
-    ensures unproved { result ≡ statuses.Unproved → answer.IsUnproved source.now × (O.taken out.new ≡ O.taken out.old) }
-    ensures refused { result ≡ statuses.Refused → answer.IsUnlawful source.now × (O.taken out.new ≡ O.taken out.old) }
-    ensures unwritten { result ≡ statuses.Unwritten → answer.RanInto source.now (O.taken out.old) (O.taken out.new) }
-    ensures memory { result ≡ statuses.Memory → (O.taken out.new ≡ O.taken out.old) ⊎ answer.RanInto source.now (O.taken out.old) (O.taken out.new) }
-    ensures cause { HasCause (O.fault_count out.old) (O.fault_count out.new) (result ≡ statuses.Unwritten) }
-    ensures others { (result ≡ statuses.Done) ⊎ (result ≡ statuses.Unproved) ⊎ (result ≡ statuses.Refused) ⊎ (result ≡ statuses.Unwritten) ⊎ (result ≡ statuses.Memory) }
+/// Runs Main of a safe program, and puts its text.
+fn run_main<O: Sink>(alloc: Global, program: &Program, out: &mut O) -> End
+    requires { IsModularlySafe (program_of program.now) }
+    ensures puts { (text : List ℕ) × Prints (program_of program.now) text × PutsText true text (O.taken out.old) (O.taken out.new) (O.fault_count out.old) (O.fault_count out.new) result }
+    ensures counts { O.fault_count out.old ≤ O.fault_count out.new }
+{
+    match run(alloc, program, out) {
+        Ran::Ended => End::Done,
+        Ran::Wrong(_, _) => unreachable!(),
+        Ran::Write => End::Unwritten,
+        Ran::Memory => End::Memory,
+    }
+}
+
+/// Proves a program, and carries out the command where nothing is left unproved; else its report is put.
+fn end_program<O: Sink, E: Sink>(
+    alloc: Global,
+    command: &Command,
+    program: &Program,
+    out: &mut O,
+    err: &mut E,
+) -> End
+    requires { 1 ≤ (budget_in (command_of command.now)).steps }
+    ensures ends { Ends (of_program (command_of command.now) (program_of program.now)) (record { out = O.taken out.old; err = E.taken err.old; out_faults = O.fault_count out.old; err_faults = E.fault_count err.old }) (record { out = O.taken out.new; err = E.taken err.new; out_faults = O.fault_count out.new; err_faults = E.fault_count err.new }) result }
+    ensures counts { (O.fault_count out.old ≤ O.fault_count out.new) × (E.fault_count err.old ≤ E.fault_count err.new) }
+{
+    judged_is_safe();
+    let Ok(report) = prove(alloc, program, budget(command)) else {
+        return End::Memory;
+    };
+    match command {
+        Command::Verify { .. } => put_report(out, &report),
+        Command::Run { .. } => {
+            if report.verified {
+                run_main(alloc, program, out)
+            } else {
+                put_report(err, &report)
+            }
+        }
+    }
+}
+
+/// Reads a source, and carries out the command on its program.
+pub(crate) fn end_source<O: Sink, E: Sink>(
+    alloc: Global,
+    command: &Command,
+    source: &[u8],
+    out: &mut O,
+    err: &mut E,
+) -> End
+    requires { 1 ≤ (budget_in (command_of command.now)).steps }
+    ensures ends { Ends (of_source (command_of command.now) source.now) (record { out = O.taken out.old; err = E.taken err.old; out_faults = O.fault_count out.old; err_faults = E.fault_count err.old }) (record { out = O.taken out.new; err = E.taken err.new; out_faults = O.fault_count out.new; err_faults = E.fault_count err.new }) result }
+    ensures counts { (O.fault_count out.old ≤ O.fault_count out.new) × (E.fault_count err.old ≤ E.fault_count err.new) }
 {
     match program(alloc, source) {
-        Ok(program) => run_program(alloc, &program, out),
-        Err(Stop::Refused(_)) => Status::Refused,
-        Err(Stop::Memory) => Status::Memory,
+        Ok(program) => end_program(alloc, command, &program, out, err),
+        Err(Stop::Refused(_)) => End::Refused,
+        Err(Stop::Memory) => End::Memory,
     }
 }

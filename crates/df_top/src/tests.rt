@@ -13,12 +13,29 @@ fn words(alloc: Global, texts: &[&str]) -> Result<Vec<String>, Fail> {
     Ok(words)
 }
 
-/// Runs a source, and says how it ended; what is printed is put on `out`.
-fn run<O: Sink>(alloc: Global, source: &[u8], out: &mut O) -> Result<Status, Fail> {
+/// Calls `top` with these words, and this source as the file `p.dfy`.
+fn call<O: Sink, E: Sink>(
+    alloc: Global,
+    texts: &[&str],
+    source: &[u8],
+    out: &mut O,
+    err: &mut E,
+) -> Result<Status, Fail> {
     let mut files = MemFiles::new(alloc);
     files.add("p.dfy", source)?;
-    let words = words(alloc, &["run", "p.dfy"])?;
-    Ok(top(alloc, &words, &mut files, out, &mut SureSink::new(alloc)))
+    let words = words(alloc, texts)?;
+    Ok(top(alloc, &words, &mut files, out, err))
+}
+
+/// Runs a source, and says how it ended; what is printed is put on `out`.
+fn run<O: Sink>(alloc: Global, source: &[u8], out: &mut O) -> Result<Status, Fail> {
+    call(
+        alloc,
+        &["run", "p.dfy"],
+        source,
+        out,
+        &mut SureSink::new(alloc),
+    )
 }
 
 /// A source of the usual range and this body of Main.
@@ -37,6 +54,38 @@ fn prints_six(rt: HostRuntime) -> Result<(), Fail> {
     let mut out = MemSink::new(alloc);
     assert_eq!(rt; run(alloc, &source, &mut out)?, Status::Done);
     assert_eq!(rt; out.taken(), b"6\n".as_slice());
+    Ok(())
+}
+
+#[test]
+fn verifies_it(rt: HostRuntime) -> Result<(), Fail> {
+    let alloc = rt.alloc();
+    let source = with_body(alloc, b" var x: i32 := 5; print x + 1, \"\\n\"; ")?;
+    let mut out = MemSink::new(alloc);
+    let mut err = SureSink::new(alloc);
+    let status = call(alloc, &["verify", "p.dfy"], &source, &mut out, &mut err)?;
+    assert_eq!(rt; status, Status::Done);
+    assert_eq!(rt;
+        out.taken(),
+        b"Main: verified\n1 verified, 0 unproved\n".as_slice()
+    );
+    Ok(())
+}
+
+#[test]
+fn runs_nothing_unproved(rt: HostRuntime) -> Result<(), Fail> {
+    let alloc = rt.alloc();
+    let source = with_body(alloc, b" var x: i32 := 2147483647; print x + 1; ")?;
+    let report = b"Main: unproved\n  2:51 range: model\n0 verified, 1 unproved\n".as_slice();
+    let mut out = MemSink::new(alloc);
+    let mut err = MemSink::new(alloc);
+    let status = call(alloc, &["run", "p.dfy"], &source, &mut out, &mut err)?;
+    assert_eq!(rt; status, Status::Unproved);
+    assert_eq!(rt; out.taken().len(), 0);
+    assert_eq!(rt; err.taken(), report);
+    let status = call(alloc, &["verify", "p.dfy"], &source, &mut out, &mut err)?;
+    assert_eq!(rt; status, Status::Unproved);
+    assert_eq!(rt; out.taken(), report);
     Ok(())
 }
 
@@ -193,47 +242,90 @@ fn reads_newtypes(rt: HostRuntime) -> Result<(), Fail> {
     Ok(())
 }
 
+/// Words, the status, and what is told on `err`.
+const LINES: [(&[&str], Status, &str); 13] = [
+    (&[], Status::Usage, "dfy: usage\n"),
+    (&["run"], Status::Usage, "dfy: usage\n"),
+    (&["runs", "p.dfy"], Status::Usage, "dfy: usage\n"),
+    (&["run", "p.dfy", "p.dfy"], Status::Usage, "dfy: usage\n"),
+    (
+        &["--steps", "5", "run", "p.dfy"],
+        Status::Usage,
+        "dfy: usage\n",
+    ),
+    (
+        &["run", "p.dfy", "--steps", "0"],
+        Status::Usage,
+        "dfy: usage\n",
+    ),
+    (
+        &["run", "p.dfy", "--rounds=9"],
+        Status::Usage,
+        "dfy: usage\n",
+    ),
+    (
+        &["verify", "--steps=5", "--steps=5", "p.dfy"],
+        Status::Usage,
+        "dfy: usage\n",
+    ),
+    (
+        &["verify", "p.dfy", "--steps"],
+        Status::Usage,
+        "dfy: usage\n",
+    ),
+    (&["run", "q.dfy"], Status::Unread, "q.dfy: cannot read\n"),
+    (
+        &["verify", "--steps", "1", "q.dfy"],
+        Status::Unread,
+        "q.dfy: cannot read\n",
+    ),
+    (&["run", "p.dfy", "--steps", "1"], Status::Refused, ""),
+    (
+        &["verify", "--rounds=0", "--", "p.dfy"],
+        Status::Refused,
+        "",
+    ),
+];
+
 #[test]
-fn knows_one_command(rt: HostRuntime) -> Result<(), Fail> {
+fn tells_why(rt: HostRuntime) -> Result<(), Fail> {
+    let alloc = rt.alloc();
+    for (texts, wanted, told) in &LINES {
+        let mut out = MemSink::new(alloc);
+        let mut err = MemSink::new(alloc);
+        let status = call(alloc, texts, RANGE, &mut out, &mut err)?;
+        assert_eq!(rt; status, *wanted, "at {texts:?}");
+        assert_eq!(rt; out.taken().len(), 0);
+        assert_eq!(rt; err.taken(), told.as_bytes(), "at {texts:?}");
+    }
+    Ok(())
+}
+
+#[test]
+fn stops_where_it_cannot_tell(rt: HostRuntime) -> Result<(), Fail> {
+    let alloc = rt.alloc();
+    let mut err = MemSink::new(alloc);
+    err.fail_at(0, 3)?;
+    let status = call(alloc, &["help"], RANGE, &mut SureSink::new(alloc), &mut err)?;
+    assert_eq!(rt; status, Status::Unwritten);
+    assert_eq!(rt; err.taken(), b"dfy".as_slice());
+    Ok(())
+}
+
+#[test]
+fn stops_at_a_failed_load(rt: HostRuntime) -> Result<(), Fail> {
     let alloc = rt.alloc();
     let mut files = MemFiles::new(alloc);
     files.add("p.dfy", RANGE)?;
-    let table: [(&[&str], Status); 6] = [
-        (&[], Status::Usage),
-        (&["run"], Status::Usage),
-        (&["runs", "p.dfy"], Status::Usage),
-        (&["run", "p.dfy", "p.dfy"], Status::Usage),
-        (&["run", "q.dfy"], Status::Unread),
-        (&["run", "p.dfy"], Status::Refused),
-    ];
-    for (texts, status) in table {
-        let words = words(alloc, texts)?;
-        let mut out = MemSink::new(alloc);
-        assert_eq!(rt;
-            top(
-                alloc,
-                &words,
-                &mut files,
-                &mut out,
-                &mut SureSink::new(alloc)
-            ),
-            status
-        );
-        assert_eq!(rt; out.taken().len(), 0);
-    }
-    files.fail_at(2)?;
+    files.fail_at(0)?;
     let words = words(alloc, &["run", "p.dfy"])?;
     let mut out = MemSink::new(alloc);
+    let mut err = SureSink::new(alloc);
     assert_eq!(rt;
-        top(
-            alloc,
-            &words,
-            &mut files,
-            &mut out,
-            &mut SureSink::new(alloc)
-        ),
+        top(alloc, &words, &mut files, &mut out, &mut err),
         Status::Unread
     );
+    assert_eq!(rt; err.taken(), b"p.dfy: cannot read\n".as_slice());
     Ok(())
 }
 
@@ -261,24 +353,13 @@ fn stops_at_a_failed_write(rt: HostRuntime) -> Result<(), Fail> {
 #[test]
 fn touches_no_stack_for_siblings(rt: HostRuntime) -> Result<(), Fail> {
     let alloc = rt.alloc();
-    let mut sum = Vec::from_slice(alloc, b"var x: i32 := 0")?;
     let mut prints = Vec::new(alloc);
     for _ in 1..100_000 {
-        sum.extend_from_slice(b" + 1")?;
         prints.extend_from_slice(b"print \"a\";")?;
     }
-    sum.extend_from_slice(b"; print x;")?;
+    let source = with_body(alloc, &prints)?;
     let mut out = MemSink::new(alloc);
-    assert_eq!(rt;
-        run(alloc, &with_body(alloc, &sum)?, &mut out)?,
-        Status::Done
-    );
-    assert_eq!(rt; out.taken(), b"99999".as_slice());
-    let mut out = MemSink::new(alloc);
-    assert_eq!(rt;
-        run(alloc, &with_body(alloc, &prints)?, &mut out)?,
-        Status::Done
-    );
+    assert_eq!(rt; run(alloc, &source, &mut out)?, Status::Done);
     assert_eq!(rt; out.taken().len(), 99_999);
     Ok(())
 }

@@ -1,16 +1,12 @@
-use Rattle.std.proofs.Common.{◌≡◌, ℕ, List, [], map, length, Result, Ok, Err, refl, sym, ap, subst, ◌∙◌, arith}
+use Rattle.std.proofs.Common.{◌≡◌, [], map, Result, Err, sym, ap, ◌∙◌, arith}
 use Rattle.std.proofs.lemmas.List.{length-map}
-use Rattle.std.specs.Prelude.{IfOk}
 use Rattle.std.proofs.lemmas.Result.{err_from_is_err_and, IfOk-weaker}
-use Rattle.df_base.specs.declared.refusal.Refusal.{Refusal}
 use Rattle.df_base.specs.declared.refusal.Stop.{Stop}
 use Rattle.df_base.specs.declared.refusal.Stop.TheVariants as stops
 use Rattle.df_tok.specs.Token as token
 use Rattle.df_tok.specs.Division.{Divides}
 use Rattle.df_tok.specs.Fault.{IsFault}
 use Rattle.df_tree.specs.Tree.{tree_of}
-use Rattle.df_types.specs.View.{program_of}
-use Rattle.df_top.specs.Source.{IsLawful}
 use Rattle.df_top.proofs.Named.{declared_known}
 use Rattle.df_top.proofs.Sources.{undivided, unspelled, unelaborated}
 use Rattle.df_top.proofs.reading.program.Goals as goal

@@ -1,5 +1,5 @@
--- A run of this language is wrong only where a number does not lie in its type.
-use Rattle.std.proofs.Common.{◌≡◌, ℕ, ℤ, ◌+ℤ◌, Bool, true, false, cond, List, [], ◌∷◌, refl, sym, ap, subst}
+-- A run of this language ends, or it is wrong.
+use Rattle.std.proofs.Common.{◌≡◌, ℕ, ℤ, ◌+ℤ◌, Bool, true, false, cond, List, [], ◌∷◌, refl}
 use Rattle.df_base.specs.declared.pos.Pos.{Pos}
 use Rattle.df_types.specs.declared.program.Member.{Member}
 use Rattle.df_types.specs.declared.program.Member.TheVariants as members
@@ -13,41 +13,42 @@ use Rattle.df_meaning.specs.Outcome.{State, Evaluated, Known, Undefined, OutOfDe
 use Rattle.df_meaning.specs.Evaluation.{holds, in_range, evaluate_member, evaluate_rest, evaluate}
 use Rattle.df_meaning.specs.Execution.{declare, printed, evaluate_operand, print_all, execute, execute_all}
 use Rattle.df_meaning.specs.Run.{run, begin}
+use Rattle.df_pass.specs.Modular.{IsModularlySafe}
 
 abbrev OfValue : Evaluated → Type 0
 OfValue (Known v) = Unit {0}
-OfValue (Undefined place kind) = kind ≡ kinds.Range
-OfValue OutOfDepth = Unit {0}
+OfValue (Undefined place kind) = Unit {0}
+OfValue OutOfDepth = ⊥
 
 abbrev OfOutcome : Outcome → Type 0
 OfOutcome (Next s) = Unit {0}
-OfOutcome (Return s) = Unit {0}
-OfOutcome (Break s) = Unit {0}
-OfOutcome (Wrong place kind) = kind ≡ kinds.Range
-OfOutcome TooDeep = Unit {0}
-OfOutcome NoChoice = Unit {0}
+OfOutcome (Return s) = ⊥
+OfOutcome (Break s) = ⊥
+OfOutcome (Wrong place kind) = Unit {0}
+OfOutcome TooDeep = ⊥
+OfOutcome NoChoice = ⊥
 
 with_value_of : (r : Evaluated) (f : Value → Evaluated) → OfValue r → ((v : Value) → OfValue (f v)) → OfValue (with_value r f)
 with_value_of (Known v) f h g = g v
-with_value_of (Undefined place kind) f h g = h
-with_value_of OutOfDepth f h g = tt
+with_value_of (Undefined place kind) f h g = tt
+with_value_of OutOfDepth f h g = h
 
 after_value_of : (r : Evaluated) (f : Value → Outcome) → OfValue r → ((v : Value) → OfOutcome (f v)) → OfOutcome (after_value r f)
 after_value_of (Known v) f h g = g v
-after_value_of (Undefined place kind) f h g = h
-after_value_of OutOfDepth f h g = tt
+after_value_of (Undefined place kind) f h g = tt
+after_value_of OutOfDepth f h g = h
 
 after_stmt_of : (r : Outcome) (f : State → Outcome) → OfOutcome r → ((s : State) → OfOutcome (f s)) → OfOutcome (after_stmt r f)
 after_stmt_of (Next s) f h g = g s
-after_stmt_of (Return s) f h g = tt
-after_stmt_of (Break s) f h g = tt
-after_stmt_of (Wrong place kind) f h g = h
-after_stmt_of TooDeep f h g = tt
-after_stmt_of NoChoice f h g = tt
+after_stmt_of (Return s) f h g = h
+after_stmt_of (Break s) f h g = h
+after_stmt_of (Wrong place kind) f h g = tt
+after_stmt_of TooDeep f h g = h
+after_stmt_of NoChoice f h g = h
 
 test_of : (b : Bool) (v : Value) (place : Pos) → OfValue (cond b (Known v) (Undefined place kinds.Range))
 test_of true v place = tt
-test_of false v place = refl
+test_of false v place = tt
 
 in_range_of : (n : Newtype) (place : Pos) (z : ℤ) → OfValue (in_range n place z)
 in_range_of n place z = test_of (holds n z) (Number z) place
@@ -81,5 +82,14 @@ execute_all_of : (d : ℕ) (n : Newtype) (s : State) (stmts : List Stmt) → OfO
 execute_all_of d n s [] = tt
 execute_all_of d n s (stmt ∷ others) = after_stmt_of (execute d n s stmt) _ (execute_of d n s stmt) (λ next. execute_all_of d n next others)
 
-pub wrong_by_range : (d : ℕ) (p : Program) (place : Pos) (kind : Kind) → run d p ≡ Wrong place kind → kind ≡ kinds.Range
-wrong_by_range d p place kind e = subst OfOutcome e (execute_all_of d p.newtype begin p.main.body)
+goes_on : (o : Outcome) → OfOutcome o → ((place : Pos) (kind : Kind) → o ≡ Wrong place kind → ⊥) → (state : State) × (o ≡ Next state)
+goes_on (Next s) h safe = (s, refl)
+goes_on (Return s) h safe = absurd h
+goes_on (Break s) h safe = absurd h
+goes_on (Wrong place kind) h safe = absurd (safe place kind refl)
+goes_on TooDeep h safe = absurd h
+goes_on NoChoice h safe = absurd h
+
+-- a run that is not wrong ends
+pub safe_ends : (p : Program) → IsModularlySafe p → (state : State) × (run 0 p ≡ Next state)
+safe_ends p safe = goes_on (run 0 p) (execute_all_of 0 p.newtype begin p.main.body) (λ place kind wrong. safe place kind (0, wrong))

@@ -1,0 +1,61 @@
+-- Texts that are put piece by piece.
+use Rattle.std.proofs.Common.{◌≡◌, ℕ, ◌+◌, ◌-◌, ◌<◌, List, [], ◌∷◌, ◌++◌, take, drop, length, Option, Some, None, Result, Ok, Err, OnErr, refl, sym, ap, subst, ◌∙◌, append_assoc, append-nil, take-append-drop, arith}
+use Rattle.std.proofs.Math.Seq.{take-add}
+use Rattle.df_base.specs.declared.sink.SinkFault.{SinkFault}
+use Rattle.df_base.specs.declared.sink.SinkFault.TheVariants as faults
+use Rattle.df_base.specs.Outside.{Appends, AppendsPrefix}
+use Rattle.df_top.proofs.Steps.{prefix_more}
+
+pub appends_more : (old mid new : Option (List ℕ)) (t u : List ℕ) → Appends old mid t → Appends mid new u → Appends old new (t ++ u)
+appends_more None mid new t u a b = let P : Option (List ℕ) → Type 0 = λ m. Appends m new u in subst P a b
+appends_more (Some x) mid new t u a b =
+    let P : Option (List ℕ) → Type 0 = λ m. Appends m new u in
+    subst P a b ∙ ap Some (append_assoc x t u)
+
+-- nothing is put
+pub appends_nothing : (old : Option (List ℕ)) → Appends old old []
+appends_nothing None = refl
+appends_nothing (Some x) = ap Some (sym (append-nil x))
+
+pub same_appends : (old new : Option (List ℕ)) → new ≡ old → Appends old new []
+same_appends old new same = subst (λ (x : Option (List ℕ)). Appends old x []) (sym same) (appends_nothing old)
+
+-- that is a prefix of any text
+pub nothing_of : (old new : Option (List ℕ)) (text : List ℕ) → new ≡ old → AppendsPrefix old new text
+nothing_of old new text same = (0, same_appends old new same)
+
+pub all_of_text : (old new : Option (List ℕ)) (text : List ℕ) → Appends old new text → AppendsPrefix old new text
+all_of_text old new text put = (length text, subst (Appends old new) (sym (take_whole text)) put)
+  where
+    take_whole : (xs : List ℕ) → take (length xs) xs ≡ xs
+    take_whole [] = refl
+    take_whole (x ∷ xs) = ap (λ ys. x ∷ ys) (take_whole xs)
+
+-- ---- a text that is put line by line
+
+whole_is : (text : List ℕ) (start count : ℕ) → (take start text ++ take count (drop start text)) ++ drop count (drop start text) ≡ text
+whole_is text start count =
+    append_assoc (take start text) (take count (drop start text)) (drop count (drop start text))
+    ∙ ap (λ (x : List ℕ). take start text ++ x) (take-append-drop count (drop start text))
+    ∙ take-append-drop start text
+
+-- one line more
+pub line_put : (first old new : Option (List ℕ)) (text : List ℕ) (start end : ℕ) → start < end → Appends first old (take start text) → Appends old new (take (end - start) (drop start text)) → Appends first new (take end text)
+line_put first old new text start end less so_far line =
+    let count : start + (end - start) ≡ end = omega arith in
+    let more : take start text ++ take (end - start) (drop start text) ≡ take end text = sym (take-add start (end - start) text) ∙ ap (λ (n : ℕ). take n text) count in
+    subst (Appends first new) more (appends_more first old new (take start text) (take (end - start) (drop start text)) so_far line)
+
+part_put : (result : Result (Unit {0}) SinkFault) (fault : SinkFault) (old new : Option (List ℕ)) (line : List ℕ) → result ≡ Err fault → (result ≡ Err faults.Failed → AppendsPrefix old new line) → (result ≡ Err faults.Memory → new ≡ old) → AppendsPrefix old new line
+part_put result faults.Failed old new line is failed memory = failed is
+part_put result faults.Memory old new line is failed memory = nothing_of old new line (memory is)
+
+-- a line of which a part is put
+pub line_cut : (result : Result (Unit {0}) SinkFault) (fault : SinkFault) (first old new : Option (List ℕ)) (text : List ℕ) (start count : ℕ) → Appends first old (take start text) → result ≡ Err fault → (result ≡ Err faults.Failed → AppendsPrefix old new (take count (drop start text))) → (result ≡ Err faults.Memory → new ≡ old) → AppendsPrefix first new text
+line_cut result fault first old new text start count so_far is failed memory =
+    subst (AppendsPrefix first new) (whole_is text start count)
+    (prefix_more first old new (take start text) (take count (drop start text)) (drop count (drop start text)) so_far (part_put result fault old new (take count (drop start text)) is failed memory))
+
+pub on_err : {A E : Type 0} (result : Result A E) (P : Type 0) → P → OnErr result P
+on_err (Ok x) P h = tt
+on_err (Err e) P h = h

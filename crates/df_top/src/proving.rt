@@ -1,0 +1,51 @@
+//! Programs, proved.
+
+ghost use Rattle.std.specs.Prelude.{◌≡◌, ◌≤◌, IfOk, map};
+ghost use Rattle.df_report.specs.Report.{count_unproved};
+ghost use Rattle.df_report.specs.View.{outcome_of};
+ghost use Rattle.df_types.specs.View.{program_of};
+ghost use Rattle.df_verdict.specs.Verdict.{are_verified};
+ghost use Rattle.df_top.specs.Answer.{IsReport};
+
+use df_report::{Outcome, lines};
+use df_search::Budget;
+use df_types::Program;
+use df_verdict::verdicts;
+use std::alloc::{AllocError, Global};
+
+/// The report on a program.
+#[derive(Drop)]
+pub(crate) struct Report {
+    /// It tells of no failure.
+    pub verified: bool,
+    pub text: Vec<u8>,
+}
+
+/// How many outcomes have a failure.
+fn unproved(outcomes: &[Outcome]) -> usize
+    ensures { result ≡ count_unproved (map outcome_of outcomes.now) }
+{
+    outcomes
+        .iter()
+        .filter(|outcome| !outcome.failures.is_empty())
+        .count()
+}
+
+/// Whether no outcome has a failure.
+fn all_verified(outcomes: &[Outcome]) -> bool
+    ensures { result ≡ are_verified (map outcome_of outcomes.now) }
+{
+    unproved(outcomes) == 0
+}
+
+/// The report on a program, of which each obligation is proved or told.
+pub(crate) fn prove(alloc: Global, program: &Program, budget: Budget) -> Result<Report, AllocError>
+    requires { 1 ≤ budget.steps }
+    ensures { IfOk result (λ report. IsReport (program_of program.now) budget.steps report.verified report.text.items) }
+{
+    let outcomes = verdicts(alloc, program, budget)?;
+    Ok(Report {
+        verified: all_verified(outcomes.as_slice()),
+        text: lines(alloc, outcomes.as_slice())?,
+    })
+}
