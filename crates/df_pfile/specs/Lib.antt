@@ -3,3 +3,4 @@ pub use Rattle.df_tree.specs.FileSpelling
 pub mod Reads
 pub mod Rest
 pub mod Refusing
+pub mod Text

@@ -13,6 +13,7 @@ ghost use Rattle.df_pfile.specs.Refusing.{outside_of, begins_attribute as kind_b
 
 mod cursor;
 mod declarations;
+mod law;
 mod nesting;
 mod statements;
 #[cfg(test)]
@@ -23,6 +24,7 @@ use cursor::Cursor;
 use df_base::{Code, Detail, Global, Pos, Refusal, Stop};
 use df_tok::{Kind, Sign, Token, Tokens, Word};
 use df_tree::File;
+pub use law::one_text;
 
 /// The refusal of a word outside the language.
 fn outside(token: &Token) -> Option<Refusal>
