@@ -159,6 +159,17 @@ fn refuses_near_misses(rt: HostRuntime) -> Result<(), Fail> {
     Ok(())
 }
 
+#[test]
+fn refuses_byte_255_outside_comments(rt: HostRuntime) -> Result<(), Fail> {
+    let Some(found) = refusal(rt.alloc(), b" \xff")? else {
+        return Err(Fail::new("the byte is read"));
+    };
+    assert_eq!(rt; found.code, Code::Byte);
+    assert_eq!(rt; found.pos.col, 2);
+    assert!(rt; refusal(rt.alloc(), b"/* \xff */ // \xff\n")?.is_none());
+    Ok(())
+}
+
 /// A text many times between others.
 fn repeated(
     alloc: Global,

@@ -1,0 +1,4 @@
+pub mod Evaluation
+pub mod Execution
+pub mod Modular
+pub mod Whole
