@@ -1,6 +1,6 @@
 -- The ground clauses of a sequent, by the lines that add them: the hypotheses, the negated goal, and then
 -- for each node in the order of numbers what its connective means, or what it is to be of its type.
-use Rattle.std.specs.Prelude.{ℕ, ◌+◌, Bool, true, false, List, [], ◌∷◌, ◌++◌, map, length, slice_get, Option, None, Some, if◌then◌else◌}
+use Rattle.std.specs.Prelude.{ℕ, ◌+◌, Bool, true, false, List, [], ◌∷◌, ◌++◌, map, length, slice_get, Option, None, Some}
 use Rattle.std.specs.Option.{option_map_or, option_and_then}
 use Rattle.std.specs.List.{range_with_len, flat_map, count_by}
 use Rattle.df_types.specs.declared.program.Ty.{Ty}

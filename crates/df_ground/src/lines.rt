@@ -52,11 +52,7 @@ fn type_count(newtypes: &[Newtype], ty: Ty) -> u32
     ensures { result ≡ type_count (newtypes_of newtypes.now) ty }
 {
     let Ty::Newtype(newtype) = ty;
-    if newtype < newtypes.len() {
-        3
-    } else {
-        0
-    }
+    if newtype < newtypes.len() { 3 } else { 0 }
 }
 
 fn schema_count(newtypes: &[Newtype], op: Op) -> u32
@@ -118,7 +114,12 @@ fn add_lines_at(
         return Ok(());
     };
     add_connective_lines(lines, number, connective_count(&sequent.nodes, node))?;
-    add_type_lines(alloc, lines, number, schema_count(sequent.newtypes, node.op))
+    add_type_lines(
+        alloc,
+        lines,
+        number,
+        schema_count(sequent.newtypes, node.op),
+    )
 }
 
 fn hypothesis_lines(alloc: Global, count: usize) -> Result<Vec<Step>, AllocError>
