@@ -142,7 +142,8 @@ fn lists_hypotheses_and_the_goal(rt: HostRuntime) -> Result<(), Fail> {
     )
 }
 
-// x is 0, "x is of i8" is 1, and of a newtype that is not declared 2. -128 becomes 3, -128 <= x 4, 127 5, and x <= 127 6.
+// x is 0, "x is of i8" is 1, and of a newtype that is not declared 2. -128 becomes 3, -128 <= x 4,
+// 127 5, and x <= 127 6.
 #[test]
 fn lists_types(rt: HostRuntime) -> Result<(), Fail> {
     let alloc = rt.alloc();
