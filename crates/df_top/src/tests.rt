@@ -89,6 +89,59 @@ fn runs_nothing_unproved(rt: HostRuntime) -> Result<(), Fail> {
     Ok(())
 }
 
+const SIX: &[u8] =
+    b"newtype i32 = x: int | -0x8000_0000 <= x < 0x8000_0000\nmethod Main() { var x: i32 := 5; print x + 1; }";
+
+/// The widest range, and one more than its last value.
+const WIDE: &[u8] =
+    b"newtype w = x: int | -170141183460469231731687303715884105727 <= x <= 170141183460469231731687303715884105727\nmethod Main() { var x: w := 170141183460469231731687303715884105727; print x + 1; }";
+
+/// Words, a source, and the report. Each of the first two sources' numbers needs two branches: below its
+/// range, and above it.
+const REPORTS: [(&[&str], &[u8], &[u8]); 3] = [
+    (
+        &["verify", "--steps", "1", "p.dfy"],
+        SIX,
+        b"Main: unproved\n  2:31 range: spent\n  2:44 range: spent\n  2:42 range: spent\n0 verified, 1 unproved\n",
+    ),
+    (
+        &["verify", "p.dfy", "--steps=2"],
+        SIX,
+        b"Main: verified\n1 verified, 0 unproved\n",
+    ),
+    (
+        &["verify", "p.dfy"],
+        WIDE,
+        b"Main: unproved\n  2:29 range: wide\n  2:80 range: wide\n  2:78 range: wide\n0 verified, 1 unproved\n",
+    ),
+];
+
+#[test]
+fn reports_why(rt: HostRuntime) -> Result<(), Fail> {
+    let alloc = rt.alloc();
+    for (texts, source, report) in &REPORTS {
+        let mut out = MemSink::new(alloc);
+        call(alloc, texts, source, &mut out, &mut SureSink::new(alloc))?;
+        assert_eq!(rt; out.taken(), *report, "at {texts:?}");
+    }
+    Ok(())
+}
+
+#[test]
+fn proves_a_sum_of_three_hundred(rt: HostRuntime) -> Result<(), Fail> {
+    let alloc = rt.alloc();
+    let mut body = Vec::from_slice(alloc, b"var x: i32 := 1")?;
+    for _ in 1..300 {
+        body.extend_from_slice(b" + 1")?;
+    }
+    body.extend_from_slice(b"; print x;")?;
+    let source = with_body(alloc, &body)?;
+    let mut out = MemSink::new(alloc);
+    assert_eq!(rt; run(alloc, &source, &mut out)?, Status::Done);
+    assert_eq!(rt; out.taken(), b"300".as_slice());
+    Ok(())
+}
+
 #[test]
 fn runs_bodies(rt: HostRuntime) -> Result<(), Fail> {
     let alloc = rt.alloc();
