@@ -24,14 +24,14 @@ returns-clause-safe c =
 pub returns-clause-owed : goal.returns-clause-owed
 returns-clause-owed c =
     let p = program_of c.args.program.now in
-    if_ok c.all_obligations.result (λ all. map obligation_of all.items ≡ obligations_of p) (λ all. AllByRecursion IsOwed (map obligation_of all.items)) c.all_obligations.ensures
-    (λ all same. subst (AllByRecursion IsOwed) (sym same) (refuted_is_wrong p c.args.program.now.is_well_typed))
+    if_ok c.all_obligations.result (λ all. map obligation_of all.items ≡ obligations_of p) (λ all. AllByRecursion (IsOwed p) (map obligation_of all.items)) c.all_obligations.ensures
+    (λ all same. subst (AllByRecursion (IsOwed p)) (sym same) (refuted_is_wrong p c.args.program.now.is_well_typed))
 
-pub returns-clause-program : goal.returns-clause-program
-returns-clause-program c =
+pub returns-clause-newtypes : goal.returns-clause-newtypes
+returns-clause-newtypes c =
     let p = program_of c.args.program.now in
-    if_ok c.all_obligations.result (λ all. map obligation_of all.items ≡ obligations_of p) (λ all. AllByRecursion (λ (o : Obligation). o.sequent.program ≡ p) (map obligation_of all.items)) c.all_obligations.ensures
-    (λ all same. subst (AllByRecursion (λ (o : Obligation). o.sequent.program ≡ p)) (sym same) (obligations_are_of p))
+    if_ok c.all_obligations.result (λ all. map obligation_of all.items ≡ obligations_of p) (λ all. AllByRecursion (λ (o : Obligation). o.sequent.newtypes ≡ p.newtypes) (map obligation_of all.items)) c.all_obligations.ensures
+    (λ all same. subst (AllByRecursion (λ (o : Obligation). o.sequent.newtypes ≡ p.newtypes)) (sym same) (obligations_are_of p))
 
 pub returns-clause-arithmetic : goal.returns-clause-arithmetic
 returns-clause-arithmetic c =
