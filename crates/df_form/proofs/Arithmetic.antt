@@ -1,9 +1,9 @@
 -- Nodes that are made stay arithmetic where each is.
-use Rattle.std.proofs.Common.{◌≡◌, ℕ, ◌⊎◌, inl, inr, Bool, true, false, ◌==◌, List, [], ◌∷◌, ◌++◌, ◌&&◌, nat_lt, ◌<◌, length, get_or, Option, Some, None, slice_get, refl, sym, ap, ◌∙◌, subst, arith, ltb-true, true≢false}
+use Rattle.std.proofs.Common.{◌≡◌, ℕ, ◌⊎◌, inl, inr, Bool, true, false, List, [], ◌∷◌, ◌++◌, ◌&&◌, nat_lt, ◌<◌, length, get_or, Option, Some, None, slice_get, refl, sym, ap, ◌∙◌, subst, arith, ltb-true, true≢false}
 use Rattle.std.proofs.lemmas.Option.{slice_get-get_or}
 use Rattle.std.proofs.lemmas.List.Quantifiers.{position-Some}
 use Rattle.df_types.specs.declared.program.Ty.TheVariants as types
-use Rattle.df_types.specs.Program.{Program}
+use Rattle.df_types.specs.Program.{Newtype}
 use Rattle.df_form.specs.declared.node.Op.{Op}
 use Rattle.df_form.specs.declared.node.Op.TheVariants as ops
 use Rattle.df_form.specs.Node.{Node, same_node, number_of}
@@ -25,9 +25,9 @@ pub made_there : (nodes : List Node) (node : Node) → slice_get (made nodes nod
 made_there nodes node = there_where nodes node (number_of nodes node) refl
 
 -- the node is arithmetic after others
-pub record Fits (program : Program) (nodes : List Node) (node : Node) : Type 0 where
+pub record Fits (newtypes : List Newtype) (nodes : List Node) (node : Node) : Type 0 where
   pub equalities : (a b : ℕ) → node ≡ record { op = ops.Equal; parts = a ∷ b ∷ [] } → IsNumber nodes a
-  pub types : (name : ℕ) (parts : List ℕ) → node ≡ record { op = ops.Is (types.Newtype name); parts = parts } → (name == program.newtype.name) ≡ true
+  pub types : (newtype : ℕ) (parts : List ℕ) → node ≡ record { op = ops.Is (types.Newtype newtype); parts = parts } → nat_lt newtype (length newtypes) ≡ true
   pub products : (a b : ℕ) → node ≡ record { op = ops.Times; parts = a ∷ b ∷ [] } → IsLiteral nodes a
 
 -- neither an equality nor a type nor a product
@@ -45,65 +45,65 @@ abbrev is_of_type : Op → Bool
 is_of_type (ops.Is ty) = true
 is_of_type op = false
 
-abbrev name_in : Op → ℕ
-name_in (ops.Is (types.Newtype name)) = name
-name_in op = 0
+abbrev newtype_in : Op → ℕ
+newtype_in (ops.Is (types.Newtype newtype)) = newtype
+newtype_in op = 0
 
 -- a test tells two nodes apart
 apart : (test : Op → Bool) (one other : Node) → test one.op ≡ true → test other.op ≡ false → one ≡ other → ⊥
 apart test one other passes fails e = true≢false (sym passes ∙ ap (λ (node : Node). test node.op) e ∙ fails)
 
-pub record AreArithmetic (program : Program) (nodes : List Node) : Type 0 where
-  pub fits : (n : ℕ) (node : Node) → slice_get nodes n ≡ Some node → Fits program nodes node
+pub record AreArithmetic (newtypes : List Newtype) (nodes : List Node) : Type 0 where
+  pub fits : (n : ℕ) (node : Node) → slice_get nodes n ≡ Some node → Fits newtypes nodes node
 
-module _ (program : Program) where
-  pub plain_fits : (nodes : List Node) (node : Node) → is_plain node.op ≡ true → Fits program nodes node
+module _ (newtypes : List Newtype) where
+  pub plain_fits : (nodes : List Node) (node : Node) → is_plain node.op ≡ true → Fits newtypes nodes node
   plain_fits nodes node plain = record {
     equalities = λ a b e. absurd (apart is_plain node _ plain refl e);
-    types = λ name parts e. absurd (apart is_plain node _ plain refl e);
+    types = λ newtype parts e. absurd (apart is_plain node _ plain refl e);
     products = λ a b e. absurd (apart is_plain node _ plain refl e);
   }
 
-  pub equality_fits : (nodes : List Node) (a b : ℕ) → IsNumber nodes a → Fits program nodes (record { op = ops.Equal; parts = a ∷ b ∷ [] })
+  pub equality_fits : (nodes : List Node) (a b : ℕ) → IsNumber nodes a → Fits newtypes nodes (record { op = ops.Equal; parts = a ∷ b ∷ [] })
   equality_fits nodes a b is = record {
     equalities = λ c d e. subst (IsNumber nodes) (ap (λ (node : Node). get_or node.parts 0 0) e) is;
-    types = λ name parts e. absurd (apart is_equality (record { op = ops.Equal; parts = a ∷ b ∷ [] }) _ refl refl e);
+    types = λ newtype parts e. absurd (apart is_equality (record { op = ops.Equal; parts = a ∷ b ∷ [] }) _ refl refl e);
     products = λ c d e. absurd (apart is_equality (record { op = ops.Equal; parts = a ∷ b ∷ [] }) _ refl refl e);
   }
 
-  pub type_fits : (nodes : List Node) (name : ℕ) (parts : List ℕ) → (name == program.newtype.name) ≡ true → Fits program nodes (record { op = ops.Is (types.Newtype name); parts = parts })
-  type_fits nodes name parts is = record {
-    equalities = λ a b e. absurd (apart is_of_type (record { op = ops.Is (types.Newtype name); parts = parts }) _ refl refl e);
-    types = λ other others e. subst (λ (k : ℕ). (k == program.newtype.name) ≡ true) (ap (λ (node : Node). name_in node.op) e) is;
-    products = λ a b e. absurd (apart is_of_type (record { op = ops.Is (types.Newtype name); parts = parts }) _ refl refl e);
+  pub type_fits : (nodes : List Node) (newtype : ℕ) (parts : List ℕ) → nat_lt newtype (length newtypes) ≡ true → Fits newtypes nodes (record { op = ops.Is (types.Newtype newtype); parts = parts })
+  type_fits nodes newtype parts is = record {
+    equalities = λ a b e. absurd (apart is_of_type (record { op = ops.Is (types.Newtype newtype); parts = parts }) _ refl refl e);
+    types = λ other others e. subst (λ (k : ℕ). nat_lt k (length newtypes) ≡ true) (ap (λ (node : Node). newtype_in node.op) e) is;
+    products = λ a b e. absurd (apart is_of_type (record { op = ops.Is (types.Newtype newtype); parts = parts }) _ refl refl e);
   }
 
-  pub grown_fits : (before now : List Node) → Grows before now → (node : Node) → Fits program before node → Fits program now node
+  pub grown_fits : (before now : List Node) → Grows before now → (node : Node) → Fits newtypes before node → Fits newtypes now node
   grown_fits before now g node h = record {
     equalities = λ a b e. grown_number before now g a (h.equalities a b e);
     types = h.types;
     products = λ a b e. let literal = h.products a b e in (literal.0, grown_get before now g a _ literal.1);
   }
 
-  one_more : (nodes : List Node) (node : Node) → AreArithmetic program nodes → Fits program nodes node → AreArithmetic program (nodes ++ node ∷ [])
+  one_more : (nodes : List Node) (node : Node) → AreArithmetic newtypes nodes → Fits newtypes nodes node → AreArithmetic newtypes (nodes ++ node ∷ [])
   one_more nodes node all one = record { fits = λ n other e. grown_fits nodes (nodes ++ node ∷ []) (grows_by nodes node) other (next n other (get_pushed nodes node n other e)) }
     where
-      next : (n : ℕ) (other : Node) → (slice_get nodes n ≡ Some other) ⊎ ((n ≡ length nodes) × (node ≡ other)) → Fits program nodes other
+      next : (n : ℕ) (other : Node) → (slice_get nodes n ≡ Some other) ⊎ ((n ≡ length nodes) × (node ≡ other)) → Fits newtypes nodes other
       next n other (inl e) = all.fits n other e
-      next n other (inr e) = subst (Fits program nodes) e.1 one
+      next n other (inr e) = subst (Fits newtypes nodes) e.1 one
 
-  stay_where : (nodes : List Node) (node : Node) (found : Option ℕ) → AreArithmetic program nodes → Fits program nodes node → AreArithmetic program (made_where nodes node found).nodes
+  stay_where : (nodes : List Node) (node : Node) (found : Option ℕ) → AreArithmetic newtypes nodes → Fits newtypes nodes node → AreArithmetic newtypes (made_where nodes node found).nodes
   stay_where nodes node (Some n) all one = all
   stay_where nodes node None all one = one_more nodes node all one
 
-  pub made_stay : (nodes : List Node) (node : Node) → AreArithmetic program nodes → Fits program nodes node → AreArithmetic program (made nodes node).nodes
+  pub made_stay : (nodes : List Node) (node : Node) → AreArithmetic newtypes nodes → Fits newtypes nodes node → AreArithmetic newtypes (made nodes node).nodes
   made_stay nodes node all one = stay_where nodes node (number_of nodes node) all one
 
-  pub are_arithmetic : (nodes : List Node) → AreArithmetic program nodes → IsArithmetic program nodes
+  pub are_arithmetic : (nodes : List Node) → AreArithmetic newtypes nodes → IsArithmetic newtypes nodes
   are_arithmetic nodes all = record {
     numbers = record {
       equalities = λ n a b e. ((all.fits n _ e).equalities a b refl).sort;
-      types = λ n name parts e. (all.fits n _ e).types name parts refl;
+      types = λ n newtype parts e. (all.fits n _ e).types newtype parts refl;
     };
     products = λ n a b e. (all.fits n _ e).products a b refl;
   }
@@ -114,11 +114,11 @@ module _ (program : Program) where
       let within = get_within nodes n (record { op = op; parts = a ∷ b ∷ [] }) e in
       omega arith
 
-  pub all_fit : (nodes : List Node) → AreSorted nodes → IsArithmetic program nodes → AreArithmetic program nodes
+  pub all_fit : (nodes : List Node) → AreSorted nodes → IsArithmetic newtypes nodes → AreArithmetic newtypes nodes
   all_fit nodes sorted is = record {
     fits = λ n node there. record {
       equalities = λ a b e. let at = there ∙ ap (λ z. Some z) e in record { below = first_below nodes n a b ops.Equal sorted at; sort = is.numbers.equalities n a b at };
-      types = λ name parts e. is.numbers.types n name parts (there ∙ ap (λ z. Some z) e);
+      types = λ newtype parts e. is.numbers.types n newtype parts (there ∙ ap (λ z. Some z) e);
       products = λ a b e. is.products n a b (there ∙ ap (λ z. Some z) e);
     };
   }

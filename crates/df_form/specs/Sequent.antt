@@ -1,21 +1,21 @@
 -- Sequents: hypotheses and a goal.
 use Rattle.std.specs.Prelude.{◌≡◌, ℕ, suc, ◌<◌, true, List, [], ◌∷◌, ◌++◌, length, slice_get, Some}
 use Rattle.std.specs.List.{list_all, AllByRecursion}
-use Rattle.df_types.specs.Program.{Program}
+use Rattle.df_types.specs.Program.{Newtype}
 use Rattle.df_form.specs.Node.{Node}
 use Rattle.df_form.specs.Sorting.{IsTable, is_formula}
 use Rattle.df_form.specs.Truth.{Assignment, truth}
 
--- formulas of one program, by the numbers of their nodes
+-- formulas of a program with these newtypes, by the numbers of their nodes
 pub record Sequent : Type 0 where
-  pub program : Program
+  pub newtypes : List Newtype
   pub nodes : List Node
   pub hypotheses : List ℕ
   pub goal : ℕ
 
 -- at every depth and assignment, where the hypotheses are true so is the goal
 abbrev pub IsValid : Sequent → Type 0
-IsValid s = (depth : ℕ) (assignment : Assignment) → AllByRecursion (λ h. truth depth s.program assignment s.nodes h ≡ true) s.hypotheses → truth depth s.program assignment s.nodes s.goal ≡ true
+IsValid s = (depth : ℕ) (assignment : Assignment) → AllByRecursion (λ h. truth depth s.newtypes assignment s.nodes h ≡ true) s.hypotheses → truth depth s.newtypes assignment s.nodes s.goal ≡ true
 
 -- Going through nodes, the parts of each before itself, meets new ones in the order of their numbers:
 -- before it those below the first number are met, after it those below the second.

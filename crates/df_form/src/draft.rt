@@ -8,14 +8,14 @@ ghost use Rattle.df_form.specs.Sequent.{Walk};
 use crate::node::{Formula, Node, Op, Term};
 use crate::nodes::Nodes;
 use crate::sequent::Sequent;
-use df_types::Program;
+use df_types::Newtype;
 use std::alloc::{AllocError, Global};
 
 /// A sequent that is being built. Terms are put on a stack, and an operation takes those on top as its
 /// parts.
 #[derive(Drop)]
 pub struct Draft<'a> {
-    pub program: &'a Program,
+    pub newtypes: &'a [Newtype],
     /// The nodes so far, in postorder of first occurrence.
     pub nodes: Nodes,
     pub hypotheses: Vec<Formula>,
@@ -34,14 +34,14 @@ impl<'a> Draft<'a> {
     ghost use Rattle.df_form.specs.Draft.{last_terms, other_terms, node_on};
 
     /// Nothing yet.
-    pub fn new(alloc: Global, program: &'a Program) -> Draft<'a>
-        ensures program { result.program ≡ program.entry }
+    pub fn new(alloc: Global, newtypes: &'a [Newtype]) -> Draft<'a>
+        ensures newtypes { result.newtypes ≡ newtypes.entry }
         ensures nodes { result.nodes ≡ [] }
         ensures hypotheses { result.hypotheses.items ≡ [] }
         ensures stack { result.stack.items ≡ [] }
     {
         Draft {
-            program,
+            newtypes,
             nodes: Nodes::new(alloc),
             hypotheses: Vec::new(alloc),
             stack: Vec::new(alloc),
@@ -58,7 +58,7 @@ impl<'a> Draft<'a> {
         ensures sorts { OnOk result (map (sort_at self.new.nodes) self.new.stack.items ≡ map (sort_at self.old.nodes) (other_terms count self.old.stack.items) ++ sort_of op ∷ []) }
         ensures err { OnErr result ((self.new.nodes ≡ self.old.nodes) × (self.new.stack.items ≡ self.old.stack.items)) }
         ensures hypotheses { self.new.hypotheses.items ≡ self.old.hypotheses.items }
-        ensures program { self.new.program ≡ self.old.program }
+        ensures newtypes { self.new.newtypes ≡ self.old.newtypes }
     {
         let start = self.stack.len() - count;
         let parts = Vec::from_slice(*self.stack.allocator(), &self.stack[start..])?;
@@ -78,7 +78,7 @@ impl<'a> Draft<'a> {
         ensures err { OnErr result (self.new.stack.items ≡ self.old.stack.items) }
         ensures nodes { self.new.nodes ≡ self.old.nodes }
         ensures hypotheses { self.new.hypotheses.items ≡ self.old.hypotheses.items }
-        ensures program { self.new.program ≡ self.old.program }
+        ensures newtypes { self.new.newtypes ≡ self.old.newtypes }
     {
         self.stack.push(term)?;
         Ok(())
@@ -91,7 +91,7 @@ impl<'a> Draft<'a> {
         ensures nodes { OnOk result (self.new.nodes ≡ (made self.old.nodes (record { op = op; parts = self.old.stack.items ++ more.now })).nodes) }
         ensures stack { OnOk result (self.new.stack.items ≡ (made self.old.nodes (record { op = op; parts = self.old.stack.items ++ more.now })).number ∷ []) }
         ensures hypotheses { self.new.hypotheses.items ≡ self.old.hypotheses.items }
-        ensures program { self.new.program ≡ self.old.program }
+        ensures newtypes { self.new.newtypes ≡ self.old.newtypes }
     {
         for term in more {
             self.again(*term)?;
@@ -109,7 +109,7 @@ impl<'a> Draft<'a> {
         ensures stack { OnOk result (self.new.stack.items ≡ []) }
         ensures err { OnErr result ((self.new.hypotheses.items ≡ self.old.hypotheses.items) × (self.new.stack.items ≡ self.old.stack.items)) }
         ensures nodes { self.new.nodes ≡ self.old.nodes }
-        ensures program { self.new.program ≡ self.old.program }
+        ensures newtypes { self.new.newtypes ≡ self.old.newtypes }
     {
         self.hypotheses.push(self.stack[0])?;
         self.stack.clear();
@@ -120,13 +120,13 @@ impl<'a> Draft<'a> {
     pub fn sequent(&self, alloc: Global) -> Result<Sequent<'a>, AllocError>
         requires one { length self.now.stack.items ≡ 1 }
         requires formula { is_formula self.now.nodes (slice_index self.now.stack.items 0) ≡ true }
-        ensures program { IfOk result (λ sequent. sequent.program ≡ self.now.program) }
+        ensures newtypes { IfOk result (λ sequent. sequent.newtypes ≡ self.now.newtypes) }
         ensures nodes { IfOk result (λ sequent. sequent.nodes ≡ self.now.nodes) }
         ensures hypotheses { IfOk result (λ sequent. sequent.hypotheses.items ≡ self.now.hypotheses.items) }
         ensures goal { IfOk result (λ sequent. sequent.goal ∷ [] ≡ self.now.stack.items) }
     {
         Ok(Sequent {
-            program: self.program,
+            newtypes: self.newtypes,
             nodes: self.nodes.copy(alloc)?,
             hypotheses: Vec::from_slice(alloc, self.hypotheses.as_slice())?,
             goal: self.stack[0],
@@ -138,13 +138,13 @@ impl<'a> Draft<'a> {
 mod tests {
     use super::*;
     use crate::node::{Free, Sort};
-    use df_types::{Declared, Interval, Method, Newtype};
+    use df_types::{Declared, Interval};
     use std::process::Abort;
     use std::test::Fail;
 
-    /// A program with the newtype `byte = x: int | 0 <= x < 256` and an empty `Main`.
-    fn program(alloc: Global) -> Result<Program, Fail> {
-        let newtype = Newtype {
+    /// The newtype `byte = x: int | 0 <= x < 256` alone.
+    fn newtypes(alloc: Global) -> Result<Vec<Newtype>, Fail> {
+        let byte = Newtype {
             declared: Declared {
                 name: 0,
                 text: String::from_str(alloc, "byte")?,
@@ -152,14 +152,9 @@ mod tests {
             interval: Interval::new(0, 255).ok_or("ordered")?,
             default: 0,
         };
-        let main = Method {
-            declared: Declared {
-                name: 1,
-                text: String::from_str(alloc, "Main")?,
-            },
-            body: Vec::new(alloc),
-        };
-        Ok(Program::new(newtype, main))
+        let mut newtypes = Vec::new(alloc);
+        newtypes.push(byte)?;
+        Ok(newtypes)
     }
 
     /// A free number.
@@ -212,8 +207,8 @@ mod tests {
     #[test]
     fn numbers_nodes_in_postorder_of_first_occurrence(rt: HostRuntime) -> Result<(), Fail> {
         let alloc = rt.alloc();
-        let program = program(alloc)?;
-        let mut draft = Draft::new(alloc, &program);
+        let newtypes = newtypes(alloc)?;
+        let mut draft = Draft::new(alloc, newtypes.as_slice());
         fill(&rt, &mut draft)?;
         assert!(rt; draft.stack.len() == 1);
         assert!(rt; draft.nodes.is_formula(draft.stack[0]));

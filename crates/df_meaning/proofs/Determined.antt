@@ -8,7 +8,7 @@ use Rattle.df_meaning.specs.Run.{begin, run, Prints, IsWrongAt}
 use Rattle.df_meaning.proofs.Depth.{execute_all_keeps}
 
 run_keeps : (program : Program) (a b : ℕ) → run a program ≡ run b program
-run_keeps program a b = execute_all_keeps a b program.newtype begin program.main.body
+run_keeps program a b = execute_all_keeps a b program.newtypes begin program.main.body
 
 same_state : (s t : State) → Next s ≡ Next t → s ≡ t
 same_state s t e = cc

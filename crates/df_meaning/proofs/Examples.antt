@@ -28,7 +28,7 @@ one_more = record { ty = types.Newtype 0; first = members.Local 0 (at 2 44); res
 -- method Main() { var x: i32 := N; print x + 1, "\n"; }
 abbrev adds_one : ℕ → Program
 adds_one n = record {
-  newtype = i32;
+  newtypes = i32 ∷ [];
   main = record {
     name = 1;
     text = codes "Main";

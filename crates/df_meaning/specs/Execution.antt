@@ -16,22 +16,22 @@ abbrev pub printed : State → Value → State
 printed state value = record { locals = state.locals; text = state.text ++ text_of value }
 
 -- a text has its characters as its value
-abbrev pub evaluate_operand : ℕ → Newtype → State → Operand → Evaluated
-evaluate_operand depth newtype state (program.Text characters) = Known (values.Text characters)
-evaluate_operand depth newtype state (program.Value e) = evaluate depth newtype state e
+abbrev pub evaluate_operand : ℕ → List Newtype → State → Operand → Evaluated
+evaluate_operand depth newtypes state (program.Text characters) = Known (values.Text characters)
+evaluate_operand depth newtypes state (program.Value e) = evaluate depth newtypes state e
 
 -- each operand is evaluated and written before the next
-abbrev pub print_all : ℕ → Newtype → State → List Operand → Outcome
-print_all depth newtype state [] = Next state
-print_all depth newtype state (operand ∷ others) =
-    after_value (evaluate_operand depth newtype state operand) (λ value. print_all depth newtype (printed state value) others)
+abbrev pub print_all : ℕ → List Newtype → State → List Operand → Outcome
+print_all depth newtypes state [] = Next state
+print_all depth newtypes state (operand ∷ others) =
+    after_value (evaluate_operand depth newtypes state operand) (λ value. print_all depth newtypes (printed state value) others)
 
-abbrev pub execute : ℕ → Newtype → State → Stmt → Outcome
-execute depth newtype state (Var ty value) = after_value (evaluate depth newtype state value) (λ v. Next (declare state v))
-execute depth newtype state (Print operands) = print_all depth newtype state operands
+abbrev pub execute : ℕ → List Newtype → State → Stmt → Outcome
+execute depth newtypes state (Var ty value) = after_value (evaluate depth newtypes state value) (λ v. Next (declare state v))
+execute depth newtypes state (Print operands) = print_all depth newtypes state operands
 
 -- statements in order
-abbrev pub execute_all : ℕ → Newtype → State → List Stmt → Outcome
-execute_all depth newtype state [] = Next state
-execute_all depth newtype state (stmt ∷ others) =
-    after_stmt (execute depth newtype state stmt) (λ next. execute_all depth newtype next others)
+abbrev pub execute_all : ℕ → List Newtype → State → List Stmt → Outcome
+execute_all depth newtypes state [] = Next state
+execute_all depth newtypes state (stmt ∷ others) =
+    after_stmt (execute depth newtypes state stmt) (λ next. execute_all depth newtypes next others)

@@ -12,7 +12,7 @@ begin = record { locals = []; text = [] }
 
 -- Main's body, executed from the beginning
 abbrev pub run : ℕ → Program → Outcome
-run depth program = execute_all depth program.newtype begin program.main.body
+run depth program = execute_all depth program.newtypes begin program.main.body
 
 -- at some depth the run ends and has printed the text
 abbrev pub Prints : Program → List ℕ → Type 0

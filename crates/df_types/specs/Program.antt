@@ -37,8 +37,9 @@ pub record Method : Type 0 where
   pub text : List ℕ
   pub body : List Stmt
 
+-- the newtypes in the order of their declarations
 pub record Program : Type 0 where
-  pub newtype : Newtype
+  pub newtypes : List Newtype
   pub main : Method
 
 -- the code's expressions and statements, without where they lie in memory

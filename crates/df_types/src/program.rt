@@ -1,4 +1,4 @@
-ghost use Rattle.std.specs.Prelude.{◌≡◌, true, map, string_bytes};
+ghost use Rattle.std.specs.Prelude.{◌≡◌, true, length, map, string_bytes};
 ghost use Rattle.df_types.specs.Interval.{IsWithin};
 ghost use Rattle.df_types.specs.Program.{stmt_of};
 ghost use Rattle.df_types.specs.Typing.{are_well_typed};
@@ -16,8 +16,8 @@ pub struct Declared {
 /// The type of a place or an expression.
 #[derive(Clone, Copy, Debug, PartialEq, Eq, Hash)]
 pub enum Ty {
-    /// The newtype of this name.
-    Newtype(Name),
+    /// The newtype of this number, counted from 0 in the order of declarations.
+    Newtype(usize),
 }
 
 /// A newtype: its interval, and the value of a place that was given none.
@@ -74,21 +74,22 @@ pub struct Method {
     pub body: Vec<Stmt>,
 }
 
-/// A well-typed program: each type is the newtype, and each local is declared before it is used.
+/// A well-typed program: each type is a declared newtype, and each local is declared before it is used.
 #[derive(Debug, Drop)]
 pub struct Program {
-    pub newtype: Newtype,
+    /// In the order of their declarations.
+    pub newtypes: Vec<Newtype>,
     pub main: Method,
-    ghost is_well_typed: { are_well_typed newtype.declared.name 0 (map stmt_of main.body.items) ≡ true },
+    ghost is_well_typed: { are_well_typed (length newtypes.items) 0 (map stmt_of main.body.items) ≡ true },
 }
 
 impl Program {
     /// The program of these declarations.
-    pub fn new(newtype: Newtype, main: Method) -> Program
-        requires { are_well_typed newtype.declared.name 0 (map stmt_of main.body.items) ≡ true }
-        ensures newtype { result.newtype ≡ newtype }
+    pub fn new(newtypes: Vec<Newtype>, main: Method) -> Program
+        requires { are_well_typed (length newtypes.items) 0 (map stmt_of main.body.items) ≡ true }
+        ensures newtypes { result.newtypes ≡ newtypes }
         ensures main { result.main ≡ main }
     {
-        Program { newtype, main }
+        Program { newtypes, main }
     }
 }
