@@ -1,5 +1,5 @@
 -- What elaborates is well typed.
-use Rattle.std.proofs.Common.{◌≡◌, ℕ, suc, true, List, [], ◌∷◌, ◌++◌, length, refl, ◌∙◌, length-append, add-one}
+use Rattle.std.proofs.Common.{◌≡◌, ℕ, suc, true, List, [], ◌∷◌, ◌++◌, length, refl, ap, ◌∙◌, length-append, add-one}
 use Rattle.std.specs.List.{list_all}
 use Rattle.std.proofs.lemmas.Bool.{lt-ltb}
 use Rattle.std.proofs.lemmas.Option.{slice_get_within}
@@ -57,3 +57,7 @@ stmts_typed newtype scope (tree.Var local ty value ∷ ts) (program.Var typ e �
 stmts_typed newtype scope (tree.Var local ty value ∷ ts) (program.Print os ∷ ps) h = absurd h
 stmts_typed newtype scope (tree.Print operands ∷ ts) (program.Var typ e ∷ ps) h = absurd h
 stmts_typed newtype scope (tree.Print operands ∷ ts) (program.Print os ∷ ps) h = both_true _ _ (operands_typed scope operands os h.0) (stmts_typed newtype scope ts ps h.1)
+
+-- what is well typed with one newtype is so with a list of one
+pub in_one : {A : Type 0} (newtypes before : List A) (newtype : A) (body : List program.Stmt) → before ≡ [] → newtypes ≡ before ++ newtype ∷ [] → are_well_typed 1 0 body ≡ true → are_well_typed (length newtypes) 0 body ≡ true
+in_one {A} newtypes before newtype body none is typed = ap (λ (all : List A). are_well_typed (length all) 0 body) (is ∙ ap (λ (all : List A). all ++ newtype ∷ []) none) ∙ typed

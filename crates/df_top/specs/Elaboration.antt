@@ -1,6 +1,7 @@
 -- Elaboration: rules on source tree and program side by side.
 use Rattle.std.specs.Prelude.{◌≡◌, ◌≢◌, ℕ, ℤ, pos, neg_ℤ, ◌+ℤ◌, ◌-ℤ◌, ◌<◌, ◌^◌, if◌then◌else◌, List, [], ◌∷◌, ◌++◌, Option, Some, None, Contains, slice_get, codes}
 use Rattle.df_types.specs.Interval.{IsWithin}
+use Rattle.df_types.specs.Program.{Newtype}
 use Rattle.df_types.specs.Program as program
 use Rattle.df_types.specs.declared.program.Ty.TheVariants as types
 use Rattle.df_types.specs.declared.program.Member as typed_member
@@ -96,7 +97,7 @@ AreStmts newtype scope (tree.Print operands ∷ ts) (program.Var typ e ∷ ps) =
 
 -- The tree elaborates to the program: the method is Main, and no name is declared twice.
 pub record Elaborates (names : List (List ℕ)) (tree : tree.Tree) (program : program.Program) : Type 0 where
-  pub newtype : program.Newtype
+  pub newtype : Newtype
   pub newtypes : program.newtypes ≡ newtype ∷ []
   pub is_newtype : IsNewtype names tree.newtype newtype
   pub method : slice_get names tree.method.name ≡ Some (codes "Main")
