@@ -10,9 +10,9 @@ use Rattle.df_form.specs.declared.node.Op.{Op}
 use Rattle.df_form.specs.declared.node.Op.TheVariants as ops
 use Rattle.df_form.specs.Node.{Node}
 use Rattle.df_form.specs.Sorting.{sort_at}
-use Rattle.df_linear.specs.Row.{Row, fits, if_fits, constant_row, with_coefficient, with_more, with_constant, without, literal_number, with_product, expanded_parts, expanded_at, expanded_below, difference}
+use Rattle.df_linear.specs.Row.{Row, fits, constant_row, with_coefficient, with_more, with_constant, without, literal_number, with_product, expanded_parts, expanded_at, expanded_below, difference}
 use Rattle.df_linear.specs.Linear.{one_row, two_rows, comparison_rows, rows_by_sort, rows_of_parts, rows_of_node, rows_of}
-use Rattle.df_linear.specs.Value.{sum_below, row_value, row_holds, rows_hold}
+use Rattle.df_linear.specs.Value.{row_value, rows_hold}
 use Rattle.df_form.proofs.Lists.{then_some, map_some, test_some, some_is, both, get_below}
 use Rattle.df_form.proofs.Values.{AreSorted, parts_below}
 use Rattle.df_kern.proofs.SoundConnectives.{all_appended}

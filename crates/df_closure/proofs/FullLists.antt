@@ -1,9 +1,9 @@
 -- Full lists hold: by the numbers of nodes, each known connective is true by its parts.
-use Rattle.std.proofs.Common.{◌≡◌, ℕ, zero, suc, ◌<◌, ◌⊎◌, inl, inr, int_le, Bool, true, false, not, ◌&&◌, ◌||◌, List, [], ◌∷◌, ◌++◌, map, length, Option, Some, None, slice_get, if◌then◌else◌, nat_lt, refl, sym, ap, ◌∙◌, arith, subst, true≢false, ltb-true}
+use Rattle.std.proofs.Common.{◌≡◌, ℕ, zero, suc, ◌<◌, ◌⊎◌, inl, inr, int_le, Bool, true, false, not, ◌&&◌, ◌||◌, List, [], ◌∷◌, ◌++◌, map, length, Option, Some, slice_get, nat_lt, refl, sym, ap, ◌∙◌, arith, subst, true≢false, ltb-true}
 use Rattle.std.specs.Option.{option_and_then}
 use Rattle.std.specs.List.{list_all, list_any}
 use Rattle.df_types.specs.declared.program.Ty.TheVariants as types
-use Rattle.df_types.specs.Program.{Program}
+use Rattle.df_types.specs.Program.{Newtype}
 use Rattle.df_meaning.specs.Value.{truth_of}
 use Rattle.df_form.specs.declared.log.Lit.{Lit}
 use Rattle.df_form.specs.declared.node.Sort.{Sort}
@@ -76,10 +76,10 @@ any_of_mapped : {A B : Type 0} (test : B → Bool) (f : A → B) (xs : List A) �
 any_of_mapped test f [] = refl
 any_of_mapped test f (x ∷ xs) = ap (λ b. test (f x) || b) (any_of_mapped test f xs)
 
-module _ (depth : ℕ) (program : Program) (assignment : Assignment) (nodes : List Node) (known : List Lit) (sorted : AreSorted nodes) (arithmetic : IsOfNumbers program nodes) (full : IsFull program nodes known)
-    (consistent : IsConsistent known) (agrees : Agrees depth program assignment nodes known) where
+module _ (depth : ℕ) (newtypes : List Newtype) (assignment : Assignment) (nodes : List Node) (known : List Lit) (sorted : AreSorted nodes) (arithmetic : IsOfNumbers newtypes nodes) (full : IsFull newtypes nodes known)
+    (consistent : IsConsistent known) (agrees : Agrees depth newtypes assignment nodes known) where
   abbrev IsTrue : ℕ → Bool
-  IsTrue m = truth depth program assignment nodes m
+  IsTrue m = truth depth newtypes assignment nodes m
 
   -- a literal by its sign and its node
   abbrev Knows : Bool → ℕ → Type 0
@@ -137,13 +137,13 @@ module _ (depth : ℕ) (program : Program) (assignment : Assignment) (nodes : Li
       let node : Node = record { op = ops.Not; parts = p ∷ [] } in
       let lt = ltb-true p n (both (nat_lt p n) true (parts_below nodes n node sorted there)).0 in
       let clause = met n node there true 0 (record { nodes = nodes; clause = no n ∷ no p ∷ [] }) is refl in
-      node_truth depth program assignment nodes n node sorted there ∙ below false p lt (one_left (no p) (rest_yes n (no p ∷ []) is clause.one))
+      node_truth depth newtypes assignment nodes n node sorted there ∙ below false p lt (one_left (no p) (rest_yes n (no p ∷ []) is clause.one))
   not_holds n p there below false is =
       let node : Node = record { op = ops.Not; parts = p ∷ [] } in
       let lt = ltb-true p n (both (nat_lt p n) true (parts_below nodes n node sorted there)).0 in
       let clause = met n node there false 1 (record { nodes = nodes; clause = yes n ∷ yes p ∷ [] }) is refl in
       let part : IsTrue p ≡ true = below true p lt (one_left (yes p) (rest_no n (yes p ∷ []) is clause.one)) in
-      ap not (node_truth depth program assignment nodes n node sorted there ∙ ap not part)
+      ap not (node_truth depth newtypes assignment nodes n node sorted there ∙ ap not part)
 
   -- two parts below the node
   two_below : (n p q : ℕ) (node : Node) → slice_get nodes n ≡ Some node → node.parts ≡ p ∷ q ∷ [] → (p < n) × (q < n)
@@ -165,7 +165,7 @@ module _ (depth : ℕ) (program : Program) (assignment : Assignment) (nodes : Li
       let node : Node = record { op = ops.Implies; parts = p ∷ q ∷ [] } in
       let lt = two_below n p q node there refl in
       let clause = met n node there true 0 (record { nodes = nodes; clause = no n ∷ no p ∷ yes q ∷ [] }) is refl in
-      node_truth depth program assignment nodes n node sorted there ∙ implies_true (IsTrue p) (IsTrue q) (two_true n p q false true below lt.0 lt.1 (rest_yes n (no p ∷ yes q ∷ []) is clause.one))
+      node_truth depth newtypes assignment nodes n node sorted there ∙ implies_true (IsTrue p) (IsTrue q) (two_true n p q false true below lt.0 lt.1 (rest_yes n (no p ∷ yes q ∷ []) is clause.one))
   implies_holds n p q there below false is =
       let node : Node = record { op = ops.Implies; parts = p ∷ q ∷ [] } in
       let lt = two_below n p q node there refl in
@@ -173,7 +173,7 @@ module _ (depth : ℕ) (program : Program) (assignment : Assignment) (nodes : Li
       let second = met n node there false 2 (record { nodes = nodes; clause = yes n ∷ no q ∷ [] }) is refl in
       let left = below true p lt.0 (one_left (yes p) (rest_no n (yes p ∷ []) is first.one)) in
       let right = below false q lt.1 (one_left (no q) (rest_no n (no q ∷ []) is second.one)) in
-      ap not (node_truth depth program assignment nodes n node sorted there) ∙ implies_false (IsTrue p) (IsTrue q) left right
+      ap not (node_truth depth newtypes assignment nodes n node sorted there) ∙ implies_false (IsTrue p) (IsTrue q) left right
 
   iff_holds : (n p q : ℕ) → slice_get nodes n ≡ Some (record { op = ops.Iff; parts = p ∷ q ∷ [] }) → AreTrueBelow n → (b : Bool) → Knows b n → same_truth b (IsTrue n) ≡ true
   iff_holds n p q there below true is =
@@ -181,14 +181,14 @@ module _ (depth : ℕ) (program : Program) (assignment : Assignment) (nodes : Li
       let lt = two_below n p q node there refl in
       let first = met n node there true 0 (record { nodes = nodes; clause = no n ∷ no p ∷ yes q ∷ [] }) is refl in
       let second = met n node there true 1 (record { nodes = nodes; clause = no n ∷ yes p ∷ no q ∷ [] }) is refl in
-      node_truth depth program assignment nodes n node sorted there
+      node_truth depth newtypes assignment nodes n node sorted there
       ∙ iff_true (IsTrue p) (IsTrue q) (two_true n p q false true below lt.0 lt.1 (rest_yes n (no p ∷ yes q ∷ []) is first.one)) (two_true n p q true false below lt.0 lt.1 (rest_yes n (yes p ∷ no q ∷ []) is second.one))
   iff_holds n p q there below false is =
       let node : Node = record { op = ops.Iff; parts = p ∷ q ∷ [] } in
       let lt = two_below n p q node there refl in
       let first = met n node there false 2 (record { nodes = nodes; clause = yes n ∷ yes p ∷ yes q ∷ [] }) is refl in
       let second = met n node there false 3 (record { nodes = nodes; clause = yes n ∷ no p ∷ no q ∷ [] }) is refl in
-      ap not (node_truth depth program assignment nodes n node sorted there)
+      ap not (node_truth depth newtypes assignment nodes n node sorted there)
       ∙ iff_false (IsTrue p) (IsTrue q) (two_true n p q true true below lt.0 lt.1 (rest_no n (yes p ∷ yes q ∷ []) is first.one)) (two_true n p q false false below lt.0 lt.1 (rest_no n (no p ∷ no q ∷ []) is second.one))
 
   -- what is known of each part
@@ -236,25 +236,25 @@ module _ (depth : ℕ) (program : Program) (assignment : Assignment) (nodes : Li
   and_holds n parts there below true is =
       let node : Node = record { op = ops.And; parts = parts } in
       let chosen_is = λ (k : ℕ) (clause : Clause) (e : slice_get (and_clauses n parts) k ≡ Some clause). (met n node there true k (record { nodes = nodes; clause = clause }) is (rw e refl)).one in
-      node_truth depth program assignment nodes n node sorted there ∙ all_of_mapped truth_of (worth depth program assignment nodes) parts
+      node_truth depth newtypes assignment nodes n node sorted there ∙ all_of_mapped truth_of (worth depth newtypes assignment nodes) parts
       ∙ all_true n below is parts ((yes n ∷ map no parts) ∷ []) (parts_below nodes n node sorted there) chosen_is
   and_holds n parts there below false is =
       let node : Node = record { op = ops.And; parts = parts } in
       let last = get_last (map (λ p. no n ∷ yes p ∷ []) parts) (yes n ∷ map no parts) in
       let clause = met n node there false (length (map (λ p. no n ∷ yes p ∷ []) parts)) (record { nodes = nodes; clause = yes n ∷ map no parts }) is (rw last refl) in
-      ap not (node_truth depth program assignment nodes n node sorted there ∙ all_of_mapped truth_of (worth depth program assignment nodes) parts)
+      ap not (node_truth depth newtypes assignment nodes n node sorted there ∙ all_of_mapped truth_of (worth depth newtypes assignment nodes) parts)
       ∙ one_false n below parts (parts_below nodes n node sorted there) (rest_no n (map no parts) is clause.one)
 
   or_holds : (n : ℕ) (parts : List ℕ) → slice_get nodes n ≡ Some (record { op = ops.Or; parts = parts }) → AreTrueBelow n → (b : Bool) → Knows b n → same_truth b (IsTrue n) ≡ true
   or_holds n parts there below true is =
       let node : Node = record { op = ops.Or; parts = parts } in
       let clause = met n node there true 0 (record { nodes = nodes; clause = no n ∷ map yes parts }) is refl in
-      node_truth depth program assignment nodes n node sorted there ∙ any_of_mapped truth_of (worth depth program assignment nodes) parts
+      node_truth depth newtypes assignment nodes n node sorted there ∙ any_of_mapped truth_of (worth depth newtypes assignment nodes) parts
       ∙ one_true n below parts (parts_below nodes n node sorted there) (rest_yes n (map yes parts) is clause.one)
   or_holds n parts there below false is =
       let node : Node = record { op = ops.Or; parts = parts } in
       let chosen_is = λ (k : ℕ) (clause : Clause) (e : slice_get (map (λ p. yes n ∷ no p ∷ []) parts) k ≡ Some clause). (met n node there false (suc k) (record { nodes = nodes; clause = clause }) is (rw e refl)).one in
-      ap not (node_truth depth program assignment nodes n node sorted there ∙ any_of_mapped truth_of (worth depth program assignment nodes) parts)
+      ap not (node_truth depth newtypes assignment nodes n node sorted there ∙ any_of_mapped truth_of (worth depth newtypes assignment nodes) parts)
       ∙ none_true n below is parts (parts_below nodes n node sorted there) chosen_is
 
   basic_true : (b : Bool) (m : ℕ) (node : Node) → Knows b m → slice_get nodes m ≡ Some node → is_basic node.op ≡ true → same_truth b (IsTrue m) ≡ true
@@ -272,8 +272,8 @@ module _ (depth : ℕ) (program : Program) (assignment : Assignment) (nodes : Li
       let down_there = subst (λ (ns : List Node). slice_get ns down.number ≡ Some (at_most q p)) second.stands (made_stands nodes (at_most q p) sorted (at_most_sorted nodes q p is_q is_p)).there in
       let one : IsTrue up.number ≡ true = basic_true true up.number (at_most p q) (one_left (yes up.number) (rest_yes n (yes up.number ∷ []) is first.one)) up_there refl in
       let other : IsTrue down.number ≡ true = basic_true true down.number (at_most q p) (one_left (yes down.number) (rest_yes n (yes down.number ∷ []) is second.one)) down_there refl in
-      equal_truth depth program assignment nodes n p q sorted there is_p is_q
-      ∙ both_true _ _ (sym (at_most_truth depth program assignment nodes up.number p q sorted up_there) ∙ one) (sym (at_most_truth depth program assignment nodes down.number q p sorted down_there) ∙ other)
+      equal_truth depth newtypes assignment nodes n p q sorted there is_p is_q
+      ∙ both_true _ _ (sym (at_most_truth depth newtypes assignment nodes up.number p q sorted up_there) ∙ one) (sym (at_most_truth depth newtypes assignment nodes down.number q p sorted down_there) ∙ other)
   equal_holds n p q there is_p is_q false is =
       let node : Node = record { op = ops.Equal; parts = p ∷ q ∷ [] } in
       let up = made nodes (at_most p q) in
@@ -284,57 +284,57 @@ module _ (depth : ℕ) (program : Program) (assignment : Assignment) (nodes : Li
       (at_most_sorted up.nodes q p (grown_number nodes up.nodes up_stands.grows q is_q) (grown_number nodes up.nodes up_stands.grows p is_p)) in
       let up_there = subst (λ (ns : List Node). slice_get ns up.number ≡ Some (at_most p q)) met_one.stands (grown_get up.nodes down.nodes down_stands.grows up.number (at_most p q) up_stands.there) in
       let down_there = subst (λ (ns : List Node). slice_get ns down.number ≡ Some (at_most q p)) met_one.stands down_stands.there in
-      ap not (equal_truth depth program assignment nodes n p q sorted there is_p is_q)
+      ap not (equal_truth depth newtypes assignment nodes n p q sorted there is_p is_q)
       ∙ and_false _ _ (next up.number down.number up_there down_there (two_left (no up.number) (no down.number) (rest_no n (no up.number ∷ no down.number ∷ []) is met_one.one)))
     where
       next : (up down : ℕ) → slice_get nodes up ≡ Some (at_most p q) → slice_get nodes down ≡ Some (at_most q p) → Knows false up ⊎ Knows false down
-          → (not (int_le (number_in depth program assignment nodes p) (number_in depth program assignment nodes q)) ≡ true) ⊎ (not (int_le (number_in depth program assignment nodes q) (number_in depth program assignment nodes p)) ≡ true)
-      next up down up_there down_there (inl here) = inl (ap not (sym (at_most_truth depth program assignment nodes up p q sorted up_there)) ∙ basic_true false up (at_most p q) here up_there refl)
-      next up down up_there down_there (inr here) = inr (ap not (sym (at_most_truth depth program assignment nodes down q p sorted down_there)) ∙ basic_true false down (at_most q p) here down_there refl)
+          → (not (int_le (number_in depth newtypes assignment nodes p) (number_in depth newtypes assignment nodes q)) ≡ true) ⊎ (not (int_le (number_in depth newtypes assignment nodes q) (number_in depth newtypes assignment nodes p)) ≡ true)
+      next up down up_there down_there (inl here) = inl (ap not (sym (at_most_truth depth newtypes assignment nodes up p q sorted up_there)) ∙ basic_true false up (at_most p q) here up_there refl)
+      next up down up_there down_there (inr here) = inr (ap not (sym (at_most_truth depth newtypes assignment nodes down q p sorted down_there)) ∙ basic_true false down (at_most q p) here down_there refl)
 
   -- a clause of a type
-  met_type : (n x name k : ℕ) (b : Bool) (added : Added) → slice_get nodes n ≡ Some (record { op = ops.Is (types.Newtype name); parts = x ∷ [] }) → Knows b n → newtype_clause program.newtype nodes n x k ≡ Some added → IsMet nodes known added
-  met_type n x name k b added there is e =
-      let named = arithmetic.types n name (x ∷ []) there in
+  met_type : (n x t k : ℕ) (newtype : Newtype) (b : Bool) (added : Added) → slice_get nodes n ≡ Some (record { op = ops.Is (types.Newtype t); parts = x ∷ [] }) → slice_get newtypes t ≡ Some newtype → Knows b n
+      → newtype_clause newtype nodes n x k ≡ Some added → IsMet nodes known added
+  met_type n x t k newtype b added there found is e =
       full.types n k added (known_of b n is)
-      (ap (λ (o : Option Node). option_and_then (λ (m : Node). is_clause program nodes n k m.op m.parts) o) there ∙ ap (λ (c : Bool). if c then newtype_clause program.newtype nodes n x k else None) named ∙ e)
+      (ap (λ (o : Option Node). option_and_then (λ (m : Node). is_clause newtypes nodes n k m.op m.parts) o) there ∙ ap (λ (o : Option Newtype). option_and_then (λ (one : Newtype). newtype_clause one nodes n x k) o) found ∙ e)
 
   -- a type, by its two ends
-  is_holds : (n x name : ℕ) → slice_get nodes n ≡ Some (record { op = ops.Is (types.Newtype name); parts = x ∷ [] }) → IsNumber nodes x → (b : Bool) → Knows b n → same_truth b (IsTrue n) ≡ true
-  is_holds n x name there is_x true is =
-      let low = made_at_least nodes program.newtype.low x in
-      let high = made_at_most nodes x program.newtype.high in
-      let first = met_type n x name 0 true (record { nodes = low.nodes; clause = no n ∷ yes low.number ∷ [] }) there is refl in
-      let second = met_type n x name 1 true (record { nodes = high.nodes; clause = no n ∷ yes high.number ∷ [] }) there is refl in
-      let low_stands = at_least_stands nodes program.newtype.low x sorted is_x in
-      let high_stands = at_most_stands nodes x program.newtype.high sorted is_x in
-      let low_literal = subst (λ (ns : List Node). slice_get ns low_stands.literal ≡ Some (number program.newtype.low)) first.stands low_stands.literal_there in
+  is_holds : (n x t : ℕ) (newtype : Newtype) → slice_get nodes n ≡ Some (record { op = ops.Is (types.Newtype t); parts = x ∷ [] }) → slice_get newtypes t ≡ Some newtype → IsNumber nodes x → (b : Bool) → Knows b n → same_truth b (IsTrue n) ≡ true
+  is_holds n x t newtype there found is_x true is =
+      let low = made_at_least nodes newtype.low x in
+      let high = made_at_most nodes x newtype.high in
+      let first = met_type n x t 0 newtype true (record { nodes = low.nodes; clause = no n ∷ yes low.number ∷ [] }) there found is refl in
+      let second = met_type n x t 1 newtype true (record { nodes = high.nodes; clause = no n ∷ yes high.number ∷ [] }) there found is refl in
+      let low_stands = at_least_stands nodes newtype.low x sorted is_x in
+      let high_stands = at_most_stands nodes x newtype.high sorted is_x in
+      let low_literal = subst (λ (ns : List Node). slice_get ns low_stands.literal ≡ Some (number newtype.low)) first.stands low_stands.literal_there in
       let low_there = subst (λ (ns : List Node). slice_get ns low.number ≡ Some (at_most low_stands.literal x)) first.stands low_stands.there in
-      let high_literal = subst (λ (ns : List Node). slice_get ns high_stands.literal ≡ Some (number program.newtype.high)) second.stands high_stands.literal_there in
+      let high_literal = subst (λ (ns : List Node). slice_get ns high_stands.literal ≡ Some (number newtype.high)) second.stands high_stands.literal_there in
       let high_there = subst (λ (ns : List Node). slice_get ns high.number ≡ Some (at_most x high_stands.literal)) second.stands high_stands.there in
       let one : IsTrue low.number ≡ true = basic_true true low.number (at_most low_stands.literal x) (one_left (yes low.number) (rest_yes n (yes low.number ∷ []) is first.one)) low_there refl in
       let other : IsTrue high.number ≡ true = basic_true true high.number (at_most x high_stands.literal) (one_left (yes high.number) (rest_yes n (yes high.number ∷ []) is second.one)) high_there refl in
-      of_newtype depth program assignment nodes n x name sorted there (arithmetic.types n name (x ∷ []) there)
-      ∙ both_true _ _ (sym (at_least_truth depth program assignment nodes low_stands.literal low.number x program.newtype.low sorted low_literal low_there) ∙ one)
-      (sym (up_to_truth depth program assignment nodes high_stands.literal high.number x program.newtype.high sorted high_literal high_there) ∙ other)
-  is_holds n x name there is_x false is =
-      let low = made_at_least nodes program.newtype.low x in
-      let high = made_at_most low.nodes x program.newtype.high in
-      let met_one = met_type n x name 2 false (record { nodes = high.nodes; clause = yes n ∷ no low.number ∷ no high.number ∷ [] }) there is refl in
-      let low_stands = at_least_stands nodes program.newtype.low x sorted is_x in
-      let high_stands = at_most_stands low.nodes x program.newtype.high low_stands.sorted (grown_number nodes low.nodes low_stands.grows x is_x) in
-      let low_literal = subst (λ (ns : List Node). slice_get ns low_stands.literal ≡ Some (number program.newtype.low)) met_one.stands (grown_get low.nodes high.nodes high_stands.grows low_stands.literal (number program.newtype.low) low_stands.literal_there) in
+      of_newtype depth newtypes assignment nodes n x t newtype sorted there found
+      ∙ both_true _ _ (sym (at_least_truth depth newtypes assignment nodes low_stands.literal low.number x newtype.low sorted low_literal low_there) ∙ one)
+      (sym (up_to_truth depth newtypes assignment nodes high_stands.literal high.number x newtype.high sorted high_literal high_there) ∙ other)
+  is_holds n x t newtype there found is_x false is =
+      let low = made_at_least nodes newtype.low x in
+      let high = made_at_most low.nodes x newtype.high in
+      let met_one = met_type n x t 2 newtype false (record { nodes = high.nodes; clause = yes n ∷ no low.number ∷ no high.number ∷ [] }) there found is refl in
+      let low_stands = at_least_stands nodes newtype.low x sorted is_x in
+      let high_stands = at_most_stands low.nodes x newtype.high low_stands.sorted (grown_number nodes low.nodes low_stands.grows x is_x) in
+      let low_literal = subst (λ (ns : List Node). slice_get ns low_stands.literal ≡ Some (number newtype.low)) met_one.stands (grown_get low.nodes high.nodes high_stands.grows low_stands.literal (number newtype.low) low_stands.literal_there) in
       let low_there = subst (λ (ns : List Node). slice_get ns low.number ≡ Some (at_most low_stands.literal x)) met_one.stands (grown_get low.nodes high.nodes high_stands.grows low.number (at_most low_stands.literal x) low_stands.there) in
-      let high_literal = subst (λ (ns : List Node). slice_get ns high_stands.literal ≡ Some (number program.newtype.high)) met_one.stands high_stands.literal_there in
+      let high_literal = subst (λ (ns : List Node). slice_get ns high_stands.literal ≡ Some (number newtype.high)) met_one.stands high_stands.literal_there in
       let high_there = subst (λ (ns : List Node). slice_get ns high.number ≡ Some (at_most x high_stands.literal)) met_one.stands high_stands.there in
-      ap not (of_newtype depth program assignment nodes n x name sorted there (arithmetic.types n name (x ∷ []) there))
+      ap not (of_newtype depth newtypes assignment nodes n x t newtype sorted there found)
       ∙ and_false _ _ (next low_stands.literal low.number high_stands.literal high.number low_literal low_there high_literal high_there (two_left (no low.number) (no high.number) (rest_no n (no low.number ∷ no high.number ∷ []) is met_one.one)))
     where
-      next : (i low j high : ℕ) → slice_get nodes i ≡ Some (number program.newtype.low) → slice_get nodes low ≡ Some (at_most i x) → slice_get nodes j ≡ Some (number program.newtype.high) → slice_get nodes high ≡ Some (at_most x j)
+      next : (i low j high : ℕ) → slice_get nodes i ≡ Some (number newtype.low) → slice_get nodes low ≡ Some (at_most i x) → slice_get nodes j ≡ Some (number newtype.high) → slice_get nodes high ≡ Some (at_most x j)
           → Knows false low ⊎ Knows false high
-          → (not (int_le program.newtype.low (number_in depth program assignment nodes x)) ≡ true) ⊎ (not (int_le (number_in depth program assignment nodes x) program.newtype.high) ≡ true)
-      next i low j high i_there low_there j_there high_there (inl here) = inl (ap not (sym (at_least_truth depth program assignment nodes i low x program.newtype.low sorted i_there low_there)) ∙ basic_true false low (at_most i x) here low_there refl)
-      next i low j high i_there low_there j_there high_there (inr here) = inr (ap not (sym (up_to_truth depth program assignment nodes j high x program.newtype.high sorted j_there high_there)) ∙ basic_true false high (at_most x j) here high_there refl)
+          → (not (int_le newtype.low (number_in depth newtypes assignment nodes x)) ≡ true) ⊎ (not (int_le (number_in depth newtypes assignment nodes x) newtype.high) ≡ true)
+      next i low j high i_there low_there j_there high_there (inl here) = inl (ap not (sym (at_least_truth depth newtypes assignment nodes i low x newtype.low sorted i_there low_there)) ∙ basic_true false low (at_most i x) here low_there refl)
+      next i low j high i_there low_there j_there high_there (inr here) = inr (ap not (sym (up_to_truth depth newtypes assignment nodes j high x newtype.high sorted j_there high_there)) ∙ basic_true false high (at_most x j) here high_there refl)
 
   -- the parts of an operation are of the sorts that it takes
   taken : (n : ℕ) (node : Node) → slice_get nodes n ≡ Some node → takes node.op (map (sort_at nodes) node.parts) ≡ true
@@ -342,13 +342,13 @@ module _ (depth : ℕ) (program : Program) (assignment : Assignment) (nodes : Li
 
   one_number : (n x : ℕ) (op : Op) → slice_get nodes n ≡ Some (record { op = op; parts = x ∷ [] }) → same_sort (sort_at nodes x) sorts.Number ≡ true → IsNumber nodes x
   one_number n x op there sort =
-      let below = both (nat_lt x (length nodes)) true (each_below depth program assignment nodes n (record { op = op; parts = x ∷ [] }) sorted there) in
+      let below = both (nat_lt x (length nodes)) true (each_below depth newtypes assignment nodes n (record { op = op; parts = x ∷ [] }) sorted there) in
       record { below = ltb-true x (length nodes) below.0; sort = same_sort_equal (sort_at nodes x) sorts.Number sort }
 
   two_numbers : (n p q : ℕ) → slice_get nodes n ≡ Some (record { op = ops.Equal; parts = p ∷ q ∷ [] }) → IsNumber nodes p × IsNumber nodes q
   two_numbers n p q there =
       let node : Node = record { op = ops.Equal; parts = p ∷ q ∷ [] } in
-      let first = both (nat_lt p (length nodes)) (nat_lt q (length nodes) && true) (each_below depth program assignment nodes n node sorted there) in
+      let first = both (nat_lt p (length nodes)) (nat_lt q (length nodes) && true) (each_below depth newtypes assignment nodes n node sorted there) in
       let second = both (nat_lt q (length nodes)) true first.1 in
       let alike = same_sort_equal (sort_at nodes p) (sort_at nodes q) (taken n node there) in
       let sort = arithmetic.equalities n p q there in
@@ -360,7 +360,9 @@ module _ (depth : ℕ) (program : Program) (assignment : Assignment) (nodes : Li
   op_holds n (ops.Free free) parts there sort below b is = basic_true b n (record { op = ops.Free free; parts = parts }) is there refl
   op_holds n ops.Plus parts there sort below b is = absurd (true≢false (sym sort))
   op_holds n ops.Times parts there sort below b is = absurd (true≢false (sym sort))
-  op_holds n (ops.Is (types.Newtype name)) (x ∷ []) there sort below b is = is_holds n x name there (one_number n x (ops.Is (types.Newtype name)) there (taken n (record { op = ops.Is (types.Newtype name); parts = x ∷ [] }) there)) b is
+  op_holds n (ops.Is (types.Newtype t)) (x ∷ []) there sort below b is =
+      let found = get_below newtypes t (ltb-true t (length newtypes) (arithmetic.types n t (x ∷ []) there)) in
+      is_holds n x t found.0 there found.1 (one_number n x (ops.Is (types.Newtype t)) there (taken n (record { op = ops.Is (types.Newtype t); parts = x ∷ [] }) there)) b is
   op_holds n (ops.Is ty) [] there sort below b is = absurd (true≢false (sym (taken n (record { op = ops.Is ty; parts = [] }) there)))
   op_holds n (ops.Is ty) (x ∷ y ∷ others) there sort below b is = absurd (true≢false (sym (taken n (record { op = ops.Is ty; parts = x ∷ y ∷ others }) there)))
   op_holds n ops.Equal (p ∷ q ∷ []) there sort below b is = let numbers = two_numbers n p q there in equal_holds n p q there numbers.0 numbers.1 b is

@@ -3,14 +3,14 @@
 use crate::{Derivation, logs_end_with_empty_clauses};
 use df_form::{Combination, Draft, Free, Lit, Multiple, Node, Op, Sequent, Sort, Step};
 use df_kern::check;
-use df_types::{Declared, Interval, Method, Newtype, Program};
+use df_types::{Declared, Interval, Newtype};
 use std::alloc::Global;
 use std::process::Abort;
 use std::test::Fail;
 
-/// The program of the newtype `i8 = x: int | -128 <= x < 128`, and of an empty `Main`.
-fn program(alloc: Global) -> Result<Program, Fail> {
-    let newtype = Newtype {
+/// The newtype `i8 = x: int | -128 <= x < 128` alone.
+fn newtypes(alloc: Global) -> Result<Vec<Newtype>, Fail> {
+    let i8 = Newtype {
         declared: Declared {
             name: 0,
             text: String::from_str(alloc, "i8")?,
@@ -18,14 +18,7 @@ fn program(alloc: Global) -> Result<Program, Fail> {
         interval: Interval::new(-128, 127).ok_or("ordered")?,
         default: 0,
     };
-    let main = Method {
-        declared: Declared {
-            name: 1,
-            text: String::from_str(alloc, "Main")?,
-        },
-        body: Vec::new(alloc),
-    };
-    Ok(Program::new(newtype, main))
+    Ok(vec![in alloc; i8]?)
 }
 
 /// Puts `x <= bound` on the stack.
@@ -47,8 +40,12 @@ fn put_bound(rt: &impl Abort, draft: &mut Draft, bound: i128) -> Result<(), Fail
 }
 
 /// The hypothesis `x <= 3`, and the goal `x <= 4`: x is node 0, the hypothesis 2, and the goal 4.
-fn sequent<'a>(rt: &impl Abort, alloc: Global, program: &'a Program) -> Result<Sequent<'a>, Fail> {
-    let mut draft = Draft::new(alloc, program);
+fn sequent<'a>(
+    rt: &impl Abort,
+    alloc: Global,
+    newtypes: &'a [Newtype],
+) -> Result<Sequent<'a>, Fail> {
+    let mut draft = Draft::new(alloc, newtypes);
     put_bound(rt, &mut draft, 3)?;
     assert_eq!(rt; draft.stack.len(), 1);
     assert!(rt; draft.nodes.is_formula(draft.stack[0]));
@@ -67,8 +64,8 @@ fn literal(positive: bool, node: usize) -> Lit {
 fn builds_a_log_that_is_accepted(rt: HostRuntime) -> Result<(), Fail> {
     let alloc = rt.alloc();
     logs_end_with_empty_clauses();
-    let program = program(alloc)?;
-    let sequent = sequent(&rt, alloc, &program)?;
+    let newtypes = newtypes(alloc)?;
+    let sequent = sequent(&rt, alloc, newtypes.as_slice())?;
     let nodes = sequent.nodes.copy(alloc)?;
     let lines = vec![in alloc; Step::Hypothesis(0), Step::Goal]?;
     let mut derivation = Derivation::new(nodes, lines, 2);

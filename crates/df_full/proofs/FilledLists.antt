@@ -3,7 +3,7 @@ use Rattle.std.proofs.Common.{◌≡◌, ℕ, ◌<◌, ◌≤◌, ◌⊎◌, inl
 use Rattle.std.specs.Option.{option_map, option_and_then}
 use Rattle.std.specs.List.{list_all, list_any, range_with_len, flat_map}
 use Rattle.std.proofs.lemmas.Option.{slice_get-map}
-use Rattle.df_types.specs.Program.{Program}
+use Rattle.df_types.specs.Program.{Newtype}
 use Rattle.df_form.specs.declared.log.Lit.{Lit}
 use Rattle.df_form.specs.declared.node.Op.{Op}
 use Rattle.df_form.specs.declared.node.Op.TheVariants as ops
@@ -37,10 +37,10 @@ no_connective nodes n k (ops.Number value) parts added is e = cc
 no_connective nodes n k ops.AtMost parts added is e = cc
 no_connective nodes n k op parts added is e = true≢false (sym is)
 
-no_schema : (program : Program) (nodes : List Node) (n k : ℕ) (op : Op) (parts : List ℕ) (added : Added) → is_comparing op ≡ true → is_clause program nodes n k op parts ≡ Some added → ⊥
-no_schema program nodes n k (ops.Number value) parts added is e = cc
-no_schema program nodes n k ops.AtMost parts added is e = cc
-no_schema program nodes n k op parts added is e = true≢false (sym is)
+no_schema : (newtypes : List Newtype) (nodes : List Node) (n k : ℕ) (op : Op) (parts : List ℕ) (added : Added) → is_comparing op ≡ true → is_clause newtypes nodes n k op parts ≡ Some added → ⊥
+no_schema newtypes nodes n k (ops.Number value) parts added is e = cc
+no_schema newtypes nodes n k ops.AtMost parts added is e = cc
+no_schema newtypes nodes n k op parts added is e = true≢false (sym is)
 
 first_below : (n : ℕ) (parts : List ℕ) (a : ℕ) (others : List ℕ) → list_all (λ part. nat_lt part n) parts ≡ true → parts ≡ a ∷ others → a < n
 first_below n [] a others all e = absurd cc
@@ -102,7 +102,7 @@ module _ (s : Sequent) (g : Ground) (is : IsGroundOf s g) (known : List Lit) (fi
 
   pub goal_known : is_among known (no s.goal) ≡ true
   goal_known =
-      let line = in_right (map (λ i. Hypothesis i) (range_with_len 0 (length s.hypotheses))) (Goal ∷ flat_map (lines_at s.program s.nodes) (range_with_len 0 (length s.nodes))) Goal (0, refl) in
+      let line = in_right (map (λ i. Hypothesis i) (range_with_len 0 (length s.hypotheses))) (Goal ∷ flat_map (lines_at s.newtypes s.nodes) (range_with_len 0 (length s.nodes))) Goal (0, refl) in
       line_known Goal (no s.goal) line refl goal_adds
 
   module _ (nodes : List Node) (table : IsTable nodes) (grown : Grows g.nodes nodes) (valid : IsSequent s) (comparing : AreComparing (length s.nodes) nodes) where
@@ -145,13 +145,13 @@ module _ (s : Sequent) (g : Ground) (is : IsGroundOf s g) (known : List Lit) (fi
         met added has.added (some_is added (again nodes table has.added) (sym e ∙ before))
         (one_known line.0 (Connective n k) line.1 has (ap (counts_for known) bound ∙ counts_by known n node.op knows))
 
-    schema_met : (n k : ℕ) (node : Node) (added : Added) → slice_get s.nodes n ≡ Some node → is_clause s.program nodes n k node.op node.parts ≡ Some added → IsMet nodes known added
+    schema_met : (n k : ℕ) (node : Node) (added : Added) → slice_get s.nodes n ≡ Some node → is_clause s.newtypes nodes n k node.op node.parts ≡ Some added → IsMet nodes known added
     schema_met n k node added at e =
-        let own = ap (option_and_then (λ (node : Node). is_clause s.program s.nodes n k node.op node.parts)) at in
-        let line = schema_among s 74 k (n ∷ []) (λ none. schema_too s.program nodes s.nodes n k node.op node.parts added e (sym own ∙ none)) in
+        let own = ap (option_and_then (λ (node : Node). is_clause s.newtypes s.nodes n k node.op node.parts)) at in
+        let line = schema_among s 74 k (n ∷ []) (λ none. schema_too s.newtypes nodes s.nodes n k node.op node.parts added e (sym own ∙ none)) in
         let has = ground_added s g is line.0 (Schema 74 k (n ∷ [])) line.1 in
-        let read = ap (option_and_then (λ (node : Node). is_clause s.program has.nodes n k node.op node.parts)) (grown_get s.nodes has.nodes has.before n node at) in
-        let before = schema_again nodes table s.program has.nodes n k node.op node.parts has.added (sym read ∙ has.by) (grows_twice has.added.nodes g.nodes nodes has.after grown) in
+        let read = ap (option_and_then (λ (node : Node). is_clause s.newtypes has.nodes n k node.op node.parts)) (grown_get s.nodes has.nodes has.before n node at) in
+        let before = schema_again nodes table s.newtypes has.nodes n k node.op node.parts has.added (sym read ∙ has.by) (grows_twice has.added.nodes g.nodes nodes has.after grown) in
         met added has.added (some_is added (again nodes table has.added) (sym e ∙ before)) (one_known line.0 (Schema 74 k (n ∷ [])) line.1 has refl)
 
     connectives_met : (n k : ℕ) (added : Added) → knows_of known n ≡ true → connective_line nodes n k ≡ Some added → IsMet nodes known added
@@ -163,14 +163,14 @@ module _ (s : Sequent) (g : Ground) (is : IsGroundOf s g) (known : List Lit) (fi
         by node (inl at) e = connective_met n k node added knows at e
         by node (inr compares) e = absurd (no_connective nodes n k node.op node.parts added compares e)
 
-    schemas_met : (n k : ℕ) (added : Added) → schema_line s.program nodes 74 k (n ∷ []) ≡ Some added → IsMet nodes known added
+    schemas_met : (n k : ℕ) (added : Added) → schema_line s.newtypes nodes 74 k (n ∷ []) ≡ Some added → IsMet nodes known added
     schemas_met n k added line =
-        let found = then_some (λ (node : Node). is_clause s.program nodes n k node.op node.parts) (slice_get nodes n) added line in
+        let found = then_some (λ (node : Node). is_clause s.newtypes nodes n k node.op node.parts) (slice_get nodes n) added line in
         by found.0 (where_is n found.0 found.1) found.2
       where
-        by : (node : Node) → (slice_get s.nodes n ≡ Some node) ⊎ (is_comparing node.op ≡ true) → is_clause s.program nodes n k node.op node.parts ≡ Some added → IsMet nodes known added
+        by : (node : Node) → (slice_get s.nodes n ≡ Some node) ⊎ (is_comparing node.op ≡ true) → is_clause s.newtypes nodes n k node.op node.parts ≡ Some added → IsMet nodes known added
         by node (inl at) e = schema_met n k node added at e
-        by node (inr compares) e = absurd (no_schema s.program nodes n k node.op node.parts added compares e)
+        by node (inr compares) e = absurd (no_schema s.newtypes nodes n k node.op node.parts added compares e)
 
-    pub filled_full : IsFull s.program nodes known
+    pub filled_full : IsFull s.newtypes nodes known
     filled_full = record { connectives = connectives_met; types = λ n k added knows line. schemas_met n k added line }

@@ -3,7 +3,7 @@ use Rattle.std.proofs.Common.{◌≡◌, ℕ, zero, suc, ◌≤◌, ◌⊎◌, i
 use Rattle.std.specs.Option.{option_map}
 use Rattle.df_types.specs.declared.program.Ty.{Ty}
 use Rattle.df_types.specs.declared.program.Ty.TheVariants as types
-use Rattle.df_types.specs.Program.{Program, Newtype}
+use Rattle.df_types.specs.Program.{Newtype}
 use Rattle.df_form.specs.declared.node.Sort.{Sort}
 use Rattle.df_form.specs.declared.node.Sort.TheVariants as sorts
 use Rattle.df_form.specs.declared.node.Op.{Op}
@@ -23,7 +23,7 @@ use Rattle.df_kern.specs.Derivation.{only_clause}
 use Rattle.df_ground.specs.Adding.{added_by}
 use Rattle.df_full.specs.Filled.{is_comparing, AreComparing}
 
-module _ (program : Program) (P : List Node → Type 0) (keeps : (nodes : List Node) (node : Node) → is_comparing node.op ≡ true → P nodes → P (made nodes node).nodes) where
+module _ (newtypes : List Newtype) (P : List Node → Type 0) (keeps : (nodes : List Node) (node : Node) → is_comparing node.op ≡ true → P nodes → P (made nodes node).nodes) where
   abbrev Kept : Added → Type 0
   Kept added = P added.nodes
 
@@ -67,18 +67,18 @@ module _ (program : Program) (P : List Node → Type 0) (keeps : (nodes : List N
       subst Kept (some_is _ added line) (high_kept low.nodes x newtype.high (low_kept nodes newtype.low x h))
   newtype_kept newtype nodes n x (suc (suc (suc k))) added h line = absurd cc
 
-  type_kept : (nodes : List Node) (n x k : ℕ) (ty : Ty) (added : Added) → P nodes → type_clause program nodes n x ty k ≡ Some added → Kept added
-  type_kept nodes n x k (types.Newtype name) added h line =
-      let named = test_some (name == program.newtype.name) (newtype_clause program.newtype nodes n x k) added line in
-      newtype_kept program.newtype nodes n x k added h named.1
+  type_kept : (nodes : List Node) (n x k : ℕ) (ty : Ty) (added : Added) → P nodes → type_clause newtypes nodes n x ty k ≡ Some added → Kept added
+  type_kept nodes n x k (types.Newtype t) added h line =
+      let found = then_some (λ (newtype : Newtype). newtype_clause newtype nodes n x k) (slice_get newtypes t) added line in
+      newtype_kept found.0 nodes n x k added h found.2
 
-  is_kept : (nodes : List Node) (n k : ℕ) (op : Op) (parts : List ℕ) (added : Added) → P nodes → is_clause program nodes n k op parts ≡ Some added → Kept added
+  is_kept : (nodes : List Node) (n k : ℕ) (op : Op) (parts : List ℕ) (added : Added) → P nodes → is_clause newtypes nodes n k op parts ≡ Some added → Kept added
   is_kept nodes n k (ops.Is ty) (x ∷ []) added h line = type_kept nodes n x k ty added h line
   is_kept nodes n k op parts added h line = absurd cc
 
-  terms_kept : (nodes : List Node) (k : ℕ) (terms : List ℕ) (added : Added) → P nodes → of_one (schema_74 program nodes k) terms ≡ Some added → Kept added
+  terms_kept : (nodes : List Node) (k : ℕ) (terms : List ℕ) (added : Added) → P nodes → of_one (schema_74 newtypes nodes k) terms ≡ Some added → Kept added
   terms_kept nodes k (n ∷ []) added h line =
-      let found = then_some (λ (node : Node). is_clause program nodes n k node.op node.parts) (slice_get nodes n) added line in
+      let found = then_some (λ (node : Node). is_clause newtypes nodes n k node.op node.parts) (slice_get nodes n) added line in
       is_kept nodes n k found.0.op found.0.parts added h found.2
   terms_kept nodes k [] added h line = absurd cc
   terms_kept nodes k (n ∷ m ∷ others) added h line = absurd cc
@@ -86,12 +86,12 @@ module _ (program : Program) (P : List Node → Type 0) (keeps : (nodes : List N
 -- what comparisons keep, each ground line keeps
 pub line_keeps : (s : Sequent) (P : List Node → Type 0) → ((nodes : List Node) (node : Node) → is_comparing node.op ≡ true → P nodes → P (made nodes node).nodes)
     → (nodes : List Node) (step : Step) (added : Added) → P nodes → added_by s nodes step ≡ Some added → P added.nodes
-line_keeps s P keeps nodes (Hypothesis i) added h e = only_kept s.program P keeps nodes (option_map (λ h. yes h ∷ []) (slice_get s.hypotheses i)) added h e
-line_keeps s P keeps nodes Goal added h e = only_kept s.program P keeps nodes (Some (no s.goal ∷ [])) added h e
+line_keeps s P keeps nodes (Hypothesis i) added h e = only_kept s.newtypes P keeps nodes (option_map (λ h. yes h ∷ []) (slice_get s.hypotheses i)) added h e
+line_keeps s P keeps nodes Goal added h e = only_kept s.newtypes P keeps nodes (Some (no s.goal ∷ [])) added h e
 line_keeps s P keeps nodes (Connective n k) added h e =
     let found = then_some (λ (node : Node). connective_clause nodes n k node.op node.parts) (slice_get nodes n) added e in
-    op_kept s.program P keeps nodes n k found.0.op found.0.parts added h found.2
-line_keeps s P keeps nodes (Schema schema k terms) added h e = terms_kept s.program P keeps nodes k terms added h (test_some (schema == 74) (of_one (schema_74 s.program nodes k) terms) added e).1
+    op_kept s.newtypes P keeps nodes n k found.0.op found.0.parts added h found.2
+line_keeps s P keeps nodes (Schema schema k terms) added h e = terms_kept s.newtypes P keeps nodes k terms added h (test_some (schema == 74) (of_one (schema_74 s.newtypes nodes k) terms) added e).1
 line_keeps s P keeps nodes (Propagation numbers conclusion) added h e = absurd cc
 line_keeps s P keeps nodes (Linear conclusion combinations) added h e = absurd cc
 line_keeps s P keeps nodes (Split n k) added h e = absurd cc

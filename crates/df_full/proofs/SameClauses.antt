@@ -1,9 +1,9 @@
 -- A clause is the same among nodes that hold all that it made.
-use Rattle.std.proofs.Common.{◌≡◌, ℕ, zero, suc, ℤ, Bool, ◌==◌, cond, List, [], ◌∷◌, Some, None, slice_get, refl, sym, ap, ◌∙◌, subst}
-use Rattle.std.specs.Option.{option_map}
+use Rattle.std.proofs.Common.{◌≡◌, ℕ, zero, suc, ℤ, List, [], ◌∷◌, Option, Some, None, slice_get, refl, sym, ap, ◌∙◌, subst}
+use Rattle.std.specs.Option.{option_map, option_and_then}
 use Rattle.df_types.specs.declared.program.Ty.{Ty}
 use Rattle.df_types.specs.declared.program.Ty.TheVariants as types
-use Rattle.df_types.specs.Program.{Program, Newtype}
+use Rattle.df_types.specs.Program.{Newtype}
 use Rattle.df_form.specs.declared.node.Sort.{Sort}
 use Rattle.df_form.specs.declared.node.Sort.TheVariants as sorts
 use Rattle.df_form.specs.declared.node.Op.{Op}
@@ -12,7 +12,7 @@ use Rattle.df_form.specs.Node.{Node}
 use Rattle.df_form.specs.Sorting.{IsTable, sort_at}
 use Rattle.df_form.specs.Made.{Made, made}
 use Rattle.df_form.specs.Clause.{Clause, yes, no}
-use Rattle.df_form.proofs.Lists.{map_some, test_some, some_is}
+use Rattle.df_form.proofs.Lists.{then_some, map_some, some_is}
 use Rattle.df_form.proofs.Values.{Grows, grows_twice, grown_get}
 use Rattle.df_form.proofs.Tables.{made_old, number_of_at}
 use Rattle.df_kern.specs.Bound.{number, at_most, made_at_least, made_at_most}
@@ -117,14 +117,14 @@ module _ (nodes : List Node) (table : IsTable nodes) where
       ∙ ap (λ (x : Added). Some (again x)) same
   newtype_again newtype before n x (suc (suc (suc k))) added e g = absurd cc
 
-  type_again : (program : Program) (before : List Node) (n x k : ℕ) (ty : Ty) (added : Added) → type_clause program before n x ty k ≡ Some added → Grows added.nodes nodes → type_clause program nodes n x ty k ≡ Some (again added)
-  type_again program before n x k (types.Newtype name) added e g =
-      let named = test_some (name == program.newtype.name) (newtype_clause program.newtype before n x k) added e in
-      ap (λ (b : Bool). cond b (newtype_clause program.newtype nodes n x k) None) named.0 ∙ newtype_again program.newtype before n x k added named.1 g
+  type_again : (newtypes : List Newtype) (before : List Node) (n x k : ℕ) (ty : Ty) (added : Added) → type_clause newtypes before n x ty k ≡ Some added → Grows added.nodes nodes → type_clause newtypes nodes n x ty k ≡ Some (again added)
+  type_again newtypes before n x k (types.Newtype t) added e g =
+      let found = then_some (λ (newtype : Newtype). newtype_clause newtype before n x k) (slice_get newtypes t) added e in
+      ap (λ (o : Option Newtype). option_and_then (λ (newtype : Newtype). newtype_clause newtype nodes n x k) o) found.1 ∙ newtype_again found.0 before n x k added found.2 g
 
-  pub schema_again : (program : Program) (before : List Node) (n k : ℕ) (op : Op) (parts : List ℕ) (added : Added) → is_clause program before n k op parts ≡ Some added → Grows added.nodes nodes → is_clause program nodes n k op parts ≡ Some (again added)
-  schema_again program before n k (ops.Is ty) (x ∷ []) added e g = type_again program before n x k ty added e g
-  schema_again program before n k op parts added e g = absurd cc
+  pub schema_again : (newtypes : List Newtype) (before : List Node) (n k : ℕ) (op : Op) (parts : List ℕ) (added : Added) → is_clause newtypes before n k op parts ≡ Some added → Grows added.nodes nodes → is_clause newtypes nodes n k op parts ≡ Some (again added)
+  schema_again newtypes before n k (ops.Is ty) (x ∷ []) added e g = type_again newtypes before n x k ty added e g
+  schema_again newtypes before n k op parts added e g = absurd cc
 
 -- a clause that is one among some nodes is one among others
 chosen_too : (nodes before : List Node) (clauses : List Clause) (k : ℕ) (added : Added) → chosen nodes clauses k ≡ Some added → chosen before clauses k ≡ None → ⊥
@@ -160,11 +160,11 @@ newtype_too newtype nodes before n x (suc zero) added e none = cc
 newtype_too newtype nodes before n x (suc (suc zero)) added e none = cc
 newtype_too newtype nodes before n x (suc (suc (suc k))) added e none = cc
 
-type_too : (program : Program) (nodes before : List Node) (n x k : ℕ) (ty : Ty) (added : Added) → type_clause program nodes n x ty k ≡ Some added → type_clause program before n x ty k ≡ None → ⊥
-type_too program nodes before n x k (types.Newtype name) added e none =
-    let named = test_some (name == program.newtype.name) (newtype_clause program.newtype nodes n x k) added e in
-    newtype_too program.newtype nodes before n x k added named.1 (ap (λ (b : Bool). cond b (newtype_clause program.newtype before n x k) None) (sym named.0) ∙ none)
+type_too : (newtypes : List Newtype) (nodes before : List Node) (n x k : ℕ) (ty : Ty) (added : Added) → type_clause newtypes nodes n x ty k ≡ Some added → type_clause newtypes before n x ty k ≡ None → ⊥
+type_too newtypes nodes before n x k (types.Newtype t) added e none =
+    let found = then_some (λ (newtype : Newtype). newtype_clause newtype nodes n x k) (slice_get newtypes t) added e in
+    newtype_too found.0 nodes before n x k added found.2 (ap (λ (o : Option Newtype). option_and_then (λ (newtype : Newtype). newtype_clause newtype before n x k) o) (sym found.1) ∙ none)
 
-pub schema_too : (program : Program) (nodes before : List Node) (n k : ℕ) (op : Op) (parts : List ℕ) (added : Added) → is_clause program nodes n k op parts ≡ Some added → is_clause program before n k op parts ≡ None → ⊥
-schema_too program nodes before n k (ops.Is ty) (x ∷ []) added e none = type_too program nodes before n x k ty added e none
-schema_too program nodes before n k op parts added e none = cc
+pub schema_too : (newtypes : List Newtype) (nodes before : List Node) (n k : ℕ) (op : Op) (parts : List ℕ) (added : Added) → is_clause newtypes nodes n k op parts ≡ Some added → is_clause newtypes before n k op parts ≡ None → ⊥
+schema_too newtypes nodes before n k (ops.Is ty) (x ∷ []) added e none = type_too newtypes nodes before n x k ty added e none
+schema_too newtypes nodes before n k op parts added e none = cc

@@ -5,7 +5,7 @@ use Rattle.std.specs.List.{range_with_len, flat_map}
 use Rattle.std.proofs.lemmas.Option.{slice_get-map}
 use Rattle.df_types.specs.declared.program.Ty.{Ty}
 use Rattle.df_types.specs.declared.program.Ty.TheVariants as types
-use Rattle.df_types.specs.Program.{Program, Newtype}
+use Rattle.df_types.specs.Program.{Newtype}
 use Rattle.df_form.specs.declared.node.Sort.{Sort}
 use Rattle.df_form.specs.declared.node.Sort.TheVariants as sorts
 use Rattle.df_form.specs.declared.node.Op.{Op}
@@ -97,34 +97,34 @@ newtype_counted newtype nodes n x (suc zero) there = omega arith
 newtype_counted newtype nodes n x (suc (suc zero)) there = omega arith
 newtype_counted newtype nodes n x (suc (suc (suc k))) there = absurd (there refl)
 
-named_counted : (b : Bool) (newtype : Newtype) (nodes : List Node) (n x k : ℕ) → (cond b (newtype_clause newtype nodes n x k) None ≡ None → ⊥) → k < cond b 3 0
-named_counted true newtype nodes n x k there = newtype_counted newtype nodes n x k there
-named_counted false newtype nodes n x k there = absurd (there refl)
+found_counted : (found : Option Newtype) (nodes : List Node) (n x k : ℕ) → (option_and_then (λ (newtype : Newtype). newtype_clause newtype nodes n x k) found ≡ None → ⊥) → k < option_map_or (λ (newtype : Newtype). 3) found 0
+found_counted (Some newtype) nodes n x k there = newtype_counted newtype nodes n x k there
+found_counted None nodes n x k there = absurd (there refl)
 
-type_counted : (program : Program) (nodes : List Node) (n x : ℕ) (ty : Ty) (k : ℕ) → (type_clause program nodes n x ty k ≡ None → ⊥) → k < type_count program ty
-type_counted program nodes n x (types.Newtype name) k there = named_counted (name == program.newtype.name) program.newtype nodes n x k there
+type_counted : (newtypes : List Newtype) (nodes : List Node) (n x : ℕ) (ty : Ty) (k : ℕ) → (type_clause newtypes nodes n x ty k ≡ None → ⊥) → k < type_count newtypes ty
+type_counted newtypes nodes n x (types.Newtype t) k there = found_counted (slice_get newtypes t) nodes n x k there
 
-is_counted : (program : Program) (nodes : List Node) (n k : ℕ) (op : Op) (parts : List ℕ) → (is_clause program nodes n k op parts ≡ None → ⊥) → k < schema_count program op
-is_counted program nodes n k (ops.Is ty) [] there = absurd (there refl)
-is_counted program nodes n k (ops.Is ty) (x ∷ []) there = type_counted program nodes n x ty k there
-is_counted program nodes n k (ops.Is ty) (x ∷ y ∷ others) there = absurd (there refl)
-is_counted program nodes n k (ops.Number value) parts there = absurd (there refl)
-is_counted program nodes n k (ops.Free free) parts there = absurd (there refl)
-is_counted program nodes n k ops.Plus parts there = absurd (there refl)
-is_counted program nodes n k ops.Times parts there = absurd (there refl)
-is_counted program nodes n k ops.Equal parts there = absurd (there refl)
-is_counted program nodes n k ops.AtMost parts there = absurd (there refl)
-is_counted program nodes n k ops.Not parts there = absurd (there refl)
-is_counted program nodes n k ops.And parts there = absurd (there refl)
-is_counted program nodes n k ops.Or parts there = absurd (there refl)
-is_counted program nodes n k ops.Implies parts there = absurd (there refl)
-is_counted program nodes n k ops.Iff parts there = absurd (there refl)
+is_counted : (newtypes : List Newtype) (nodes : List Node) (n k : ℕ) (op : Op) (parts : List ℕ) → (is_clause newtypes nodes n k op parts ≡ None → ⊥) → k < schema_count newtypes op
+is_counted newtypes nodes n k (ops.Is ty) [] there = absurd (there refl)
+is_counted newtypes nodes n k (ops.Is ty) (x ∷ []) there = type_counted newtypes nodes n x ty k there
+is_counted newtypes nodes n k (ops.Is ty) (x ∷ y ∷ others) there = absurd (there refl)
+is_counted newtypes nodes n k (ops.Number value) parts there = absurd (there refl)
+is_counted newtypes nodes n k (ops.Free free) parts there = absurd (there refl)
+is_counted newtypes nodes n k ops.Plus parts there = absurd (there refl)
+is_counted newtypes nodes n k ops.Times parts there = absurd (there refl)
+is_counted newtypes nodes n k ops.Equal parts there = absurd (there refl)
+is_counted newtypes nodes n k ops.AtMost parts there = absurd (there refl)
+is_counted newtypes nodes n k ops.Not parts there = absurd (there refl)
+is_counted newtypes nodes n k ops.And parts there = absurd (there refl)
+is_counted newtypes nodes n k ops.Or parts there = absurd (there refl)
+is_counted newtypes nodes n k ops.Implies parts there = absurd (there refl)
+is_counted newtypes nodes n k ops.Iff parts there = absurd (there refl)
 
 -- what is among the lines of a node is among all
-at_node : (s : Sequent) (n : ℕ) (node : Node) (step : Step) → slice_get s.nodes n ≡ Some node → Among (node_lines s.program s.nodes n node) step → Among (ground_lines s) step
+at_node : (s : Sequent) (n : ℕ) (node : Node) (step : Step) → slice_get s.nodes n ≡ Some node → Among (node_lines s.newtypes s.nodes n node) step → Among (ground_lines s) step
 at_node s n node step at h =
-    let own = lines_at s.program s.nodes in
-    let here : Among (own n) step = subst (λ (o : Option Node). Among (option_map_or (node_lines s.program s.nodes n) o []) step) (sym at) h in
+    let own = lines_at s.newtypes s.nodes in
+    let here : Among (own n) step = subst (λ (o : Option Node). Among (option_map_or (node_lines s.newtypes s.nodes n) o []) step) (sym at) h in
     let all = flat_map own (range_with_len 0 (length s.nodes)) in
     in_right (map (λ i. Hypothesis i) (range_with_len 0 (length s.hypotheses))) (Goal ∷ all) step
     (in_right (Goal ∷ []) all step (in_flat own (range_with_len 0 (length s.nodes)) n step (below (length s.nodes) n (get_within s.nodes n node at)) here))
@@ -136,29 +136,29 @@ connective_among s n k there = by (slice_get s.nodes n) refl there
     by None e there = absurd (there refl)
     by (Some node) e there =
         let own = range_with_len 0 (connective_count s.nodes node.op node.parts) in
-        let other = map (λ k. Schema 74 k (n ∷ [])) (range_with_len 0 (schema_count s.program node.op)) in
+        let other = map (λ k. Schema 74 k (n ∷ [])) (range_with_len 0 (schema_count s.newtypes node.op)) in
         at_node s n node (Connective n k) e
         (in_left (map (λ k. Connective n k) own) other (Connective n k) (in_mapped (λ k. Connective n k) own k (below (connective_count s.nodes node.op node.parts) k (op_counted s.nodes n k node.op node.parts there))))
 
-term_among : (s : Sequent) (n k : ℕ) → (schema_74 s.program s.nodes k n ≡ None → ⊥) → Among (ground_lines s) (Schema 74 k (n ∷ []))
+term_among : (s : Sequent) (n k : ℕ) → (schema_74 s.newtypes s.nodes k n ≡ None → ⊥) → Among (ground_lines s) (Schema 74 k (n ∷ []))
 term_among s n k there = by (slice_get s.nodes n) refl there
   where
-    by : (o : Option Node) → slice_get s.nodes n ≡ o → (option_and_then (λ (node : Node). is_clause s.program s.nodes n k node.op node.parts) o ≡ None → ⊥) → Among (ground_lines s) (Schema 74 k (n ∷ []))
+    by : (o : Option Node) → slice_get s.nodes n ≡ o → (option_and_then (λ (node : Node). is_clause s.newtypes s.nodes n k node.op node.parts) o ≡ None → ⊥) → Among (ground_lines s) (Schema 74 k (n ∷ []))
     by None e there = absurd (there refl)
     by (Some node) e there =
-        let own = range_with_len 0 (schema_count s.program node.op) in
+        let own = range_with_len 0 (schema_count s.newtypes node.op) in
         let front = map (λ k. Connective n k) (range_with_len 0 (connective_count s.nodes node.op node.parts)) in
         at_node s n node (Schema 74 k (n ∷ [])) e
-        (in_right front (map (λ k. Schema 74 k (n ∷ [])) own) (Schema 74 k (n ∷ [])) (in_mapped (λ k. Schema 74 k (n ∷ [])) own k (below (schema_count s.program node.op) k (is_counted s.program s.nodes n k node.op node.parts there))))
+        (in_right front (map (λ k. Schema 74 k (n ∷ [])) own) (Schema 74 k (n ∷ [])) (in_mapped (λ k. Schema 74 k (n ∷ [])) own k (below (schema_count s.newtypes node.op) k (is_counted s.newtypes s.nodes n k node.op node.parts there))))
 
-terms_among : (s : Sequent) (k : ℕ) (terms : List ℕ) → (of_one (schema_74 s.program s.nodes k) terms ≡ None → ⊥) → Among (ground_lines s) (Schema 74 k terms)
+terms_among : (s : Sequent) (k : ℕ) (terms : List ℕ) → (of_one (schema_74 s.newtypes s.nodes k) terms ≡ None → ⊥) → Among (ground_lines s) (Schema 74 k terms)
 terms_among s k [] there = absurd (there refl)
 terms_among s k (n ∷ []) there = term_among s n k there
 terms_among s k (n ∷ m ∷ others) there = absurd (there refl)
 
-pub schema_among : (s : Sequent) (schema k : ℕ) (terms : List ℕ) → (schema_line s.program s.nodes schema k terms ≡ None → ⊥) → Among (ground_lines s) (Schema schema k terms)
+pub schema_among : (s : Sequent) (schema k : ℕ) (terms : List ℕ) → (schema_line s.newtypes s.nodes schema k terms ≡ None → ⊥) → Among (ground_lines s) (Schema schema k terms)
 schema_among s schema k terms there = by (schema == 74) refl there
   where
-    by : (b : Bool) → (schema == 74) ≡ b → (cond b (of_one (schema_74 s.program s.nodes k) terms) None ≡ None → ⊥) → Among (ground_lines s) (Schema schema k terms)
+    by : (b : Bool) → (schema == 74) ≡ b → (cond b (of_one (schema_74 s.newtypes s.nodes k) terms) None ≡ None → ⊥) → Among (ground_lines s) (Schema schema k terms)
     by true e there = subst (λ (schema : ℕ). Among (ground_lines s) (Schema schema k terms)) (sym (eqb-true schema 74 e)) (terms_among s k terms there)
     by false e there = absurd (there refl)

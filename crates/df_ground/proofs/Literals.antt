@@ -4,7 +4,7 @@ use Rattle.std.specs.Option.{option_map}
 use Rattle.std.specs.List.{list_all, AllByRecursion}
 use Rattle.df_types.specs.declared.program.Ty.{Ty}
 use Rattle.df_types.specs.declared.program.Ty.TheVariants as types
-use Rattle.df_types.specs.Program.{Program, Newtype}
+use Rattle.df_types.specs.Program.{Newtype}
 use Rattle.df_form.specs.declared.log.Lit.{Lit}
 use Rattle.df_form.specs.declared.node.Sort.{Sort}
 use Rattle.df_form.specs.declared.node.Sort.TheVariants as sorts
@@ -184,24 +184,24 @@ newtype_fits newtype nodes n x (suc (suc zero)) added all e is line =
     subst Fits (some_is _ added line) (three _ _ _ here left (formula_at high.nodes high.number (at_most x second.literal) second.there refl))
 newtype_fits newtype nodes n x (suc (suc (suc k))) added all e is line = absurd cc
 
-type_fits : (program : Program) (nodes : List Node) (n x k : ℕ) (ty : Ty) (added : Added) → AreSorted nodes → slice_get nodes n ≡ Some (record { op = ops.Is ty; parts = x ∷ [] }) → type_clause program nodes n x ty k ≡ Some added → Fits added
-type_fits program nodes n x k (types.Newtype name) added all e line =
-    let node : Node = record { op = ops.Is (types.Newtype name); parts = x ∷ [] } in
-    let named = test_some (name == program.newtype.name) (newtype_clause program.newtype nodes n x k) added line in
+type_fits : (newtypes : List Newtype) (nodes : List Node) (n x k : ℕ) (ty : Ty) (added : Added) → AreSorted nodes → slice_get nodes n ≡ Some (record { op = ops.Is ty; parts = x ∷ [] }) → type_clause newtypes nodes n x ty k ≡ Some added → Fits added
+type_fits newtypes nodes n x k (types.Newtype t) added all e line =
+    let node : Node = record { op = ops.Is (types.Newtype t); parts = x ∷ [] } in
+    let found = then_some (λ (newtype : Newtype). newtype_clause newtype nodes n x k) (slice_get newtypes t) added line in
     let below = both (nat_lt x (length nodes)) true (each_below nodes n node all e) in
     let sort = same_sort_equal (sort_at nodes x) sorts.Number (parts_taken nodes n node all e) in
-    newtype_fits program.newtype nodes n x k added all (formula_at nodes n node e refl) (record { below = ltb-true x (length nodes) below.0; sort = sort }) named.1
+    newtype_fits found.0 nodes n x k added all (formula_at nodes n node e refl) (record { below = ltb-true x (length nodes) below.0; sort = sort }) found.2
 
-is_fits : (program : Program) (nodes : List Node) (n k : ℕ) (op : Op) (parts : List ℕ) (added : Added) → AreSorted nodes → slice_get nodes n ≡ Some (record { op = op; parts = parts }) → is_clause program nodes n k op parts ≡ Some added → Fits added
-is_fits program nodes n k (ops.Is ty) (x ∷ []) added all e line = type_fits program nodes n x k ty added all e line
-is_fits program nodes n k op parts added all e line = absurd cc
+is_fits : (newtypes : List Newtype) (nodes : List Node) (n k : ℕ) (op : Op) (parts : List ℕ) (added : Added) → AreSorted nodes → slice_get nodes n ≡ Some (record { op = op; parts = parts }) → is_clause newtypes nodes n k op parts ≡ Some added → Fits added
+is_fits newtypes nodes n k (ops.Is ty) (x ∷ []) added all e line = type_fits newtypes nodes n x k ty added all e line
+is_fits newtypes nodes n k op parts added all e line = absurd cc
 
-one_term : (program : Program) (nodes : List Node) (k : ℕ) (terms : List ℕ) (added : Added) → AreSorted nodes → of_one (schema_74 program nodes k) terms ≡ Some added → Fits added
-one_term program nodes k (n ∷ []) added all line =
-    let found = then_some (λ (node : Node). is_clause program nodes n k node.op node.parts) (slice_get nodes n) added line in
-    is_fits program nodes n k found.0.op found.0.parts added all found.1 found.2
-one_term program nodes k [] added all line = absurd cc
-one_term program nodes k (n ∷ m ∷ others) added all line = absurd cc
+one_term : (newtypes : List Newtype) (nodes : List Node) (k : ℕ) (terms : List ℕ) (added : Added) → AreSorted nodes → of_one (schema_74 newtypes nodes k) terms ≡ Some added → Fits added
+one_term newtypes nodes k (n ∷ []) added all line =
+    let found = then_some (λ (node : Node). is_clause newtypes nodes n k node.op node.parts) (slice_get nodes n) added line in
+    is_fits newtypes nodes n k found.0.op found.0.parts added all found.1 found.2
+one_term newtypes nodes k [] added all line = absurd cc
+one_term newtypes nodes k (n ∷ m ∷ others) added all line = absurd cc
 
 all_parts : (test : ℕ → Bool) (xs ys : List ℕ) → list_all test (xs ++ ys) ≡ true → (list_all test xs ≡ true) × (list_all test ys ≡ true)
 all_parts test [] ys e = (refl, e)
@@ -233,7 +233,7 @@ added_fits s nodes Goal added is sorted g e =
 added_fits s nodes (Connective n k) added is sorted g e =
     let found = then_some (λ (node : Node). connective_clause nodes n k node.op node.parts) (slice_get nodes n) added e in
     op_fits nodes n k found.0.op found.0.parts added sorted found.1 found.2
-added_fits s nodes (Schema schema k terms) added is sorted g e = one_term s.program nodes k terms added sorted (test_some (schema == 74) (of_one (schema_74 s.program nodes k) terms) added e).1
+added_fits s nodes (Schema schema k terms) added is sorted g e = one_term s.newtypes nodes k terms added sorted (test_some (schema == 74) (of_one (schema_74 s.newtypes nodes k) terms) added e).1
 added_fits s nodes (Propagation numbers conclusion) added is sorted g e = absurd cc
 added_fits s nodes (Linear conclusion combinations) added is sorted g e = absurd cc
 added_fits s nodes (Split n k) added is sorted g e = absurd cc

@@ -1,11 +1,11 @@
 -- Each ground line is one, whatever nodes the lines before it have made.
-use Rattle.std.proofs.Common.{◌≡◌, ℕ, zero, suc, ◌+◌, ◌<◌, ◌≤◌, Bool, true, false, ◌==◌, cond, List, [], ◌∷◌, map, length, Option, Some, None, slice_get, nat_lt, refl, sym, ap, ◌∙◌, subst, arith, ltb-true}
+use Rattle.std.proofs.Common.{◌≡◌, ℕ, zero, suc, ◌+◌, ◌<◌, ◌≤◌, true, List, [], ◌∷◌, map, length, Option, Some, None, slice_get, nat_lt, refl, sym, ap, ◌∙◌, subst, arith, ltb-true}
 use Rattle.std.specs.Option.{option_map, option_map_or, option_and_then}
 use Rattle.std.specs.List.{list_all, AllByRecursion, range_with_len, flat_map}
 use Rattle.std.proofs.lemmas.List.{length-map, length-append}
 use Rattle.df_types.specs.declared.program.Ty.{Ty}
 use Rattle.df_types.specs.declared.program.Ty.TheVariants as types
-use Rattle.df_types.specs.Program.{Program, Newtype}
+use Rattle.df_types.specs.Program.{Newtype}
 use Rattle.df_form.specs.declared.node.Sort.{Sort}
 use Rattle.df_form.specs.declared.node.Sort.TheVariants as sorts
 use Rattle.df_form.specs.declared.node.Op.{Op}
@@ -102,34 +102,34 @@ newtype_there newtype nodes n x (suc zero) less none = cc
 newtype_there newtype nodes n x (suc (suc zero)) less none = cc
 newtype_there newtype nodes n x (suc (suc (suc k))) less none = omega arith
 
-named_there : (b : Bool) (newtype : Newtype) (nodes : List Node) (n x k : ℕ) → k < cond b 3 0 → cond b (newtype_clause newtype nodes n x k) None ≡ None → ⊥
-named_there true newtype nodes n x k less none = newtype_there newtype nodes n x k less none
-named_there false newtype nodes n x k less none = omega arith
+found_there : (found : Option Newtype) (nodes : List Node) (n x k : ℕ) → k < option_map_or (λ (newtype : Newtype). 3) found 0 → option_and_then (λ (newtype : Newtype). newtype_clause newtype nodes n x k) found ≡ None → ⊥
+found_there (Some newtype) nodes n x k less none = newtype_there newtype nodes n x k less none
+found_there None nodes n x k less none = omega arith
 
-type_there : (program : Program) (nodes : List Node) (n x : ℕ) (ty : Ty) (k : ℕ) → k < type_count program ty → type_clause program nodes n x ty k ≡ None → ⊥
-type_there program nodes n x (types.Newtype name) k less none = named_there (name == program.newtype.name) program.newtype nodes n x k less none
+type_there : (newtypes : List Newtype) (nodes : List Node) (n x : ℕ) (ty : Ty) (k : ℕ) → k < type_count newtypes ty → type_clause newtypes nodes n x ty k ≡ None → ⊥
+type_there newtypes nodes n x (types.Newtype t) k less none = found_there (slice_get newtypes t) nodes n x k less none
 
-is_there : (program : Program) (before nodes : List Node) (n k : ℕ) (op : Op) (parts : List ℕ) → takes op (map (sort_at before) parts) ≡ true → k < schema_count program op → is_clause program nodes n k op parts ≡ None → ⊥
-is_there program before nodes n k (ops.Is ty) [] sorted less none = cc
-is_there program before nodes n k (ops.Is ty) (x ∷ []) sorted less none = type_there program nodes n x ty k less none
-is_there program before nodes n k (ops.Is ty) (x ∷ y ∷ others) sorted less none = cc
-is_there program before nodes n k (ops.Number value) parts sorted less none = omega arith
-is_there program before nodes n k (ops.Free free) parts sorted less none = omega arith
-is_there program before nodes n k ops.Plus parts sorted less none = omega arith
-is_there program before nodes n k ops.Times parts sorted less none = omega arith
-is_there program before nodes n k ops.Equal parts sorted less none = omega arith
-is_there program before nodes n k ops.AtMost parts sorted less none = omega arith
-is_there program before nodes n k ops.Not parts sorted less none = omega arith
-is_there program before nodes n k ops.And parts sorted less none = omega arith
-is_there program before nodes n k ops.Or parts sorted less none = omega arith
-is_there program before nodes n k ops.Implies parts sorted less none = omega arith
-is_there program before nodes n k ops.Iff parts sorted less none = omega arith
+is_there : (newtypes : List Newtype) (before nodes : List Node) (n k : ℕ) (op : Op) (parts : List ℕ) → takes op (map (sort_at before) parts) ≡ true → k < schema_count newtypes op → is_clause newtypes nodes n k op parts ≡ None → ⊥
+is_there newtypes before nodes n k (ops.Is ty) [] sorted less none = cc
+is_there newtypes before nodes n k (ops.Is ty) (x ∷ []) sorted less none = type_there newtypes nodes n x ty k less none
+is_there newtypes before nodes n k (ops.Is ty) (x ∷ y ∷ others) sorted less none = cc
+is_there newtypes before nodes n k (ops.Number value) parts sorted less none = omega arith
+is_there newtypes before nodes n k (ops.Free free) parts sorted less none = omega arith
+is_there newtypes before nodes n k ops.Plus parts sorted less none = omega arith
+is_there newtypes before nodes n k ops.Times parts sorted less none = omega arith
+is_there newtypes before nodes n k ops.Equal parts sorted less none = omega arith
+is_there newtypes before nodes n k ops.AtMost parts sorted less none = omega arith
+is_there newtypes before nodes n k ops.Not parts sorted less none = omega arith
+is_there newtypes before nodes n k ops.And parts sorted less none = omega arith
+is_there newtypes before nodes n k ops.Or parts sorted less none = omega arith
+is_there newtypes before nodes n k ops.Implies parts sorted less none = omega arith
+is_there newtypes before nodes n k ops.Iff parts sorted less none = omega arith
 
-schema_there : (program : Program) (before nodes : List Node) (n k : ℕ) (node : Node) → AreSorted before → Grows before nodes → slice_get before n ≡ Some node → k < schema_count program node.op → schema_line program nodes 74 k (n ∷ []) ≡ None → ⊥
-schema_there program before nodes n k node sorted g at less none =
+schema_there : (newtypes : List Newtype) (before nodes : List Node) (n k : ℕ) (node : Node) → AreSorted before → Grows before nodes → slice_get before n ≡ Some node → k < schema_count newtypes node.op → schema_line newtypes nodes 74 k (n ∷ []) ≡ None → ⊥
+schema_there newtypes before nodes n k node sorted g at less none =
     let there = grown_get before nodes g n node at in
-    let line : schema_74 program nodes k n ≡ is_clause program nodes n k node.op node.parts = ap (option_and_then (λ (node : Node). is_clause program nodes n k node.op node.parts)) there in
-    is_there program before nodes n k node.op node.parts (parts_taken before n node sorted at) less (sym line ∙ none)
+    let line : schema_74 newtypes nodes k n ≡ is_clause newtypes nodes n k node.op node.parts = ap (option_and_then (λ (node : Node). is_clause newtypes nodes n k node.op node.parts)) there in
+    is_there newtypes before nodes n k node.op node.parts (parts_taken before n node sorted at) less (sym line ∙ none)
 
 -- the line is one among the sequent's nodes and more
 abbrev pub IsThere : Sequent → Step → Type 0
@@ -143,15 +143,15 @@ all_flat : (P : Step → Type 0) (f : ℕ → List Step) (ns : List ℕ) → ((n
 all_flat P f [] all = tt
 all_flat P f (n ∷ ns) all = all_appended P (f n) (flat_map f ns) (all n) (all_flat P f ns all)
 
-at_there : (s : Sequent) → AreSorted s.nodes → (n : ℕ) → AllByRecursion (IsThere s) (lines_at s.program s.nodes n)
+at_there : (s : Sequent) → AreSorted s.nodes → (n : ℕ) → AllByRecursion (IsThere s) (lines_at s.newtypes s.nodes n)
 at_there s sorted n = by (slice_get s.nodes n) refl
   where
-    by : (o : Option Node) → slice_get s.nodes n ≡ o → AllByRecursion (IsThere s) (option_map_or (node_lines s.program s.nodes n) o [])
+    by : (o : Option Node) → slice_get s.nodes n ≡ o → AllByRecursion (IsThere s) (option_map_or (node_lines s.newtypes s.nodes n) o [])
     by None e = tt
     by (Some node) e =
-        all_appended (IsThere s) (map (λ k. Connective n k) (range_with_len 0 (connective_count s.nodes node.op node.parts))) (map (λ k. Schema 74 k (n ∷ [])) (range_with_len 0 (schema_count s.program node.op)))
+        all_appended (IsThere s) (map (λ k. Connective n k) (range_with_len 0 (connective_count s.nodes node.op node.parts))) (map (λ k. Schema 74 k (n ∷ [])) (range_with_len 0 (schema_count s.newtypes node.op)))
         (all_ranged (IsThere s) (λ k. Connective n k) 0 (connective_count s.nodes node.op node.parts) (λ k more less nodes g none. connective_there s.nodes nodes n k node sorted g e (omega (arith, less)) none))
-        (all_ranged (IsThere s) (λ k. Schema 74 k (n ∷ [])) 0 (schema_count s.program node.op) (λ k more less nodes g none. schema_there s.program s.nodes nodes n k node sorted g e (omega (arith, less)) none))
+        (all_ranged (IsThere s) (λ k. Schema 74 k (n ∷ [])) 0 (schema_count s.newtypes node.op) (λ k more less nodes g none. schema_there s.newtypes s.nodes nodes n k node sorted g e (omega (arith, less)) none))
 
 hypothesis_there : (s : Sequent) (i : ℕ) → i < length s.hypotheses → IsThere s (Hypothesis i)
 hypothesis_there s i less nodes g none =
@@ -164,9 +164,9 @@ goal_there s nodes g none = cc
 
 all_there : (s : Sequent) → IsSequent s → AllByRecursion (IsThere s) (ground_lines s)
 all_there s is =
-    all_appended (IsThere s) (map (λ i. Hypothesis i) (range_with_len 0 (length s.hypotheses))) (Goal ∷ flat_map (lines_at s.program s.nodes) (range_with_len 0 (length s.nodes)))
+    all_appended (IsThere s) (map (λ i. Hypothesis i) (range_with_len 0 (length s.hypotheses))) (Goal ∷ flat_map (lines_at s.newtypes s.nodes) (range_with_len 0 (length s.nodes)))
     (all_ranged (IsThere s) (λ i. Hypothesis i) 0 (length s.hypotheses) (λ i more less. hypothesis_there s i (omega (arith, less))))
-    (goal_there s, all_flat (IsThere s) (lines_at s.program s.nodes) (range_with_len 0 (length s.nodes)) (at_there s (record { sorted = is.table.sorted })))
+    (goal_there s, all_flat (IsThere s) (lines_at s.newtypes s.nodes) (range_with_len 0 (length s.nodes)) (at_there s (record { sorted = is.table.sorted })))
 
 among_all : (P : Step → Type 0) (steps : List Step) (i : ℕ) (step : Step) → AllByRecursion P steps → slice_get steps i ≡ Some step → P step
 among_all P [] i step all at = absurd cc

@@ -49,8 +49,8 @@ only_grows nodes o added e =
 added_grows : (s : Sequent) (nodes : List Node) (step : Step) (added : Added) → AreSorted nodes → added_by s nodes step ≡ Some added → Grows nodes added.nodes
 added_grows s nodes (Hypothesis i) added sorted e = only_grows nodes (option_map (λ h. yes h ∷ []) (slice_get s.hypotheses i)) added e
 added_grows s nodes Goal added sorted e = only_grows nodes (Some (no s.goal ∷ [])) added e
-added_grows s nodes (Connective n k) added sorted e = (connective_is_line 0 s.program some_assignment nodes n k added sorted e).grows
-added_grows s nodes (Schema schema k terms) added sorted e = (schema_is_line 0 s.program some_assignment nodes schema k terms added sorted e).grows
+added_grows s nodes (Connective n k) added sorted e = (connective_is_line 0 s.newtypes some_assignment nodes n k added sorted e).grows
+added_grows s nodes (Schema schema k terms) added sorted e = (schema_is_line 0 s.newtypes some_assignment nodes schema k terms added sorted e).grows
 added_grows s nodes (Propagation numbers conclusion) added sorted e = absurd cc
 added_grows s nodes (Linear conclusion combinations) added sorted e = absurd cc
 added_grows s nodes (Split n k) added sorted e = absurd cc

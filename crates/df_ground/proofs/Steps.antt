@@ -2,7 +2,7 @@
 use Rattle.std.proofs.Common.{◌≡◌, ℕ, zero, suc, Bool, true, false, List, [], ◌∷◌, ◌++◌, map, length, Option, None, Some, slice_get, refl, subst}
 use Rattle.std.specs.Option.{option_map, option_map_or}
 use Rattle.std.specs.List.{list_all, range_with_len, flat_map}
-use Rattle.df_types.specs.Program.{Program}
+use Rattle.df_types.specs.Program.{Newtype}
 use Rattle.df_form.specs.Node.{Node}
 use Rattle.df_form.specs.Sequent.{Sequent}
 use Rattle.df_form.specs.Clause.{Clause}
@@ -39,20 +39,20 @@ all_flat : (f : ℕ → List Step) → ((n : ℕ) → list_all is_ground (f n) �
 all_flat f each [] = refl
 all_flat f each (n ∷ ns) = all_joined (f n) (flat_map f ns) (each n) (all_flat f each ns)
 
-at_node : (program : Program) (nodes : List Node) (n : ℕ) (node : Node) → list_all is_ground (node_lines program nodes n node) ≡ true
-at_node program nodes n node =
-    all_joined (map (λ k. Connective n k) (range_with_len 0 (connective_count nodes node.op node.parts))) (map (λ k. Schema 74 k (n ∷ [])) (range_with_len 0 (schema_count program node.op)))
-    (all_mapped (λ k. Connective n k) (λ k. refl) (range_with_len 0 (connective_count nodes node.op node.parts))) (all_mapped (λ k. Schema 74 k (n ∷ [])) (λ k. refl) (range_with_len 0 (schema_count program node.op)))
+at_node : (newtypes : List Newtype) (nodes : List Node) (n : ℕ) (node : Node) → list_all is_ground (node_lines newtypes nodes n node) ≡ true
+at_node newtypes nodes n node =
+    all_joined (map (λ k. Connective n k) (range_with_len 0 (connective_count nodes node.op node.parts))) (map (λ k. Schema 74 k (n ∷ [])) (range_with_len 0 (schema_count newtypes node.op)))
+    (all_mapped (λ k. Connective n k) (λ k. refl) (range_with_len 0 (connective_count nodes node.op node.parts))) (all_mapped (λ k. Schema 74 k (n ∷ [])) (λ k. refl) (range_with_len 0 (schema_count newtypes node.op)))
 
-at_number : (program : Program) (nodes : List Node) (n : ℕ) (found : Option Node) → list_all is_ground (option_map_or (node_lines program nodes n) found []) ≡ true
-at_number program nodes n None = refl
-at_number program nodes n (Some node) = at_node program nodes n node
+at_number : (newtypes : List Newtype) (nodes : List Node) (n : ℕ) (found : Option Node) → list_all is_ground (option_map_or (node_lines newtypes nodes n) found []) ≡ true
+at_number newtypes nodes n None = refl
+at_number newtypes nodes n (Some node) = at_node newtypes nodes n node
 
 pub lines_are_ground : (s : Sequent) → list_all is_ground (ground_lines s) ≡ true
 lines_are_ground s =
-    all_joined (map (λ i. Hypothesis i) (range_with_len 0 (length s.hypotheses))) (Goal ∷ flat_map (lines_at s.program s.nodes) (range_with_len 0 (length s.nodes)))
+    all_joined (map (λ i. Hypothesis i) (range_with_len 0 (length s.hypotheses))) (Goal ∷ flat_map (lines_at s.newtypes s.nodes) (range_with_len 0 (length s.nodes)))
     (all_mapped (λ i. Hypothesis i) (λ i. refl) (range_with_len 0 (length s.hypotheses)))
-    (all_flat (lines_at s.program s.nodes) (λ n. at_number s.program s.nodes n (slice_get s.nodes n)) (range_with_len 0 (length s.nodes)))
+    (all_flat (lines_at s.newtypes s.nodes) (λ n. at_number s.newtypes s.nodes n (slice_get s.nodes n)) (range_with_len 0 (length s.nodes)))
 
 -- what a line adds
 pub record Adds (s : Sequent) (state : State) (step : Step) (next : State) : Type 0 where

@@ -17,7 +17,7 @@ abbrev pub added_by : Sequent → List Node → Step → Option Added
 added_by s nodes (Hypothesis i) = only_clause nodes (option_map (λ h. yes h ∷ []) (slice_get s.hypotheses i))
 added_by s nodes Goal = only_clause nodes (Some (no s.goal ∷ []))
 added_by s nodes (Connective n k) = connective_line nodes n k
-added_by s nodes (Schema schema k terms) = schema_line s.program nodes schema k terms
+added_by s nodes (Schema schema k terms) = schema_line s.newtypes nodes schema k terms
 added_by s nodes step = None
 
 abbrev pub IsMemory : GroundFault → Type 0

@@ -1,11 +1,11 @@
 -- The ground clauses of a sequent, by the lines that add them: the hypotheses, the negated goal, and then
 -- for each node in the order of numbers what its connective means, or what it is to be of its type.
-use Rattle.std.specs.Prelude.{ℕ, ◌+◌, Bool, true, false, ◌==◌, List, [], ◌∷◌, ◌++◌, map, length, slice_get, Option, None, Some, if◌then◌else◌}
+use Rattle.std.specs.Prelude.{ℕ, ◌+◌, Bool, true, false, List, [], ◌∷◌, ◌++◌, map, length, slice_get, Option, None, Some}
 use Rattle.std.specs.Option.{option_map_or, option_and_then}
 use Rattle.std.specs.List.{range_with_len, flat_map, count_by}
 use Rattle.df_types.specs.declared.program.Ty.{Ty}
 use Rattle.df_types.specs.declared.program.Ty.TheVariants as types
-use Rattle.df_types.specs.Program.{Program}
+use Rattle.df_types.specs.Program.{Newtype}
 use Rattle.df_form.specs.declared.node.Sort.{Sort}
 use Rattle.df_form.specs.declared.node.Sort.TheVariants as sorts
 use Rattle.df_form.specs.declared.node.Op.{Op}
@@ -34,25 +34,26 @@ connective_count nodes ops.Iff parts = 4
 connective_count nodes ops.Equal parts = equality_count nodes parts
 connective_count nodes op parts = 0
 
-abbrev pub type_count : Program → Ty → ℕ
-type_count program (types.Newtype name) = if name == program.newtype.name then 3 else 0
+-- a declared newtype has three
+abbrev pub type_count : List Newtype → Ty → ℕ
+type_count newtypes (types.Newtype t) = option_map_or (λ (newtype : Newtype). 3) (slice_get newtypes t) 0
 
 -- how many clauses of schema 74 a node has
-abbrev pub schema_count : Program → Op → ℕ
-schema_count program (ops.Is ty) = type_count program ty
-schema_count program op = 0
+abbrev pub schema_count : List Newtype → Op → ℕ
+schema_count newtypes (ops.Is ty) = type_count newtypes ty
+schema_count newtypes op = 0
 
-abbrev pub node_lines : Program → List Node → ℕ → Node → List Step
-node_lines program nodes n node =
+abbrev pub node_lines : List Newtype → List Node → ℕ → Node → List Step
+node_lines newtypes nodes n node =
     map (λ k. Connective n k) (range_with_len 0 (connective_count nodes node.op node.parts))
-    ++ map (λ k. Schema 74 k (n ∷ [])) (range_with_len 0 (schema_count program node.op))
+    ++ map (λ k. Schema 74 k (n ∷ [])) (range_with_len 0 (schema_count newtypes node.op))
 
 -- those of the node of a number
-abbrev pub lines_at : Program → List Node → ℕ → List Step
-lines_at program nodes n = option_map_or (node_lines program nodes n) (slice_get nodes n) []
+abbrev pub lines_at : List Newtype → List Node → ℕ → List Step
+lines_at newtypes nodes n = option_map_or (node_lines newtypes nodes n) (slice_get nodes n) []
 
 abbrev pub ground_lines : Sequent → List Step
-ground_lines s = map (λ i. Hypothesis i) (range_with_len 0 (length s.hypotheses)) ++ Goal ∷ flat_map (lines_at s.program s.nodes) (range_with_len 0 (length s.nodes))
+ground_lines s = map (λ i. Hypothesis i) (range_with_len 0 (length s.hypotheses)) ++ Goal ∷ flat_map (lines_at s.newtypes s.nodes) (range_with_len 0 (length s.nodes))
 
 abbrev pub bound_by : ℕ → Op → Option ℕ
 bound_by n ops.Equal = Some n

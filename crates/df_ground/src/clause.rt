@@ -2,7 +2,7 @@
 
 ghost use Rattle.std.specs.Prelude.{◌≡◌, ◌∷◌, [], None, slice_get, IfOk};
 ghost use Rattle.std.specs.Option.{option_map};
-ghost use Rattle.df_types.specs.View.{program_of};
+ghost use Rattle.df_types.specs.View.{newtypes_of};
 ghost use Rattle.df_form.specs.Clause.{yes};
 ghost use Rattle.df_kern.specs.Connective.{connective_line};
 ghost use Rattle.df_kern.specs.Schema.{schema_line};
@@ -13,7 +13,7 @@ ghost use Rattle.df_ground.specs.Adding.{added_by, AddsClause, GivesClause};
 use crate::fault::GroundFault;
 use df_form::{Formula, Lit, Nodes, Sequent, Step};
 use df_kern::{AxiomFault, connective, instance};
-use df_types::Program;
+use df_types::Newtype;
 use std::alloc::{AllocError, Global};
 
 /// A clause of the ground set.
@@ -49,16 +49,16 @@ fn connective_of(
 
 fn instance_of(
     alloc: Global,
-    program: &Program,
+    newtypes: &[Newtype],
     nodes: &mut Nodes,
     schema: u8,
     clause: u32,
     terms: &[usize],
 ) -> Result<Vec<Lit>, GroundFault>
-    requires { schema_line (program_of program.now) nodes.old schema clause terms.now ≡ None → ⊥ }
-    ensures { AddsClause nodes.new result (schema_line (program_of program.now) nodes.old schema clause terms.now) }
+    requires { schema_line (newtypes_of newtypes.now) nodes.old schema clause terms.now ≡ None → ⊥ }
+    ensures { AddsClause nodes.new result (schema_line (newtypes_of newtypes.now) nodes.old schema clause terms.now) }
 {
-    match instance(alloc, program, nodes, schema, clause, terms) {
+    match instance(alloc, newtypes, nodes, schema, clause, terms) {
         Ok(clause) => Ok(clause),
         Err(AxiomFault::NoSuch) => unreachable!(),
         Err(AxiomFault::Memory) => Err(GroundFault::Memory),
@@ -109,7 +109,7 @@ pub(crate) fn clause_of(
             schema,
             clause,
             terms,
-        } => instance_of(alloc, sequent.program, nodes, *schema, *clause, terms),
+        } => instance_of(alloc, sequent.newtypes, nodes, *schema, *clause, terms),
         Step::Propagation { .. } | Step::Linear { .. } | Step::Split { .. } | Step::Make(_) =>
             unreachable!(),
     }

@@ -15,10 +15,10 @@ ghost use Rattle.df_ground.specs.Lines.{ground_lines};
 /// for its nodes, is added by one of the lines.
 pub fn no_clause_is_left_out()
     ensures connectives { (s : Sequent) (n k : ℕ) → (connective_line s.nodes n k ≡ None → ⊥) → Among (ground_lines s) (Connective n k) }
-    ensures schemas { (s : Sequent) (schema k : ℕ) (terms : List ℕ) → (schema_line s.program s.nodes schema k terms ≡ None → ⊥) → Among (ground_lines s) (Schema schema k terms) }
+    ensures schemas { (s : Sequent) (schema k : ℕ) (terms : List ℕ) → (schema_line s.newtypes s.nodes schema k terms ≡ None → ⊥) → Among (ground_lines s) (Schema schema k terms) }
 {}
 
 /// The ground set of an arithmetic sequent is arithmetic: its clauses make comparisons and literals alone.
 pub fn grounds_stay_arithmetic()
-    ensures { (s : Sequent) (g : Ground) → IsSequent s → IsGroundOf s g → IsArithmeticSequent s → IsArithmetic s.program g.nodes }
+    ensures { (s : Sequent) (g : Ground) → IsSequent s → IsGroundOf s g → IsArithmeticSequent s → IsArithmetic s.newtypes g.nodes }
 {}

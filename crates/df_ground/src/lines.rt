@@ -2,14 +2,14 @@
 
 ghost use Rattle.std.specs.Prelude.{◌≡◌, ◌≤◌, ◌++◌, ◌∷◌, [], map, length, OnOk, IfOk};
 ghost use Rattle.std.specs.List.{range_with_len};
-ghost use Rattle.df_types.specs.View.{program_of};
+ghost use Rattle.df_types.specs.View.{newtypes_of};
 ghost use Rattle.df_form.specs.Node.{node_of};
 ghost use Rattle.df_form.specs.Log.{step_of, Hypothesis, Connective, Schema};
 ghost use Rattle.df_form.specs.SequentView.{sequent_of};
 ghost use Rattle.df_ground.specs.Lines.{sides_count, equality_count, connective_count, type_count, schema_count, node_lines, lines_at, ground_lines, bound_by, bound_of, is_free_of, unbound_count};
 
 use df_form::{Formula, Node, Nodes, Op, Sequent, Sort, Step};
-use df_types::{Program, Ty};
+use df_types::{Newtype, Ty};
 use std::alloc::{AllocError, Global};
 
 /// The schema of what it means to be of a type.
@@ -48,22 +48,18 @@ fn connective_count(nodes: &Nodes, node: &Node) -> usize
 }
 
 /// How many clauses there are on what it is to be of a type.
-fn type_count(program: &Program, ty: Ty) -> u32
-    ensures { result ≡ type_count (program_of program.now) ty }
+fn type_count(newtypes: &[Newtype], ty: Ty) -> u32
+    ensures { result ≡ type_count (newtypes_of newtypes.now) ty }
 {
-    let Ty::Newtype(name) = ty;
-    if name == program.newtype.declared.name {
-        3
-    } else {
-        0
-    }
+    let Ty::Newtype(newtype) = ty;
+    if newtype < newtypes.len() { 3 } else { 0 }
 }
 
-fn schema_count(program: &Program, op: Op) -> u32
-    ensures { result ≡ schema_count (program_of program.now) op }
+fn schema_count(newtypes: &[Newtype], op: Op) -> u32
+    ensures { result ≡ schema_count (newtypes_of newtypes.now) op }
 {
     match op {
-        Op::Is(ty) => type_count(program, ty),
+        Op::Is(ty) => type_count(newtypes, ty),
         Op::Number(_)
         | Op::Free(_)
         | Op::Plus
@@ -112,13 +108,18 @@ fn add_lines_at(
     lines: &mut Vec<Step>,
     number: usize,
 ) -> Result<(), AllocError>
-    ensures { OnOk result (map step_of lines.new.items ≡ map step_of lines.old.items ++ lines_at (sequent_of sequent.now).program sequent.now.nodes number) }
+    ensures { OnOk result (map step_of lines.new.items ≡ map step_of lines.old.items ++ lines_at (sequent_of sequent.now).newtypes sequent.now.nodes number) }
 {
     let Some(node) = sequent.nodes.get(number) else {
         return Ok(());
     };
     add_connective_lines(lines, number, connective_count(&sequent.nodes, node))?;
-    add_type_lines(alloc, lines, number, schema_count(sequent.program, node.op))
+    add_type_lines(
+        alloc,
+        lines,
+        number,
+        schema_count(sequent.newtypes, node.op),
+    )
 }
 
 fn hypothesis_lines(alloc: Global, count: usize) -> Result<Vec<Step>, AllocError>

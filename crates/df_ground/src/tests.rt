@@ -3,7 +3,7 @@
 use super::*;
 use df_form::{Draft, Free, Lit, Node, Op, Sequent, Sort, Step};
 use df_kern::Checker;
-use df_types::{Declared, Interval, Method, Newtype, Program, Ty};
+use df_types::{Declared, Interval, Newtype, Ty};
 use std::alloc::Global;
 use std::process::Abort;
 use std::test::Fail;
@@ -14,9 +14,9 @@ type Terms<'a> = &'a [(Op, usize)];
 /// The literals of a clause, each by whether it is positive and its node, and what the clause is bound to.
 type Listed<'a> = (&'a [(bool, usize)], Option<usize>);
 
-/// The program of the newtype `i8 = x: int | -128 <= x < 128`, whose name is 0, and of an empty `Main`.
-fn program(alloc: Global) -> Result<Program, Fail> {
-    let newtype = Newtype {
+/// The newtype `i8 = x: int | -128 <= x < 128` alone.
+fn newtypes(alloc: Global) -> Result<Vec<Newtype>, Fail> {
+    let i8 = Newtype {
         declared: Declared {
             name: 0,
             text: String::from_str(alloc, "i8")?,
@@ -24,14 +24,7 @@ fn program(alloc: Global) -> Result<Program, Fail> {
         interval: Interval::new(-128, 127).ok_or("ordered")?,
         default: 0,
     };
-    let main = Method {
-        declared: Declared {
-            name: 1,
-            text: String::from_str(alloc, "Main")?,
-        },
-        body: Vec::new(alloc),
-    };
-    Ok(Program::new(newtype, main))
+    Ok(vec![in alloc; i8]?)
 }
 
 /// Puts the terms on the stack, where they leave one formula.
@@ -51,12 +44,12 @@ fn put(rt: &impl Abort, draft: &mut Draft, terms: Terms) -> Result<(), Fail> {
 /// The sequent of these hypotheses and this goal.
 fn sequent<'a>(
     rt: &impl Abort,
-    program: &'a Program,
+    newtypes: &'a [Newtype],
     alloc: Global,
     hypotheses: &[Terms],
     goal: Terms,
 ) -> Result<Sequent<'a>, Fail> {
-    let mut draft = Draft::new(alloc, program);
+    let mut draft = Draft::new(alloc, newtypes);
     for hypothesis in hypotheses {
         put(rt, &mut draft, *hypothesis)?;
         assert_eq!(rt; draft.stack.len(), 1);
@@ -130,7 +123,7 @@ const Y: Op = Op::Free(Free {
 #[test]
 fn lists_hypotheses_and_the_goal(rt: HostRuntime) -> Result<(), Fail> {
     let alloc = rt.alloc();
-    let program = program(alloc)?;
+    let newtypes = newtypes(alloc)?;
     let hypothesis: Terms = &[(X, 0), (Op::Number(3), 0), (Op::AtMost, 2)];
     let goal: Terms = &[
         (X, 0),
@@ -139,7 +132,7 @@ fn lists_hypotheses_and_the_goal(rt: HostRuntime) -> Result<(), Fail> {
         (Op::Number(4), 0),
         (Op::AtMost, 2),
     ];
-    let sequent = sequent(&rt, &program, alloc, &[hypothesis], goal)?;
+    let sequent = sequent(&rt, newtypes.as_slice(), alloc, &[hypothesis], goal)?;
     is_as_listed(
         &rt,
         alloc,
@@ -149,14 +142,14 @@ fn lists_hypotheses_and_the_goal(rt: HostRuntime) -> Result<(), Fail> {
     )
 }
 
-// x is 0, "x is of i8" is 1, and of another type 2. -128 becomes 3, -128 <= x 4, 127 5, and x <= 127 6.
+// x is 0, "x is of i8" is 1, and of a newtype that is not declared 2. -128 becomes 3, -128 <= x 4, 127 5, and x <= 127 6.
 #[test]
 fn lists_types(rt: HostRuntime) -> Result<(), Fail> {
     let alloc = rt.alloc();
-    let program = program(alloc)?;
+    let newtypes = newtypes(alloc)?;
     let of_type: Terms = &[(X, 0), (Op::Is(Ty::Newtype(0)), 1)];
     let of_other: Terms = &[(X, 0), (Op::Is(Ty::Newtype(1)), 1)];
-    let sequent = sequent(&rt, &program, alloc, &[of_type], of_other)?;
+    let sequent = sequent(&rt, newtypes.as_slice(), alloc, &[of_type], of_other)?;
     is_as_listed(
         &rt,
         alloc,
@@ -172,15 +165,67 @@ fn lists_types(rt: HostRuntime) -> Result<(), Fail> {
     )
 }
 
+/// The newtype `byte = x: int | 0 <= x < 256`, whose name is 5.
+fn byte(alloc: Global) -> Result<Newtype, Fail> {
+    Ok(Newtype {
+        declared: Declared {
+            name: 5,
+            text: String::from_str(alloc, "byte")?,
+        },
+        interval: Interval::new(0, 255).ok_or("ordered")?,
+        default: 0,
+    })
+}
+
+// x is 0, "x is of i8" is 1, and of byte 2. -128 becomes 3, -128 <= x 4, 127 5, x <= 127 6, 0 7, 0 <= x 8,
+// 255 9, and x <= 255 10.
+#[test]
+fn lists_each_newtype(rt: HostRuntime) -> Result<(), Fail> {
+    let alloc = rt.alloc();
+    let mut newtypes = newtypes(alloc)?;
+    newtypes.push(byte(alloc)?)?;
+    let of_i8: Terms = &[(X, 0), (Op::Is(Ty::Newtype(0)), 1)];
+    let of_byte: Terms = &[(X, 0), (Op::Is(Ty::Newtype(1)), 1)];
+    let sequent = sequent(&rt, newtypes.as_slice(), alloc, &[of_i8], of_byte)?;
+    is_as_listed(
+        &rt,
+        alloc,
+        &sequent,
+        11,
+        &[
+            (&[(true, 1)], None),
+            (&[(false, 2)], None),
+            (&[(false, 1), (true, 4)], None),
+            (&[(false, 1), (true, 6)], None),
+            (&[(true, 1), (false, 4), (false, 6)], None),
+            (&[(false, 2), (true, 8)], None),
+            (&[(false, 2), (true, 10)], None),
+            (&[(true, 2), (false, 8), (false, 10)], None),
+        ],
+    )?;
+    let ground = Ground::new(alloc, &sequent).map_err(|_| "ground")?;
+    for (node, value) in [(3, -128), (5, 127), (7, 0), (9, 255)] {
+        let made = ground.nodes.get(node).ok_or("a number")?;
+        assert!(rt; made.op == Op::Number(value), "at {node}");
+    }
+    Ok(())
+}
+
 // x is 0, y 1, x = y 2, and x <= y 3. y <= x becomes 7. An equality of truths, 6, has no clauses.
 #[test]
 fn lists_equalities(rt: HostRuntime) -> Result<(), Fail> {
     let alloc = rt.alloc();
-    let program = program(alloc)?;
+    let newtypes = newtypes(alloc)?;
     let equality: Terms = &[(X, 0), (Y, 0), (Op::Equal, 2)];
     let comparison: Terms = &[(X, 0), (Y, 0), (Op::AtMost, 2)];
     let truths: Terms = &[(P, 0), (Q, 0), (Op::Equal, 2)];
-    let sequent = sequent(&rt, &program, alloc, &[equality, comparison], truths)?;
+    let sequent = sequent(
+        &rt,
+        newtypes.as_slice(),
+        alloc,
+        &[equality, comparison],
+        truths,
+    )?;
     is_as_listed(
         &rt,
         alloc,
@@ -201,14 +246,20 @@ fn lists_equalities(rt: HostRuntime) -> Result<(), Fail> {
 #[test]
 fn lists_connectives(rt: HostRuntime) -> Result<(), Fail> {
     let alloc = rt.alloc();
-    let program = program(alloc)?;
+    let newtypes = newtypes(alloc)?;
     let hypotheses: [Terms; 4] = [
         &[(P, 0), (Q, 0), (Op::And, 2)],
         &[(P, 0), (Q, 0), (Op::Or, 2)],
         &[(P, 0), (Q, 0), (Op::Implies, 2)],
         &[(P, 0), (Q, 0), (Op::Iff, 2)],
     ];
-    let sequent = sequent(&rt, &program, alloc, &hypotheses, &[(P, 0), (Op::Not, 1)])?;
+    let sequent = sequent(
+        &rt,
+        newtypes.as_slice(),
+        alloc,
+        &hypotheses,
+        &[(P, 0), (Op::Not, 1)],
+    )?;
     is_as_listed(
         &rt,
         alloc,
@@ -241,8 +292,8 @@ fn lists_connectives(rt: HostRuntime) -> Result<(), Fail> {
 
 /// The answer for the hypothesis p so many times, and the goal q.
 fn repeated(rt: &impl Abort, alloc: Global, count: usize) -> Result<Option<GroundFault>, Fail> {
-    let program = program(alloc)?;
-    let mut draft = Draft::new(alloc, &program);
+    let newtypes = newtypes(alloc)?;
+    let mut draft = Draft::new(alloc, newtypes.as_slice());
     for _ in 0..count {
         put(rt, &mut draft, &[(P, 0)])?;
         assert_eq!(rt; draft.stack.len(), 1);

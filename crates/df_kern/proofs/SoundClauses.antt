@@ -2,7 +2,7 @@
 use Rattle.std.proofs.Common.{◌≡◌, ℕ, zero, suc, ◌⊎◌, inl, inr, Bool, true, false, not, cond, ◌&&◌, ◌==◌, List, [], ◌∷◌, map, length, Option, Some, None, slice_get, nat_lt, refl, sym, ap, subst, ltb-true, eqb-true}
 use Rattle.std.specs.Option.{option_and_then, option_map}
 use Rattle.std.specs.List.{list_all, list_any, AllByRecursion}
-use Rattle.df_types.specs.Program.{Program}
+use Rattle.df_types.specs.Program.{Newtype}
 use Rattle.df_meaning.specs.Value.{truth_of}
 use Rattle.df_form.specs.declared.log.Lit.{Lit}
 use Rattle.df_form.specs.declared.node.Sort.TheVariants as sorts
@@ -90,10 +90,10 @@ module _ (test : Lit → Bool) (apart : (l : Lit) → test l ≡ true → test (
       case None is tested go = cc
       case (Some l) is tested go = go l (only_passes (left known clause) l is (left_holds known clause all hold.0)) tested
 
-module _ (depth : ℕ) (program : Program) (assignment : Assignment) where
+module _ (depth : ℕ) (newtypes : List Newtype) (assignment : Assignment) where
   -- a literal of a node is true
   abbrev pub is_held : List Node → Lit → Bool
-  is_held nodes l = nat_lt l.node (length nodes) && literal_truth (truth depth program assignment nodes) l
+  is_held nodes l = nat_lt l.node (length nodes) && literal_truth (truth depth newtypes assignment nodes) l
 
   -- one of the clause's literals is
   abbrev pub Holds : List Node → Clause → Type 0
@@ -101,10 +101,10 @@ module _ (depth : ℕ) (program : Program) (assignment : Assignment) where
 
   pub held_grown : (before now : List Node) → Grows before now → (l : Lit) → is_held before l ≡ true → is_held now l ≡ true
   held_grown before now g l e =
-      let parts = both (nat_lt l.node (length before)) (literal_truth (truth depth program assignment before) l) e in
+      let parts = both (nat_lt l.node (length before)) (literal_truth (truth depth newtypes assignment before) l) e in
       let lt = ltb-true l.node (length before) parts.0 in
-      let same = ap truth_of (grown_value depth program assignment before now g l.node lt) in
-      both_true (nat_lt l.node (length now)) (literal_truth (truth depth program assignment now) l) (grown_below before now g l.node parts.0)
+      let same = ap truth_of (grown_value depth newtypes assignment before now g l.node lt) in
+      both_true (nat_lt l.node (length now)) (literal_truth (truth depth newtypes assignment now) l) (grown_below before now g l.node parts.0)
       (subst (λ (b : Bool). same_truth l.positive b ≡ true) (sym same) parts.1)
 
   pub holds_grown : (before now : List Node) → Grows before now → (clause : Clause) → Holds before clause → Holds now clause
@@ -118,7 +118,7 @@ module _ (depth : ℕ) (program : Program) (assignment : Assignment) where
   both_ways false is positive p q = cc
 
   pub held_apart : (nodes : List Node) (l : Lit) → is_held nodes l ≡ true → is_held nodes (negation l) ≡ true → ⊥
-  held_apart nodes l p q = both_ways (nat_lt l.node (length nodes)) (truth depth program assignment nodes l.node) l.positive p q
+  held_apart nodes l p q = both_ways (nat_lt l.node (length nodes)) (truth depth newtypes assignment nodes l.node) l.positive p q
 
   one_way : (below is positive : Bool) → below ≡ true → (below && same_truth positive is) ≡ false → (below && same_truth (not positive) is) ≡ true
   one_way true true true p q = absurd cc
@@ -134,7 +134,7 @@ module _ (depth : ℕ) (program : Program) (assignment : Assignment) where
       let parts = both (is_formula nodes l.node) (are_literals nodes others) are in
       let formula = both (nat_lt l.node (length nodes)) (same_sort (sort_at nodes l.node) sorts.Truth) parts.0 in
       let fails = neither (is_held nodes l) (list_any (is_held nodes) others) none in
-      (one_way (nat_lt l.node (length nodes)) (truth depth program assignment nodes l.node) l.positive formula.0 fails.0, negations_held nodes others parts.1 fails.1)
+      (one_way (nat_lt l.node (length nodes)) (truth depth newtypes assignment nodes l.node) l.positive formula.0 fails.0, negations_held nodes others parts.1 fails.1)
 
   -- a clause that its negation refutes holds
   pub holds_unless : (nodes : List Node) (clause : Clause) → are_literals nodes clause ≡ true → (AllPass (is_held nodes) (map negation clause) → ⊥) → Holds nodes clause

@@ -3,7 +3,7 @@ use Rattle.std.specs.Prelude.{ℕ, suc, zero, ◌==◌, List, [], ◌∷◌, sli
 use Rattle.std.specs.Option.{option_and_then}
 use Rattle.df_types.specs.declared.program.Ty.{Ty}
 use Rattle.df_types.specs.declared.program.Ty.TheVariants as types
-use Rattle.df_types.specs.Program.{Program, Newtype}
+use Rattle.df_types.specs.Program.{Newtype}
 use Rattle.df_form.specs.declared.node.Op.{Op}
 use Rattle.df_form.specs.declared.node.Op.TheVariants as ops
 use Rattle.df_form.specs.Node.{Node}
@@ -26,18 +26,18 @@ newtype_clause newtype nodes n x (suc (suc zero)) =
     Some (record { nodes = high.nodes; clause = yes n ∷ no low.number ∷ no high.number ∷ [] })
 newtype_clause newtype nodes n x (suc (suc (suc k))) = None
 
--- the type is one of the program's
-abbrev pub type_clause : Program → List Node → ℕ → ℕ → Ty → ℕ → Option Added
-type_clause program nodes n x (types.Newtype name) k = if name == program.newtype.name then newtype_clause program.newtype nodes n x k else None
+-- the type is the declared newtype of its number
+abbrev pub type_clause : List Newtype → List Node → ℕ → ℕ → Ty → ℕ → Option Added
+type_clause newtypes nodes n x (types.Newtype t) k = option_and_then (λ (newtype : Newtype). newtype_clause newtype nodes n x k) (slice_get newtypes t)
 
-abbrev pub is_clause : Program → List Node → ℕ → ℕ → Op → List ℕ → Option Added
-is_clause program nodes n k (ops.Is ty) parts = of_one (λ x. type_clause program nodes n x ty k) parts
-is_clause program nodes n k op parts = None
+abbrev pub is_clause : List Newtype → List Node → ℕ → ℕ → Op → List ℕ → Option Added
+is_clause newtypes nodes n k (ops.Is ty) parts = of_one (λ x. type_clause newtypes nodes n x ty k) parts
+is_clause newtypes nodes n k op parts = None
 
 -- schema 74 for the node of number n
-abbrev pub schema_74 : Program → List Node → ℕ → ℕ → Option Added
-schema_74 program nodes k n = option_and_then (λ node. is_clause program nodes n k node.op node.parts) (slice_get nodes n)
+abbrev pub schema_74 : List Newtype → List Node → ℕ → ℕ → Option Added
+schema_74 newtypes nodes k n = option_and_then (λ node. is_clause newtypes nodes n k node.op node.parts) (slice_get nodes n)
 
 -- `a S K T..`
-abbrev pub schema_line : Program → List Node → ℕ → ℕ → List ℕ → Option Added
-schema_line program nodes schema k terms = if schema == 74 then of_one (schema_74 program nodes k) terms else None
+abbrev pub schema_line : List Newtype → List Node → ℕ → ℕ → List ℕ → Option Added
+schema_line newtypes nodes schema k terms = if schema == 74 then of_one (schema_74 newtypes nodes k) terms else None

@@ -1,7 +1,7 @@
 //! The clauses of schemas and connectives, for the search.
 
 ghost use Rattle.std.specs.Prelude.{◌≡◌, ◌≤◌, length, take, OnErr, List, Option};
-ghost use Rattle.df_types.specs.View.{program_of};
+ghost use Rattle.df_types.specs.View.{newtypes_of};
 ghost use Rattle.df_form.specs.Node.{Node};
 ghost use Rattle.df_kern.specs.Schema.{schema_line};
 ghost use Rattle.df_kern.specs.Connective.{Added, connective_line};
@@ -11,7 +11,7 @@ ghost use Rattle.df_kern.specs.Instance.{Instantiates};
 use crate::connecting::connective_clause_of;
 use crate::schema::schema_clause_of;
 use df_form::{Lit, Nodes};
-use df_types::Program;
+use df_types::Newtype;
 use std::alloc::{AllocError, Global};
 
 /// Why there is no clause.
@@ -45,16 +45,16 @@ fn settle(
 /// free terms are. Nodes that it needs are made; after a fault the nodes stand as before.
 pub fn instance(
     alloc: Global,
-    program: &Program,
+    newtypes: &[Newtype],
     nodes: &mut Nodes,
     schema: u8,
     clause: u32,
     terms: &[usize],
 ) -> Result<Vec<Lit>, AxiomFault>
-    ensures { Instantiates nodes.old nodes.new result (schema_line (program_of program.now) nodes.old schema clause terms.now) }
+    ensures { Instantiates nodes.old nodes.new result (schema_line (newtypes_of newtypes.now) nodes.old schema clause terms.now) }
 {
     let before = nodes.len();
-    let found = schema_clause_of(alloc, program, nodes, schema, clause, terms);
+    let found = schema_clause_of(alloc, newtypes, nodes, schema, clause, terms);
     settle(nodes, before, found)
 }
 

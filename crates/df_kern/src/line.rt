@@ -84,7 +84,7 @@ fn clause_of(
             schema,
             clause,
             terms,
-        } => schema_clause_of(alloc, sequent.program, nodes, *schema, *clause, terms),
+        } => schema_clause_of(alloc, sequent.newtypes, nodes, *schema, *clause, terms),
         Step::Propagation {
             clauses: numbers,
             conclusion,

@@ -1,7 +1,7 @@
 //! The schemas.
 
 ghost use Rattle.std.specs.Prelude.{◌≡◌, ◌≤◌, length, IfSome};
-ghost use Rattle.df_types.specs.View.{program_of};
+ghost use Rattle.df_types.specs.View.{newtypes_of};
 ghost use Rattle.df_kern.specs.Schema.{schema_line};
 ghost use Rattle.df_kern.specs.Typed.{typed_of, interval_line};
 ghost use Rattle.df_kern.specs.Answers.{Adds};
@@ -10,7 +10,7 @@ ghost use Rattle.df_kern.specs.Growth.{IsNumber};
 use crate::bound::{at_least_of, at_most_of};
 use crate::literal::{no_of, yes_of};
 use df_form::{Lit, Nodes, Op};
-use df_types::{Interval, Newtype, Program, Ty};
+use df_types::{Interval, Newtype, Ty};
 use std::alloc::{AllocError, Global};
 
 /// The schema of what it means to be of a type.
@@ -47,10 +47,17 @@ fn interval_clause(
     }
 }
 
-/// The number x, where the node says that x is of the program's newtype.
-fn typed(program: &Program, nodes: &Nodes, number: usize) -> Option<usize>
-    ensures typed { result ≡ typed_of (program_of program.now) nodes.now number }
-    ensures number { IfSome result (IsNumber nodes.now) }
+/// That a number x is of the newtype of this number.
+#[derive(Clone, Copy)]
+struct OfNewtype {
+    x: usize,
+    newtype: usize,
+}
+
+/// What the node says, where it says that a number is of a newtype.
+fn typed(nodes: &Nodes, number: usize) -> Option<OfNewtype>
+    ensures typed { result ≡ typed_of nodes.now number }
+    ensures number { IfSome result (λ typed. IsNumber nodes.now typed.x) }
 {
     let node = nodes.get(number)?;
     let Op::Is(ty) = node.op else {
@@ -59,24 +66,20 @@ fn typed(program: &Program, nodes: &Nodes, number: usize) -> Option<usize>
     let [x] = node.parts.as_slice() else {
         return None;
     };
-    let Ty::Newtype(name) = ty;
-    if name == program.newtype.declared.name {
-        Some(*x)
-    } else {
-        None
-    }
+    let Ty::Newtype(newtype) = ty;
+    Some(OfNewtype { x: *x, newtype })
 }
 
 /// The clause of this number of a schema for the nodes that its pattern matches.
 pub(crate) fn schema_clause_of(
     alloc: Global,
-    program: &Program,
+    newtypes: &[Newtype],
     nodes: &mut Nodes,
     schema: u8,
     clause: u32,
     terms: &[usize],
 ) -> Result<Option<Vec<Lit>>, AllocError>
-    ensures adds { Adds nodes.old nodes.new result (schema_line (program_of program.now) nodes.old schema clause terms.now) }
+    ensures adds { Adds nodes.old nodes.new result (schema_line (newtypes_of newtypes.now) nodes.old schema clause terms.now) }
     ensures longer { length nodes.old ≤ length nodes.new }
 {
     let [number] = terms else {
@@ -85,8 +88,11 @@ pub(crate) fn schema_clause_of(
     if schema != TYPES {
         return Ok(None);
     }
-    match typed(program, nodes, *number) {
-        Some(x) => interval_clause(alloc, program.newtype.interval, nodes, *number, x, clause),
+    let Some(typed) = typed(nodes, *number) else {
+        return Ok(None);
+    };
+    match newtypes.get(typed.newtype) {
+        Some(newtype) => interval_clause(alloc, newtype.interval, nodes, *number, typed.x, clause),
         None => Ok(None),
     }
 }

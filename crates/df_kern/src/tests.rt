@@ -1,6 +1,6 @@
 use super::*;
 use df_form::{Combination, Draft, Free, Lit, Multiple, Node, Op, Sequent, Sort, Step};
-use df_types::{Declared, Interval, Method, Newtype, Program, Ty};
+use df_types::{Declared, Interval, Newtype, Ty};
 use std::alloc::Global;
 use std::process::Abort;
 use std::test::Fail;
@@ -27,9 +27,9 @@ enum Line<'a> {
     N(Op, &'a [usize]),
 }
 
-/// The program of the newtype `i8 = x: int | -128 <= x < 128`, whose name is 0, and of an empty `Main`.
-fn program(alloc: Global) -> Result<Program, Fail> {
-    let newtype = Newtype {
+/// The newtype `i8 = x: int | -128 <= x < 128` alone.
+fn newtypes(alloc: Global) -> Result<Vec<Newtype>, Fail> {
+    let i8 = Newtype {
         declared: Declared {
             name: 0,
             text: String::from_str(alloc, "i8")?,
@@ -37,14 +37,7 @@ fn program(alloc: Global) -> Result<Program, Fail> {
         interval: Interval::new(-128, 127).ok_or("ordered")?,
         default: 0,
     };
-    let main = Method {
-        declared: Declared {
-            name: 1,
-            text: String::from_str(alloc, "Main")?,
-        },
-        body: Vec::new(alloc),
-    };
-    Ok(Program::new(newtype, main))
+    Ok(vec![in alloc; i8]?)
 }
 
 /// Puts the terms on the stack, where they leave one formula.
@@ -64,12 +57,12 @@ fn put(rt: &impl Abort, draft: &mut Draft, terms: Terms) -> Result<(), Fail> {
 /// The sequent of these hypotheses and this goal.
 fn sequent<'a>(
     rt: &impl Abort,
-    program: &'a Program,
+    newtypes: &'a [Newtype],
     alloc: Global,
     hypotheses: &[Terms],
     goal: Terms,
 ) -> Result<Sequent<'a>, Fail> {
-    let mut draft = Draft::new(alloc, program);
+    let mut draft = Draft::new(alloc, newtypes);
     for hypothesis in hypotheses {
         put(rt, &mut draft, *hypothesis)?;
         assert_eq!(rt; draft.stack.len(), 1);
@@ -218,8 +211,8 @@ const PLACES: [Case; 13] = [
 #[test]
 fn tells_where_a_log_is_refused(rt: HostRuntime) -> Result<(), Fail> {
     let alloc = rt.alloc();
-    let program = program(alloc)?;
-    let sequent = sequent(&rt, &program, alloc, &[], &[(TRUTH, 0)])?;
+    let newtypes = newtypes(alloc)?;
+    let sequent = sequent(&rt, newtypes.as_slice(), alloc, &[], &[(TRUTH, 0)])?;
     refuses_each(&rt, alloc, &sequent, &PLACES)
 }
 
@@ -301,8 +294,8 @@ const ADDED: [(Line, &[Signed]); 27] = [
 #[test]
 fn adds_clauses(rt: HostRuntime) -> Result<(), Fail> {
     let alloc = rt.alloc();
-    let program = program(alloc)?;
-    let sequent = sequent(&rt, &program, alloc, &[], &EACH)?;
+    let newtypes = newtypes(alloc)?;
+    let sequent = sequent(&rt, newtypes.as_slice(), alloc, &[], &EACH)?;
     let mut checker = Checker::new(alloc, &sequent)?;
     for (number, (line, added)) in ADDED.iter().enumerate() {
         let step = step(alloc, *line)?;
@@ -337,7 +330,7 @@ const KINDS: [Case; 46] = [
     (&[Line::A(74, 0, &[])], 1, 5),
     (&[Line::A(74, 0, &[7])], 1, 5),
     (&[Line::A(74, 0, &[13])], 1, 5),
-    // another type's name
+    // a newtype that is not declared
     (
         &[Line::N(Op::Is(Ty::Newtype(1)), &[7]), Line::A(74, 0, &[13])],
         2,
@@ -378,9 +371,9 @@ const KINDS: [Case; 46] = [
 #[test]
 fn takes_and_refuses_each_kind(rt: HostRuntime) -> Result<(), Fail> {
     let alloc = rt.alloc();
-    let program = program(alloc)?;
+    let newtypes = newtypes(alloc)?;
     let hypotheses: [Terms; 2] = [&[(TRUTH, 0)], &[(TRUTH, 0), (Op::Not, 1)]];
-    let sequent = sequent(&rt, &program, alloc, &hypotheses, &EACH)?;
+    let sequent = sequent(&rt, newtypes.as_slice(), alloc, &hypotheses, &EACH)?;
     refuses_each(&rt, alloc, &sequent, &KINDS)
 }
 
@@ -427,21 +420,21 @@ fn with_last<'a>(alloc: Global, first: &[Line<'a>], last: Line<'a>) -> Result<Ve
 /// p, p implies q |- q
 fn modus_ponens<'a>(
     rt: &impl Abort,
-    program: &'a Program,
+    newtypes: &'a [Newtype],
     alloc: Global,
 ) -> Result<Sequent<'a>, Fail> {
     let hypotheses: [Terms; 2] = [
         &[(TRUTH, 0)],
         &[(TRUTH, 0), (OTHER_TRUTH, 0), (Op::Implies, 2)],
     ];
-    sequent(rt, program, alloc, &hypotheses, &[(OTHER_TRUTH, 0)])
+    sequent(rt, newtypes, alloc, &hypotheses, &[(OTHER_TRUTH, 0)])
 }
 
 #[test]
 fn takes_propagations(rt: HostRuntime) -> Result<(), Fail> {
     let alloc = rt.alloc();
-    let program = program(alloc)?;
-    let sequent = modus_ponens(&rt, &program, alloc)?;
+    let newtypes = newtypes(alloc)?;
+    let sequent = modus_ponens(&rt, newtypes.as_slice(), alloc)?;
     for (number, (clauses, conclusion)) in FOLLOWING.iter().enumerate() {
         let log = with_last(alloc, &FIRST, Line::U(*clauses, *conclusion))?;
         let expected = if conclusion.is_empty() {
@@ -457,8 +450,8 @@ fn takes_propagations(rt: HostRuntime) -> Result<(), Fail> {
 #[test]
 fn refuses_other_propagations(rt: HostRuntime) -> Result<(), Fail> {
     let alloc = rt.alloc();
-    let program = program(alloc)?;
-    let sequent = modus_ponens(&rt, &program, alloc)?;
+    let newtypes = newtypes(alloc)?;
+    let sequent = modus_ponens(&rt, newtypes.as_slice(), alloc)?;
     let refused = KernFault::Refused { at: 5, broken: 6 };
     for (number, (clauses, conclusion)) in OTHERS.iter().enumerate() {
         let log = with_last(alloc, &FIRST, Line::U(*clauses, *conclusion))?;
@@ -471,7 +464,7 @@ fn refuses_other_propagations(rt: HostRuntime) -> Result<(), Fail> {
 #[test]
 fn checks_a_linear_log(rt: HostRuntime) -> Result<(), Fail> {
     let alloc = rt.alloc();
-    let program = program(alloc)?;
+    let newtypes = newtypes(alloc)?;
     let hypotheses: [Terms; 2] = [
         &[
             (Op::Number(2), 0),
@@ -487,7 +480,7 @@ fn checks_a_linear_log(rt: HostRuntime) -> Result<(), Fail> {
         &[(Y, 0), (Z, 0), (Op::AtMost, 2)],
     ];
     let goal: Terms = &[(X, 0), (Z, 0), (Op::AtMost, 2)];
-    let sequent = sequent(&rt, &program, alloc, &hypotheses, goal)?;
+    let sequent = sequent(&rt, newtypes.as_slice(), alloc, &hypotheses, goal)?;
     // the rows 2y + 1 - 2x, z - y and x - z - 1; halved, the first is y - x
     let lines: [Line; 5] = [
         Line::H(0),
@@ -509,7 +502,7 @@ fn checks_a_linear_log(rt: HostRuntime) -> Result<(), Fail> {
 #[test]
 fn checks_a_log_by_splits(rt: HostRuntime) -> Result<(), Fail> {
     let alloc = rt.alloc();
-    let program = program(alloc)?;
+    let newtypes = newtypes(alloc)?;
     let hypotheses: [Terms; 2] = [
         &[
             (X, 0),
@@ -528,7 +521,7 @@ fn checks_a_log_by_splits(rt: HostRuntime) -> Result<(), Fail> {
             (Op::Implies, 2),
         ],
     ];
-    let sequent = sequent(&rt, &program, alloc, &hypotheses, &[(TRUTH, 0)])?;
+    let sequent = sequent(&rt, newtypes.as_slice(), alloc, &hypotheses, &[(TRUTH, 0)])?;
     let lines: [Line; 8] = [
         Line::H(0),
         Line::H(1),
@@ -549,13 +542,13 @@ fn checks_a_log_by_splits(rt: HostRuntime) -> Result<(), Fail> {
 #[test]
 fn checks_a_log_by_the_type(rt: HostRuntime) -> Result<(), Fail> {
     let alloc = rt.alloc();
-    let program = program(alloc)?;
+    let newtypes = newtypes(alloc)?;
     let hypotheses: [Terms; 2] = [
         &[(X, 0), (I8, 1)],
         &[(Op::Number(127), 0), (X, 0), (Op::AtMost, 2)],
     ];
     let goal: Terms = &[(X, 0), (Op::Number(127), 0), (Op::Equal, 2)];
-    let sequent = sequent(&rt, &program, alloc, &hypotheses, goal)?;
+    let sequent = sequent(&rt, newtypes.as_slice(), alloc, &hypotheses, goal)?;
     let lines: [Line; 6] = [
         Line::H(0),
         Line::H(1),
@@ -572,8 +565,8 @@ fn checks_a_log_by_the_type(rt: HostRuntime) -> Result<(), Fail> {
 #[test]
 fn takes_twenty_thousand_lines(rt: HostRuntime) -> Result<(), Fail> {
     let alloc = rt.alloc();
-    let program = program(alloc)?;
-    let sequent = modus_ponens(&rt, &program, alloc)?;
+    let newtypes = newtypes(alloc)?;
+    let sequent = modus_ponens(&rt, newtypes.as_slice(), alloc)?;
     let hypothesis = step(alloc, Line::H(0))?;
     let propagation = step(alloc, Line::U(&[0], &[(true, 0)]))?;
     let mut checker = Checker::new(alloc, &sequent)?;
@@ -592,15 +585,56 @@ fn takes_twenty_thousand_lines(rt: HostRuntime) -> Result<(), Fail> {
 #[test]
 fn gives_instances(rt: HostRuntime) -> Result<(), Fail> {
     let alloc = rt.alloc();
-    let program = program(alloc)?;
-    let sequent = sequent(&rt, &program, alloc, &[], &[(X, 0), (I8, 1)])?;
+    let newtypes = newtypes(alloc)?;
+    let sequent = sequent(&rt, newtypes.as_slice(), alloc, &[], &[(X, 0), (I8, 1)])?;
     let mut nodes = sequent.nodes.copy(alloc)?;
-    let clause = instance(alloc, &program, &mut nodes, 74, 2, &[1])?;
+    let clause = instance(alloc, newtypes.as_slice(), &mut nodes, 74, 2, &[1])?;
     // -128 becomes 2, -128 <= x 3, 127 4, and x <= 127 5
     let expected = literals(alloc, &[(true, 1), (false, 3), (false, 5)])?;
     assert_eq!(rt; clause.as_slice(), expected.as_slice());
     assert_eq!(rt; nodes.len(), 6);
-    let other = instance(alloc, &program, &mut nodes, 74, 3, &[1]);
+    let other = instance(alloc, newtypes.as_slice(), &mut nodes, 74, 3, &[1]);
     assert_eq!(rt; (other.err(), nodes.len()), (Some(AxiomFault::NoSuch), 6));
+    Ok(())
+}
+
+/// The newtype `byte = x: int | 0 <= x < 256`, whose name is 5.
+fn byte(alloc: Global) -> Result<Newtype, Fail> {
+    Ok(Newtype {
+        declared: Declared {
+            name: 5,
+            text: String::from_str(alloc, "byte")?,
+        },
+        interval: Interval::new(0, 255).ok_or("ordered")?,
+        default: 0,
+    })
+}
+
+#[test]
+fn bounds_by_the_newtype_of_the_number(rt: HostRuntime) -> Result<(), Fail> {
+    let alloc = rt.alloc();
+    let mut newtypes = newtypes(alloc)?;
+    newtypes.push(byte(alloc)?)?;
+    let goal: Terms = &[(X, 0), (Op::Is(Ty::Newtype(1)), 1)];
+    let sequent = sequent(&rt, newtypes.as_slice(), alloc, &[], goal)?;
+    let mut checker = Checker::new(alloc, &sequent)?;
+    // 0 becomes 2, 0 <= x 3, 255 4, and x <= 255 5
+    let numbers = [(0, 2), (255, 4)];
+    let clauses: [(u32, &[Signed]); 3] = [
+        (0, &[(false, 1), (true, 3)]),
+        (1, &[(false, 1), (true, 5)]),
+        (2, &[(true, 1), (false, 3), (false, 5)]),
+    ];
+    for (clause, expected) in clauses {
+        let step = step(alloc, Line::A(74, clause, &[1]))?;
+        assert_eq!(rt; checker.take(&step), Ok(()), "at {clause}");
+        let expected = literals(alloc, expected)?;
+        let added = checker.clauses.last().ok_or("a clause")?;
+        assert_eq!(rt; added.as_slice(), expected.as_slice(), "at {clause}");
+    }
+    for (value, node) in numbers {
+        let made = checker.nodes.get(node).ok_or("a number")?;
+        assert!(rt; made.op == Op::Number(value), "at {node}");
+    }
     Ok(())
 }

@@ -10,7 +10,7 @@ use Rattle.df_kern.specs.Derivation.{is_number}
 use Rattle.df_closure.specs.Atoms.{is_atom}
 use Rattle.df_lin.specs.Elimination.{Eliminates}
 use Rattle.std.specs.List.{slice_index_or}
-use Rattle.df_types.specs.Program.{Program}
+use Rattle.df_types.specs.Program.{Newtype}
 use Rattle.df_meaning.specs.Value.{Value, Truth, Number, Text, number_of}
 use Rattle.df_form.specs.declared.log.Lit.{Lit}
 use Rattle.df_form.specs.Node.{Node, same_sort}
@@ -54,7 +54,7 @@ wide_number (Truth false ∷ values) zero e = absurd cc
 wide_number (Text t ∷ values) zero e = absurd cc
 wide_number (v ∷ values) (suc node) e = wide_number values node e
 
-module _ (program : Program) (set : List Node) (clauses : List GroundClause) (nodes : List Node) (branch : List Lit) (levels : Levels) (known : Known)
+module _ (newtypes : List Newtype) (set : List Node) (clauses : List GroundClause) (nodes : List Node) (branch : List Lit) (levels : Levels) (known : Known)
     (p : IsFilledPlace set clauses nodes branch levels known) (within : (row : Row) → Stands row (level_rows levels.first) → IsWithin (length nodes) row) where
   abbrev first : List Row
   first = level_rows levels.first
@@ -62,7 +62,7 @@ module _ (program : Program) (set : List Node) (clauses : List GroundClause) (no
   abbrev others : List (List Row)
   others = map level_rows levels.others.items
 
-  pub wide_value : IsPastWidth (length nodes) first levels.variables.items others → IsWideLeaf program set clauses nodes branch
+  pub wide_value : IsPastWidth (length nodes) first levels.variables.items others → IsWideLeaf newtypes set clauses nodes branch
   wide_value past = record {
     reasons = p.reasons;
     learned = p.learned;
@@ -70,13 +70,13 @@ module _ (program : Program) (set : List Node) (clauses : List GroundClause) (no
     overflows = at_value p.rows first levels.variables.items others (length nodes) p.rows_are p.whole.elimination within past;
   }
 
-  pub wide_node : (numbers : List ℤ) → IsPoint (length nodes) first levels.variables.items others numbers → IsWide program (assignment_by set numbers known) set → IsWideLeaf program set clauses nodes branch
+  pub wide_node : (numbers : List ℤ) → IsPoint (length nodes) first levels.variables.items others numbers → IsWide newtypes (assignment_by set numbers known) set → IsWideLeaf newtypes set clauses nodes branch
   wide_node numbers point wide = record {
     reasons = p.reasons;
     learned = p.learned;
     closed = p.closed;
     overflows = at_node p.rows first levels.variables.items others (length nodes) (numbers_of numbers) (λ n. knows known (yes n)) wide.node p.rows_are p.whole.elimination within point.is
-        (λ depth. wide_number (values depth program (assignment_by set numbers known) set) wide.node (wide.wide depth));
+        (λ depth. wide_number (values depth newtypes (assignment_by set numbers known) set) wide.node (wide.wide depth));
   }
 
   eliminates : Eliminates 0 first levels.variables.items others
@@ -149,8 +149,8 @@ module _ (program : Program) (set : List Node) (clauses : List GroundClause) (no
   pub between_at : (term : ℕ) (bound same : ℤ) → IsGap (length nodes) first levels.variables.items others term bound → same ≡ bound → IsBetweenLeaf clauses nodes branch term same
   between_at term bound same gap e = subst (IsBetweenLeaf clauses nodes branch term) (sym e) (between term bound gap)
 
-  pub modelled : (numbers table : List ℤ) → IsPoint (length nodes) first levels.variables.items others numbers → ((depth : ℕ) → table ≡ map number_of_value (values depth program (assignment_by set numbers known) set)) → IsModelOf program set clauses table
-  modelled numbers table point tabulates s g valid is arithmetic same_program same_set same_clauses =
+  pub modelled : (numbers table : List ℤ) → IsPoint (length nodes) first levels.variables.items others numbers → ((depth : ℕ) → table ≡ map number_of_value (values depth newtypes (assignment_by set numbers known) set)) → IsModelOf newtypes set clauses table
+  modelled numbers table point tabulates s g valid is arithmetic same_newtypes same_set same_clauses =
       let model = is_model s g valid is arithmetic nodes branch levels known
       (subst (λ (cs : List GroundClause). IsFilledPlace g.nodes cs nodes branch levels known) (sym same_clauses) (subst (λ (ns : List Node). IsFilledPlace ns clauses nodes branch levels known) (sym same_set) p)) numbers point in
-      subst (IsTableModel (state_of g)) ((λ i. numbers_of_nodes 0 (same_program i) (assignment_by (same_set i) numbers known) (same_set i)) ∙ sym (tabulates 0)) model
+      subst (IsTableModel (state_of g)) ((λ i. numbers_of_nodes 0 (same_newtypes i) (assignment_by (same_set i) numbers known) (same_set i)) ∙ sym (tabulates 0)) model

@@ -2,7 +2,7 @@
 use Rattle.std.proofs.Common.{◌≡◌, ◌⊎◌, inl, inr, ℕ, ◌<◌, ◌≤◌, ℤ, pos, Bool, true, false, not, List, [], ◌∷◌, ◌++◌, map, length, take, Some, slice_get, nat_lt, refl, sym, ap, ◌∙◌, subst, arith, ltb-true}
 use Rattle.std.proofs.lemmas.Bool.Decides.{nat_tests}
 use Rattle.std.specs.Option.{is_none}
-use Rattle.df_types.specs.Program.{Program}
+use Rattle.df_types.specs.Program.{Newtype}
 use Rattle.df_meaning.specs.Value.{Value, Truth, Number, Text, number_of}
 use Rattle.df_form.specs.declared.log.Lit.{Lit}
 use Rattle.df_form.specs.declared.node.Sort.{Sort}
@@ -71,7 +71,7 @@ truth_number (Truth b) e = refl
 truth_number (Text t) e = absurd cc
 
 -- the numbers of the atoms, and the free formulas
-module _ (program : Program) (set nodes : List Node) (set_table : IsTable set) (table : IsTable nodes) (begins : take (length set) nodes ≡ set)
+module _ (newtypes : List Newtype) (set nodes : List Node) (set_table : IsTable set) (table : IsTable nodes) (begins : take (length set) nodes ≡ set)
     (made : (n : ℕ) (node : Node) → length set ≤ n → slice_get nodes n ≡ Some node → IsBoundOp node.op)
     (literal_first : (n a b : ℕ) → slice_get nodes n ≡ Some (record { op = ops.Times; parts = a ∷ b ∷ [] }) → IsLiteral nodes a)
     (x : ℕ → ℤ) (p : ℕ → Bool) (zeros : (n : ℕ) → sort_at nodes n ≡ sorts.Truth → x n ≡ pos 0) where
@@ -93,11 +93,11 @@ module _ (program : Program) (set nodes : List Node) (set_table : IsTable set) (
       let none = no_parts (sort_at nodes) parts (parts_taken nodes n (record { op = ops.Free free; parts = parts }) sorted at) in
       found.1 ∙ ap Some same ∙ (λ i. Some (record { op = ops.Free free; parts = none i }))
 
-  number_free : (n : ℕ) (free : Free) (parts : List ℕ) → slice_get nodes n ≡ Some (record { op = ops.Free free; parts = parts }) → free.sort ≡ sorts.Number → x n ≡ numbers_of 0 program (assignment_of set x p) nodes n
+  number_free : (n : ℕ) (free : Free) (parts : List ℕ) → slice_get nodes n ≡ Some (record { op = ops.Free free; parts = parts }) → free.sort ≡ sorts.Number → x n ≡ numbers_of 0 newtypes (assignment_of set x p) nodes n
   number_free n free parts at sort =
-      sym (same_number_of_first 0 program (assignment_of set x p) set nodes n begins (free_less n free parts at) ∙ number_follows x p 0 program set n free set_table (free_at n free parts at) sort)
+      sym (same_number_of_first 0 newtypes (assignment_of set x p) set nodes n begins (free_less n free parts at) ∙ number_follows x p 0 newtypes set n free set_table (free_at n free parts at) sort)
 
-  of_op : (n : ℕ) (op : Op) (parts : List ℕ) → slice_get nodes n ≡ Some (record { op = op; parts = parts }) → sort_of op ≡ sorts.Number → is_atom nodes op parts ≡ true → takes op (map (sort_at nodes) parts) ≡ true → x n ≡ numbers_of 0 program (assignment_of set x p) nodes n
+  of_op : (n : ℕ) (op : Op) (parts : List ℕ) → slice_get nodes n ≡ Some (record { op = op; parts = parts }) → sort_of op ≡ sorts.Number → is_atom nodes op parts ≡ true → takes op (map (sort_at nodes) parts) ≡ true → x n ≡ numbers_of 0 newtypes (assignment_of set x p) nodes n
   of_op n (ops.Number k) parts at sort atom taken = absurd cc
   of_op n (ops.Free free) parts at sort atom taken = number_free n free parts at sort
   of_op n ops.Plus (a ∷ b ∷ []) at sort atom taken = absurd cc
@@ -109,17 +109,17 @@ module _ (program : Program) (set nodes : List Node) (set_table : IsTable set) (
   of_op n ops.Times parts at sort atom taken = absurd cc
   of_op n op parts at sort atom taken = absurd cc
 
-  alike : AreAlike nodes x (numbers_of 0 program (assignment_of set x p) nodes)
+  alike : AreAlike nodes x (numbers_of 0 newtypes (assignment_of set x p) nodes)
   alike n node at atom = by (sort_at nodes n) refl
     where
       value : Value
-      value = worth 0 program (assignment_of set x p) nodes n
+      value = worth 0 newtypes (assignment_of set x p) nodes n
 
-      by : (sort : Sort) → sort_at nodes n ≡ sort → x n ≡ numbers_of 0 program (assignment_of set x p) nodes n
+      by : (sort : Sort) → sort_at nodes n ≡ sort → x n ≡ numbers_of 0 newtypes (assignment_of set x p) nodes n
       by sorts.Truth e =
           let within = get_within nodes n node at in
-          let has = worth_sorted 0 program (assignment_of set x p) nodes sorted n (let less : nat_lt n (length nodes) ≡ true = grind (arith, nat_tests) in less) in
-          zeros n e ∙ sym (truth_number (worth 0 program (assignment_of set x p) nodes n) (subst (λ (sort : Sort). has_sort sort (worth 0 program (assignment_of set x p) nodes n) ≡ true) e has))
+          let has = worth_sorted 0 newtypes (assignment_of set x p) nodes sorted n (let less : nat_lt n (length nodes) ≡ true = grind (arith, nat_tests) in less) in
+          zeros n e ∙ sym (truth_number (worth 0 newtypes (assignment_of set x p) nodes n) (subst (λ (sort : Sort). has_sort sort (worth 0 newtypes (assignment_of set x p) nodes n) ≡ true) e has))
       by sorts.Number e = of_op n node.op node.parts at (sym (sort_is nodes n node at) ∙ e) atom (parts_taken nodes n node sorted at)
 
   literal_by : (known : List Lit) → IsConsistent known → (positive : Bool) (node : ℕ) → is_among known (record { positive = positive; node = node }) ≡ true → same_truth positive (is_among known (yes node)) ≡ true
@@ -130,15 +130,15 @@ module _ (program : Program) (set nodes : List Node) (set_table : IsTable set) (
       by (inl both) = absurd (consistent (record { positive = false; node = node }) among both)
       by (inr none) = ap not none
 
-  pub free_hold : (known : List Lit) → IsConsistent known → are_literals nodes known ≡ true → ((n : ℕ) → p n ≡ is_among known (yes n)) → FreeFormulasHold 0 program (assignment_of set x p) nodes known
+  pub free_hold : (known : List Lit) → IsConsistent known → are_literals nodes known ≡ true → ((n : ℕ) → p n ≡ is_among known (yes n)) → FreeFormulasHold 0 newtypes (assignment_of set x p) nodes known
   free_hold known consistent formulas p_is l free parts among at =
       let formula = both (nat_lt l.node (length nodes)) (same_sort (sort_at nodes l.node) sorts.Truth) (formula_of nodes known l among formulas) in
       let sort : free.sort ≡ sorts.Truth = sym (sort_is nodes l.node (record { op = ops.Free free; parts = parts }) at) ∙ same_sort_equal (sort_at nodes l.node) sorts.Truth formula.1 in
-      let is = same_truth_of_first 0 program (assignment_of set x p) set nodes l.node begins (free_less l.node free parts at) ∙ truth_follows x p 0 program set l.node free set_table (free_at l.node free parts at) sort ∙ p_is l.node in
+      let is = same_truth_of_first 0 newtypes (assignment_of set x p) set nodes l.node begins (free_less l.node free parts at) ∙ truth_follows x p 0 newtypes set l.node free set_table (free_at l.node free parts at) sort ∙ p_is l.node in
       ap (same_truth l.positive) is ∙ literal_by known consistent l.positive l.node among
 
-  pub rows_hold_there : (literals : List Lit) (rows : List Row) → rows_of nodes literals ≡ Some rows → rows_hold (length nodes) x rows ≡ true → rows_hold (length nodes) (numbers_of 0 program (assignment_of set x p) nodes) rows ≡ true
-  rows_hold_there literals rows found hold = sym (rows_alike nodes sorted x (numbers_of 0 program (assignment_of set x p) nodes) alike literals rows found) ∙ hold
+  pub rows_hold_there : (literals : List Lit) (rows : List Row) → rows_of nodes literals ≡ Some rows → rows_hold (length nodes) x rows ≡ true → rows_hold (length nodes) (numbers_of 0 newtypes (assignment_of set x p) nodes) rows ≡ true
+  rows_hold_there literals rows found hold = sym (rows_alike nodes sorted x (numbers_of 0 newtypes (assignment_of set x p) nodes) alike literals rows found) ∙ hold
 
 bound_comparing : (op : Op) → IsBoundOp op → is_comparing op ≡ true
 bound_comparing (ops.Number k) h = refl
@@ -176,7 +176,7 @@ module _ (s : Sequent) (g : Ground) (valid : IsSequent s) (is : IsGroundOf s g) 
           found.1 ∙ ap Some (some_is found.0 node (sym (grown_get s.nodes nodes grown n found.0 found.1) ∙ at))
       by (inr past) = absurd (let same : true ≡ false = sym (comparing n node past at) ∙ other in cc)
 
-  of_numbers : IsOfNumbers s.program nodes
+  of_numbers : IsOfNumbers s.newtypes nodes
   of_numbers = record {
     equalities = λ n a b at.
         let here = in_sequent n (record { op = ops.Equal; parts = a ∷ b ∷ [] }) at refl in
@@ -194,7 +194,7 @@ module _ (s : Sequent) (g : Ground) (valid : IsSequent s) (is : IsGroundOf s g) 
   filled_here : IsFilled (map ground_of g.clauses.items) list
   filled_here clause is_open = p.filled clause (record { number = is_open.number; there = is_open.there; counts = is_open.counts; none = is_open.none })
 
-  full : IsFull s.program nodes list
+  full : IsFull s.newtypes nodes list
   full = filled_full s g is list filled_here nodes p.place.table grown_set valid comparing
 
   consistent : IsConsistent list
@@ -212,19 +212,19 @@ module _ (s : Sequent) (g : Ground) (valid : IsSequent s) (is : IsGroundOf s g) 
     rows_at_point : rows_hold (length nodes) (back.numbers_of numbers) p.rows ≡ true
     rows_at_point = lists_tell (length nodes) (back.numbers_of numbers) p.rows (level_rows levels.first) p.whole.elimination.is_first (all_hold (length nodes) (back.numbers_of numbers) (level_rows levels.first) point.holds)
 
-    rows_true : rows_hold (length nodes) (numbers_of 0 s.program assignment nodes) p.rows ≡ true
-    rows_true = rows_hold_there s.program g.nodes nodes is.table p.place.table p.place.begins p.place.made literal_factor (back.numbers_of numbers) (λ n. knows known (yes n)) zeros list p.rows p.rows_are rows_at_point
+    rows_true : rows_hold (length nodes) (numbers_of 0 s.newtypes assignment nodes) p.rows ≡ true
+    rows_true = rows_hold_there s.newtypes g.nodes nodes is.table p.place.table p.place.begins p.place.made literal_factor (back.numbers_of numbers) (λ n. knows known (yes n)) zeros list p.rows p.rows_are rows_at_point
 
-    free_true : FreeFormulasHold 0 s.program assignment nodes list
-    free_true = free_hold s.program g.nodes nodes is.table p.place.table p.place.begins p.place.made literal_factor (back.numbers_of numbers) (λ n. knows known (yes n)) zeros list consistent p.formulas (λ n. p.set_is (yes n))
+    free_true : FreeFormulasHold 0 s.newtypes assignment nodes list
+    free_true = free_hold s.newtypes g.nodes nodes is.table p.place.table p.place.begins p.place.made literal_factor (back.numbers_of numbers) (λ n. knows known (yes n)) zeros list consistent p.formulas (λ n. p.set_is (yes n))
 
-    agrees : Agrees 0 s.program assignment nodes list
+    agrees : Agrees 0 s.newtypes assignment nodes list
     agrees =
         let all : AreSorted nodes = record { sorted = p.place.table.sorted } in
-        they_agree 0 s.program assignment nodes all list (comparisons_true 0 s.program assignment nodes all list p.rows p.rows_are rows_true) free_true
+        they_agree 0 s.newtypes assignment nodes all list (comparisons_true 0 s.newtypes assignment nodes all list p.rows p.rows_are rows_true) free_true
 
-    holds : (l : Lit) → is_among list l ≡ true → same_truth l.positive (truth 0 s.program assignment nodes l.node) ≡ true
-    holds = literals_hold 0 s.program assignment nodes list (record { sorted = p.place.table.sorted }) of_numbers full consistent agrees p.formulas
+    holds : (l : Lit) → is_among list l ≡ true → same_truth l.positive (truth 0 s.newtypes assignment nodes l.node) ≡ true
+    holds = literals_hold 0 s.newtypes assignment nodes list (record { sorted = p.place.table.sorted }) of_numbers full consistent agrees p.formulas
 
     formula_below : (i h : ℕ) → slice_get (s.hypotheses ++ s.goal ∷ []) i ≡ Some h → h < length g.nodes
     formula_below i h at =
@@ -237,14 +237,14 @@ module _ (s : Sequent) (g : Ground) (valid : IsSequent s) (is : IsGroundOf s g) 
     not_true true e = absurd cc
     not_true false e = refl
 
-    hypotheses_true : (h i : ℕ) → slice_get s.hypotheses i ≡ Some h → truth 0 s.program assignment g.nodes h ≡ true
+    hypotheses_true : (h i : ℕ) → slice_get s.hypotheses i ≡ Some h → truth 0 s.newtypes assignment g.nodes h ≡ true
     hypotheses_true h i at =
-        sym (same_truth_of_first 0 s.program assignment g.nodes nodes h p.place.begins (formula_below i h (get_grown s.hypotheses (s.goal ∷ []) i h at))) ∙ holds (yes h) (hypothesis_known s g is list filled_here i h at)
+        sym (same_truth_of_first 0 s.newtypes assignment g.nodes nodes h p.place.begins (formula_below i h (get_grown s.hypotheses (s.goal ∷ []) i h at))) ∙ holds (yes h) (hypothesis_known s g is list filled_here i h at)
 
-    goal_false : truth 0 s.program assignment g.nodes s.goal ≡ false
+    goal_false : truth 0 s.newtypes assignment g.nodes s.goal ≡ false
     goal_false =
-        sym (same_truth_of_first 0 s.program assignment g.nodes nodes s.goal p.place.begins (formula_below (length s.hypotheses) s.goal (get_last s.hypotheses s.goal)))
-        ∙ not_true (truth 0 s.program assignment nodes s.goal) (holds (no s.goal) (goal_known s g is list filled_here))
+        sym (same_truth_of_first 0 s.newtypes assignment g.nodes nodes s.goal p.place.begins (formula_below (length s.hypotheses) s.goal (get_last s.hypotheses s.goal)))
+        ∙ not_true (truth 0 s.newtypes assignment nodes s.goal) (holds (no s.goal) (goal_known s g is list filled_here))
 
-    pub is_model : IsTableModel (state_of g) (numbers_of_nodes 0 s.program assignment g.nodes)
+    pub is_model : IsTableModel (state_of g) (numbers_of_nodes 0 s.newtypes assignment g.nodes)
     is_model = valuation_is_model s g 0 assignment valid is hypotheses_true goal_false

@@ -9,7 +9,7 @@ ghost use Rattle.df_linear.specs.Linear.{refutes};
 ghost use Rattle.df_lin.specs.Levels.{rows_of, level_rows, Stands, HasFalse};
 ghost use Rattle.df_lin.specs.Elimination.{Eliminates, last_level};
 ghost use Rattle.df_elim.specs.Elimination.{IsRefutation};
-ghost use Rattle.df_types.specs.View.{program_of};
+ghost use Rattle.df_types.specs.View.{newtypes_of};
 ghost use Rattle.df_closure.specs.Closure.{ground_of, GroundClause as Clause};
 ghost use Rattle.df_leaf.specs.FilledPlace.{IsFilledPlace};
 ghost use Rattle.df_leaf.specs.Leaf.{IsPlace, TellsLeaf};
@@ -26,7 +26,7 @@ use df_lin::{Level, Row};
 use df_model::{Valuation, valuation};
 use df_refutation::refuting;
 use df_table::Table;
-use df_types::Program;
+use df_types::Newtype;
 use std::alloc::{AllocError, Global};
 
 /// What comes next at a branch.
@@ -60,7 +60,7 @@ pub enum Leaf {
 /// A list where no clause is open, and its rows have levels without a false one.
 fn filled_leaf(
     alloc: Global,
-    program: &Program,
+    newtypes: &[Newtype],
     set: &Nodes,
     nodes: &Nodes,
     levels: &Levels,
@@ -69,7 +69,7 @@ fn filled_leaf(
     requires chain { Eliminates 0 (level_rows levels.now.first) levels.now.variables.items (map level_rows levels.now.others.items) }
     requires stands { HasFalse (last_level (level_rows levels.now.first) (map level_rows levels.now.others.items)) → ⊥ }
     requires within { (row : FunctionRow) → Stands row (level_rows levels.now.first) → IsWithin (length nodes.now) row }
-    ensures { IfOk result (λ leaf. (clauses : List Clause) (branch : List Lit) → IsFilledPlace set.now clauses nodes.now branch levels.now known.now → TellsLeaf (program_of program.now) set.now clauses nodes.now branch leaf) }
+    ensures { IfOk result (λ leaf. (clauses : List Clause) (branch : List Lit) → IsFilledPlace set.now clauses nodes.now branch levels.now known.now → TellsLeaf (newtypes_of newtypes.now) set.now clauses nodes.now branch leaf) }
 {
     match back(
         alloc,
@@ -78,7 +78,7 @@ fn filled_leaf(
         &levels.variables,
         &levels.others,
     )? {
-        Back::Point(numbers) => match valuation(alloc, program, set, &numbers, known)? {
+        Back::Point(numbers) => match valuation(alloc, newtypes, set, &numbers, known)? {
             Valuation::Table(table) => Ok(Leaf::Modelled(table)),
             Valuation::Wide => Ok(Leaf::Wide),
         },
@@ -106,14 +106,14 @@ fn combinations(
 /// by now.
 pub fn leaf_at(
     alloc: Global,
-    program: &Program,
+    newtypes: &[Newtype],
     set: &Nodes,
     clauses: &[GroundClause],
     nodes: &Nodes,
     branch: &[Lit],
 ) -> Result<Leaf, AllocError>
     requires { IsPlace set.now (map ground_of clauses.now) nodes.now branch.now }
-    ensures { IfOk result (TellsLeaf (program_of program.now) set.now (map ground_of clauses.now) nodes.now branch.now) }
+    ensures { IfOk result (TellsLeaf (newtypes_of newtypes.now) set.now (map ground_of clauses.now) nodes.now branch.now) }
 {
     let (known, learned, reasons) = match close(alloc, clauses, branch)? {
         Closure::Refuted(numbers) => return Ok(Leaf::Refuted(numbers)),
@@ -135,7 +135,7 @@ pub fn leaf_at(
         }),
         Elimination::Open(levels) => match open_member(clauses, &known) {
             Some(literal) => Ok(Leaf::Open(literal)),
-            None => filled_leaf(alloc, program, set, nodes, &levels, &known),
+            None => filled_leaf(alloc, newtypes, set, nodes, &levels, &known),
         },
         Elimination::Wide => Ok(Leaf::Wide),
         Elimination::Many(count) => Ok(Leaf::Many(count)),

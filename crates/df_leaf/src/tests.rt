@@ -8,14 +8,14 @@ ghost use Rattle.df_closure.specs.Closure.{GroundClause as Clause, ground_of};
 use crate::{Leaf, leaf_at};
 use df_form::{Free, Lit, Node, Nodes, Op, Sort};
 use df_ground::GroundClause;
-use df_types::{Declared, Interval, Method, Newtype, Program};
+use df_types::{Declared, Interval, Newtype};
 use std::alloc::Global;
 use std::process::Abort;
 use std::test::Fail;
 
-/// The program of the newtype `i8 = x: int | -128 <= x < 128`, whose name is 0, and of an empty `Main`.
-fn program(alloc: Global) -> Result<Program, Fail> {
-    let newtype = Newtype {
+/// The newtype `i8 = x: int | -128 <= x < 128` alone.
+fn newtypes(alloc: Global) -> Result<Vec<Newtype>, Fail> {
+    let i8 = Newtype {
         declared: Declared {
             name: 0,
             text: String::from_str(alloc, "i8")?,
@@ -23,14 +23,7 @@ fn program(alloc: Global) -> Result<Program, Fail> {
         interval: Interval::new(-128, 127).ok_or("ordered")?,
         default: 0,
     };
-    let main = Method {
-        declared: Declared {
-            name: 1,
-            text: String::from_str(alloc, "Main")?,
-        },
-        body: Vec::new(alloc),
-    };
-    Ok(Program::new(newtype, main))
+    Ok(vec![in alloc; i8]?)
 }
 
 /// One free formula.
@@ -82,7 +75,7 @@ fn are_of(nodes: &Nodes, clauses: &[GroundClause]) -> bool
 /// What comes next at the empty branch.
 fn end(
     alloc: Global,
-    program: &Program,
+    newtypes: &[Newtype],
     nodes: &Nodes,
     clauses: &[GroundClause],
 ) -> Result<Leaf, Fail> {
@@ -90,7 +83,7 @@ fn end(
     if count == 0 || !are_of(nodes, clauses) {
         return Err(Fail::new("no formula"));
     }
-    Ok(leaf_at(alloc, program, nodes, clauses, nodes, &[])?)
+    Ok(leaf_at(alloc, newtypes, nodes, clauses, nodes, &[])?)
 }
 
 /// Clauses, and the number of the formula in their model.
@@ -103,11 +96,11 @@ const MODELLED: [(&[&[bool]], i128); 3] = [
 #[test]
 fn ends_with_models(rt: HostRuntime) -> Result<(), Fail> {
     let alloc = rt.alloc();
-    let program = program(alloc)?;
+    let newtypes = newtypes(alloc)?;
     let nodes = formula(&rt, alloc)?;
     for (case, (plain, wanted)) in MODELLED.iter().enumerate() {
         let clauses = clauses(alloc, *plain)?;
-        let Leaf::Modelled(table) = end(alloc, &program, &nodes, &clauses)? else {
+        let Leaf::Modelled(table) = end(alloc, newtypes.as_slice(), &nodes, &clauses)? else {
             return Err(Fail::new("no model"));
         };
         assert_eq!(rt; table.number(0), *wanted, "at {case}");
@@ -121,11 +114,11 @@ const REFUTED: [(&[&[bool]], &[usize]); 2] = [(&[&[]], &[0]), (&[&[true], &[fals
 #[test]
 fn ends_with_false_clauses(rt: HostRuntime) -> Result<(), Fail> {
     let alloc = rt.alloc();
-    let program = program(alloc)?;
+    let newtypes = newtypes(alloc)?;
     let nodes = formula(&rt, alloc)?;
     for (case, (plain, wanted)) in REFUTED.iter().enumerate() {
         let clauses = clauses(alloc, *plain)?;
-        let Leaf::Refuted(numbers) = end(alloc, &program, &nodes, &clauses)? else {
+        let Leaf::Refuted(numbers) = end(alloc, newtypes.as_slice(), &nodes, &clauses)? else {
             return Err(Fail::new("no clause is false"));
         };
         assert_eq!(rt; numbers.as_slice(), *wanted, "at {case}");

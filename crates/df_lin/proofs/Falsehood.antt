@@ -1,6 +1,5 @@
 -- Rows that are false.
-use Rattle.std.proofs.Common.{◌≡◌, ◌⊎◌, ⊎_elim, inl, inr, ℕ, zero, suc, ◌+◌, ◌<◌, ◌≤◌, ℤ, pos, ◌<ℤ◌, ◌≤ℤ◌, Bool, true, false, List, [], ◌∷◌, ◌++◌, take, length, get_or, slice_get, Option, Some, None, refl, sym, ap, subst, ◌∙◌, arith}
-use Rattle.std.proofs.lemmas.Int.{ints}
+use Rattle.std.proofs.Common.{◌≡◌, ⊎_elim, inl, inr, ℕ, zero, suc, ℤ, pos, ◌<ℤ◌, Bool, true, false, List, [], ◌∷◌, ◌++◌, slice_get, Option, Some, None, refl, sym, ap, subst, ◌∙◌}
 use Rattle.std.specs.Bool.{Decides}
 use Rattle.std.proofs.lemmas.Bool.{true≢false, false≢true}
 use Rattle.df_linear.specs.Row.{Row}
@@ -12,9 +11,9 @@ use Rattle.std.specs.Option.{is_some}
 use Rattle.df_linear.specs.RowView.{IsNarrow}
 use Rattle.df_lin.proofs.Ways.{row_narrow}
 use Rattle.df_lin.specs.Levels.{Stands, rows_of, HasFalse, TellsFalse}
-use Rattle.df_lin.proofs.Ascending.{IsFrom, equal, from_test}
+use Rattle.df_lin.proofs.Ascending.{from_test}
 use Rattle.df_lin.proofs.Rows.{first_coefficient}
-use Rattle.df_lin.proofs.Sets.{next_rows, taken_all, stands_at, stands_left, stands_cases}
+use Rattle.df_lin.proofs.Sets.{stands_cases}
 
 pub yes : (es : List (ℕ × ℤ)) (k : ℤ) → es ≡ [] → k <ℤ pos 0 → IsFalse (entries_row es k)
 yes es k e below = record { zeros = λ n. ap (λ l. coefficient_of l n) e; below = below }

@@ -1,5 +1,5 @@
 -- Rows that are combinations, as lines of logs have them.
-use Rattle.std.proofs.Common.{◌≡◌, ℕ, zero, suc, ◌+◌, ◌*◌, ◌/◌, ◌%◌, ◌-◌, ◌<◌, ◌≤◌, ℤ, pos, negsuc, ◌+ℤ◌, ◌*ℤ◌, int_le, Bool, true, false, ◌&&◌, cond, List, [], ◌∷◌, Option, Some, None, slice_get, refl, sym, ap, subst, ◌∙◌, arith}
+use Rattle.std.proofs.Common.{◌≡◌, ℕ, zero, suc, ◌+◌, ◌*◌, ◌/◌, ◌<◌, ℤ, pos, negsuc, ◌+ℤ◌, ◌*ℤ◌, int_le, true, ◌&&◌, cond, List, [], ◌∷◌, Some, None, slice_get, refl, sym, ap, subst, ◌∙◌, arith}
 use Rattle.std.proofs.Math.Nat.{div-add-mod'}
 use Rattle.std.proofs.lemmas.Nat.{div-mul-add}
 use Rattle.std.proofs.lemmas.Nat.Gcd.{mod-eq-zero_of_dvd}
@@ -10,14 +10,13 @@ use Rattle.std.specs.Int.RustNames.{unsigned_abs}
 use Rattle.std.specs.Option.{option_and_then}
 use Rattle.std.specs.Ordering.{int_eq}
 use Rattle.df_form.specs.declared.log.Multiple.{Multiple}
-use Rattle.df_form.specs.Log.{Combination}
 use Rattle.df_linear.specs.Row.{Row, fits, constant_row}
 use Rattle.df_linear.specs.RowView.{IsNarrow}
-use Rattle.df_linear.specs.Linear.{all_below, sum_fits, sum_of, with_multiple, sum_from, quotient, divides, divided, combined}
+use Rattle.df_linear.specs.Linear.{sum_of, with_multiple, sum_from, quotient, divides, divided}
 use Rattle.df_linear.proofs.RowSums.{all_pass}
 use Rattle.df_lin.specs.Row.{weighted_row}
 use Rattle.df_lin.specs.Division.{IsContent, divisor_of, quotient_row}
-use Rattle.df_lin.specs.Way.{multiple_row, Comes, AllCome}
+use Rattle.df_lin.specs.Way.{multiple_row, Comes}
 use Rattle.df_lin.proofs.Contents.{divisor_divides, some_divisor}
 
 -- a number that the divisor divides

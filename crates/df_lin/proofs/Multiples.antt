@@ -1,5 +1,5 @@
 -- Entries whose coefficients, or so many times them, have 128 bits.
-use Rattle.std.proofs.Common.{◌≡◌, ◌⊎◌, ⊎_elim, inl, inr, ℕ, suc, ◌+◌, ◌/◌, ◌<◌, ◌≤◌, ℤ, pos, negsuc, ◌*ℤ◌, ◌≤ℤ◌, int_le, Bool, true, false, cond, ◌&&◌, nat_eq, map, List, [], ◌∷◌, ◌++◌, drop, length, get_or, add-one, refl, sym, ap, subst, ◌∙◌, arith}
+use Rattle.std.proofs.Common.{◌≡◌, ℕ, suc, ◌+◌, ◌<◌, ◌≤◌, ℤ, pos, negsuc, ◌*ℤ◌, Bool, true, false, cond, nat_eq, map, List, [], ◌∷◌, ◌++◌, drop, length, get_or, add-one, refl, sym, ap, subst, ◌∙◌, arith}
 use Rattle.std.proofs.Math.Nat.{div-le_self}
 use Rattle.std.proofs.Math.Seq.{drop-cons}
 use Rattle.std.proofs.lemmas.Int.{ints}
@@ -9,14 +9,14 @@ use Rattle.df_linear.specs.Row.{fits}
 use Rattle.df_linear.specs.RowView.{IsNarrow}
 use Rattle.df_linear.specs.Linear.{quotient}
 use Rattle.df_lin.specs.Entries.{coefficient_of, ascends, AreNarrow, HaveMultiples, LackMultiple}
-use Rattle.df_lin.specs.Row.{entries_row, IsWide, at_node, at_constant}
+use Rattle.df_lin.specs.Row.{entries_row, IsWide, at_node}
 use Rattle.df_lin.specs.Division.{quotient_entry}
 use Rattle.df_lin.specs.Way.{multiple_row}
 use Rattle.df_lin.specs.Merge.{IsSum}
 use Rattle.std.proofs.lemmas.Bool.Decides.{Decides-int_eq}
 use Rattle.std.specs.Ordering.{int_eq}
 use Rattle.df_lin.specs.Entries.{has_coefficient}
-use Rattle.df_lin.proofs.Ascending.{to_le, IsFrom, equal, from_equal, more_unequal, from_test}
+use Rattle.df_lin.proofs.Ascending.{to_le, IsFrom, equal, more_unequal, from_test}
 use Rattle.df_lin.proofs.Contents.{quotient_coefficient}
 
 -- one entry

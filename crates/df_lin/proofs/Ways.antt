@@ -1,5 +1,5 @@
 -- The ways of a level, one row after the other.
-use Rattle.std.proofs.Common.{◌≡◌, ℕ, zero, suc, ◌+◌, ◌/◌, ◌<◌, ◌≤◌, ℤ, pos, negsuc, ◌*ℤ◌, int_le, Bool, true, false, not, cond, List, [], ◌∷◌, ◌++◌, map, length, take, get_or, slice_get, Option, Some, None, Result, Ok, Err, refl, sym, ap, subst, ◌∙◌, arith}
+use Rattle.std.proofs.Common.{◌≡◌, ℕ, zero, suc, ◌/◌, ◌<◌, ℤ, pos, negsuc, ◌*ℤ◌, int_le, Bool, true, false, not, cond, List, [], ◌∷◌, ◌++◌, map, length, get_or, slice_get, Some, None, Err, refl, sym, ap, subst, ◌∙◌, arith}
 use Rattle.std.proofs.Math.Nat.{div-one, one-dvd}
 use Rattle.std.proofs.lemmas.Int.{ints}
 use Rattle.std.proofs.lemmas.Bool.{true≢false}
@@ -7,10 +7,9 @@ use Rattle.std.proofs.lemmas.List.{map-append}
 use Rattle.std.specs.List.{list_any}
 use Rattle.std.specs.Option.{option_and_then}
 use Rattle.std.specs.Int.RustNames.{unsigned_abs}
-use Rattle.df_form.specs.declared.log.Multiple.{Multiple}
 use Rattle.df_form.specs.declared.log.Combination as declared_combination
 use Rattle.df_form.specs.Log.{Combination, combination_of}
-use Rattle.df_linear.specs.Row.{Row, fits}
+use Rattle.df_linear.specs.Row.{Row}
 use Rattle.df_linear.specs.RowView.{IsNarrow}
 use Rattle.df_linear.specs.Linear.{quotient, divided}
 use Rattle.df_lin.specs.declared.row.Row as declared
@@ -20,10 +19,9 @@ use Rattle.df_lin.specs.declared.fault.RowFault.{RowFault}
 use Rattle.df_lin.specs.declared.fault.RowFault.TheVariants as faults
 use Rattle.std.specs.Bool.{MatchBool}
 use Rattle.df_lin.specs.Row.{function_row, weighted_row, GivesRow}
-use Rattle.df_lin.specs.Division.{IsContent, divisor_of, quotient_row, IsDivided, IsDivisor}
+use Rattle.df_lin.specs.Division.{IsContent, divisor_of, quotient_row, IsDivisor}
 use Rattle.df_lin.specs.Way.{multiple_row, Comes, AllCome, of_one, of_two}
-use Rattle.df_lin.specs.Levels.{rows_of, level_rows, level_ways, AreWays, KeepsWays, IsSumBy, IsSumOf, IsCancelling, IsCancelled, AddsRow, AddsDivided, Stands, HasWideDivisor, HaveWideDivisor, GivesFactor, GivesDivided, GivesFirst, GivesSumBy, at_sum, at_divisor}
-use Rattle.df_lin.proofs.Rows.{eq}
+use Rattle.df_lin.specs.Levels.{rows_of, level_rows, level_ways, AreWays, IsSumBy, IsSumOf, IsCancelling, AddsRow, AddsDivided, Stands, GivesFactor, GivesDivided, GivesFirst, GivesSumBy, at_sum, at_divisor}
 use Rattle.df_lin.proofs.Sets.{same}
 use Rattle.df_lin.proofs.Lines.{one_comes, two_come, one_sum, all_divided}
 

@@ -10,7 +10,6 @@ use Rattle.df_lin.specs.declared.fault.RowFault.{RowFault}
 use Rattle.df_lin.specs.declared.fault.RowFault.TheVariants as faults
 use Rattle.df_lin.specs.Row.{function_row, weighted_row, IsWide, IsFalse}
 use Rattle.df_lin.specs.Division.{IsDivided, IsDivisor, quotient_row}
-use Rattle.df_form.specs.declared.log.Multiple.{Multiple}
 use Rattle.df_form.specs.Log.{Combination, combination_of}
 use Rattle.df_lin.specs.declared.level.Sum.{Sum}
 use Rattle.df_lin.specs.Way.{multiple_row, Comes, AllCome, of_two}

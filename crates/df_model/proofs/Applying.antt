@@ -2,15 +2,16 @@
 use Rattle.std.proofs.Common.{◌≡◌, ℕ, ℤ, pos, ◌+ℤ◌, ◌*ℤ◌, int_le, Bool, true, false, not, ◌&&◌, ◌||◌, List, [], ◌∷◌, map, refl, ap, subst}
 use Rattle.std.specs.List.{list_all, list_any}
 use Rattle.std.specs.Ordering.{int_eq}
-use Rattle.df_types.specs.Program.{Program}
+use Rattle.df_types.specs.Program.{Newtype}
 use Rattle.df_meaning.specs.Value.{Value, Number, Truth, Text, truth_of, number_of}
+use Rattle.df_meaning.specs.Evaluation.{is_of}
 use Rattle.df_form.specs.declared.node.Sort.{Sort}
 use Rattle.df_form.specs.declared.node.Sort.TheVariants as sorts
 use Rattle.df_form.specs.declared.node.Op.{Op}
 use Rattle.df_form.specs.declared.node.Op.TheVariants as ops
 use Rattle.df_form.specs.Node.{same_sort}
 use Rattle.df_form.specs.Sorting.{takes}
-use Rattle.df_form.specs.Truth.{Assignment, has_sort, same_truth, same_value, is_of, apply}
+use Rattle.df_form.specs.Truth.{Assignment, has_sort, same_truth, same_value, apply}
 use Rattle.df_form.proofs.Lists.{both}
 use Rattle.df_form.proofs.Same.{same_sort_equal}
 use Rattle.df_model.specs.Valuation.{number_of_truth, number_of_value}
@@ -106,14 +107,14 @@ module _ (worth : ℕ → Value) (sort : ℕ → Sort) (test : ℕ → Bool) (so
       let k = both (test b) true h.1 in
       same_is (sort b) (worth a) (worth b) (has a (sort b) h.0 same) (sorted b k.0)
 
-  module _ (depth : ℕ) (program : Program) (assignment : Assignment) where
+  module _ (depth : ℕ) (newtypes : List Newtype) (assignment : Assignment) where
     pub applied : (op : Op) (parts : List ℕ) → list_all test parts ≡ true → takes op (map sort parts) ≡ true
-        → number_of_value (apply depth program assignment op (map worth parts)) ≡ number_by program (λ free. number_of_value (assignment.value free)) op (map num parts)
+        → number_of_value (apply depth newtypes assignment op (map worth parts)) ≡ number_by newtypes (λ free. number_of_value (assignment.value free)) op (map num parts)
     applied (ops.Number k) parts passes taken = refl
     applied (ops.Free free) parts passes taken = refl
     applied ops.Plus (a ∷ b ∷ []) passes taken = let two = two_numbers a b passes taken in λ i. two.0 i +ℤ two.1 i
     applied ops.Times (a ∷ b ∷ []) passes taken = let two = two_numbers a b passes taken in λ i. two.0 i *ℤ two.1 i
-    applied (ops.Is ty) (a ∷ []) passes taken = let one = a_number a (both (test a) true passes).0 taken in λ i. number_of_truth (is_of program ty (one i))
+    applied (ops.Is ty) (a ∷ []) passes taken = let one = a_number a (both (test a) true passes).0 taken in λ i. number_of_truth (is_of newtypes ty (one i))
     applied ops.Equal (a ∷ b ∷ []) passes taken = ap number_of_truth (two_alike a b passes taken)
     applied ops.AtMost (a ∷ b ∷ []) passes taken = let two = two_numbers a b passes taken in λ i. number_of_truth (int_le (two.0 i) (two.1 i))
     applied ops.Not (a ∷ []) passes taken = let one = a_truth a (both (test a) true passes).0 taken in λ i. number_of_truth (not (one i))

@@ -1,7 +1,7 @@
 -- Clauses that hold are true in the table.
 use Rattle.std.proofs.Common.{◌≡◌, ℕ, ◌⊎◌, inl, inr, Bool, true, ◌||◌, List, [], ◌∷◌, length, nat_lt, refl, ap, ◌∙◌}
 use Rattle.std.specs.List.{list_all, list_any, AllByRecursion}
-use Rattle.df_types.specs.Program.{Program}
+use Rattle.df_types.specs.Program.{Newtype}
 use Rattle.df_form.specs.declared.log.Lit.{Lit}
 use Rattle.df_form.specs.declared.node.Sort.TheVariants as sorts
 use Rattle.df_form.specs.Node.{Node, same_sort}
@@ -16,28 +16,28 @@ use Rattle.df_table.specs.TableModel.{is_true}
 use Rattle.df_model.specs.Valuation.{numbers_of_nodes}
 use Rattle.df_model.proofs.NodeNumbers.{table_truth}
 
-module _ (depth : ℕ) (program : Program) (assignment : Assignment) (nodes : List Node) (sorted : AreSorted nodes) where
+module _ (depth : ℕ) (newtypes : List Newtype) (assignment : Assignment) (nodes : List Node) (sorted : AreSorted nodes) where
   abbrev in_table : ℕ → Bool
-  in_table n = is_true (numbers_of_nodes depth program assignment nodes) n
+  in_table n = is_true (numbers_of_nodes depth newtypes assignment nodes) n
 
-  literal_holds : (l : Lit) → is_formula nodes l.node ≡ true → is_held depth program assignment nodes l ≡ true → literal_truth in_table l ≡ true
+  literal_holds : (l : Lit) → is_formula nodes l.node ≡ true → is_held depth newtypes assignment nodes l ≡ true → literal_truth in_table l ≡ true
   literal_holds l formula held =
       let is = both (nat_lt l.node (length nodes)) (same_sort (sort_at nodes l.node) sorts.Truth) formula in
-      let here = both (nat_lt l.node (length nodes)) (literal_truth (truth depth program assignment nodes) l) held in
-      ap (same_truth l.positive) (table_truth depth program assignment nodes sorted l.node is.0 (same_sort_equal (sort_at nodes l.node) sorts.Truth is.1)) ∙ here.1
+      let here = both (nat_lt l.node (length nodes)) (literal_truth (truth depth newtypes assignment nodes) l) held in
+      ap (same_truth l.positive) (table_truth depth newtypes assignment nodes sorted l.node is.0 (same_sort_equal (sort_at nodes l.node) sorts.Truth is.1)) ∙ here.1
 
-  clause_holds : (clause : Clause) → are_literals nodes clause ≡ true → Holds depth program assignment nodes clause → clause_truth in_table clause ≡ true
+  clause_holds : (clause : Clause) → are_literals nodes clause ≡ true → Holds depth newtypes assignment nodes clause → clause_truth in_table clause ≡ true
   clause_holds [] are held = absurd cc
   clause_holds (l ∷ others) are held =
       let parts = both (is_formula nodes l.node) (are_literals nodes others) are in
-      by parts.0 (clause_holds others parts.1) (either (is_held depth program assignment nodes l) (list_any (is_held depth program assignment nodes) others) held)
+      by parts.0 (clause_holds others parts.1) (either (is_held depth newtypes assignment nodes l) (list_any (is_held depth newtypes assignment nodes) others) held)
     where
-      by : is_formula nodes l.node ≡ true → (Holds depth program assignment nodes others → clause_truth in_table others ≡ true)
-          → (is_held depth program assignment nodes l ≡ true) ⊎ (list_any (is_held depth program assignment nodes) others ≡ true) → (literal_truth in_table l || clause_truth in_table others) ≡ true
+      by : is_formula nodes l.node ≡ true → (Holds depth newtypes assignment nodes others → clause_truth in_table others ≡ true)
+          → (is_held depth newtypes assignment nodes l ≡ true) ⊎ (list_any (is_held depth newtypes assignment nodes) others ≡ true) → (literal_truth in_table l || clause_truth in_table others) ≡ true
       by formula rest (inl here) = first_true (literal_truth in_table l) (clause_truth in_table others) (literal_holds l formula here)
       by formula rest (inr more) = second_true (literal_truth in_table l) (clause_truth in_table others) (rest more)
 
-  pub clauses_hold : (clauses : List Clause) → list_all (are_literals nodes) clauses ≡ true → AllByRecursion (Holds depth program assignment nodes) clauses → list_all (clause_truth in_table) clauses ≡ true
+  pub clauses_hold : (clauses : List Clause) → list_all (are_literals nodes) clauses ≡ true → AllByRecursion (Holds depth newtypes assignment nodes) clauses → list_all (clause_truth in_table) clauses ≡ true
   clauses_hold [] are hold = refl
   clauses_hold (clause ∷ others) are hold =
       let parts = both (are_literals nodes clause) (list_all (are_literals nodes) others) are in

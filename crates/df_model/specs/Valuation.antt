@@ -1,7 +1,7 @@
 -- Assignments by the nodes of free terms, and the numbers of all nodes.
 use Rattle.std.specs.Prelude.{◌≡◌, ℕ, ℤ, pos, Bool, true, false, refl, List, [], map, Option}
 use Rattle.std.specs.Option.{option_map_or}
-use Rattle.df_types.specs.Program.{Program}
+use Rattle.df_types.specs.Program.{Newtype}
 use Rattle.df_meaning.specs.Value.{Value, Truth, Number, Text}
 use Rattle.df_form.specs.declared.node.Sort.{Sort}
 use Rattle.df_form.specs.declared.node.Sort.TheVariants as sorts
@@ -48,19 +48,19 @@ assignment_of nodes numbers truths = record {
 }
 
 -- the numbers of all nodes
-abbrev pub numbers_of_nodes : ℕ → Program → Assignment → List Node → List ℤ
-numbers_of_nodes depth program assignment nodes = map number_of_value (values depth program assignment nodes)
+abbrev pub numbers_of_nodes : ℕ → List Newtype → Assignment → List Node → List ℤ
+numbers_of_nodes depth newtypes assignment nodes = map number_of_value (values depth newtypes assignment nodes)
 
 -- the free terms of nodes by numbers, which are 0 past their end, and by what is known to be true
 abbrev pub assignment_by : List Node → List ℤ → Known → Assignment
 assignment_by nodes numbers known = assignment_of nodes (number_at numbers) (λ n. knows known (yes n))
 
 -- the number of a node is past 128 bits
-pub record IsWide (program : Program) (assignment : Assignment) (nodes : List Node) : Type 0 where
+pub record IsWide (newtypes : List Newtype) (assignment : Assignment) (nodes : List Node) : Type 0 where
   pub node : ℕ
-  pub wide : (depth : ℕ) → fits (number_at (numbers_of_nodes depth program assignment nodes) node) ≡ false
+  pub wide : (depth : ℕ) → fits (number_at (numbers_of_nodes depth newtypes assignment nodes) node) ≡ false
 
 -- the numbers of all nodes in a table, or that one of them is wide
-abbrev pub Tabulates : Program → Assignment → List Node → Valuation → Type 0
-Tabulates program assignment nodes (answers.Table table) = (depth : ℕ) → table ≡ numbers_of_nodes depth program assignment nodes
-Tabulates program assignment nodes answers.Wide = IsWide program assignment nodes
+abbrev pub Tabulates : List Newtype → Assignment → List Node → Valuation → Type 0
+Tabulates newtypes assignment nodes (answers.Table table) = (depth : ℕ) → table ≡ numbers_of_nodes depth newtypes assignment nodes
+Tabulates newtypes assignment nodes answers.Wide = IsWide newtypes assignment nodes

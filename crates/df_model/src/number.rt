@@ -2,9 +2,10 @@
 
 ghost use Rattle.std.specs.Prelude.{◌≡◌, length, map};
 ghost use Rattle.std.specs.List.{list_all, list_any};
-ghost use Rattle.df_types.specs.View.{program_of};
+ghost use Rattle.df_types.specs.View.{newtypes_of};
+ghost use Rattle.df_meaning.specs.Evaluation.{is_of};
 ghost use Rattle.df_form.specs.Clause.{yes};
-ghost use Rattle.df_form.specs.Truth.{is_of, same_truth};
+ghost use Rattle.df_form.specs.Truth.{same_truth};
 ghost use Rattle.df_kern.specs.Known.{knows};
 ghost use Rattle.df_table.specs.TableModel.{number_at, is_true};
 ghost use Rattle.df_model.specs.Valuation.{number_of_truth};
@@ -12,7 +13,7 @@ ghost use Rattle.df_model.specs.Numbers.{truth_by, narrow_by, free_by};
 
 use df_form::{Free, Lit, Node, Op, Sort};
 use df_kern::Known;
-use df_types::{Program, Ty};
+use df_types::{Newtype, Ty};
 
 /// The number at a place; 0 past the end.
 fn number_at(numbers: &[i128], place: usize) -> i128
@@ -64,23 +65,23 @@ fn is_any_true(table: &[i128], parts: &[usize]) -> bool
     parts.iter().any(|part| 1 <= number_at(table, *part))
 }
 
-fn is_of(program: &Program, ty: Ty, number: i128) -> bool
-    ensures { result ≡ is_of (program_of program.now) ty number }
+fn is_of(newtypes: &[Newtype], ty: Ty, number: i128) -> bool
+    ensures { result ≡ is_of (newtypes_of newtypes.now) ty number }
 {
-    match ty {
-        Ty::Newtype(name) => {
-            name == program.newtype.declared.name && program.newtype.interval.holds(number)
-        }
+    let Ty::Newtype(newtype) = ty;
+    match newtypes.get(newtype) {
+        Some(newtype) => newtype.interval.holds(number),
+        None => false,
     }
 }
 
 /// Whether a formula is true.
 #[tactic(auto, using(crate::proofs::Mapping::all_mapped, crate::proofs::Mapping::any_mapped))]
-fn is_formula_true(program: &Program, table: &[i128], op: Op, parts: &[usize]) -> bool
-    ensures { result ≡ truth_by (program_of program.now) op (map (number_at table.now) parts.now) }
+fn is_formula_true(newtypes: &[Newtype], table: &[i128], op: Op, parts: &[usize]) -> bool
+    ensures { result ≡ truth_by (newtypes_of newtypes.now) op (map (number_at table.now) parts.now) }
 {
     match op {
-        Op::Is(ty) => is_of(program, ty, part(table, parts, 0)),
+        Op::Is(ty) => is_of(newtypes, ty, part(table, parts, 0)),
         Op::Equal => part(table, parts, 0) == part(table, parts, 1),
         Op::AtMost => part(table, parts, 0) <= part(table, parts, 1),
         Op::Not => !is_part_true(table, parts, 0),
@@ -107,13 +108,13 @@ fn free_number(numbers: &[i128], known: &Known, sort: Sort, node: usize) -> i128
 
 /// The number of the node that comes next after those of the table, where it has 128 bits.
 pub(crate) fn next_number(
-    program: &Program,
+    newtypes: &[Newtype],
     numbers: &[i128],
     known: &Known,
     table: &[i128],
     node: &Node,
 ) -> Option<i128>
-    ensures { result ≡ narrow_by (program_of program.now) (λ free. free_by (number_at numbers.now (length table.now)) (knows known.now (yes (length table.now))) free.sort) node.now.op (map (number_at table.now) node.now.parts.items) }
+    ensures { result ≡ narrow_by (newtypes_of newtypes.now) (λ free. free_by (number_at numbers.now (length table.now)) (knows known.now (yes (length table.now))) free.sort) node.now.op (map (number_at table.now) node.now.parts.items) }
 {
     let parts = node.parts.as_slice();
     match node.op {
@@ -122,7 +123,7 @@ pub(crate) fn next_number(
         Op::Plus => part(table, parts, 0).checked_add(part(table, parts, 1)),
         Op::Times => part(table, parts, 0).checked_mul(part(table, parts, 1)),
         Op::Is(_) | Op::Equal | Op::AtMost | Op::Not | Op::And | Op::Or | Op::Implies | Op::Iff => {
-            Some(number_of_truth(is_formula_true(program, table, node.op, parts)))
+            Some(number_of_truth(is_formula_true(newtypes, table, node.op, parts)))
         }
     }
 }

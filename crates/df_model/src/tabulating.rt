@@ -1,7 +1,7 @@
 //! Tables of the numbers of all nodes.
 
 ghost use Rattle.std.specs.Prelude.{IfOk};
-ghost use Rattle.df_types.specs.View.{program_of};
+ghost use Rattle.df_types.specs.View.{newtypes_of};
 ghost use Rattle.df_model.specs.Valuation.{assignment_by, Tabulates};
 
 use crate::number::next_number;
@@ -9,23 +9,23 @@ use crate::outcome::Valuation;
 use df_form::Nodes;
 use df_kern::Known;
 use df_table::Table;
-use df_types::Program;
+use df_types::Newtype;
 use std::alloc::{AllocError, Global};
 
 /// The numbers of all nodes, where a free number is the one at its node, or 0 past their end, and a free
 /// truth is true exactly where it is known to be. A formula counts as 1 where it is true, and else as 0.
 pub fn valuation(
     alloc: Global,
-    program: &Program,
+    newtypes: &[Newtype],
     nodes: &Nodes,
     numbers: &[i128],
     known: &Known,
 ) -> Result<Valuation, AllocError>
-    ensures { IfOk result (Tabulates (program_of program.now) (assignment_by nodes.now numbers.now known.now) nodes.now) }
+    ensures { IfOk result (Tabulates (newtypes_of newtypes.now) (assignment_by nodes.now numbers.now known.now) nodes.now) }
 {
     let mut table = Vec::with_capacity(alloc, nodes.len())?;
     while let Some(node) = nodes.get(table.len()) {
-        match next_number(program, numbers, known, &table, node) {
+        match next_number(newtypes, numbers, known, &table, node) {
             Some(number) => table.push(number)?,
             None => return Ok(Valuation::Wide),
         }

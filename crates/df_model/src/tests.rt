@@ -3,7 +3,7 @@
 use crate::{Valuation, valuation};
 use df_form::{Free, Lit, Node, Nodes, Op, Sort};
 use df_kern::Known;
-use df_types::{Declared, Interval, Method, Newtype, Program, Ty};
+use df_types::{Declared, Interval, Newtype, Ty};
 use std::alloc::Global;
 use std::process::Abort;
 use std::test::Fail;
@@ -11,9 +11,9 @@ use std::test::Fail;
 /// A node: its operation and its parts.
 type Plain<'a> = (Op, &'a [usize]);
 
-/// The program of the newtype `i8 = x: int | -128 <= x < 128`, whose name is 0, and of an empty `Main`.
-fn program(alloc: Global) -> Result<Program, Fail> {
-    let newtype = Newtype {
+/// The newtype `i8 = x: int | -128 <= x < 128` alone.
+fn newtypes(alloc: Global) -> Result<Vec<Newtype>, Fail> {
+    let i8 = Newtype {
         declared: Declared {
             name: 0,
             text: String::from_str(alloc, "i8")?,
@@ -21,14 +21,7 @@ fn program(alloc: Global) -> Result<Program, Fail> {
         interval: Interval::new(-128, 127).ok_or("ordered")?,
         default: 0,
     };
-    let main = Method {
-        declared: Declared {
-            name: 1,
-            text: String::from_str(alloc, "Main")?,
-        },
-        body: Vec::new(alloc),
-    };
-    Ok(Program::new(newtype, main))
+    Ok(vec![in alloc; i8]?)
 }
 
 /// Nodes in this order.
@@ -85,7 +78,7 @@ const TABLE: [(Plain, i128); 27] = [
     ((Op::Times, &[7, 7]), 225),
     ((Op::Is(Ty::Newtype(0)), &[7]), 1),
     ((Op::Is(Ty::Newtype(0)), &[8]), 0),
-    // a type that the program has not
+    // a newtype that is not declared
     ((Op::Is(Ty::Newtype(1)), &[7]), 0),
     ((Op::Equal, &[5, 6]), 1),
     ((Op::Equal, &[0, 1]), 0),
@@ -108,7 +101,7 @@ const TABLE: [(Plain, i128); 27] = [
 #[test]
 fn tabulates_each_operation(rt: HostRuntime) -> Result<(), Fail> {
     let alloc = rt.alloc();
-    let program = program(alloc)?;
+    let newtypes = newtypes(alloc)?;
     let mut plain = Vec::new(alloc);
     for (node, _) in TABLE.iter() {
         plain.push(*node)?;
@@ -119,7 +112,8 @@ fn tabulates_each_operation(rt: HostRuntime) -> Result<(), Fail> {
         positive: true,
         node: 2,
     })?;
-    let Valuation::Table(table) = valuation(alloc, &program, &nodes, &[5, -3], &known)? else {
+    let Valuation::Table(table) = valuation(alloc, newtypes.as_slice(), &nodes, &[5, -3], &known)?
+    else {
         return Err(Fail::new("wide"));
     };
     assert_eq!(rt; table.len(), TABLE.len());
@@ -143,11 +137,11 @@ const WIDE: [(Op, [i128; 2], bool); 7] = [
 #[test]
 fn tells_of_wide_numbers(rt: HostRuntime) -> Result<(), Fail> {
     let alloc = rt.alloc();
-    let program = program(alloc)?;
+    let newtypes = newtypes(alloc)?;
     let known = Known::new(alloc);
     for (case, (op, numbers, wide)) in WIDE.iter().enumerate() {
         let nodes = nodes(&rt, alloc, &[(X, &[]), (Y, &[]), (*op, &[0, 1])])?;
-        let valuation = valuation(alloc, &program, &nodes, numbers, &known)?;
+        let valuation = valuation(alloc, newtypes.as_slice(), &nodes, numbers, &known)?;
         assert!(rt; matches!(valuation, Valuation::Wide) == *wide, "at {case}");
     }
     Ok(())

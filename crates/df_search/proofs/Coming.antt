@@ -1,8 +1,8 @@
 -- What comes at a leaf.
 use Rattle.std.proofs.Common.{◌≡◌, inl, ⊎_elim, ℕ, zero, suc, true, false, List, [], ◌∷◌, ◌++◌, Some, slice_get, refl, sym, ap, ◌∙◌, subst, append_assoc, append-nil}
 use Rattle.std.specs.List.{list_all, list_any}
-use Rattle.df_types.specs.Program.{Program}
-use Rattle.df_types.specs.View.{program_of}
+use Rattle.df_types.specs.Program.{Newtype}
+use Rattle.df_types.specs.View.{newtypes_of}
 use Rattle.df_table.specs.declared.table.Table.{Table}
 use Rattle.df_form.specs.declared.log.Lit.{Lit}
 use Rattle.df_form.specs.Node.{Node}
@@ -51,7 +51,7 @@ decides s all old is l follows formula trail trail_is = record {
     is_of = is.standing.is_of;
     set_is = is.standing.set_is;
     clauses_are = is.standing.clauses_are;
-    program_is = is.standing.program_is;
+    newtypes_are = is.standing.newtypes_are;
     lines = is.standing.lines;
     place = place_for old.set (clauses_of old) old.derivation.nodes branch (branch_of trail) is.standing.place
         (ap (are_literals old.derivation.nodes) branch_is ∙ formulas_more old.derivation.nodes branch l is.standing.place.formulas formula)
@@ -115,22 +115,22 @@ module _ (s : Sequent) (all : List Clause) (state : State) (is : IsSearching s a
   pub open_decides : (l : Lit) → IsOpenLeaf (clauses_of state) state.derivation.nodes (branch_of state.trail) l → (trail : Trail) → trail.decisions.items ≡ state.trail.decisions.items ++ decided l ∷ [] → IsSearching s all (record state { trail = trail })
   open_decides l leaf trail trail_is = decides s all state is l (open_follows (clauses_of state) state.derivation.nodes (branch_of state.trail) l leaf) (open_formula l leaf) trail trail_is
 
-  pub modelled : (table : Table) → IsModelOf (program_of state.program.now) state.set (clauses_of state) table → IsSequent s → IsArithmeticSequent s → HasModel s table
+  pub modelled : (table : Table) → IsModelOf (newtypes_of state.newtypes.now) state.set (clauses_of state) table → IsSequent s → IsArithmeticSequent s → HasModel s table
   modelled table model sequent arithmetic = record {
     set = is.standing.ground_set;
     is_of = is.standing.is_of;
-    model = model s is.standing.ground_set sequent is.standing.is_of arithmetic (sym is.standing.program_is) (sym is.standing.set_is) (sym is.standing.clauses_are);
+    model = model s is.standing.ground_set sequent is.standing.is_of arithmetic (sym is.standing.newtypes_are) (sym is.standing.set_is) (sym is.standing.clauses_are);
   }
 
-  pub too_wide : IsWideLeaf (program_of state.program.now) state.set (clauses_of state) state.derivation.nodes (branch_of state.trail) → IsTooWide s
+  pub too_wide : IsWideLeaf (newtypes_of state.newtypes.now) state.set (clauses_of state) state.derivation.nodes (branch_of state.trail) → IsTooWide s
   too_wide wide = record {
     nodes = state.derivation.nodes;
     clauses = clauses_of state;
     of_sequent = ground_in s all state is.standing;
     branch = branch_of state.trail;
     is_branch = is.standing.branch;
-    wide = subst (λ (p : Program). IsWideLeaf p is.standing.ground_set.nodes (clauses_of state) state.derivation.nodes (branch_of state.trail)) is.standing.program_is
-        (subst (λ (ns : List Node). IsWideLeaf (program_of state.program.now) ns (clauses_of state) state.derivation.nodes (branch_of state.trail)) is.standing.set_is wide);
+    wide = subst (λ (newtypes : List Newtype). IsWideLeaf newtypes is.standing.ground_set.nodes (clauses_of state) state.derivation.nodes (branch_of state.trail)) is.standing.newtypes_are
+        (subst (λ (ns : List Node). IsWideLeaf (newtypes_of state.newtypes.now) ns (clauses_of state) state.derivation.nodes (branch_of state.trail)) is.standing.set_is wide);
   }
 
   pub many_rows : (count : ℕ) → IsManyLeaf (clauses_of state) state.derivation.nodes (branch_of state.trail) count → HasManyRows s count

@@ -55,7 +55,7 @@ module _ (s : Sequent) (all : List Clause) (old : State) (is : IsSearching s all
       is_of = is.standing.is_of;
       set_is = is.standing.set_is;
       clauses_are = is.standing.clauses_are;
-      program_is = is.standing.program_is;
+      newtypes_are = is.standing.newtypes_are;
       lines = in_longer (clauses_of old) all (clause ∷ []) is.standing.lines;
       place = place_there;
       trail = decided_grown all (clause ∷ []) [] old.trail.decisions.items is.standing.trail;
@@ -74,7 +74,7 @@ module _ (s : Sequent) (all : List Clause) (old : State) (is : IsSearching s all
       is_of = is.standing.is_of;
       set_is = is.standing.set_is;
       clauses_are = is.standing.clauses_are;
-      program_is = is.standing.program_is;
+      newtypes_are = is.standing.newtypes_are;
       lines = is.standing.lines;
       place = place_there;
       trail = is.standing.trail;

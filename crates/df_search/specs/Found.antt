@@ -37,7 +37,7 @@ pub record IsTooWide (s : Sequent) : Type 0 where
   pub of_sequent : IsGroundIn s nodes clauses
   pub branch : List Lit
   pub is_branch : IsBranch nodes clauses branch
-  pub wide : IsWideLeaf s.program of_sequent.set.nodes clauses nodes branch
+  pub wide : IsWideLeaf s.newtypes of_sequent.set.nodes clauses nodes branch
 
 -- on a branch a level has so many rows
 pub record HasManyRows (s : Sequent) (count : ℕ) : Type 0 where

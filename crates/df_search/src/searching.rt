@@ -1,7 +1,7 @@
 //! The search.
 
 ghost use Rattle.std.specs.Prelude.{◌≡◌, ◌<◌, ◌≤◌, ◌++◌, ◌∷◌, [], suc, ℕ, Err, map, length, true, IfOk, OnOk, IsTrue, List};
-ghost use Rattle.df_types.specs.View.{program_of};
+ghost use Rattle.df_types.specs.View.{newtypes_of};
 ghost use Rattle.df_form.specs.Arithmetic.{IsArithmeticSequent};
 ghost use Rattle.df_form.specs.Clause.{negation, is_among};
 ghost use Rattle.df_form.specs.Sequent.{Sequent as Claim};
@@ -20,14 +20,14 @@ use df_ground::{Ground, GroundClause, GroundFault};
 use df_leaf::{Leaf, leaf_at};
 use df_table::Table;
 use df_trail::{Retreat, Trail};
-use df_types::Program;
+use df_types::Newtype;
 use std::alloc::{AllocError, Global};
 
 /// A search so far.
 #[derive(Drop)]
 struct State<'a> {
     alloc: Global,
-    program: &'a Program,
+    newtypes: &'a [Newtype],
     /// The nodes of the ground set, and its clauses.
     set: Nodes,
     clauses: Vec<GroundClause>,
@@ -96,16 +96,16 @@ fn is_apart_from(branch: &[Lit], others: &[Vec<Lit>]) -> bool
 
 impl<'a> State<'a> {
     /// No decisions yet.
-    fn new(alloc: Global, program: &'a Program, ground: Ground) -> Result<State<'a>, AllocError>
+    fn new(alloc: Global, newtypes: &'a [Newtype], ground: Ground) -> Result<State<'a>, AllocError>
         requires { length ground.clauses.items ≤ length ground.lines.items }
-        ensures begins { IfOk result (λ state. (s : Claim) → IsGroundOf s ground → program_of program.now ≡ s.program → Searches s state) }
+        ensures begins { IfOk result (λ state. (s : Claim) → IsGroundOf s ground → newtypes_of newtypes.now ≡ s.newtypes → Searches s state) }
         ensures none { IfOk result (λ state. state.closed.items ≡ []) }
     {
         let nodes = ground.nodes.copy(alloc)?;
         let count = ground.clauses.len();
         Ok(State {
             alloc,
-            program,
+            newtypes,
             set: ground.nodes,
             clauses: ground.clauses,
             derivation: Derivation::new(nodes, ground.lines, count),
@@ -227,7 +227,7 @@ impl<'a> State<'a> {
         let branch = self.trail.branch(self.alloc)?;
         leaf_at(
             self.alloc,
-            self.program,
+            self.newtypes,
             &self.set,
             &self.clauses,
             &self.derivation.nodes,
@@ -291,7 +291,7 @@ pub fn search(alloc: Global, sequent: &Sequent, budget: Budget) -> Result<Found,
         Ok(set) => set,
         Err(fault) => return without_ground(fault),
     };
-    let mut search = State::new(alloc, sequent.program, set)?;
+    let mut search = State::new(alloc, sequent.newtypes, set)?;
     loop {
         match search.turn(budget.steps)? {
             Turn::On => {}

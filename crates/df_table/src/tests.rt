@@ -3,7 +3,7 @@
 use super::*;
 use df_form::{Draft, Free, Node, Op, Sequent, Sort};
 use df_ground::Ground;
-use df_types::{Declared, Interval, Method, Newtype, Program};
+use df_types::{Declared, Interval, Newtype};
 use std::alloc::Global;
 use std::process::Abort;
 use std::test::Fail;
@@ -11,9 +11,9 @@ use std::test::Fail;
 /// Operations with how many terms of a stack each takes.
 type Terms<'a> = &'a [(Op, usize)];
 
-/// The program of the newtype `i8 = x: int | -128 <= x < 128`, whose name is 0, and of an empty `Main`.
-fn program(alloc: Global) -> Result<Program, Fail> {
-    let newtype = Newtype {
+/// The newtype `i8 = x: int | -128 <= x < 128` alone.
+fn newtypes(alloc: Global) -> Result<Vec<Newtype>, Fail> {
+    let i8 = Newtype {
         declared: Declared {
             name: 0,
             text: String::from_str(alloc, "i8")?,
@@ -21,14 +21,7 @@ fn program(alloc: Global) -> Result<Program, Fail> {
         interval: Interval::new(-128, 127).ok_or("ordered")?,
         default: 0,
     };
-    let main = Method {
-        declared: Declared {
-            name: 1,
-            text: String::from_str(alloc, "Main")?,
-        },
-        body: Vec::new(alloc),
-    };
-    Ok(Program::new(newtype, main))
+    Ok(vec![in alloc; i8]?)
 }
 
 /// Puts the terms on the stack, where they leave one formula.
@@ -48,12 +41,12 @@ fn put(rt: &impl Abort, draft: &mut Draft, terms: Terms) -> Result<(), Fail> {
 /// The sequent of these hypotheses and this goal.
 fn sequent<'a>(
     rt: &impl Abort,
-    program: &'a Program,
+    newtypes: &'a [Newtype],
     alloc: Global,
     hypotheses: &[Terms],
     goal: Terms,
 ) -> Result<Sequent<'a>, Fail> {
-    let mut draft = Draft::new(alloc, program);
+    let mut draft = Draft::new(alloc, newtypes);
     for hypothesis in hypotheses {
         put(rt, &mut draft, *hypothesis)?;
         assert_eq!(rt; draft.stack.len(), 1);
@@ -102,7 +95,7 @@ fn are_models(
 #[test]
 fn tests_sums_and_comparisons(rt: HostRuntime) -> Result<(), Fail> {
     let alloc = rt.alloc();
-    let program = program(alloc)?;
+    let newtypes = newtypes(alloc)?;
     let hypothesis: Terms = &[(X, 0), (Op::Number(3), 0), (Op::AtMost, 2)];
     let goal: Terms = &[
         (X, 0),
@@ -111,7 +104,7 @@ fn tests_sums_and_comparisons(rt: HostRuntime) -> Result<(), Fail> {
         (Op::Number(3), 0),
         (Op::AtMost, 2),
     ];
-    let sequent = sequent(&rt, &program, alloc, &[hypothesis], goal)?;
+    let sequent = sequent(&rt, newtypes.as_slice(), alloc, &[hypothesis], goal)?;
     are_models(
         &rt,
         alloc,
@@ -141,7 +134,7 @@ fn tests_sums_and_comparisons(rt: HostRuntime) -> Result<(), Fail> {
 #[test]
 fn tests_congruence_and_equalities(rt: HostRuntime) -> Result<(), Fail> {
     let alloc = rt.alloc();
-    let program = program(alloc)?;
+    let newtypes = newtypes(alloc)?;
     let goal: Terms = &[
         (X, 0),
         (Y, 0),
@@ -151,7 +144,7 @@ fn tests_congruence_and_equalities(rt: HostRuntime) -> Result<(), Fail> {
         (Op::Times, 2),
         (Op::Equal, 2),
     ];
-    let sequent = sequent(&rt, &program, alloc, &[], goal)?;
+    let sequent = sequent(&rt, newtypes.as_slice(), alloc, &[], goal)?;
     are_models(
         &rt,
         alloc,
@@ -175,7 +168,7 @@ fn tests_congruence_and_equalities(rt: HostRuntime) -> Result<(), Fail> {
 #[test]
 fn tests_multiples_and_connectives(rt: HostRuntime) -> Result<(), Fail> {
     let alloc = rt.alloc();
-    let program = program(alloc)?;
+    let newtypes = newtypes(alloc)?;
     let goal: Terms = &[
         (Op::Number(2), 0),
         (X, 0),
@@ -185,7 +178,7 @@ fn tests_multiples_and_connectives(rt: HostRuntime) -> Result<(), Fail> {
         (P, 0),
         (Op::Or, 2),
     ];
-    let sequent = sequent(&rt, &program, alloc, &[], goal)?;
+    let sequent = sequent(&rt, newtypes.as_slice(), alloc, &[], goal)?;
     are_models(
         &rt,
         alloc,

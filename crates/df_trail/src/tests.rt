@@ -4,14 +4,14 @@ use crate::{Retreat, Trail};
 use df_derive::Derivation;
 use df_form::{Draft, Free, Lit, Node, Op, Sequent, Sort, Step};
 use df_kern::check;
-use df_types::{Declared, Interval, Method, Newtype, Program};
+use df_types::{Declared, Interval, Newtype};
 use std::alloc::Global;
 use std::process::Abort;
 use std::test::Fail;
 
-/// The program of the newtype `i8 = x: int | -128 <= x < 128`, and of an empty `Main`.
-fn program(alloc: Global) -> Result<Program, Fail> {
-    let newtype = Newtype {
+/// The newtype `i8 = x: int | -128 <= x < 128` alone.
+fn newtypes(alloc: Global) -> Result<Vec<Newtype>, Fail> {
+    let i8 = Newtype {
         declared: Declared {
             name: 0,
             text: String::from_str(alloc, "i8")?,
@@ -19,19 +19,16 @@ fn program(alloc: Global) -> Result<Program, Fail> {
         interval: Interval::new(-128, 127).ok_or("ordered")?,
         default: 0,
     };
-    let main = Method {
-        declared: Declared {
-            name: 1,
-            text: String::from_str(alloc, "Main")?,
-        },
-        body: Vec::new(alloc),
-    };
-    Ok(Program::new(newtype, main))
+    Ok(vec![in alloc; i8]?)
 }
 
 /// The goal `p || !p`: p is node 0, its negation 1, and the goal 2.
-fn sequent<'a>(rt: &impl Abort, alloc: Global, program: &'a Program) -> Result<Sequent<'a>, Fail> {
-    let mut draft = Draft::new(alloc, program);
+fn sequent<'a>(
+    rt: &impl Abort,
+    alloc: Global,
+    newtypes: &'a [Newtype],
+) -> Result<Sequent<'a>, Fail> {
+    let mut draft = Draft::new(alloc, newtypes);
     let p = Op::Free(Free {
         number: 0,
         sort: Sort::Truth,
@@ -87,8 +84,8 @@ fn close(
 #[test]
 fn turns_a_closed_decision(rt: HostRuntime) -> Result<(), Fail> {
     let alloc = rt.alloc();
-    let program = program(alloc)?;
-    let sequent = sequent(&rt, alloc, &program)?;
+    let newtypes = newtypes(alloc)?;
+    let sequent = sequent(&rt, alloc, newtypes.as_slice())?;
     let (mut derivation, mut trail) = begun(&rt, alloc, &sequent)?;
     // p makes the goal true
     let retreat = close(alloc, &mut derivation, &mut trail, &[0, 1])?;
@@ -104,8 +101,8 @@ fn turns_a_closed_decision(rt: HostRuntime) -> Result<(), Fail> {
 #[test]
 fn ends_with_both_sides_closed(rt: HostRuntime) -> Result<(), Fail> {
     let alloc = rt.alloc();
-    let program = program(alloc)?;
-    let sequent = sequent(&rt, alloc, &program)?;
+    let newtypes = newtypes(alloc)?;
+    let sequent = sequent(&rt, alloc, newtypes.as_slice())?;
     let (mut derivation, mut trail) = begun(&rt, alloc, &sequent)?;
     close(alloc, &mut derivation, &mut trail, &[0, 1])?;
     // and so does its negation

@@ -5,8 +5,8 @@ use Rattle.df_form.specs.Sorting.{is_well_sorted}
 use Rattle.df_kern.proofs.Growth.{typed-number, one}
 use Rattle.df_kern.proofs.schema.typed.Goals as goal
 
-pub returns-then-name-program-clause-number : goal.returns-then-name-program-clause-number
-returns-then-name-program-clause-number c =
+pub returns-clause-number : goal.returns-clause-number
+returns-clause-number c =
     let parts = c.as_slice.result.now in
     let x = slice_index_or parts 0 0 in
     let alone : parts ≡ x ∷ [] = one parts c.in-len1.len_at_least c.in-len1.len_below in

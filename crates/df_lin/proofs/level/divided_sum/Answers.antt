@@ -1,8 +1,7 @@
-use Rattle.std.proofs.Common.{◌≡◌, ◌∙◌, ap, subst, ℤ, pos, Err, true, false, rules}
+use Rattle.std.proofs.Common.{◌≡◌, ◌∙◌, ap, subst, Err, rules}
 use Rattle.std.proofs.lemmas.Int.{to_z-of_z}
 use Rattle.std.proofs.lemmas.Result.{err_from_is_err_and}
 use Rattle.std.specs.Bool.{MatchBool}
-use Rattle.df_linear.specs.Row.{Row}
 use Rattle.df_linear.specs.RowView.{IsNarrow}
 use Rattle.df_linear.proofs.Rows.{passed}
 use Rattle.df_lin.specs.Row.{function_row, weighted_row, IsWide, GivesRow}

@@ -1,4 +1,4 @@
-use Rattle.std.proofs.Common.{◌≡◌, ◌∙◌, ◌≤ℤ◌, ℤ, pos, rules, arith}
+use Rattle.std.proofs.Common.{◌≡◌, ◌≤ℤ◌, pos, rules, arith}
 use Rattle.std.proofs.lemmas.Int.{ints, to_z-of_z}
 use Rattle.df_linear.proofs.Rows.{passed}
 use Rattle.df_form.specs.Log.{combination_of}
