@@ -80,10 +80,7 @@ fn whole(alloc: Global, tree: &tree::SourceTree, names: &Names) -> Result<typed:
     }
     let body = statements(alloc, name, &tree.body)?;
     let declared = declared(alloc, names, tree.method.name)?;
-    Ok(typed::Program::new(
-        newtypes,
-        typed::Method { declared, body },
-    ))
+    Ok(typed::Program::new(newtypes, typed::Method { declared, body }))
 }
 
 /// The program that the tree elaborates to. It asks for names that hold those of the declarations. It is

@@ -38,13 +38,7 @@ fn in_range(newtypes: &[Newtype], ty: Ty, place: Pos, number: i128) -> Result<i1
 }
 
 /// The sum of two numbers, if it is a value of the type.
-fn add(
-    newtypes: &[Newtype],
-    ty: Ty,
-    place: Pos,
-    left: i128,
-    right: i128,
-) -> Result<i128, Broken>
+fn add(newtypes: &[Newtype], ty: Ty, place: Pos, left: i128, right: i128) -> Result<i128, Broken>
     requires { is_type (length newtypes.now) ty ≡ true }
     ensures { evaluated result ≡ meaning.in_range (newtypes_of newtypes.now) ty place (left +ℤ right) }
 {
