@@ -1,6 +1,6 @@
 -- The obligations of a program: where they are valid no modular run is wrong, and where one is refuted a
 -- modular run is wrong by it.
-use Rattle.std.proofs.Common.{◌≡◌, true, sym, ◌∙◌}
+use Rattle.std.proofs.Common.{◌≡◌, true, length, sym, ◌∙◌}
 use Rattle.std.specs.List.{AllByRecursion}
 use Rattle.df_types.specs.Typing.{are_well_typed}
 use Rattle.df_types.specs.Program.{Program}
@@ -16,10 +16,10 @@ use Rattle.df_pass.proofs.Statements.{whole_reaches}
 next_is_not_wrong : (state : State) (place : Pos) (kind : Kind) → Next state ≡ Wrong place kind → ⊥
 next_is_not_wrong state place kind e = cc
 
-pub valid_is_safe : (program : Program) → are_well_typed program.newtype.name 0 program.main.body ≡ true → AllByRecursion (λ (o : Obligation). IsValid o.sequent) (obligations_of program) → IsModularlySafe program
+pub valid_is_safe : (program : Program) → are_well_typed (length program.newtypes) 0 program.main.body ≡ true → AllByRecursion (λ (o : Obligation). IsValid o.sequent) (obligations_of program) → IsModularlySafe program
 valid_is_safe program typed valid place kind wrong =
     let arrives = (whole_reaches program wrong.0 typed).arrives valid in
     next_is_not_wrong arrives.moment.state place kind (sym arrives.goes ∙ wrong.1)
 
-pub refuted_is_wrong : (program : Program) → are_well_typed program.newtype.name 0 program.main.body ≡ true → AllByRecursion IsOwed (obligations_of program)
+pub refuted_is_wrong : (program : Program) → are_well_typed (length program.newtypes) 0 program.main.body ≡ true → AllByRecursion (IsOwed program) (obligations_of program)
 refuted_is_wrong program typed = (whole_reaches program 0 typed).owed

@@ -67,12 +67,12 @@ pub record IsShaped (p : Passed) (held : List ℕ) : Type 0 where
   pub known : AllByRecursion (λ n. n < length p.nodes) p.known
 
 abbrev pub AreKnown : Program → ℕ → Assignment → Passed → Type 0
-AreKnown program at assignment p = AllByRecursion (λ h. truth at program assignment p.nodes h ≡ true) p.known
+AreKnown program at assignment p = AllByRecursion (λ h. truth at program.newtypes assignment p.nodes h ≡ true) p.known
 
 -- the nodes of the locals and those that are held have the values of the moment
 pub record Gives (program : Program) (at : ℕ) (assignment : Assignment) (p : Passed) (held : List ℕ) (moment : Moment) : Type 0 where
-  pub locals : map (worth at program assignment p.nodes) p.locals ≡ moment.state.locals
-  pub values : map (worth at program assignment p.nodes) held ≡ moment.values
+  pub locals : map (worth at program.newtypes assignment p.nodes) p.locals ≡ moment.state.locals
+  pub values : map (worth at program.newtypes assignment p.nodes) held ≡ moment.values
 
 -- the run goes on from a moment that has the values of an assignment
 pub record Follows (program : Program) (depth : ℕ) (p : Passed) (held : List ℕ) (go : Moment → Outcome) (at : ℕ) (assignment : Assignment) : Type 0 where
@@ -97,7 +97,7 @@ pub record Reaches (program : Program) (depth : ℕ) (p : Passed) (held : List �
   pub shape : IsShaped p held
   pub follows : (at : ℕ) (assignment : Assignment) → AreKnown program at assignment p → Follows program depth p held go at assignment
   pub arrives : AreValid p.obligations → Arrives program depth p held go
-  pub owed : AllByRecursion IsOwed p.obligations
+  pub owed : AllByRecursion (IsOwed program) p.obligations
 
 -- the pass with other nodes and another term
 abbrev pub onto : List Node → ℕ → Passed → Passed
@@ -106,21 +106,21 @@ onto nodes term p = record { nodes = nodes; known = p.known; locals = p.locals; 
 module _ (program : Program) (depth : ℕ) where
   -- more nodes change nothing
   module _ (p : Passed) (held : List ℕ) (nodes : List Node) (term : ℕ) (grows : Grows p.nodes nodes) (shape : IsShaped p held) where
-    same_worth : (at : ℕ) (assignment : Assignment) (n : ℕ) → n < length p.nodes → worth at program assignment nodes n ≡ worth at program assignment p.nodes n
-    same_worth at assignment n less = grown_value at program assignment p.nodes nodes grows n less
+    same_worth : (at : ℕ) (assignment : Assignment) (n : ℕ) → n < length p.nodes → worth at program.newtypes assignment nodes n ≡ worth at program.newtypes assignment p.nodes n
+    same_worth at assignment n less = grown_value at program.newtypes assignment p.nodes nodes grows n less
 
     known_back : (at : ℕ) (assignment : Assignment) → AreKnown program at assignment (onto nodes term p) → AreKnown program at assignment p
     known_back at assignment all =
-        all_of_both (λ n. n < length p.nodes) (λ h. truth at program assignment nodes h ≡ true) (λ h. truth at program assignment p.nodes h ≡ true) p.known
+        all_of_both (λ n. n < length p.nodes) (λ h. truth at program.newtypes assignment nodes h ≡ true) (λ h. truth at program.newtypes assignment p.nodes h ≡ true) p.known
         (λ h less e. ap truth_of (sym (same_worth at assignment h less)) ∙ e) shape.known all
 
     known_on : (at : ℕ) (assignment : Assignment) → AreKnown program at assignment p → AreKnown program at assignment (onto nodes term p)
     known_on at assignment all =
-        all_of_both (λ n. n < length p.nodes) (λ h. truth at program assignment p.nodes h ≡ true) (λ h. truth at program assignment nodes h ≡ true) p.known
+        all_of_both (λ n. n < length p.nodes) (λ h. truth at program.newtypes assignment p.nodes h ≡ true) (λ h. truth at program.newtypes assignment nodes h ≡ true) p.known
         (λ h less e. ap truth_of (same_worth at assignment h less) ∙ e) shape.known all
 
-    same_worths : (at : ℕ) (assignment : Assignment) (ns : List ℕ) → AllByRecursion (IsNumber p.nodes) ns → map (worth at program assignment nodes) ns ≡ map (worth at program assignment p.nodes) ns
-    same_worths at assignment ns all = maps_agree (IsNumber p.nodes) (worth at program assignment nodes) (worth at program assignment p.nodes) ns (λ n is. same_worth at assignment n is.below) all
+    same_worths : (at : ℕ) (assignment : Assignment) (ns : List ℕ) → AllByRecursion (IsNumber p.nodes) ns → map (worth at program.newtypes assignment nodes) ns ≡ map (worth at program.newtypes assignment p.nodes) ns
+    same_worths at assignment ns all = maps_agree (IsNumber p.nodes) (worth at program.newtypes assignment nodes) (worth at program.newtypes assignment p.nodes) ns (λ n is. same_worth at assignment n is.below) all
 
     gives_on : (at : ℕ) (assignment : Assignment) (moment : Moment) → Gives program at assignment p held moment → Gives program at assignment (onto nodes term p) held moment
     gives_on at assignment moment g = record { locals = same_worths at assignment p.locals shape.locals ∙ g.locals; values = same_worths at assignment held shape.terms ∙ g.values }
@@ -170,7 +170,7 @@ module _ (program : Program) (depth : ℕ) where
       → ((moment : Moment) → (to moment).state.locals ≡ moment.state.locals)
       → ((moment : Moment) → AllByRecursion IsNumeric moment.state.locals → AllByRecursion IsNumeric moment.values → AllByRecursion IsNumeric (to moment).values)
       → AllByRecursion (IsNumber p.nodes) other
-      → ((at : ℕ) (assignment : Assignment) (moment : Moment) → Gives program at assignment p held moment → map (worth at program assignment p.nodes) other ≡ (to moment).values)
+      → ((at : ℕ) (assignment : Assignment) (moment : Moment) → Gives program at assignment p held moment → map (worth at program.newtypes assignment p.nodes) other ≡ (to moment).values)
       → Reaches program depth p held (λ moment. go (to moment)) → Reaches program depth (onto p.nodes term p) other go
   moved p held other go term to stays numeric are_numbers gives r =
       record {

@@ -9,7 +9,7 @@ use Rattle.df_types.specs.declared.program.Ty.{Ty}
 use Rattle.df_types.specs.declared.program.Member.{Member}
 use Rattle.df_types.specs.declared.program.Member.TheVariants as members
 use Rattle.df_types.specs.declared.program.Plus.{Plus}
-use Rattle.df_types.specs.Program.{Program, Expr}
+use Rattle.df_types.specs.Program.{Newtype, Expr}
 use Rattle.df_types.specs.Typing.{is_declared}
 use Rattle.df_form.specs.declared.node.Sort.{Sort}
 use Rattle.df_form.specs.declared.node.Sort.TheVariants as sorts
@@ -66,28 +66,28 @@ on_then p q r a b = record { keeps = λ sort n of. b.keeps sort n (a.keeps sort 
 pub on_term : (op : Op) (parts : List ℕ) (p : Passed) → GoesOn p (with_term op parts p)
 on_term op parts p = record { keeps = (made_is p.nodes (record { op = op; parts = parts })).keeps; locals = refl }
 
-pub on_demanded : (program : Program) (ty : Ty) (pos : Pos) (p : Passed) → GoesOn p (demanded program ty pos p)
-on_demanded program ty pos p = record { keeps = (on_term (ops.Is ty) (p.term ∷ []) p).keeps; locals = refl }
+pub on_demanded : (newtypes : List Newtype) (ty : Ty) (pos : Pos) (p : Passed) → GoesOn p (demanded newtypes ty pos p)
+on_demanded newtypes ty pos p = record { keeps = (on_term (ops.Is ty) (p.term ∷ []) p).keeps; locals = refl }
 
-pub on_member : (program : Program) (ty : Ty) (p : Passed) (m : Member) → GoesOn p (passed_member program ty p m)
-on_member program ty p (members.Number k pos) =
+pub on_member : (newtypes : List Newtype) (ty : Ty) (p : Passed) (m : Member) → GoesOn p (passed_member newtypes ty p m)
+on_member newtypes ty p (members.Number k pos) =
     let made = with_term (ops.Number k) [] p in
-    on_then p made (demanded program ty pos made) (on_term (ops.Number k) [] p) (on_demanded program ty pos made)
-on_member program ty p (members.Local i pos) = record { keeps = λ sort n of. of; locals = refl }
+    on_then p made (demanded newtypes ty pos made) (on_term (ops.Number k) [] p) (on_demanded newtypes ty pos made)
+on_member newtypes ty p (members.Local i pos) = record { keeps = λ sort n of. of; locals = refl }
 
-pub on_plus : (program : Program) (ty : Ty) (p : Passed) (plus : Plus) → GoesOn p (passed_plus program ty p plus)
-on_plus program ty p plus =
-    let right = passed_member program ty p plus.member in
+pub on_plus : (newtypes : List Newtype) (ty : Ty) (p : Passed) (plus : Plus) → GoesOn p (passed_plus newtypes ty p plus)
+on_plus newtypes ty p plus =
+    let right = passed_member newtypes ty p plus.member in
     let sum = with_term ops.Plus (p.term ∷ right.term ∷ []) right in
-    on_then p right (demanded program ty plus.pos sum) (on_member program ty p plus.member) (on_then right sum (demanded program ty plus.pos sum) (on_term ops.Plus (p.term ∷ right.term ∷ []) right) (on_demanded program ty plus.pos sum))
+    on_then p right (demanded newtypes ty plus.pos sum) (on_member newtypes ty p plus.member) (on_then right sum (demanded newtypes ty plus.pos sum) (on_term ops.Plus (p.term ∷ right.term ∷ []) right) (on_demanded newtypes ty plus.pos sum))
 
 pub numbers_on : (p q : Passed) → GoesOn p q → are_numbers p.nodes p.locals ≡ true → are_numbers q.nodes q.locals ≡ true
 numbers_on p q on numbers = ap (are_numbers q.nodes) on.locals ∙ all_imply (is_number p.nodes) (is_number q.nodes) (on.keeps sorts.Number) p.locals numbers
 
-valued_demanded : (program : Program) (ty : Ty) (pos : Pos) (p : Passed) → IsValued p → IsValued (demanded program ty pos p)
-valued_demanded program ty pos p valued = record {
-  numbers = numbers_on p (demanded program ty pos p) (on_demanded program ty pos p) valued.numbers;
-  term = (on_demanded program ty pos p).keeps sorts.Number p.term valued.term;
+valued_demanded : (newtypes : List Newtype) (ty : Ty) (pos : Pos) (p : Passed) → IsValued p → IsValued (demanded newtypes ty pos p)
+valued_demanded newtypes ty pos p valued = record {
+  numbers = numbers_on p (demanded newtypes ty pos p) (on_demanded newtypes ty pos p) valued.numbers;
+  term = (on_demanded newtypes ty pos p).keeps sorts.Number p.term valued.term;
 }
 
 valued_term : (op : Op) (parts : List ℕ) (p : Passed) → sort_of op ≡ sorts.Number → are_numbers p.nodes p.locals ≡ true → IsValued (with_term op parts p)
@@ -101,14 +101,14 @@ number_of_local nodes [] i numbers less = absurd (omega arith)
 number_of_local nodes (x ∷ xs) zero numbers less = (and_true (is_number nodes x) (are_numbers nodes xs) numbers).0
 number_of_local nodes (x ∷ xs) (suc i) numbers less = number_of_local nodes xs i (and_true (is_number nodes x) (are_numbers nodes xs) numbers).1 (omega arith)
 
-pub valued_member : (program : Program) (ty : Ty) (p : Passed) (m : Member) → are_numbers p.nodes p.locals ≡ true → is_declared (length p.locals) m ≡ true → IsValued (passed_member program ty p m)
-valued_member program ty p (members.Number k pos) numbers there = valued_demanded program ty pos (with_term (ops.Number k) [] p) (valued_term (ops.Number k) [] p refl numbers)
-valued_member program ty p (members.Local i pos) numbers there = record { numbers = numbers; term = number_of_local p.nodes p.locals i numbers (ltb-true i (length p.locals) there) }
+pub valued_member : (newtypes : List Newtype) (ty : Ty) (p : Passed) (m : Member) → are_numbers p.nodes p.locals ≡ true → is_declared (length p.locals) m ≡ true → IsValued (passed_member newtypes ty p m)
+valued_member newtypes ty p (members.Number k pos) numbers there = valued_demanded newtypes ty pos (with_term (ops.Number k) [] p) (valued_term (ops.Number k) [] p refl numbers)
+valued_member newtypes ty p (members.Local i pos) numbers there = record { numbers = numbers; term = number_of_local p.nodes p.locals i numbers (ltb-true i (length p.locals) there) }
 
-pub valued_plus : (program : Program) (ty : Ty) (p : Passed) (plus : Plus) → IsValued p → is_declared (length p.locals) plus.member ≡ true → IsValued (passed_plus program ty p plus)
-valued_plus program ty p plus valued there =
-    let right = passed_member program ty p plus.member in
-    valued_demanded program ty plus.pos (with_term ops.Plus (p.term ∷ right.term ∷ []) right) (valued_term ops.Plus (p.term ∷ right.term ∷ []) right refl (valued_member program ty p plus.member valued.numbers there).numbers)
+pub valued_plus : (newtypes : List Newtype) (ty : Ty) (p : Passed) (plus : Plus) → IsValued p → is_declared (length p.locals) plus.member ≡ true → IsValued (passed_plus newtypes ty p plus)
+valued_plus newtypes ty p plus valued there =
+    let right = passed_member newtypes ty p plus.member in
+    valued_demanded newtypes ty plus.pos (with_term ops.Plus (p.term ∷ right.term ∷ []) right) (valued_term ops.Plus (p.term ∷ right.term ∷ []) right refl (valued_member newtypes ty p plus.member valued.numbers there).numbers)
 
 -- the members of a sum may be added
 pub record AreNumbers (nodes : List Node) (left right : ℕ) : Type 0 where
@@ -124,10 +124,10 @@ are_two_numbers nodes left right a b =
       sorts = both_true (same_sort (sort_at nodes left) sorts.Number) (same_sort (sort_at nodes right) sorts.Number) l.1 r.1;
     }
 
-pub members_are_numbers : (program : Program) (ty : Ty) (p q : Passed) (m : Member) → q ≡ passed_member program ty p m → IsValued p → is_declared (length p.locals) m ≡ true → AreNumbers q.nodes p.term q.term
-members_are_numbers program ty p q m is valued there =
-    let right = passed_member program ty p m in
-    let here : AreNumbers right.nodes p.term right.term = are_two_numbers right.nodes p.term right.term ((on_member program ty p m).keeps sorts.Number p.term valued.term) (valued_member program ty p m valued.numbers there).term in
+pub members_are_numbers : (newtypes : List Newtype) (ty : Ty) (p q : Passed) (m : Member) → q ≡ passed_member newtypes ty p m → IsValued p → is_declared (length p.locals) m ≡ true → AreNumbers q.nodes p.term q.term
+members_are_numbers newtypes ty p q m is valued there =
+    let right = passed_member newtypes ty p m in
+    let here : AreNumbers right.nodes p.term right.term = are_two_numbers right.nodes p.term right.term ((on_member newtypes ty p m).keeps sorts.Number p.term valued.term) (valued_member newtypes ty p m valued.numbers there).term in
     subst (λ (x : Passed). AreNumbers x.nodes p.term x.term) (sym is) here
 
 pub takes_members : (nodes : List Node) (stack : List ℕ) (left right : ℕ) → stack ≡ [] → AreNumbers nodes left right → takes ops.Plus (map (sort_at nodes) (stack ++ left ∷ right ∷ [])) ≡ true
@@ -138,13 +138,13 @@ pub record IsNext (count : ℕ) (q : Passed) : Type 0 where
   pub valued : IsValued q
   pub counted : length q.locals ≡ count
 
-pub next_member : (program : Program) (ty : Ty) (p q : Passed) (m : Member) → are_numbers p.nodes p.locals ≡ true → is_declared (length p.locals) m ≡ true → q ≡ passed_member program ty p m → IsNext (length p.locals) q
-next_member program ty p q m numbers there is =
-    subst (IsNext (length p.locals)) (sym is) (record { valued = valued_member program ty p m numbers there; counted = ap (length {A = ℕ}) (on_member program ty p m).locals })
+pub next_member : (newtypes : List Newtype) (ty : Ty) (p q : Passed) (m : Member) → are_numbers p.nodes p.locals ≡ true → is_declared (length p.locals) m ≡ true → q ≡ passed_member newtypes ty p m → IsNext (length p.locals) q
+next_member newtypes ty p q m numbers there is =
+    subst (IsNext (length p.locals)) (sym is) (record { valued = valued_member newtypes ty p m numbers there; counted = ap (length {A = ℕ}) (on_member newtypes ty p m).locals })
 
-pub next_plus : (program : Program) (ty : Ty) (p q : Passed) (plus : Plus) → IsValued p → is_declared (length p.locals) plus.member ≡ true → q ≡ passed_plus program ty p plus → IsNext (length p.locals) q
-next_plus program ty p q plus valued there is =
-    subst (IsNext (length p.locals)) (sym is) (record { valued = valued_plus program ty p plus valued there; counted = ap (length {A = ℕ}) (on_plus program ty p plus).locals })
+pub next_plus : (newtypes : List Newtype) (ty : Ty) (p q : Passed) (plus : Plus) → IsValued p → is_declared (length p.locals) plus.member ≡ true → q ≡ passed_plus newtypes ty p plus → IsNext (length p.locals) q
+next_plus newtypes ty p q plus valued there is =
+    subst (IsNext (length p.locals)) (sym is) (record { valued = valued_plus newtypes ty p plus valued there; counted = ap (length {A = ℕ}) (on_plus newtypes ty p plus).locals })
 
 all_declared : (count : ℕ) (rest : List Plus) (i : ℕ) (d : Plus) → list_all (λ (plus : Plus). is_declared count plus.member) rest ≡ true → i < length rest → is_declared count (get_or rest i d).member ≡ true
 all_declared count [] i d all less = absurd (omega arith)

@@ -1,24 +1,22 @@
 -- The steps of the pass: a demand, and the declaration of a local.
 use Rattle.std.proofs.Common.{◌≡◌, ℕ, pos, Bool, true, false, ◌&&◌, List, length, ◌∷◌, [], ◌++◌, refl, ap, sym, ◌∙◌, subst, arith, lt-ltb}
-use Rattle.std.specs.Prelude.{if◌then◌else◌, ℤ}
+use Rattle.std.specs.Prelude.{if◌then◌else◌}
 use Rattle.std.proofs.lemmas.Bool.Decides.{Decides-int_eq}
 use Rattle.std.proofs.lemmas.List.{map-append, length-map, length-append, get_or_append_left, get_or_at}
 use Rattle.df_base.specs.declared.pos.Pos.{Pos}
 use Rattle.df_types.specs.declared.program.Ty.{Ty}
-use Rattle.df_types.specs.declared.program.Ty.TheVariants as types
-use Rattle.df_types.specs.Typing.{is_type}
 use Rattle.df_types.specs.Program.{Program}
 use Rattle.df_meaning.specs.declared.kind.Kind.TheVariants as kinds
 use Rattle.df_meaning.specs.Value.{Value, Truth, Number, number_of, truth_of}
 use Rattle.df_meaning.specs.Outcome.{State, Outcome, Wrong}
-use Rattle.df_meaning.specs.Evaluation.{holds}
+use Rattle.df_meaning.specs.Evaluation.{is_of}
 use Rattle.df_meaning.specs.Execution.{declare}
 use Rattle.df_form.specs.declared.node.Sort.TheVariants as sorts
 use Rattle.df_form.specs.declared.node.Op.TheVariants as ops
 use Rattle.df_form.specs.Node.{Node, same_sort}
 use Rattle.df_form.specs.Made.{Made, made}
 use Rattle.df_form.specs.Sorting.{is_well_sorted, sort_at}
-use Rattle.df_form.specs.Truth.{Assignment, value_at, same_truth, same_value, is_of, truth}
+use Rattle.df_form.specs.Truth.{Assignment, value_at, same_truth, same_value, truth}
 use Rattle.df_form.proofs.Lists.{get_within}
 use Rattle.df_form.proofs.Values.{worth, value_is, grown_get}
 use Rattle.df_form.proofs.Making.{IsNumber, grown_number, number_of_op, made_stands, Stands}
@@ -33,9 +31,6 @@ chosen b x y e = rw e refl
 
 pub not_chosen : {A : Type 0} (b : Bool) (x y : A) → b ≡ false → (if b then x else y) ≡ y
 not_chosen b x y e = rw e refl
-
-is_of_holds : (program : Program) (ty : Ty) (n : ℤ) → is_type program.newtype.name ty ≡ true → is_of program ty n ≡ holds program.newtype n
-is_of_holds program (types.Newtype name) n e = ap (λ b. b && holds program.newtype n) e
 
 same_truth_is : (a b : Bool) → same_truth a b ≡ true → a ≡ b
 same_truth_is true true e = refl
@@ -88,12 +83,12 @@ equal_sorted nodes a b p q = of_alike _ _ _ (lt-ltb a (length nodes) p.below) (l
 
 module _ (program : Program) (depth : ℕ) where
   -- what is demanded of a value
-  abbrev pub passes : Pos → (Moment → Outcome) → Moment → Outcome
-  passes place go moment = if holds program.newtype (number_of (value_at moment.values 0)) then go moment else Wrong place kinds.Range
+  abbrev pub passes : Ty → Pos → (Moment → Outcome) → Moment → Outcome
+  passes ty place go moment = if is_of program.newtypes ty (number_of (value_at moment.values 0)) then go moment else Wrong place kinds.Range
 
-  pub demand : (ty : Ty) (place : Pos) (p : Passed) (others : List ℕ) (go : Moment → Outcome) → is_type program.newtype.name ty ≡ true
-      → Reaches program depth p (p.term ∷ others) (passes place go) → Reaches program depth (demanded program ty place p) (p.term ∷ others) go
-  demand ty place p others go typed r =
+  pub demand : (ty : Ty) (place : Pos) (p : Passed) (others : List ℕ) (go : Moment → Outcome)
+      → Reaches program depth p (p.term ∷ others) (passes ty place go) → Reaches program depth (demanded program.newtypes ty place p) (p.term ∷ others) go
+  demand ty place p others go r =
       record {
         shape = record { sorted = stands.sorted; locals = on.shape.locals; terms = on.shape.terms; known = all_joined _ p.known (m.number ∷ []) on.shape.known (get_within m.nodes m.number node stands.there, tt) };
         follows = λ at assignment known. (
@@ -114,7 +109,7 @@ module _ (program : Program) (depth : ℕ) where
               known = λ at assignment says. all_joined _ p.known (m.number ∷ []) (a.known at assignment says) (truth_is at assignment a.moment (a.gives at assignment says) ∙ holds_here, tt);
               gives = λ at assignment says. (let g = a.gives at assignment says in record { locals = g.locals; values = g.values });
             });
-        owed = all_joined IsOwed p.obligations (obligation ∷ []) on.owed (
+        owed = all_joined (IsOwed program) p.obligations (obligation ∷ []) on.owed (
           (λ refuted.
               (let f = on.follows refuted.depth refuted.assignment refuted.hypotheses in
               (depth, f.goes ∙ not_chosen _ _ _ (sym (truth_is refuted.depth refuted.assignment f.moment f.gives) ∙ refuted.goal)))),
@@ -131,18 +126,17 @@ module _ (program : Program) (depth : ℕ) where
       stands : Stands p.nodes node m
       stands = made_stands p.nodes node r.shape.sorted (is_sorted p.nodes ty p.term r.shape.terms.0)
 
-      on : Reaches program depth (onto m.nodes m.number p) (p.term ∷ others) (passes place go)
-      on = grown program depth p (p.term ∷ others) (passes place go) m.nodes m.number stands.grows stands.sorted r
+      on : Reaches program depth (onto m.nodes m.number p) (p.term ∷ others) (passes ty place go)
+      on = grown program depth p (p.term ∷ others) (passes ty place go) m.nodes m.number stands.grows stands.sorted r
 
       obligation : Obligation
-      obligation = record { pos = place; kind = kinds.Range; sequent = record { program = program; nodes = m.nodes; hypotheses = p.known; goal = m.number } }
+      obligation = record { pos = place; kind = kinds.Range; sequent = record { newtypes = program.newtypes; nodes = m.nodes; hypotheses = p.known; goal = m.number } }
 
       truth_is : (at : ℕ) (assignment : Assignment) (moment : Moment) → Gives program at assignment (onto m.nodes m.number p) (p.term ∷ others) moment
-          → truth at program assignment m.nodes m.number ≡ holds program.newtype (number_of (value_at moment.values 0))
+          → truth at program.newtypes assignment m.nodes m.number ≡ is_of program.newtypes ty (number_of (value_at moment.values 0))
       truth_is at assignment moment g =
-          ap truth_of (value_is at program assignment m.nodes m.number node stands.sorted stands.there)
-          ∙ is_of_holds program ty _ typed
-          ∙ ap (λ values. holds program.newtype (number_of (value_at values 0))) g.values
+          ap truth_of (value_is at program.newtypes assignment m.nodes m.number node stands.sorted stands.there)
+          ∙ ap (λ values. is_of program.newtypes ty (number_of (value_at values 0))) g.values
 
   -- the local's node has its value
   pub declaration : (p : Passed) (go : State → Outcome) → Reaches program depth p (p.term ∷ []) (λ moment. go (declare moment.state (value_at moment.values 0)))
@@ -174,7 +168,7 @@ module _ (program : Program) (depth : ℕ) where
                   let same = worth_is at assignment a.moment g says in
                   let true_here : same_value value value ≡ true = is_same_value value numeric in
                   let alike = subst (λ (x : Value). same_value x value ≡ true) (sym same) true_here in
-                  let both = subst (λ (x : Value). same_value (worth at program assignment e.nodes m.number) x ≡ true) (sym (term_is at assignment a.moment g)) alike in
+                  let both = subst (λ (x : Value). same_value (worth at program.newtypes assignment e.nodes m.number) x ≡ true) (sym (term_is at assignment a.moment g)) alike in
                   all_joined _ p.known (e.number ∷ []) (a.known at assignment before) (truth_is at assignment ∙ both, tt));
               gives = λ at assignment says. (
                   let before = front_says assignment a.moment.state.locals value says in
@@ -211,17 +205,17 @@ module _ (program : Program) (depth : ℕ) where
       on : Reaches program depth (onto e.nodes e.number p) (p.term ∷ []) (λ moment. go (declare moment.state (value_at moment.values 0)))
       on = grown program depth (onto m.nodes m.number p) (p.term ∷ []) (λ moment. go (declare moment.state (value_at moment.values 0))) e.nodes e.number second.grows second.sorted has_free
 
-      truth_is : (at : ℕ) (assignment : Assignment) → truth at program assignment e.nodes e.number ≡ same_value (worth at program assignment e.nodes m.number) (worth at program assignment e.nodes p.term)
-      truth_is at assignment = ap truth_of (value_is at program assignment e.nodes e.number equal second.sorted second.there)
+      truth_is : (at : ℕ) (assignment : Assignment) → truth at program.newtypes assignment e.nodes e.number ≡ same_value (worth at program.newtypes assignment e.nodes m.number) (worth at program.newtypes assignment e.nodes p.term)
+      truth_is at assignment = ap truth_of (value_is at program.newtypes assignment e.nodes e.number equal second.sorted second.there)
 
-      term_is : (at : ℕ) (assignment : Assignment) (moment : Moment) → Gives program at assignment (onto e.nodes e.number p) (p.term ∷ []) moment → worth at program assignment e.nodes p.term ≡ value_at moment.values 0
+      term_is : (at : ℕ) (assignment : Assignment) (moment : Moment) → Gives program at assignment (onto e.nodes e.number p) (p.term ∷ []) moment → worth at program.newtypes assignment e.nodes p.term ≡ value_at moment.values 0
       term_is at assignment moment g = ap (λ values. value_at values 0) g.values
 
       gives_on : (at : ℕ) (assignment : Assignment) (moment : Moment) → Gives program at assignment (onto e.nodes e.number p) (p.term ∷ []) moment
-          → worth at program assignment e.nodes m.number ≡ value_at moment.values 0
+          → worth at program.newtypes assignment e.nodes m.number ≡ value_at moment.values 0
           → Gives program at assignment (declared p) [] (record { state = declare moment.state (value_at moment.values 0); values = [] })
       gives_on at assignment moment g is =
-          let here = λ (n : ℕ). worth at program assignment e.nodes n in
+          let here = λ (n : ℕ). worth at program.newtypes assignment e.nodes n in
           record { locals = map-append here p.locals (m.number ∷ []) ∙ (λ i. g.locals i ++ is i ∷ []); values = refl }
 
       front_says : (assignment : Assignment) (locals : List Value) (value : Value) → Assigns assignment (locals ++ value ∷ []) → Assigns assignment locals
@@ -230,13 +224,13 @@ module _ (program : Program) (depth : ℕ) where
 
       worth_is : (at : ℕ) (assignment : Assignment) (moment : Moment) → Gives program at assignment (onto e.nodes e.number p) (p.term ∷ []) moment
           → Assigns assignment (moment.state.locals ++ value_at moment.values 0 ∷ [])
-          → worth at program assignment e.nodes m.number ≡ value_at moment.values 0
+          → worth at program.newtypes assignment e.nodes m.number ≡ value_at moment.values 0
       worth_is at assignment moment g says =
           let locals = moment.state.locals in
           let value = value_at moment.values 0 in
-          let long : length p.locals ≡ length locals = sym (length-map p.locals (worth at program assignment e.nodes)) ∙ ap (λ z. length z) g.locals in
+          let long : length p.locals ≡ length locals = sym (length-map p.locals (worth at program.newtypes assignment e.nodes)) ∙ ap (λ z. length z) g.locals in
           let there = grown_get m.nodes e.nodes second.grows m.number free first.there in
-          value_is at program assignment e.nodes m.number free second.sorted there
+          value_is at program.newtypes assignment e.nodes m.number free second.sorted there
           ∙ ap (λ i. assignment.value (free_of i)) long
           ∙ says.free (length locals) (omega (arith, length-append locals (value ∷ [])))
           ∙ get_or_at locals value [] _ (length locals) refl

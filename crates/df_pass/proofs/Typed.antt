@@ -7,34 +7,34 @@ use Rattle.df_types.specs.Typing.{is_type, is_declared, is_expr, is_operand, are
 use Rattle.df_form.proofs.Same.{and_true, both_true}
 use Rattle.df_pass.specs.State.{uses_declared, operand_uses_declared, stmt_uses_declared, count_after}
 
-in_expr : (name count : ℕ) (e : Expr) → is_expr name count e ≡ true → uses_declared count e ≡ true
-in_expr name count e typed =
+in_expr : (newtypes count : ℕ) (e : Expr) → is_expr newtypes count e ≡ true → uses_declared count e ≡ true
+in_expr newtypes count e typed =
     let rest = list_all (λ (plus : Plus). is_declared count plus.member) e.rest in
-    let both = and_true (is_type name e.ty && is_declared count e.first) rest typed in
-    both_true (is_declared count e.first) rest (and_true (is_type name e.ty) (is_declared count e.first) both.0).1 both.1
+    let both = and_true (is_type newtypes e.ty && is_declared count e.first) rest typed in
+    both_true (is_declared count e.first) rest (and_true (is_type newtypes e.ty) (is_declared count e.first) both.0).1 both.1
 
-in_operand : (name count : ℕ) (o : Operand) → is_operand name count o ≡ true → operand_uses_declared count o ≡ true
-in_operand name count (Text characters) typed = refl
-in_operand name count (Value e) typed = in_expr name count e typed
+in_operand : (newtypes count : ℕ) (o : Operand) → is_operand newtypes count o ≡ true → operand_uses_declared count o ≡ true
+in_operand newtypes count (Text characters) typed = refl
+in_operand newtypes count (Value e) typed = in_expr newtypes count e typed
 
-in_operands : (name count : ℕ) (all : List Operand) → list_all (is_operand name count) all ≡ true → list_all (operand_uses_declared count) all ≡ true
-in_operands name count [] typed = refl
-in_operands name count (o ∷ os) typed =
-    let both = and_true (is_operand name count o) (list_all (is_operand name count) os) typed in
-    both_true (operand_uses_declared count o) (list_all (operand_uses_declared count) os) (in_operand name count o both.0) (in_operands name count os both.1)
+in_operands : (newtypes count : ℕ) (all : List Operand) → list_all (is_operand newtypes count) all ≡ true → list_all (operand_uses_declared count) all ≡ true
+in_operands newtypes count [] typed = refl
+in_operands newtypes count (o ∷ os) typed =
+    let both = and_true (is_operand newtypes count o) (list_all (is_operand newtypes count) os) typed in
+    both_true (operand_uses_declared count o) (list_all (operand_uses_declared count) os) (in_operand newtypes count o both.0) (in_operands newtypes count os both.1)
 
 -- the first statement, and those after it
-pub record IsFirst (name count : ℕ) (stmt : Stmt) (rest : List Stmt) : Type 0 where
+pub record IsFirst (newtypes count : ℕ) (stmt : Stmt) (rest : List Stmt) : Type 0 where
   pub uses : stmt_uses_declared count stmt ≡ true
-  pub others : are_well_typed name (count_after count stmt) rest ≡ true
+  pub others : are_well_typed newtypes (count_after count stmt) rest ≡ true
 
-first_typed : (name count : ℕ) (stmt : Stmt) (rest : List Stmt) → are_well_typed name count (stmt ∷ rest) ≡ true → IsFirst name count stmt rest
-first_typed name count (Var ty value) rest typed =
-    let both = and_true (is_type name ty && is_expr name count value) (are_well_typed name (suc count) rest) typed in
-    record { uses = in_expr name count value (and_true (is_type name ty) (is_expr name count value) both.0).1; others = both.1 }
-first_typed name count (Print operands) rest typed =
-    let both = and_true (list_all (is_operand name count) operands) (are_well_typed name count rest) typed in
-    record { uses = in_operands name count operands both.0; others = both.1 }
+first_typed : (newtypes count : ℕ) (stmt : Stmt) (rest : List Stmt) → are_well_typed newtypes count (stmt ∷ rest) ≡ true → IsFirst newtypes count stmt rest
+first_typed newtypes count (Var ty value) rest typed =
+    let both = and_true (is_type newtypes ty && is_expr newtypes count value) (are_well_typed newtypes (suc count) rest) typed in
+    record { uses = in_expr newtypes count value (and_true (is_type newtypes ty) (is_expr newtypes count value) both.0).1; others = both.1 }
+first_typed newtypes count (Print operands) rest typed =
+    let both = and_true (list_all (is_operand newtypes count) operands) (are_well_typed newtypes count rest) typed in
+    record { uses = in_operands newtypes count operands both.0; others = both.1 }
 
 module _ {X : Type 0} where
   drop_next : (xs : List X) (i : ℕ) (d : X) → i < length xs → drop i xs ≡ get_or xs i d ∷ drop (i + 1) xs
@@ -50,8 +50,8 @@ pub next_uses : {X : Type 0} (f : X → Operand) (count now : ℕ) (operands : L
 next_uses f count now operands i operand all same is less =
     (λ k. operand_uses_declared (same k) (f (is k))) ∙ all_at (operand_uses_declared count) f operands i operand all less
 
-pub next_typed : {X : Type 0} (f : X → Stmt) (name count : ℕ) (stmts : List X) (i : ℕ) (stmt : X) → are_well_typed name count (map f (drop i stmts)) ≡ true → stmt ≡ get_or stmts i stmt → i < length stmts → IsFirst name count (f stmt) (map f (drop (i + 1) stmts))
-next_typed f name count stmts i stmt typed is less =
+pub next_typed : {X : Type 0} (f : X → Stmt) (newtypes count : ℕ) (stmts : List X) (i : ℕ) (stmt : X) → are_well_typed newtypes count (map f (drop i stmts)) ≡ true → stmt ≡ get_or stmts i stmt → i < length stmts → IsFirst newtypes count (f stmt) (map f (drop (i + 1) stmts))
+next_typed f newtypes count stmts i stmt typed is less =
     let split = drop_next stmts i stmt less in
-    let whole = sym (ap (λ xs. are_well_typed name count (map f xs)) split) ∙ typed in
-    subst (λ x. IsFirst name count (f x) (map f (drop (i + 1) stmts))) (sym is) (first_typed name count (f (get_or stmts i stmt)) (map f (drop (i + 1) stmts)) whole)
+    let whole = sym (ap (λ xs. are_well_typed newtypes count (map f xs)) split) ∙ typed in
+    subst (λ x. IsFirst newtypes count (f x) (map f (drop (i + 1) stmts))) (sym is) (first_typed newtypes count (f (get_or stmts i stmt)) (map f (drop (i + 1) stmts)) whole)

@@ -2,6 +2,7 @@
 use Rattle.std.specs.Prelude.{◌≡◌, true, false, ℕ, List, map}
 use Rattle.std.specs.List.{AllByRecursion}
 use Rattle.df_base.specs.declared.pos.Pos.{Pos}
+use Rattle.df_types.specs.Program.{Program}
 use Rattle.df_meaning.specs.declared.kind.Kind.{Kind}
 use Rattle.df_pass.specs.Modular.{IsModularlyWrong}
 use Rattle.df_form.specs.Truth.{Assignment, truth}
@@ -22,12 +23,12 @@ obligation_of o = record { pos = o.pos; kind = o.kind; sequent = sequent_of o.se
 pub record IsRefuted (s : Sequent) : Type 0 where
   pub depth : ℕ
   pub assignment : Assignment
-  pub hypotheses : AllByRecursion (λ h. truth depth s.program assignment s.nodes h ≡ true) s.hypotheses
-  pub goal : truth depth s.program assignment s.nodes s.goal ≡ false
+  pub hypotheses : AllByRecursion (λ h. truth depth s.newtypes assignment s.nodes h ≡ true) s.hypotheses
+  pub goal : truth depth s.newtypes assignment s.nodes s.goal ≡ false
 
--- where it is refuted, a modular run of its program is wrong by this kind at this place
-abbrev pub IsOwed : Obligation → Type 0
-IsOwed o = IsRefuted o.sequent → IsModularlyWrong o.sequent.program o.pos o.kind
+-- where it is refuted, a modular run of the program is wrong by this kind at this place
+abbrev pub IsOwed : Program → Obligation → Type 0
+IsOwed program o = IsRefuted o.sequent → IsModularlyWrong program o.pos o.kind
 
 -- the sequents of obligations are valid
 abbrev pub AreValid : List (declared.Obligation) → Type 0

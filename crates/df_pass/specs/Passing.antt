@@ -5,7 +5,7 @@ use Rattle.df_types.specs.declared.program.Ty.{Ty}
 use Rattle.df_types.specs.declared.program.Member.{Member}
 use Rattle.df_types.specs.declared.program.Member.TheVariants as members
 use Rattle.df_types.specs.declared.program.Plus.{Plus}
-use Rattle.df_types.specs.Program.{Program, Expr, Operand, Text, Value, Stmt, Var, Print}
+use Rattle.df_types.specs.Program.{Newtype, Program, Expr, Operand, Text, Value, Stmt, Var, Print}
 use Rattle.df_meaning.specs.declared.kind.Kind.TheVariants as kinds
 use Rattle.df_form.specs.declared.node.Sort.TheVariants as sorts
 use Rattle.df_form.specs.declared.node.Op.{Op}
@@ -41,32 +41,32 @@ abbrev pub assumed : Passed → Passed
 assumed p = record { nodes = p.nodes; known = p.known ++ p.term ∷ []; locals = p.locals; obligations = p.obligations; term = p.term }
 
 -- the term is a formula that is owed
-abbrev pub owed : Program → Pos → Passed → Passed
-owed program pos p =
+abbrev pub owed : List Newtype → Pos → Passed → Passed
+owed newtypes pos p =
     record {
       nodes = p.nodes;
       known = p.known;
       locals = p.locals;
       term = p.term;
-      obligations = p.obligations ++ record { pos = pos; kind = kinds.Range; sequent = record { program = program; nodes = p.nodes; hypotheses = p.known; goal = p.term } } ∷ [];
+      obligations = p.obligations ++ record { pos = pos; kind = kinds.Range; sequent = record { newtypes = newtypes; nodes = p.nodes; hypotheses = p.known; goal = p.term } } ∷ [];
     }
 
 -- the term is to be a value of the type, and is known to be one then
-abbrev pub demanded : Program → Ty → Pos → Passed → Passed
-demanded program ty pos p = again p.term (assumed (owed program pos (with_term (ops.Is ty) (p.term ∷ []) p)))
+abbrev pub demanded : List Newtype → Ty → Pos → Passed → Passed
+demanded newtypes ty pos p = again p.term (assumed (owed newtypes pos (with_term (ops.Is ty) (p.term ∷ []) p)))
 
-abbrev pub passed_member : Program → Ty → Passed → Member → Passed
-passed_member program ty p (members.Number k pos) = demanded program ty pos (with_term (ops.Number k) [] p)
-passed_member program ty p (members.Local i pos) = again (slice_index_or p.locals i 0) p
+abbrev pub passed_member : List Newtype → Ty → Passed → Member → Passed
+passed_member newtypes ty p (members.Number k pos) = demanded newtypes ty pos (with_term (ops.Number k) [] p)
+passed_member newtypes ty p (members.Local i pos) = again (slice_index_or p.locals i 0) p
 
 -- the term so far, and one member more
-abbrev pub passed_plus : Program → Ty → Passed → Plus → Passed
-passed_plus program ty p plus =
-    let right = passed_member program ty p plus.member in
-    demanded program ty plus.pos (with_term ops.Plus (p.term ∷ right.term ∷ []) right)
+abbrev pub passed_plus : List Newtype → Ty → Passed → Plus → Passed
+passed_plus newtypes ty p plus =
+    let right = passed_member newtypes ty p plus.member in
+    demanded newtypes ty plus.pos (with_term ops.Plus (p.term ∷ right.term ∷ []) right)
 
-abbrev pub passed_expr : Program → Passed → Expr → Passed
-passed_expr program p e = fold (passed_plus program e.ty) (passed_member program e.ty p e.first) e.rest
+abbrev pub passed_expr : List Newtype → Passed → Expr → Passed
+passed_expr newtypes p e = fold (passed_plus newtypes e.ty) (passed_member newtypes e.ty p e.first) e.rest
 
 -- a local is a free term of its own, which is known to be equal to its value
 abbrev pub declared : Passed → Passed
@@ -75,16 +75,16 @@ declared p =
     let equal = assumed (with_term ops.Equal (free.term ∷ p.term ∷ []) free) in
     record { nodes = equal.nodes; known = equal.known; locals = equal.locals ++ free.term ∷ []; obligations = equal.obligations; term = equal.term }
 
-abbrev pub passed_operand : Program → Passed → Operand → Passed
-passed_operand program p (Text characters) = p
-passed_operand program p (Value e) = passed_expr program p e
+abbrev pub passed_operand : List Newtype → Passed → Operand → Passed
+passed_operand newtypes p (Text characters) = p
+passed_operand newtypes p (Value e) = passed_expr newtypes p e
 
-abbrev pub passed_stmt : Program → Passed → Stmt → Passed
-passed_stmt program p (Var ty value) = declared (passed_expr program p value)
-passed_stmt program p (Print operands) = fold (passed_operand program) p operands
+abbrev pub passed_stmt : List Newtype → Passed → Stmt → Passed
+passed_stmt newtypes p (Var ty value) = declared (passed_expr newtypes p value)
+passed_stmt newtypes p (Print operands) = fold (passed_operand newtypes) p operands
 
 abbrev pub passed : Program → Passed
-passed program = fold (passed_stmt program) begin program.main.body
+passed program = fold (passed_stmt program.newtypes) begin program.main.body
 
 -- the obligations in order
 abbrev pub obligations_of : Program → List Obligation

@@ -2,9 +2,9 @@
 use Rattle.std.specs.Prelude.{◌≡◌, ℕ, suc, Bool, true, ◌&&◌, nat_lt, List, map, length}
 use Rattle.std.specs.List.{list_all}
 use Rattle.df_types.specs.declared.program.Plus.{Plus}
-use Rattle.df_types.specs.Program.{Program, Expr, Operand, Text, Value, Stmt, Var, Print}
+use Rattle.df_types.specs.Program.{Newtype, Expr, Operand, Text, Value, Stmt, Var, Print}
 use Rattle.df_types.specs.Typing.{is_declared}
-use Rattle.df_types.specs.View.{program_of}
+use Rattle.df_types.specs.View.{newtypes_of}
 use Rattle.df_form.specs.declared.node.Sort.{Sort}
 use Rattle.df_form.specs.declared.node.Sort.TheVariants as sorts
 use Rattle.df_form.specs.Node.{Node, same_sort}
@@ -17,9 +17,9 @@ use Rattle.df_pass.specs.declared.pass.Pass.{Pass}
 abbrev pub passed_of : Pass → Passed
 passed_of p = record { nodes = p.draft.nodes; known = p.draft.hypotheses.items; locals = p.locals.items; obligations = map obligation_of p.obligations.items; term = p.term }
 
--- the program that it passes over
-abbrev pub passing : Pass → Program
-passing p = program_of p.draft.program.now
+-- the newtypes of the program that it passes over
+abbrev pub passing : Pass → List Newtype
+passing p = newtypes_of p.draft.newtypes.now
 
 -- the node of this number has the sort
 abbrev pub is_of : Sort → List Node → ℕ → Bool

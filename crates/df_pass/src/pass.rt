@@ -38,7 +38,7 @@ impl<'a> Pass<'a> {
         ensures passed { OnOk result (passed_of self.new ≡ with_term op (self.old.draft.stack.items ++ more.now) (passed_of self.old)) }
         ensures stack { OnOk result (self.new.draft.stack.items ≡ self.new.term ∷ []) }
         ensures sort { OnOk result (is_of (sort_of op) self.new.draft.nodes self.new.term ≡ true) }
-        ensures program { passing self.new ≡ passing self.old }
+        ensures newtypes { passing self.new ≡ passing self.old }
     {
         self.draft.apply_all(op, more)?;
         self.term = self.draft.stack[0];
@@ -51,7 +51,7 @@ impl<'a> Pass<'a> {
         requires formula { is_formula self.old.draft.nodes self.old.term ≡ true }
         ensures passed { OnOk result (passed_of self.new ≡ assumed (passed_of self.old)) }
         ensures stack { OnOk result (self.new.draft.stack.items ≡ []) }
-        ensures program { passing self.new ≡ passing self.old }
+        ensures newtypes { passing self.new ≡ passing self.old }
     {
         self.draft.assume()
     }
@@ -64,7 +64,7 @@ impl<'a> Pass<'a> {
         ensures stack { self.new.draft.stack.items ≡ self.old.draft.stack.items }
         ensures nodes { self.new.draft.nodes ≡ self.old.draft.nodes }
         ensures term { self.new.term ≡ self.old.term }
-        ensures program { passing self.new ≡ passing self.old }
+        ensures newtypes { passing self.new ≡ passing self.old }
     {
         let sequent = self.draft.sequent(self.alloc)?;
         self.obligations.push(Obligation {
@@ -81,7 +81,7 @@ impl<'a> Pass<'a> {
         requires number { is_number self.old.draft.nodes self.old.term ≡ true }
         ensures passed { OnOk result (passed_of self.new ≡ demanded (passing self.old) ty pos (passed_of self.old)) }
         ensures stack { OnOk result (self.new.draft.stack.items ≡ []) }
-        ensures program { passing self.new ≡ passing self.old }
+        ensures newtypes { passing self.new ≡ passing self.old }
     {
         let term = self.term;
         self.apply(Op::Is(ty), &[])?;
@@ -97,7 +97,7 @@ impl<'a> Pass<'a> {
         requires locals { is_declared (length self.old.locals.items) member ≡ true }
         ensures passed { OnOk result (passed_of self.new ≡ passed_member (passing self.old) ty (passed_of self.old) member) }
         ensures stack { OnOk result (self.new.draft.stack.items ≡ []) }
-        ensures program { passing self.new ≡ passing self.old }
+        ensures newtypes { passing self.new ≡ passing self.old }
     {
         match member {
             Member::Number { value, pos } => {
@@ -118,7 +118,7 @@ impl<'a> Pass<'a> {
         requires locals { is_declared (length self.old.locals.items) plus.now.member ≡ true }
         ensures passed { OnOk result (passed_of self.new ≡ passed_plus (passing self.old) ty (passed_of self.old) plus.now) }
         ensures stack { OnOk result (self.new.draft.stack.items ≡ []) }
-        ensures program { passing self.new ≡ passing self.old }
+        ensures newtypes { passing self.new ≡ passing self.old }
     {
         let left = self.term;
         self.member(ty, plus.member)?;
@@ -136,7 +136,7 @@ impl<'a> Pass<'a> {
         ensures valued { OnOk result (IsValued (passed_of self.new)) }
         ensures count { OnOk result (length self.new.locals.items ≡ length self.old.locals.items) }
         ensures stack { OnOk result (self.new.draft.stack.items ≡ []) }
-        ensures program { passing self.new ≡ passing self.old }
+        ensures newtypes { passing self.new ≡ passing self.old }
     {
         self.member(expr.ty, expr.first)?;
         for plus in &expr.rest {
@@ -153,7 +153,7 @@ impl<'a> Pass<'a> {
         ensures numbers { OnOk result (are_numbers self.new.draft.nodes self.new.locals.items ≡ true) }
         ensures count { OnOk result (length self.new.locals.items ≡ suc (length self.old.locals.items)) }
         ensures stack { OnOk result (self.new.draft.stack.items ≡ []) }
-        ensures program { passing self.new ≡ passing self.old }
+        ensures newtypes { passing self.new ≡ passing self.old }
     {
         let value = self.term;
         let number = self.locals.len();
@@ -180,7 +180,7 @@ impl<'a> Pass<'a> {
         ensures numbers { OnOk result (are_numbers self.new.draft.nodes self.new.locals.items ≡ true) }
         ensures count { OnOk result (length self.new.locals.items ≡ length self.old.locals.items) }
         ensures stack { OnOk result (self.new.draft.stack.items ≡ []) }
-        ensures program { passing self.new ≡ passing self.old }
+        ensures newtypes { passing self.new ≡ passing self.old }
     {
         match operand {
             Operand::Text(_) => Ok(()),
@@ -197,7 +197,7 @@ impl<'a> Pass<'a> {
         ensures numbers { OnOk result (are_numbers self.new.draft.nodes self.new.locals.items ≡ true) }
         ensures count { OnOk result (length self.new.locals.items ≡ length self.old.locals.items) }
         ensures stack { OnOk result (self.new.draft.stack.items ≡ []) }
-        ensures program { passing self.new ≡ passing self.old }
+        ensures newtypes { passing self.new ≡ passing self.old }
     {
         for operand in operands {
             self.operand(operand)?;
@@ -214,7 +214,7 @@ impl<'a> Pass<'a> {
         ensures numbers { OnOk result (are_numbers self.new.draft.nodes self.new.locals.items ≡ true) }
         ensures count { OnOk result (length self.new.locals.items ≡ count_after (length self.old.locals.items) (stmt_of stmt.now)) }
         ensures stack { OnOk result (self.new.draft.stack.items ≡ []) }
-        ensures program { passing self.new ≡ passing self.old }
+        ensures newtypes { passing self.new ≡ passing self.old }
     {
         match stmt {
             Stmt::Var { value, .. } => {
@@ -234,7 +234,7 @@ fn all_obligations<'a>(
 {
     let mut pass = Pass {
         alloc,
-        draft: Draft::new(alloc, program),
+        draft: Draft::new(alloc, &program.newtypes),
         locals: Vec::new(alloc),
         obligations: Vec::new(alloc),
         term: 0,
@@ -254,10 +254,10 @@ pub fn obligations<'a>(
     // Where all are valid no modular run is wrong.
     ensures safe { IfOk result (λ all. AreValid all.items → IsModularlySafe (program_of program.now)) }
     // Where one is refuted some modular run is wrong by its kind at its place.
-    ensures owed { IfOk result (λ all. AllByRecursion IsOwed (map obligation_of all.items)) }
+    ensures owed { IfOk result (λ all. AllByRecursion (IsOwed (program_of program.now)) (map obligation_of all.items)) }
     // Each is of sums and comparisons of numbers.
     ensures arithmetic { IfOk result (λ all. AllByRecursion (λ obligation. IsArithmeticSequent obligation.sequent) (map obligation_of all.items)) }
-    ensures program { IfOk result (λ all. AllByRecursion (λ obligation. obligation.sequent.program ≡ program_of program.now) (map obligation_of all.items)) }
+    ensures newtypes { IfOk result (λ all. AllByRecursion (λ obligation. obligation.sequent.newtypes ≡ (program_of program.now).newtypes) (map obligation_of all.items)) }
 {
     let _main = &program.main;
     all_obligations(alloc, program)

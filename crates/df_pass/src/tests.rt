@@ -7,7 +7,7 @@ use df_types::{
 use std::alloc::Global;
 use std::test::Fail;
 
-/// The only type, by its name.
+/// The only type, by its number.
 const I8: Ty = Ty::Newtype(0);
 
 /// The 5 and the 1 of the program, and its `+`.
@@ -62,7 +62,7 @@ fn program(alloc: Global) -> Result<Program, Fail> {
         },
         body: vec![in alloc; Stmt::Var { ty: I8, value }, Stmt::Print(operands)]?,
     };
-    Ok(Program::new(newtype, main))
+    Ok(Program::new(vec![in alloc; newtype]?, main))
 }
 
 /// All that is said of the program, with the parts of each node.

@@ -92,23 +92,23 @@ pluses_complete scope (t ∷ ts) (p ∷ ps) d h =
     let first : plus_of scope t ≡ Some p = rw (member_complete scope t.member p.member d h.1, ← h.0) refl in
     rw (first, pluses_complete scope ts ps d h.2) refl
 
-expr_complete : (newtype : ℕ) (scope : List ℕ) (t : tree.Expr) (e : program.Expr) → IsScope scope → IsExpr newtype scope t e → expr_of newtype scope t ≡ Some e
+expr_complete : (scope : List ℕ) (t : tree.Expr) (e : program.Expr) → IsScope scope → IsExpr scope t e → expr_of scope t ≡ Some e
 unfolding expr_of
-expr_complete newtype scope t e d h = rw (member_complete scope t.first e.first d h.first, pluses_complete scope t.rest e.rest d h.rest, ← h.ty) refl
+expr_complete scope t e d h = rw (member_complete scope t.first e.first d h.first, pluses_complete scope t.rest e.rest d h.rest, ← h.ty) refl
 
-operand_complete : (newtype : ℕ) (scope : List ℕ) (t : tree.Operand) (p : program.Operand) → IsScope scope → IsOperand newtype scope t p → operand_of newtype scope t ≡ Some p
+operand_complete : (scope : List ℕ) (t : tree.Operand) (p : program.Operand) → IsScope scope → IsOperand scope t p → operand_of scope t ≡ Some p
 unfolding operand_of
-operand_complete newtype scope (tree.Text c) (program.Text x) d h = rw h refl
-operand_complete newtype scope (tree.Text c) (program.Value e) d h = absurd h
-operand_complete newtype scope (tree.Value t) (program.Text x) d h = absurd h
-operand_complete newtype scope (tree.Value t) (program.Value e) d h = rw (expr_complete newtype scope t e d h) refl
+operand_complete scope (tree.Text c) (program.Text x) d h = rw h refl
+operand_complete scope (tree.Text c) (program.Value e) d h = absurd h
+operand_complete scope (tree.Value t) (program.Text x) d h = absurd h
+operand_complete scope (tree.Value t) (program.Value e) d h = rw (expr_complete scope t e d h) refl
 
-operands_complete : (newtype : ℕ) (scope : List ℕ) (ts : List tree.Operand) (ps : List program.Operand) → IsScope scope → AreOperands newtype scope ts ps → operands_of newtype scope ts ≡ Some ps
+operands_complete : (scope : List ℕ) (ts : List tree.Operand) (ps : List program.Operand) → IsScope scope → AreOperands scope ts ps → operands_of scope ts ≡ Some ps
 unfolding all_of
-operands_complete newtype scope [] [] d h = refl
-operands_complete newtype scope [] (p ∷ ps) d h = absurd h
-operands_complete newtype scope (t ∷ ts) [] d h = absurd h
-operands_complete newtype scope (t ∷ ts) (p ∷ ps) d h = rw (operand_complete newtype scope t p d h.0, operands_complete newtype scope ts ps d h.1) refl
+operands_complete scope [] [] d h = refl
+operands_complete scope [] (p ∷ ps) d h = absurd h
+operands_complete scope (t ∷ ts) [] d h = absurd h
+operands_complete scope (t ∷ ts) (p ∷ ps) d h = rw (operand_complete scope t p d h.0, operands_complete scope ts ps d h.1) refl
 
 not_there : (scope : List ℕ) (n : ℕ) → ¬ Contains scope n → not (list_any (nat_eq n) scope) ≡ true
 not_there scope n new = not_by (list_any (nat_eq n) scope) (λ e. new (Contains-list_any nat_eq eqb-true scope n e))
@@ -122,11 +122,11 @@ stmts_complete newtype scope (tree.Var local ty value ∷ ts) (program.Var typ e
     let next = scope ++ local.name ∷ [] in
     let typed : eqb ty.name newtype ≡ true = rw h.0 (nat_eq_equiv.refl newtype) in
     let new = not_there scope local.name h.3 in
-    rw (typed, new, expr_complete newtype scope value e d h.2, stmts_complete newtype next ts ps (grows scope local.name d h.3) h.4, ← h.1) refl
+    rw (typed, new, expr_complete scope value e d h.2, stmts_complete newtype next ts ps (grows scope local.name d h.3) h.4, ← h.1) refl
 stmts_complete newtype scope (tree.Var local ty value ∷ ts) (program.Print os ∷ ps) d h = absurd h
 stmts_complete newtype scope (tree.Print operands ∷ ts) (program.Var typ e ∷ ps) d h = absurd h
 stmts_complete newtype scope (tree.Print operands ∷ ts) (program.Print os ∷ ps) d h =
-    rw (operands_complete newtype scope operands os d h.0, stmts_complete newtype scope ts ps d h.1) refl
+    rw (operands_complete scope operands os d h.0, stmts_complete newtype scope ts ps d h.1) refl
 
 -- ---- the newtype
 
@@ -198,12 +198,13 @@ unfolding program_of
 program_complete names t p h =
     let empty : IsScope [] = λ i j name at also. absurd (omega (arith, slice_get_within [] i name at)) in
     rw (
-      newtype_complete names t.newtype p.newtype h.newtype,
+      newtype_complete names t.newtype h.newtype h.is_newtype,
       apart_test _ _ h.once,
       h.method,
       stmts_complete t.newtype.name.name [] t.body p.main.body empty h.body,
       ← h.name,
       ← h.text,
+      ← h.newtypes,
     ) refl
 
 -- a tree elaborates to at most one program

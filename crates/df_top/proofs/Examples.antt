@@ -20,10 +20,14 @@ use Rattle.df_top.specs.Source.{IsLawful}
 use Rattle.df_top.proofs.Complete.{no_program}
 use Rattle.df_top.proofs.Sources.{undivided}
 
+-- `newtype N=x|0<=x<9`, with this greatest number
+abbrev below : ℕ → program.Newtype
+below high = record { name = 0; text = codes "N"; low = pos 0; high = pos high; default = pos 0 }
+
 -- `newtype N=x|0<=x<9 method Main(){var y:N:=1;}`, with this greatest number and this value
 abbrev program_with : ℕ → ℕ → program.Program
 program_with high value = record {
-  newtype = record { name = 0; text = codes "N"; low = pos 0; high = pos high; default = pos 0 };
+  newtypes = below high ∷ [];
   main = record {
     name = 2;
     text = codes "Main";
@@ -34,7 +38,9 @@ program_with high value = record {
 -- the tree elaborates to its program: `x < 9` has the greatest number 8
 pub small_elaborates : Elaborates small_names small_tree (program_with 8 1)
 small_elaborates = record {
-  newtype = record {
+  newtype = below 8;
+  newtypes = refl;
+  is_newtype = record {
     name = refl;
     text = refl;
     subject = refl;
@@ -52,9 +58,13 @@ small_elaborates = record {
   body = (refl, refl, record { ty = refl; first = (omega arith, refl, refl); rest = tt }, λ here. omega (arith, here.1), tt);
 }
 
+-- the one of a list
+first_is : (n m : program.Newtype) → n ∷ [] ≡ m ∷ [] → n ≡ m
+first_is n m e = cc
+
 -- and to none with another end
 pub nine_is_outside : Elaborates small_names small_tree (program_with 9 1) → ⊥
-nine_is_outside h = omega (arith, ints, h.newtype.high)
+nine_is_outside h = omega (arith, ints, ap (λ (n : program.Newtype). n.high) (first_is (below 9) h.newtype h.newtypes), h.is_newtype.high)
 
 -- and to none with another literal
 pub one_is_not_two : Elaborates small_names small_tree (program_with 8 2) → ⊥
@@ -74,7 +84,7 @@ y_is_not_second h = cc h.0
 
 -- the default 0 is not in `0 < x < 9`
 pub zero_is_outside : (p : program.Program) → Elaborates small_names (with_body orders.Less []) p → ⊥
-zero_is_outside p h = omega (arith, ints, h.newtype.low, h.newtype.default, h.newtype.inside.0)
+zero_is_outside p h = omega (arith, ints, h.is_newtype.low, h.is_newtype.default, h.is_newtype.inside.0)
 
 -- a method `main` is not Main
 pub main_is_not_Main : (p : program.Program) → Elaborates (codes "N" ∷ codes "x" ∷ codes "main" ∷ []) (with_body orders.AtMost []) p → ⊥

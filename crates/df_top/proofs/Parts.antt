@@ -31,25 +31,25 @@ pub rest_operands : (p : Operand → Bool) (os : List declared_operand.Operand) 
 rest_operands p os i o lt is typed =
     both _ _ (sym (ap (λ (rest : List declared_operand.Operand). list_all p (map operand_of rest)) (drop_more os i o lt ∙ ap (λ (x : declared_operand.Operand). x ∷ drop (i + 1) os) (sym is))) ∙ typed)
 
-first_stmt : (name count : ℕ) (stmt : Stmt) (rest : List Stmt) → are_well_typed name count (stmt ∷ rest) ≡ true
-    → (are_well_typed name count (stmt ∷ []) ≡ true) × (are_well_typed name (count_after count stmt) rest ≡ true)
-first_stmt name count (Var ty value) rest e =
-    let parts = both (is_type name ty && is_expr name count value) _ e in
+first_stmt : (newtypes count : ℕ) (stmt : Stmt) (rest : List Stmt) → are_well_typed newtypes count (stmt ∷ rest) ≡ true
+    → (are_well_typed newtypes count (stmt ∷ []) ≡ true) × (are_well_typed newtypes (count_after count stmt) rest ≡ true)
+first_stmt newtypes count (Var ty value) rest e =
+    let parts = both (is_type newtypes ty && is_expr newtypes count value) _ e in
     (join _ _ parts.0 refl, parts.1)
-first_stmt name count (Print operands) rest e =
-    let parts = both (list_all (is_operand name count) operands) _ e in
+first_stmt newtypes count (Print operands) rest e =
+    let parts = both (list_all (is_operand newtypes count) operands) _ e in
     (join _ _ parts.0 refl, parts.1)
 
-pub rest_stmts : (name count : ℕ) (stmts : List declared_stmt.Stmt) (i : ℕ) (stmt : declared_stmt.Stmt) → i < length stmts → stmt ≡ get_or stmts i stmt
-    → are_well_typed name count (map stmt_of (drop i stmts)) ≡ true
-    → (are_well_typed name count (stmt_of stmt ∷ []) ≡ true) × (are_well_typed name (count_after count (stmt_of stmt)) (map stmt_of (drop (i + 1) stmts)) ≡ true)
-rest_stmts name count stmts i stmt lt is typed =
-    first_stmt name count (stmt_of stmt) (map stmt_of (drop (i + 1) stmts))
-    (sym (ap (λ (rest : List declared_stmt.Stmt). are_well_typed name count (map stmt_of rest)) (drop_more stmts i stmt lt ∙ ap (λ (x : declared_stmt.Stmt). x ∷ drop (i + 1) stmts) (sym is))) ∙ typed)
+pub rest_stmts : (newtypes count : ℕ) (stmts : List declared_stmt.Stmt) (i : ℕ) (stmt : declared_stmt.Stmt) → i < length stmts → stmt ≡ get_or stmts i stmt
+    → are_well_typed newtypes count (map stmt_of (drop i stmts)) ≡ true
+    → (are_well_typed newtypes count (stmt_of stmt ∷ []) ≡ true) × (are_well_typed newtypes (count_after count (stmt_of stmt)) (map stmt_of (drop (i + 1) stmts)) ≡ true)
+rest_stmts newtypes count stmts i stmt lt is typed =
+    first_stmt newtypes count (stmt_of stmt) (map stmt_of (drop (i + 1) stmts))
+    (sym (ap (λ (rest : List declared_stmt.Stmt). are_well_typed newtypes count (map stmt_of rest)) (drop_more stmts i stmt lt ∙ ap (λ (x : declared_stmt.Stmt). x ∷ drop (i + 1) stmts) (sym is))) ∙ typed)
 
-pub rest_counted : (name count after : ℕ) (stmts : List declared_stmt.Stmt) (i : ℕ) (stmt : declared_stmt.Stmt) → i < length stmts → stmt ≡ get_or stmts i stmt
+pub rest_counted : (newtypes count after : ℕ) (stmts : List declared_stmt.Stmt) (i : ℕ) (stmt : declared_stmt.Stmt) → i < length stmts → stmt ≡ get_or stmts i stmt
     → after ≡ count_after count (stmt_of stmt)
-    → are_well_typed name count (map stmt_of (drop i stmts)) ≡ true
-    → are_well_typed name after (map stmt_of (drop (i + 1) stmts)) ≡ true
-rest_counted name count after stmts i stmt lt is same typed =
-    ap (λ n. are_well_typed name n (map stmt_of (drop (i + 1) stmts))) same ∙ (rest_stmts name count stmts i stmt lt is typed).1
+    → are_well_typed newtypes count (map stmt_of (drop i stmts)) ≡ true
+    → are_well_typed newtypes after (map stmt_of (drop (i + 1) stmts)) ≡ true
+rest_counted newtypes count after stmts i stmt lt is same typed =
+    ap (λ n. are_well_typed newtypes n (map stmt_of (drop (i + 1) stmts))) same ∙ (rest_stmts newtypes count stmts i stmt lt is typed).1

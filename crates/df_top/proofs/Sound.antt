@@ -49,28 +49,28 @@ pluses_sound scope (t ∷ ts) ps e =
     let first : (a.0.pos ≡ t.pos) × IsMember scope t.member a.0.member = subst (λ (p : typed_plus.Plus). (p.pos ≡ t.pos) × IsMember scope t.member p.member) m.2 (refl, member_sound scope t.member m.0 m.1) in
     subst (ArePluses scope (t ∷ ts)) (some_is (a.0 ∷ b.0) ps b.2) (first.0, first.1, pluses_sound scope ts b.0 b.1)
 
-pub expr_sound : (newtype : ℕ) (scope : List ℕ) (t : tree.Expr) (e : program.Expr) → expr_of newtype scope t ≡ Some e → IsExpr newtype scope t e
+pub expr_sound : (scope : List ℕ) (t : tree.Expr) (e : program.Expr) → expr_of scope t ≡ Some e → IsExpr scope t e
 unfolding expr_of
-expr_sound newtype scope t e h =
-    let a = bind_some (member_of scope t.first) (λ first. pluses_of scope t.rest >>= λ rest. Some (record { ty = types.Newtype newtype; first = first; rest = rest })) e h in
-    let b = bind_some (pluses_of scope t.rest) (λ rest. Some (record { ty = types.Newtype newtype; first = a.0; rest = rest })) e a.2 in
-    let made : program.Expr = record { ty = types.Newtype newtype; first = a.0; rest = b.0 } in
-    subst (IsExpr newtype scope t) (some_is made e b.2) (record { ty = refl; first = member_sound scope t.first a.0 a.1; rest = pluses_sound scope t.rest b.0 b.1 })
+expr_sound scope t e h =
+    let a = bind_some (member_of scope t.first) (λ first. pluses_of scope t.rest >>= λ rest. Some (record { ty = types.Newtype 0; first = first; rest = rest })) e h in
+    let b = bind_some (pluses_of scope t.rest) (λ rest. Some (record { ty = types.Newtype 0; first = a.0; rest = rest })) e a.2 in
+    let made : program.Expr = record { ty = types.Newtype 0; first = a.0; rest = b.0 } in
+    subst (IsExpr scope t) (some_is made e b.2) (record { ty = refl; first = member_sound scope t.first a.0 a.1; rest = pluses_sound scope t.rest b.0 b.1 })
 
-operand_sound : (newtype : ℕ) (scope : List ℕ) (t : tree.Operand) (p : program.Operand) → operand_of newtype scope t ≡ Some p → IsOperand newtype scope t p
+operand_sound : (scope : List ℕ) (t : tree.Operand) (p : program.Operand) → operand_of scope t ≡ Some p → IsOperand scope t p
 unfolding operand_of
-operand_sound newtype scope (tree.Text characters) p e = subst (IsOperand newtype scope (tree.Text characters)) (some_is (program.Text characters) p e) refl
-operand_sound newtype scope (tree.Value t) p e =
-    let m = map_some program.Value (expr_of newtype scope t) p e in
-    subst (IsOperand newtype scope (tree.Value t)) m.2 (expr_sound newtype scope t m.0 m.1)
+operand_sound scope (tree.Text characters) p e = subst (IsOperand scope (tree.Text characters)) (some_is (program.Text characters) p e) refl
+operand_sound scope (tree.Value t) p e =
+    let m = map_some program.Value (expr_of scope t) p e in
+    subst (IsOperand scope (tree.Value t)) m.2 (expr_sound scope t m.0 m.1)
 
-operands_sound : (newtype : ℕ) (scope : List ℕ) (ts : List tree.Operand) (ps : List program.Operand) → operands_of newtype scope ts ≡ Some ps → AreOperands newtype scope ts ps
+operands_sound : (scope : List ℕ) (ts : List tree.Operand) (ps : List program.Operand) → operands_of scope ts ≡ Some ps → AreOperands scope ts ps
 unfolding all_of
-operands_sound newtype scope [] ps e = subst (AreOperands newtype scope []) (some_is [] ps e) tt
-operands_sound newtype scope (t ∷ ts) ps e =
-    let a = bind_some (operand_of newtype scope t) (λ first. all_of (operand_of newtype scope) ts >>= λ rest. Some (first ∷ rest)) ps e in
-    let b = bind_some (all_of (operand_of newtype scope) ts) (λ rest. Some (a.0 ∷ rest)) ps a.2 in
-    subst (AreOperands newtype scope (t ∷ ts)) (some_is (a.0 ∷ b.0) ps b.2) (operand_sound newtype scope t a.0 a.1, operands_sound newtype scope ts b.0 b.1)
+operands_sound scope [] ps e = subst (AreOperands scope []) (some_is [] ps e) tt
+operands_sound scope (t ∷ ts) ps e =
+    let a = bind_some (operand_of scope t) (λ first. all_of (operand_of scope) ts >>= λ rest. Some (first ∷ rest)) ps e in
+    let b = bind_some (all_of (operand_of scope) ts) (λ rest. Some (a.0 ∷ rest)) ps a.2 in
+    subst (AreOperands scope (t ∷ ts)) (some_is (a.0 ∷ b.0) ps b.2) (operand_sound scope t a.0 a.1, operands_sound scope ts b.0 b.1)
 
 not_true : (b : Bool) → not b ≡ true → b ≡ false
 not_true true e = absurd cc
@@ -86,20 +86,20 @@ stmts_sound newtype scope [] ps e = subst (AreStmts newtype scope []) (some_is [
 stmts_sound newtype scope (tree.Var local ty value ∷ ts) ps e =
     let next = scope ++ local.name ∷ [] in
     let a = bind_some (stmt_of newtype scope (tree.Var local ty value)) (λ first. stmts_of newtype first.1 ts >>= λ rest. Some (first.0 ∷ rest)) ps e in
-    let t = test_some (eqb ty.name newtype && not (list_any (nat_eq local.name) scope)) (option_map (λ x. (program.Var (types.Newtype newtype) x, next)) (expr_of newtype scope value)) a.0 a.1 in
+    let t = test_some (eqb ty.name newtype && not (list_any (nat_eq local.name) scope)) (option_map (λ x. (program.Var (types.Newtype 0) x, next)) (expr_of scope value)) a.0 a.1 in
     let names = both (eqb ty.name newtype) (not (list_any (nat_eq local.name) scope)) t.0 in
-    let m = map_some (λ x. (program.Var (types.Newtype newtype) x, next)) (expr_of newtype scope value) a.0 t.1 in
-    let rest : (stmts_of newtype next ts >>= λ rest. Some (program.Var (types.Newtype newtype) m.0 ∷ rest)) ≡ Some ps = subst (λ (f : program.Stmt × List ℕ). (stmts_of newtype f.1 ts >>= λ rest. Some (f.0 ∷ rest)) ≡ Some ps) (sym m.2) a.2 in
-    let b = bind_some (stmts_of newtype next ts) (λ rest. Some (program.Var (types.Newtype newtype) m.0 ∷ rest)) ps rest in
-    subst (AreStmts newtype scope (tree.Var local ty value ∷ ts)) (some_is (program.Var (types.Newtype newtype) m.0 ∷ b.0) ps b.2)
-    (eqb-true _ _ names.0, refl, expr_sound newtype scope value m.0 m.1, absent local.name scope (not_true _ names.1), stmts_sound newtype next ts b.0 b.1)
+    let m = map_some (λ x. (program.Var (types.Newtype 0) x, next)) (expr_of scope value) a.0 t.1 in
+    let rest : (stmts_of newtype next ts >>= λ rest. Some (program.Var (types.Newtype 0) m.0 ∷ rest)) ≡ Some ps = subst (λ (f : program.Stmt × List ℕ). (stmts_of newtype f.1 ts >>= λ rest. Some (f.0 ∷ rest)) ≡ Some ps) (sym m.2) a.2 in
+    let b = bind_some (stmts_of newtype next ts) (λ rest. Some (program.Var (types.Newtype 0) m.0 ∷ rest)) ps rest in
+    subst (AreStmts newtype scope (tree.Var local ty value ∷ ts)) (some_is (program.Var (types.Newtype 0) m.0 ∷ b.0) ps b.2)
+    (eqb-true _ _ names.0, refl, expr_sound scope value m.0 m.1, absent local.name scope (not_true _ names.1), stmts_sound newtype next ts b.0 b.1)
 stmts_sound newtype scope (tree.Print operands ∷ ts) ps e =
     let a = bind_some (stmt_of newtype scope (tree.Print operands)) (λ first. stmts_of newtype first.1 ts >>= λ rest. Some (first.0 ∷ rest)) ps e in
-    let m = map_some (λ all. (program.Print all, scope)) (operands_of newtype scope operands) a.0 a.1 in
+    let m = map_some (λ all. (program.Print all, scope)) (operands_of scope operands) a.0 a.1 in
     let rest : (stmts_of newtype scope ts >>= λ rest. Some (program.Print m.0 ∷ rest)) ≡ Some ps = subst (λ (f : program.Stmt × List ℕ). (stmts_of newtype f.1 ts >>= λ rest. Some (f.0 ∷ rest)) ≡ Some ps) (sym m.2) a.2 in
     let b = bind_some (stmts_of newtype scope ts) (λ rest. Some (program.Print m.0 ∷ rest)) ps rest in
     subst (AreStmts newtype scope (tree.Print operands ∷ ts)) (some_is (program.Print m.0 ∷ b.0) ps b.2)
-    (operands_sound newtype scope operands m.0 m.1, stmts_sound newtype scope ts b.0 b.1)
+    (operands_sound scope operands m.0 m.1, stmts_sound newtype scope ts b.0 b.1)
 
 -- ---- the newtype
 
@@ -169,17 +169,19 @@ pub program_sound : (names : List (List ℕ)) (t : tree.Tree) (p : program.Progr
 unfolding program_of
 program_sound names t p e =
     let name = t.newtype.name.name in
-    let a = bind_some (newtype_of names t.newtype) (λ newtype. main_of names name t.method.name >>= λ text. stmts_of name [] t.body >>= λ body. Some (record { newtype = newtype; main = record { name = t.method.name; text = text; body = body } })) p e in
-    let b = bind_some (main_of names name t.method.name) (λ text. stmts_of name [] t.body >>= λ body. Some (record { newtype = a.0; main = record { name = t.method.name; text = text; body = body } })) p a.2 in
-    let d = bind_some (stmts_of name [] t.body) (λ body. Some (record { newtype = a.0; main = record { name = t.method.name; text = b.0; body = body } })) p b.2 in
+    let a = bind_some (newtype_of names t.newtype) (λ newtype. main_of names name t.method.name >>= λ text. stmts_of name [] t.body >>= λ body. Some (record { newtypes = newtype ∷ []; main = record { name = t.method.name; text = text; body = body } })) p e in
+    let b = bind_some (main_of names name t.method.name) (λ text. stmts_of name [] t.body >>= λ body. Some (record { newtypes = a.0 ∷ []; main = record { name = t.method.name; text = text; body = body } })) p a.2 in
+    let d = bind_some (stmts_of name [] t.body) (λ body. Some (record { newtypes = a.0 ∷ []; main = record { name = t.method.name; text = b.0; body = body } })) p b.2 in
     let other = untest_some (eqb name t.method.name) (slice_get names t.method.name >>= λ text. cond (same_text text (codes "Main")) (Some text) None) b.0 b.1 in
     let text = bind_some (slice_get names t.method.name) (λ text. cond (same_text text (codes "Main")) (Some text) None) b.0 other.1 in
     let is_main = test_some (same_text text.0 (codes "Main")) (Some text.0) b.0 text.2 in
     let main : text.0 ≡ codes "Main" = same_text-equal text.0 (codes "Main") is_main.0 in
-    let made : program.Program = record { newtype = a.0; main = record { name = t.method.name; text = b.0; body = d.0 } } in
+    let made : program.Program = record { newtypes = a.0 ∷ []; main = record { name = t.method.name; text = b.0; body = d.0 } } in
     subst (Elaborates names t) (some_is made p d.2)
     (record {
-      newtype = newtype_sound names t.newtype a.0 a.1;
+      newtype = a.0;
+      newtypes = refl;
+      is_newtype = newtype_sound names t.newtype a.0 a.1;
       method = text.1 ∙ ap (λ (x : List ℕ). Some x) main;
       name = refl;
       text = sym (some_is text.0 b.0 is_main.1) ∙ main;

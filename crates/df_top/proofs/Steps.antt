@@ -42,14 +42,14 @@ grown_next t NoChoice w e = absurd (cc)
 as_grown : (s : State) → s ≡ grown s.text (record { locals = s.locals; text = [] })
 as_grown s = ap (λ (text : List ℕ). let next : State = record { locals = s.locals; text = text } in next) (sym (append-nil s.text))
 
-print_grows : (n : Newtype) (os : List Operand) → Grows (λ s. print_all 0 n s os)
+print_grows : (n : List Newtype) (os : List Operand) → Grows (λ s. print_all 0 n s os)
 print_grows n os = record {
   grows = λ s w e.
       let bare : State = record { locals = s.locals; text = [] } in
       grown_next s.text (print_all 0 n bare os) w (sym (ap (λ (x : State). print_all 0 n x os) (as_grown s) ∙ print_shifts n s.text bare os) ∙ e);
 }
 
-execute_grows : (n : Newtype) (stmts : List Stmt) → Grows (λ s. execute_all 0 n s stmts)
+execute_grows : (n : List Newtype) (stmts : List Stmt) → Grows (λ s. execute_all 0 n s stmts)
 execute_grows n stmts = record {
   grows = λ s w e.
       let bare : State = record { locals = s.locals; text = [] } in
@@ -123,13 +123,13 @@ stops halts.Write ls after old mid new step go whole shifts grows so_far does = 
 stops halts.Memory ls after old mid new step go whole shifts grows so_far does = is_cut ls old mid new step go whole shifts grows so_far does
 
 -- the rest of the operands, from the first of them on
-rest_prints : (n : Newtype) (os : List declared_operand.Operand) (i : ℕ) (o : declared_operand.Operand) → i < length os → o ≡ get_or os i o → (s : State)
+rest_prints : (n : List Newtype) (os : List declared_operand.Operand) (i : ℕ) (o : declared_operand.Operand) → i < length os → o ≡ get_or os i o → (s : State)
     → print_all 0 n s (map operand_of (drop i os)) ≡ after_stmt (print_all 0 n s (operand_of o ∷ [])) (λ next. print_all 0 n next (map operand_of (drop (i + 1) os)))
 rest_prints n os i o lt is s =
     ap (λ (rest : List declared_operand.Operand). print_all 0 n s (map operand_of rest)) (drop_more os i o lt ∙ ap (λ (x : declared_operand.Operand). x ∷ drop (i + 1) os) (sym is))
     ∙ print_first n s (operand_of o) (map operand_of (drop (i + 1) os))
 
-print_so_far : (n : Newtype) (ls : List ℤ) (old mid : Option (List ℕ)) (os : List declared_operand.Operand) (i : ℕ) (o : declared_operand.Operand) (whole : Outcome)
+print_so_far : (n : List Newtype) (ls : List ℤ) (old mid : Option (List ℕ)) (os : List declared_operand.Operand) (i : ℕ) (o : declared_operand.Operand) (whole : Outcome)
     → i < length os → o ≡ get_or os i o
     → PutSoFar ls old mid (λ s. print_all 0 n s (map operand_of (drop i os))) whole
     → PutSoFar ls old mid (λ s. after_stmt (print_all 0 n s (operand_of o ∷ [])) (λ next. print_all 0 n next (map operand_of (drop (i + 1) os)))) whole
@@ -140,7 +140,7 @@ print_so_far n ls old mid os i o whole lt is so_far = record {
 }
 
 -- one more operand is printed
-pub print_more : (n : Newtype) (ls : List ℤ) (old mid new : Option (List ℕ)) (os : List declared_operand.Operand) (i : ℕ) (o : declared_operand.Operand) (whole : Outcome)
+pub print_more : (n : List Newtype) (ls : List ℤ) (old mid new : Option (List ℕ)) (os : List declared_operand.Operand) (i : ℕ) (o : declared_operand.Operand) (whole : Outcome)
     → i < length os → o ≡ get_or os i o
     → PutSoFar ls old mid (λ s. print_all 0 n s (map operand_of (drop i os))) whole
     → PutsAll ls mid new (print_all 0 n (state_at ls) (operand_of o ∷ []))
@@ -149,7 +149,7 @@ print_more n ls old mid new os i o whole lt is so_far puts =
     goes_on ls ls old mid new (λ s. print_all 0 n s (operand_of o ∷ [])) _ whole (λ t. print_shifts n t (state_at ls) (operand_of o ∷ [])) (print_so_far n ls old mid os i o whole lt is so_far) puts
 
 -- an operand stops the run
-pub print_stops : (halt : Halt) (n : Newtype) (ls : List ℤ) (old mid new : Option (List ℕ)) (os : List declared_operand.Operand) (i : ℕ) (o : declared_operand.Operand) (whole : Outcome)
+pub print_stops : (halt : Halt) (n : List Newtype) (ls : List ℤ) (old mid new : Option (List ℕ)) (os : List declared_operand.Operand) (i : ℕ) (o : declared_operand.Operand) (whole : Outcome)
     → i < length os → o ≡ get_or os i o
     → PutSoFar ls old mid (λ s. print_all 0 n s (map operand_of (drop i os))) whole
     → Does (Err halt) ls mid new (print_all 0 n (state_at ls) (operand_of o ∷ []))
@@ -157,7 +157,7 @@ pub print_stops : (halt : Halt) (n : Newtype) (ls : List ℤ) (old mid new : Opt
 print_stops halt n ls old mid new os i o whole lt is so_far does =
     stops halt ls ls old mid new (λ s. print_all 0 n s (operand_of o ∷ [])) _ whole (λ t. print_shifts n t (state_at ls) (operand_of o ∷ [])) (print_grows n (map operand_of (drop (i + 1) os))) (print_so_far n ls old mid os i o whole lt is so_far) does
 
-execute_so_far : (n : Newtype) (ls : List ℤ) (old mid : Option (List ℕ)) (stmts : List declared_stmt.Stmt) (i : ℕ) (stmt : declared_stmt.Stmt) (whole : Outcome)
+execute_so_far : (n : List Newtype) (ls : List ℤ) (old mid : Option (List ℕ)) (stmts : List declared_stmt.Stmt) (i : ℕ) (stmt : declared_stmt.Stmt) (whole : Outcome)
     → i < length stmts → stmt ≡ get_or stmts i stmt
     → PutSoFar ls old mid (λ s. execute_all 0 n s (map stmt_of (drop i stmts))) whole
     → PutSoFar ls old mid (λ s. after_stmt (execute 0 n s (stmt_of stmt)) (λ next. execute_all 0 n next (map stmt_of (drop (i + 1) stmts)))) whole
@@ -168,7 +168,7 @@ execute_so_far n ls old mid stmts i stmt whole lt is so_far = record {
 }
 
 -- one more statement is executed
-pub execute_more : (n : Newtype) (ls after : List ℤ) (old mid new : Option (List ℕ)) (stmts : List declared_stmt.Stmt) (i : ℕ) (stmt : declared_stmt.Stmt) (whole : Outcome)
+pub execute_more : (n : List Newtype) (ls after : List ℤ) (old mid new : Option (List ℕ)) (stmts : List declared_stmt.Stmt) (i : ℕ) (stmt : declared_stmt.Stmt) (whole : Outcome)
     → i < length stmts → stmt ≡ get_or stmts i stmt
     → PutSoFar ls old mid (λ s. execute_all 0 n s (map stmt_of (drop i stmts))) whole
     → PutsAll after mid new (execute 0 n (state_at ls) (stmt_of stmt))
@@ -177,7 +177,7 @@ execute_more n ls after old mid new stmts i stmt whole lt is so_far puts =
     goes_on ls after old mid new (λ s. execute 0 n s (stmt_of stmt)) _ whole (λ t. execute_shifts n t (state_at ls) (stmt_of stmt)) (execute_so_far n ls old mid stmts i stmt whole lt is so_far) puts
 
 -- a statement stops the run
-pub execute_stops : (halt : Halt) (n : Newtype) (ls after : List ℤ) (old mid new : Option (List ℕ)) (stmts : List declared_stmt.Stmt) (i : ℕ) (stmt : declared_stmt.Stmt) (whole : Outcome)
+pub execute_stops : (halt : Halt) (n : List Newtype) (ls after : List ℤ) (old mid new : Option (List ℕ)) (stmts : List declared_stmt.Stmt) (i : ℕ) (stmt : declared_stmt.Stmt) (whole : Outcome)
     → i < length stmts → stmt ≡ get_or stmts i stmt
     → PutSoFar ls old mid (λ s. execute_all 0 n s (map stmt_of (drop i stmts))) whole
     → Does (Err halt) after mid new (execute 0 n (state_at ls) (stmt_of stmt))
@@ -190,7 +190,7 @@ pub same_halt : (result : Result (Unit {0}) Halt) (halt : Halt) (ls : List ℤ) 
 same_halt result halt ls old new whole same does = subst (λ (r : Result (Unit {0}) Halt). Does r ls old new whole) (sym same) does
 
 -- the whole of a run is put
-pub whole_puts : (n : Newtype) (ls after : List ℤ) (old new : Option (List ℕ)) (stmts body : List declared_stmt.Stmt) → ls ≡ [] → stmts ≡ body
+pub whole_puts : (n : List Newtype) (ls after : List ℤ) (old new : Option (List ℕ)) (stmts body : List declared_stmt.Stmt) → ls ≡ [] → stmts ≡ body
     → PutsAll after old new (execute_all 0 n (state_at ls) (map stmt_of stmts))
     → (state : State) × (execute_all 0 n begin (map stmt_of body) ≡ Next state) × Appends old new state.text
 whole_puts n ls after old new stmts body empty same puts = (

@@ -31,26 +31,26 @@ plus_of scope plus = option_map (λ member. record { pos = plus.pos; member = me
 abbrev pub pluses_of : List ℕ → List source_plus.Plus → Option (List typed_plus.Plus)
 pluses_of scope pluses = all_of (plus_of scope) pluses
 
-unfoldable pub expr_of : ℕ → List ℕ → tree.Expr → Option program.Expr
-expr_of newtype scope e = do
+unfoldable pub expr_of : List ℕ → tree.Expr → Option program.Expr
+expr_of scope e = do
   first ← member_of scope e.first
   rest ← pluses_of scope e.rest
-  Some (record { ty = types.Newtype newtype; first = first; rest = rest })
+  Some (record { ty = types.Newtype 0; first = first; rest = rest })
 
-unfoldable pub operand_of : ℕ → List ℕ → tree.Operand → Option program.Operand
-operand_of newtype scope (tree.Text characters) = Some (program.Text characters)
-operand_of newtype scope (tree.Value e) = option_map program.Value (expr_of newtype scope e)
+unfoldable pub operand_of : List ℕ → tree.Operand → Option program.Operand
+operand_of scope (tree.Text characters) = Some (program.Text characters)
+operand_of scope (tree.Value e) = option_map program.Value (expr_of scope e)
 
-abbrev pub operands_of : ℕ → List ℕ → List tree.Operand → Option (List program.Operand)
-operands_of newtype scope operands = all_of (operand_of newtype scope) operands
+abbrev pub operands_of : List ℕ → List tree.Operand → Option (List program.Operand)
+operands_of scope operands = all_of (operand_of scope) operands
 
 -- a statement, and the scope after it
 unfoldable pub stmt_of : ℕ → List ℕ → tree.Stmt → Option (program.Stmt × List ℕ)
 stmt_of newtype scope (tree.Var local ty value) =
     if ty.name == newtype && not (list_any (nat_eq local.name) scope)
-    then option_map (λ e. (program.Var (types.Newtype newtype) e, scope ++ local.name ∷ [])) (expr_of newtype scope value)
+    then option_map (λ e. (program.Var (types.Newtype 0) e, scope ++ local.name ∷ [])) (expr_of scope value)
     else None
-stmt_of newtype scope (tree.Print operands) = option_map (λ all. (program.Print all, scope)) (operands_of newtype scope operands)
+stmt_of newtype scope (tree.Print operands) = option_map (λ all. (program.Print all, scope)) (operands_of scope operands)
 
 unfoldable pub stmts_of : ℕ → List ℕ → List tree.Stmt → Option (List program.Stmt)
 stmts_of newtype scope [] = Some []
@@ -108,4 +108,4 @@ program_of names tree = do
   newtype ← newtype_of names tree.newtype
   text ← main_of names tree.newtype.name.name tree.method.name
   body ← stmts_of tree.newtype.name.name [] tree.body
-  Some (record { newtype = newtype; main = record { name = tree.method.name; text = text; body = body } })
+  Some (record { newtypes = newtype ∷ []; main = record { name = tree.method.name; text = text; body = body } })

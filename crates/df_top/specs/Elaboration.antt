@@ -1,6 +1,7 @@
 -- Elaboration: rules on source tree and program side by side.
 use Rattle.std.specs.Prelude.{◌≡◌, ◌≢◌, ℕ, ℤ, pos, neg_ℤ, ◌+ℤ◌, ◌-ℤ◌, ◌<◌, ◌^◌, if◌then◌else◌, List, [], ◌∷◌, ◌++◌, Option, Some, None, Contains, slice_get, codes}
 use Rattle.df_types.specs.Interval.{IsWithin}
+use Rattle.df_types.specs.Program.{Newtype}
 use Rattle.df_types.specs.Program as program
 use Rattle.df_types.specs.declared.program.Ty.TheVariants as types
 use Rattle.df_types.specs.declared.program.Member as typed_member
@@ -63,23 +64,23 @@ ArePluses scope [] (p ∷ ps) = ⊥
 ArePluses scope (t ∷ ts) [] = ⊥
 ArePluses scope (t ∷ ts) (p ∷ ps) = (p.pos ≡ t.pos) × IsMember scope t.member p.member × ArePluses scope ts ps
 
--- all members of a sum are of the newtype, and so is the sum
-pub record IsExpr (newtype : ℕ) (scope : List ℕ) (tree : tree.Expr) (e : program.Expr) : Type 0 where
-  pub ty : e.ty ≡ types.Newtype newtype
+-- all members of a sum are of the newtype, which is the first, and so is the sum
+pub record IsExpr (scope : List ℕ) (tree : tree.Expr) (e : program.Expr) : Type 0 where
+  pub ty : e.ty ≡ types.Newtype 0
   pub first : IsMember scope tree.first e.first
   pub rest : ArePluses scope tree.rest e.rest
 
-abbrev pub IsOperand : ℕ → List ℕ → tree.Operand → program.Operand → Type 0
-IsOperand newtype scope (tree.Text characters) (program.Text text) = text ≡ characters
-IsOperand newtype scope (tree.Value e) (program.Value f) = IsExpr newtype scope e f
-IsOperand newtype scope (tree.Text characters) (program.Value f) = ⊥
-IsOperand newtype scope (tree.Value e) (program.Text text) = ⊥
+abbrev pub IsOperand : List ℕ → tree.Operand → program.Operand → Type 0
+IsOperand scope (tree.Text characters) (program.Text text) = text ≡ characters
+IsOperand scope (tree.Value e) (program.Value f) = IsExpr scope e f
+IsOperand scope (tree.Text characters) (program.Value f) = ⊥
+IsOperand scope (tree.Value e) (program.Text text) = ⊥
 
-abbrev pub AreOperands : ℕ → List ℕ → List tree.Operand → List program.Operand → Type 0
-AreOperands newtype scope [] [] = Unit {0}
-AreOperands newtype scope [] (p ∷ ps) = ⊥
-AreOperands newtype scope (t ∷ ts) [] = ⊥
-AreOperands newtype scope (t ∷ ts) (p ∷ ps) = IsOperand newtype scope t p × AreOperands newtype scope ts ps
+abbrev pub AreOperands : List ℕ → List tree.Operand → List program.Operand → Type 0
+AreOperands scope [] [] = Unit {0}
+AreOperands scope [] (p ∷ ps) = ⊥
+AreOperands scope (t ∷ ts) [] = ⊥
+AreOperands scope (t ∷ ts) (p ∷ ps) = IsOperand scope t p × AreOperands scope ts ps
 
 -- A local's type is the newtype, its name is new in the body, and it can be used after its value.
 abbrev pub AreStmts : ℕ → List ℕ → List tree.Stmt → List program.Stmt → Type 0
@@ -87,16 +88,18 @@ AreStmts newtype scope [] [] = Unit {0}
 AreStmts newtype scope [] (p ∷ ps) = ⊥
 AreStmts newtype scope (t ∷ ts) [] = ⊥
 AreStmts newtype scope (tree.Var local ty value ∷ ts) (program.Var typ e ∷ ps) =
-    (ty.name ≡ newtype) × (typ ≡ types.Newtype newtype) × IsExpr newtype scope value e
+    (ty.name ≡ newtype) × (typ ≡ types.Newtype 0) × IsExpr scope value e
     × ¬ Contains scope local.name × AreStmts newtype (scope ++ local.name ∷ []) ts ps
 AreStmts newtype scope (tree.Print operands ∷ ts) (program.Print others ∷ ps) =
-    AreOperands newtype scope operands others × AreStmts newtype scope ts ps
+    AreOperands scope operands others × AreStmts newtype scope ts ps
 AreStmts newtype scope (tree.Var local ty value ∷ ts) (program.Print others ∷ ps) = ⊥
 AreStmts newtype scope (tree.Print operands ∷ ts) (program.Var typ e ∷ ps) = ⊥
 
 -- The tree elaborates to the program: the method is Main, and no name is declared twice.
 pub record Elaborates (names : List (List ℕ)) (tree : tree.Tree) (program : program.Program) : Type 0 where
-  pub newtype : IsNewtype names tree.newtype program.newtype
+  pub newtype : Newtype
+  pub newtypes : program.newtypes ≡ newtype ∷ []
+  pub is_newtype : IsNewtype names tree.newtype newtype
   pub method : slice_get names tree.method.name ≡ Some (codes "Main")
   pub name : program.main.name ≡ tree.method.name
   pub text : program.main.text ≡ codes "Main"

@@ -5,7 +5,7 @@ ghost use Rattle.df_base.specs.Outside.{Appends, AppendsPrefix, HasCause};
 ghost use Rattle.df_base.specs.declared.pos.Pos.{Pos};
 ghost use Rattle.df_types.specs.Program.{stmt_of};
 ghost use Rattle.df_types.specs.Typing.{are_well_typed};
-ghost use Rattle.df_types.specs.View.{newtype_of, program_of};
+ghost use Rattle.df_types.specs.View.{newtypes_of, program_of};
 ghost use Rattle.df_meaning.specs.declared.kind.Kind.{Kind};
 ghost use Rattle.df_meaning.specs.Outcome.{State, Next};
 ghost use Rattle.df_meaning.specs.Outcome as outcomes;
@@ -39,41 +39,41 @@ pub(crate) enum Ran {
 
 /// Executes a statement.
 fn execute<S: Sink>(
-    newtype: &Newtype,
+    newtypes: &[Newtype],
     locals: &mut Vec<i128>,
     stmt: &Stmt,
     sink: &mut S,
 ) -> Result<(), Halt>
-    requires { are_well_typed newtype.now.declared.name (length locals.old.items) (stmt_of stmt.now ∷ []) ≡ true }
-    ensures does { Does result locals.new.items (S.taken sink.old) (S.taken sink.new) (execution.execute 0 (newtype_of newtype.now) (state_at locals.old.items) (stmt_of stmt.now)) }
+    requires { are_well_typed (length newtypes.now) (length locals.old.items) (stmt_of stmt.now ∷ []) ≡ true }
+    ensures does { Does result locals.new.items (S.taken sink.old) (S.taken sink.new) (execution.execute 0 (newtypes_of newtypes.now) (state_at locals.old.items) (stmt_of stmt.now)) }
     ensures counted { OnOk result (length locals.new.items ≡ count_after (length locals.old.items) (stmt_of stmt.now)) }
     ensures cause { HasCause (S.fault_count sink.old) (S.fault_count sink.new) (result ≡ Err Halt.Write) }
     ensures stays { S.takes_memory sink.new ≡ S.takes_memory sink.old }
 {
     match stmt {
         Stmt::Var { value, .. } => {
-            let number = evaluate(newtype, locals.as_slice(), value)?;
+            let number = evaluate(newtypes, locals.as_slice(), value)?;
             locals.push(number)?;
             Ok(())
         }
-        Stmt::Print(operands) => print_all(newtype, locals.as_slice(), operands.as_slice(), sink),
+        Stmt::Print(operands) => print_all(newtypes, locals.as_slice(), operands.as_slice(), sink),
     }
 }
 
 /// Executes statements in order.
 fn execute_all<S: Sink>(
-    newtype: &Newtype,
+    newtypes: &[Newtype],
     locals: &mut Vec<i128>,
     stmts: &[Stmt],
     sink: &mut S,
 ) -> Result<(), Halt>
-    requires { are_well_typed newtype.now.declared.name (length locals.old.items) (map stmt_of stmts.now) ≡ true }
-    ensures does { Does result locals.new.items (S.taken sink.old) (S.taken sink.new) (execution.execute_all 0 (newtype_of newtype.now) (state_at locals.old.items) (map stmt_of stmts.now)) }
+    requires { are_well_typed (length newtypes.now) (length locals.old.items) (map stmt_of stmts.now) ≡ true }
+    ensures does { Does result locals.new.items (S.taken sink.old) (S.taken sink.new) (execution.execute_all 0 (newtypes_of newtypes.now) (state_at locals.old.items) (map stmt_of stmts.now)) }
     ensures cause { HasCause (S.fault_count sink.old) (S.fault_count sink.new) (result ≡ Err Halt.Write) }
     ensures stays { S.takes_memory sink.new ≡ S.takes_memory sink.old }
 {
     for stmt in stmts {
-        execute(newtype, locals, stmt, sink)?;
+        execute(newtypes, locals, stmt, sink)?;
     }
     Ok(())
 }
@@ -90,7 +90,7 @@ pub(crate) fn run<S: Sink>(alloc: Global, program: &Program, sink: &mut S) -> Ra
 {
     let mut locals = Vec::new(alloc);
     let body = program.main.body.as_slice();
-    match execute_all(&program.newtype, &mut locals, body, sink) {
+    match execute_all(&program.newtypes, &mut locals, body, sink) {
         Ok(()) => Ran::Ended,
         Err(Halt::Wrong(place, kind)) => Ran::Wrong(place, kind),
         Err(Halt::Write) => Ran::Write,

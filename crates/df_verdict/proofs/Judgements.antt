@@ -74,18 +74,18 @@ have_sequents (o ∷ os) = (o.sequent.is_sequent, have_sequents os)
 -- the one outcome
 pub is_judged : (program : Program) (steps : ℕ) (all : List declared.Obligation) (outcome : declared_outcome.Outcome) (items : List declared_outcome.Outcome)
     → (AreValid all → IsModularlySafe program)
-    → AllByRecursion IsOwed (map obligation_of all)
-    → AllByRecursion (λ (o : Obligation). o.sequent.program ≡ program) (map obligation_of all)
+    → AllByRecursion (IsOwed program) (map obligation_of all)
+    → AllByRecursion (λ (o : Obligation). o.sequent.newtypes ≡ program.newtypes) (map obligation_of all)
     → Judges steps (map obligation_of all) (map failure_of outcome.failures.items)
     → string_bytes outcome.name ≡ program.main.text
     → items ≡ outcome ∷ []
     → IsJudged program steps (map outcome_of items)
-is_judged program steps all outcome items safe owed of_program judges name is = record {
+is_judged program steps all outcome items safe owed newtypes judges name is = record {
   all = map obligation_of all;
   safe = safe;
   owed = owed;
   sequents = have_sequents all;
-  of_program = of_program;
+  newtypes = newtypes;
   failures = map failure_of outcome.failures.items;
   judges = judges;
   main = ap (map outcome_of) is ∙ (λ i. record { name = name i; failures = map failure_of outcome.failures.items } ∷ []);

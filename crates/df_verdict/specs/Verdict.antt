@@ -49,9 +49,9 @@ pub data Judges (steps : ℕ) : List Obligation → List Failure → Type 0 wher
 pub record IsJudged (program : Program) (steps : ℕ) (outcomes : List Outcome) : Type 0 where
   pub all : List Obligation
   pub safe : AllByRecursion (λ (o : Obligation). IsValid o.sequent) all → IsModularlySafe program
-  pub owed : AllByRecursion IsOwed all
+  pub owed : AllByRecursion (IsOwed program) all
   pub sequents : AllByRecursion (λ (o : Obligation). IsSequent o.sequent) all
-  pub of_program : AllByRecursion (λ (o : Obligation). o.sequent.program ≡ program) all
+  pub newtypes : AllByRecursion (λ (o : Obligation). o.sequent.newtypes ≡ program.newtypes) all
   pub failures : List Failure
   pub judges : Judges steps all failures
   pub main : outcomes ≡ record { name = program.main.text; failures = failures } ∷ []

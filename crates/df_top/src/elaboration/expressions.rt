@@ -70,16 +70,15 @@ fn pluses(
 #[tactic(auto, unfolding(crate::specs::Elaborating::expr_of))]
 pub fn expression(
     alloc: Global,
-    newtype: Name,
     scope: &IndexSet<Name>,
     sum: &tree::TreeExpr,
 ) -> Result<typed::Expr, Stop>
-    ensures { Gives typed_specs.expr_of result (expr_of newtype scope.now.keys (tree_specs.expr_of sum.now)) }
+    ensures { Gives typed_specs.expr_of result (expr_of scope.now.keys (tree_specs.expr_of sum.now)) }
 {
     let first = member(scope, &sum.first)?;
     let rest = pluses(alloc, scope, &sum.rest)?;
     Ok(typed::Expr {
-        ty: typed::Ty::Newtype(newtype),
+        ty: typed::Ty::Newtype(0),
         first,
         rest,
     })
@@ -88,11 +87,10 @@ pub fn expression(
 #[tactic(auto, unfolding(crate::specs::Elaborating::operand_of))]
 fn operand(
     alloc: Global,
-    newtype: Name,
     scope: &IndexSet<Name>,
     operand: &tree::Operand,
 ) -> Result<typed::Operand, Stop>
-    ensures { Gives typed_specs.operand_of result (operand_of newtype scope.now.keys (tree_specs.operand_of operand.now)) }
+    ensures { Gives typed_specs.operand_of result (operand_of scope.now.keys (tree_specs.operand_of operand.now)) }
 {
     match operand {
         tree::Operand::Text(characters) => {
@@ -100,7 +98,7 @@ fn operand(
             Ok(typed::Operand::Text(characters))
         }
         tree::Operand::Value(sum) => {
-            let value = expression(alloc, newtype, scope, sum)?;
+            let value = expression(alloc, scope, sum)?;
             Ok(typed::Operand::Value(value))
         }
     }
@@ -109,15 +107,14 @@ fn operand(
 /// What a statement prints.
 pub fn operands(
     alloc: Global,
-    newtype: Name,
     scope: &IndexSet<Name>,
     all: &[tree::Operand],
 ) -> Result<Vec<typed::Operand>, Stop>
-    ensures { Gives (λ v. map typed_specs.operand_of v.items) result (operands_of newtype scope.now.keys (map tree_specs.operand_of all.now)) }
+    ensures { Gives (λ v. map typed_specs.operand_of v.items) result (operands_of scope.now.keys (map tree_specs.operand_of all.now)) }
 {
     let mut operands = Vec::new(alloc);
     for each in all {
-        let typed = operand(alloc, newtype, scope, each)?;
+        let typed = operand(alloc, scope, each)?;
         operands.push(typed)?;
     }
     Ok(operands)

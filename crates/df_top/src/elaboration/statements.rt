@@ -35,15 +35,15 @@ fn statement(
             if scope.contains(&local.name) {
                 return Err(refused(Code::Twice, local.pos, Detail::Word(local.name)));
             }
-            let value = expression(alloc, newtype, scope, value)?;
+            let value = expression(alloc, scope, value)?;
             scope.insert(local.name)?;
             Ok(typed::Stmt::Var {
-                ty: typed::Ty::Newtype(newtype),
+                ty: typed::Ty::Newtype(0),
                 value,
             })
         }
         tree::Stmt::Print(all) => {
-            let all = operands(alloc, newtype, scope, all)?;
+            let all = operands(alloc, scope, all)?;
             Ok(typed::Stmt::Print(all))
         }
     }
@@ -70,7 +70,8 @@ fn whole(alloc: Global, tree: &tree::SourceTree, names: &Names) -> Result<typed:
     ensures { Gives typed_view.program_of result (program_of names.now (tree_specs.tree_of tree.now)) }
 {
     let name = tree.newtype.name.name;
-    let newtype = newtype(alloc, names, &tree.newtype)?;
+    let mut newtypes = Vec::new(alloc);
+    newtypes.push(newtype(alloc, names, &tree.newtype)?)?;
     if tree.method.name == name {
         return Err(refused(Code::Twice, tree.method.pos, Detail::Word(name)));
     }
@@ -79,7 +80,7 @@ fn whole(alloc: Global, tree: &tree::SourceTree, names: &Names) -> Result<typed:
     }
     let body = statements(alloc, name, &tree.body)?;
     let declared = declared(alloc, names, tree.method.name)?;
-    Ok(typed::Program::new(newtype, typed::Method { declared, body }))
+    Ok(typed::Program::new(newtypes, typed::Method { declared, body }))
 }
 
 /// The program that the tree elaborates to. It asks for names that hold those of the declarations. It is

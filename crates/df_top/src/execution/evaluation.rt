@@ -1,22 +1,33 @@
 //! Values of expressions.
 
-ghost use Rattle.std.specs.Prelude.{◌≡◌, ◌+ℤ◌, length, true};
+ghost use Rattle.std.specs.Prelude.{◌≡◌, ◌&&◌, ◌+ℤ◌, ℤ, int_le, length, true};
 ghost use Rattle.df_types.specs.Program.{expr_of};
-ghost use Rattle.df_types.specs.Typing.{is_declared, is_expr};
-ghost use Rattle.df_types.specs.View.{newtype_of};
+ghost use Rattle.df_types.specs.Typing.{is_type, is_declared, is_expr};
+ghost use Rattle.df_types.specs.View.{newtypes_of};
 ghost use Rattle.df_meaning.specs.Evaluation as meaning;
 ghost use Rattle.df_top.specs.Running.{state_at, evaluated};
 
 use super::halt::Broken;
 use df_base::Pos;
 use df_meaning::Kind;
-use df_types::{Expr, Member, Newtype};
+use df_types::{Expr, Interval, Member, Newtype, Ty};
 
-/// The number, if it lies in the newtype's interval.
-fn in_range(newtype: &Newtype, place: Pos, number: i128) -> Result<i128, Broken>
-    ensures { evaluated result ≡ meaning.in_range (newtype_of newtype.now) place number }
+/// The interval of a type.
+fn interval(newtypes: &[Newtype], ty: Ty) -> Interval
+    requires { is_type (length newtypes.now) ty ≡ true }
+    ensures { (number : ℤ) → meaning.is_of (newtypes_of newtypes.now) ty number ≡ (int_le result.low number && int_le number result.high) }
 {
-    if newtype.interval.holds(number) {
+    match ty {
+        Ty::Newtype(index) => newtypes[index].interval,
+    }
+}
+
+/// The number, if it is a value of the type.
+fn in_range(newtypes: &[Newtype], ty: Ty, place: Pos, number: i128) -> Result<i128, Broken>
+    requires { is_type (length newtypes.now) ty ≡ true }
+    ensures { evaluated result ≡ meaning.in_range (newtypes_of newtypes.now) ty place number }
+{
+    if interval(newtypes, ty).holds(number) {
         Ok(number)
     } else {
         Err(Broken {
@@ -26,15 +37,17 @@ fn in_range(newtype: &Newtype, place: Pos, number: i128) -> Result<i128, Broken>
     }
 }
 
-/// The sum of two numbers, if it lies in the newtype's interval.
-fn add(newtype: &Newtype, place: Pos, left: i128, right: i128) -> Result<i128, Broken>
-    ensures { evaluated result ≡ meaning.in_range (newtype_of newtype.now) place (left +ℤ right) }
+/// The sum of two numbers, if it is a value of the type.
+fn add(newtypes: &[Newtype], ty: Ty, place: Pos, left: i128, right: i128) -> Result<i128, Broken>
+    requires { is_type (length newtypes.now) ty ≡ true }
+    ensures { evaluated result ≡ meaning.in_range (newtypes_of newtypes.now) ty place (left +ℤ right) }
 {
     // The ends fit i128, so a sum that does not lies outside them.
-    let _low = newtype.interval.low;
-    let _high = newtype.interval.high;
+    let interval = interval(newtypes, ty);
+    let _low = interval.low;
+    let _high = interval.high;
     match left.checked_add(right) {
-        Some(sum) => in_range(newtype, place, sum),
+        Some(sum) => in_range(newtypes, ty, place, sum),
         None => Err(Broken {
             place,
             kind: Kind::Range,
@@ -43,25 +56,31 @@ fn add(newtype: &Newtype, place: Pos, left: i128, right: i128) -> Result<i128, B
 }
 
 /// The value of a member of a sum.
-fn evaluate_member(newtype: &Newtype, locals: &[i128], member: &Member) -> Result<i128, Broken>
-    requires { is_declared (length locals.now) member.now ≡ true }
-    ensures { evaluated result ≡ meaning.evaluate_member 0 (newtype_of newtype.now) (state_at locals.now) member.now }
+fn evaluate_member(
+    newtypes: &[Newtype],
+    ty: Ty,
+    locals: &[i128],
+    member: &Member,
+) -> Result<i128, Broken>
+    requires ty { is_type (length newtypes.now) ty ≡ true }
+    requires locals { is_declared (length locals.now) member.now ≡ true }
+    ensures { evaluated result ≡ meaning.evaluate_member 0 (newtypes_of newtypes.now) ty (state_at locals.now) member.now }
 {
     match member {
-        Member::Number { value, pos } => in_range(newtype, *pos, *value),
+        Member::Number { value, pos } => in_range(newtypes, ty, *pos, *value),
         Member::Local { local, .. } => Ok(locals[*local]),
     }
 }
 
 /// The value of an expression: its members added from left to right.
-pub(super) fn evaluate(newtype: &Newtype, locals: &[i128], expr: &Expr) -> Result<i128, Broken>
-    requires { is_expr newtype.now.declared.name (length locals.now) (expr_of expr.now) ≡ true }
-    ensures { evaluated result ≡ meaning.evaluate 0 (newtype_of newtype.now) (state_at locals.now) (expr_of expr.now) }
+pub(super) fn evaluate(newtypes: &[Newtype], locals: &[i128], expr: &Expr) -> Result<i128, Broken>
+    requires { is_expr (length newtypes.now) (length locals.now) (expr_of expr.now) ≡ true }
+    ensures { evaluated result ≡ meaning.evaluate 0 (newtypes_of newtypes.now) (state_at locals.now) (expr_of expr.now) }
 {
-    let mut sum = evaluate_member(newtype, locals, &expr.first)?;
+    let mut sum = evaluate_member(newtypes, expr.ty, locals, &expr.first)?;
     for plus in &expr.rest {
-        let right = evaluate_member(newtype, locals, &plus.member)?;
-        sum = add(newtype, plus.pos, sum, right)?;
+        let right = evaluate_member(newtypes, expr.ty, locals, &plus.member)?;
+        sum = add(newtypes, expr.ty, plus.pos, sum, right)?;
     }
     Ok(sum)
 }

@@ -14,7 +14,7 @@ loop-plus-init c =
       valued = next.valued;
       count = next.counted;
       stack = c.in_ok-member.ensures.stack;
-      program = c.member.ensures.program;
+      newtypes = c.member.ensures.newtypes;
       items = c.deref-plus-items.ensures.value;
     }
 
@@ -26,10 +26,10 @@ loop-plus-preserved c =
     let there = next_declared _ _ (expr_of c.args.expr.now) c.deref-plus-items.result.now c.loop-plus.plus-index _ c.requires.locals c.loop-plus.invariant.count c.loop-plus.invariant.items c.loop-plus-test.true in
     let next = next_plus (passing c.loop-plus.self) c.args.expr.now.ty (passed_of c.loop-plus.self) (passed_of c.plus.new.self) _ c.loop-plus.invariant.valued there c.in_ok-plus.ensures.passed in
     record {
-      passed = folds _ _ _ _ _ _ c.deref-plus-items.result.now c.loop-plus.plus-index _ c.loop-plus.invariant.program c.loop-plus.invariant.passed c.in_ok-plus.ensures.passed c.loop-plus-test.true;
+      passed = folds _ _ _ _ _ _ c.deref-plus-items.result.now c.loop-plus.plus-index _ c.loop-plus.invariant.newtypes c.loop-plus.invariant.passed c.in_ok-plus.ensures.passed c.loop-plus-test.true;
       valued = next.valued;
       count = next.counted ∙ c.loop-plus.invariant.count;
       stack = c.in_ok-plus.ensures.stack;
-      program = c.plus.ensures.program ∙ c.loop-plus.invariant.program;
+      newtypes = c.plus.ensures.newtypes ∙ c.loop-plus.invariant.newtypes;
       items = c.loop-plus.invariant.items;
     }

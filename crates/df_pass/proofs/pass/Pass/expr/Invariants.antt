@@ -9,6 +9,6 @@ invariant-loop-plus l = record {
   valued : IsValued (passed_of l.self);
   count : length l.self.locals.items ≡ length l.fn.self.locals.items;
   stack : l.self.draft.stack.items ≡ [];
-  program : passing l.self ≡ passing l.fn.self;
+  newtypes : passing l.self ≡ passing l.fn.self;
   items : l.plus-items ≡ l.expr.rest.items;
 }

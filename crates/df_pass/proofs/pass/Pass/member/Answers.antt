@@ -11,4 +11,4 @@ handed v = to_z w128 (of_z w128 v)
 pub returns-in_ok-apply-in-Number-clause-passed : goal.returns-in_ok-apply-in-Number-clause-passed
 returns-in_ok-apply-in-Number-clause-passed c =
     let same : handed c.in-Number.value ≡ c.in-Number.value = search (rules, to_z-of_z) in
-    number_passed _ _ _ (passed_of c.args.self.now) _ _ _ _ c.in-Number.value _ _ _ c.in-Number.is c.requires.stack c.apply.ensures.program c.in_ok-apply-in-Number.ensures.passed c.demand.ensures.passed same
+    number_passed _ _ _ (passed_of c.args.self.now) _ _ _ _ c.in-Number.value _ _ _ c.in-Number.is c.requires.stack c.apply.ensures.newtypes c.in_ok-apply-in-Number.ensures.passed c.demand.ensures.passed same

@@ -11,4 +11,4 @@ pub apply-requires-clause-takes : goal.apply-requires-clause-takes
 apply-requires-clause-takes c = takes_members _ _ _ _ c.in_ok-member.ensures.stack (members_are_numbers (passing c.args.self.now) c.args.ty (passed_of c.args.self.now) (passed_of c.member.new.self) c.args.plus.now.member c.in_ok-member.ensures.passed c.requires.valued c.requires.locals)
 
 pub returns-clause-passed : goal.returns-clause-passed
-returns-clause-passed c = plus_passed _ _ _ (passed_of c.member.new.self) (passed_of c.args.self.now) _ (passing c.args.self.now) c.args.ty c.args.plus.now _ c.in_ok-member.ensures.stack (c.apply.ensures.program ∙ c.member.ensures.program) c.in_ok-member.ensures.passed c.in_ok-apply.ensures.passed c.demand.ensures.passed
+returns-clause-passed c = plus_passed _ _ _ (passed_of c.member.new.self) (passed_of c.args.self.now) _ (passing c.args.self.now) c.args.ty c.args.plus.now _ c.in_ok-member.ensures.stack (c.apply.ensures.newtypes ∙ c.member.ensures.newtypes) c.in_ok-member.ensures.passed c.in_ok-apply.ensures.passed c.demand.ensures.passed

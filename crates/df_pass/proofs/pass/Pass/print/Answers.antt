@@ -11,14 +11,14 @@ operand-requires-clause-locals c = next_uses operand_of _ _ c.args.operands.now 
 
 pub loop-operand-preserved : goal.loop-operand-preserved
 loop-operand-preserved c =
-    let same = c.loop-operand.invariant.program in
-    let step = c.in_ok-operand.ensures.passed ∙ ap (λ program. passed_operand program (passed_of c.loop-operand.self) (operand_of c.operand-item.result)) same in
+    let same = c.loop-operand.invariant.newtypes in
+    let step = c.in_ok-operand.ensures.passed ∙ ap (λ newtypes. passed_operand newtypes (passed_of c.loop-operand.self) (operand_of c.operand-item.result)) same in
     record {
       passed = folds_next (passed_operand (passing c.args.self.now)) operand_of (passed_of c.args.self.now) (passed_of c.loop-operand.self) (passed_of c.operand.new.self) c.args.operands.now c.loop-operand.operand-index c.operand-item.result c.loop-operand.invariant.passed step c.operand-item.is c.loop-operand-test.true;
       numbers = c.in_ok-operand.ensures.numbers;
       count = c.in_ok-operand.ensures.count ∙ c.loop-operand.invariant.count;
       stack = c.in_ok-operand.ensures.stack;
-      program = c.operand.ensures.program ∙ same;
+      newtypes = c.operand.ensures.newtypes ∙ same;
     }
 
 pub returns-clause-passed : goal.returns-clause-passed

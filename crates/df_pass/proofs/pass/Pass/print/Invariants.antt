@@ -10,5 +10,5 @@ invariant-loop-operand l = record {
   numbers : are_numbers l.self.draft.nodes l.self.locals.items ≡ true;
   count : length l.self.locals.items ≡ length l.fn.self.locals.items;
   stack : l.self.draft.stack.items ≡ [];
-  program : passing l.self ≡ passing l.fn.self;
+  newtypes : passing l.self ≡ passing l.fn.self;
 }

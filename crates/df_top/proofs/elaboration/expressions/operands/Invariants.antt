@@ -7,4 +7,4 @@ use Rattle.df_top.proofs.elaboration.expressions.operands.Given as goal
 
 abbrev pub invariant-loop-each : goal.invariant-loop-each
 invariant-loop-each l =
-    with_front (map typed_specs.operand_of l.operands.items) (found_from (operand_of l.newtype l.scope.keys) tree_specs.operand_of l.all l.each-index) ≡ operands_of l.newtype l.scope.keys (map tree_specs.operand_of l.all)
+    with_front (map typed_specs.operand_of l.operands.items) (found_from (operand_of l.scope.keys) tree_specs.operand_of l.all l.each-index) ≡ operands_of l.scope.keys (map tree_specs.operand_of l.all)
