@@ -34,7 +34,7 @@ fn earlier(first: Option<Read>, read: Read) -> Option<Read>
 }
 
 /// Whether the local of this number has a value; one that is not listed has.
-pub(crate) fn has_value(assigned: &[bool], local: usize) -> bool
+fn has_value(assigned: &[bool], local: usize) -> bool
     ensures { result ≡ has_value assigned.now local }
 {
     local >= assigned.len() || assigned[local]
@@ -51,13 +51,11 @@ pub(crate) fn first_read(assigned: &[bool], first: Option<Read>, expr: &Expr) ->
             if has_value(assigned, *local) {
                 return first;
             }
-            earlier(
-                first,
-                Read {
-                    local: *local,
-                    pos: *pos,
-                },
-            )
+            let read = Read {
+                local: *local,
+                pos: *pos,
+            };
+            earlier(first, read)
         }
         Expr::Negate { operand, .. } => first_read(assigned, first, operand),
         Expr::Not(operand) => first_read(assigned, first, operand),
@@ -80,7 +78,7 @@ pub(crate) fn first_read(assigned: &[bool], first: Option<Read>, expr: &Expr) ->
     }
 }
 
-/// The same of the operands that follow a first one.
+/// The first read of a local without a value: one that was found, or one of the operands.
 #[cycle(reads)]
 fn first_of_operations(
     assigned: &[bool],
@@ -96,7 +94,7 @@ fn first_of_operations(
     first
 }
 
-/// The same of the operands of comparisons.
+/// The first read of a local without a value: one that was found, or one of the members of a chain.
 #[cycle(reads)]
 fn first_of_links(assigned: &[bool], first: Option<Read>, links: &Vec<Link>) -> Option<Read>
     ensures { result ≡ pure.least first (missing assigned.now (link_reads (links_in links.now.items))) }
