@@ -83,9 +83,9 @@ abbrev mutual
   evaluate_members depth newtypes state ty v end = Known v
   evaluate_members depth newtypes state ty v (more operator place operand rest) =
       unless (decided operator v)
-        (with_value (evaluate depth newtypes state operand) (λ w.
-        with_value (combined newtypes operator ty place v w) (λ u.
-        evaluate_members depth newtypes state ty u rest)))
+      (with_value (evaluate depth newtypes state operand) (λ w.
+      with_value (combined newtypes operator ty place v w) (λ u.
+      evaluate_members depth newtypes state ty u rest)))
 
   -- the comparisons after a value: each member is evaluated once, and the first false one ends the chain
   pub evaluate_links : ℕ → List Newtype → State → Value → Links → Evaluated

@@ -2,3 +2,6 @@ pub mod Evaluation
 pub mod Execution
 pub mod Modular
 pub mod Whole
+pub mod Typed
+pub mod Reaching
+pub mod Text

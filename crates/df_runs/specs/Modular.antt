@@ -1,5 +1,5 @@
 -- Modular runs of a method, whose arguments are handed in, and modular safety.
-use Rattle.std.specs.Prelude.{◌≡◌, ℕ, pos, true, Bool, List, [], ◌∷◌, ◌++◌, map, Contains, if◌then◌else◌}
+use Rattle.std.specs.Prelude.{◌≡◌, ℕ, pos, true, List, [], ◌∷◌, ◌++◌, map, Contains, if◌then◌else◌}
 use Rattle.df_base.specs.declared.pos.Pos.{Pos}
 use Rattle.df_types.specs.Program.{Newtype}
 use Rattle.df_program.specs.declared.expr.Ty.{Ty}
@@ -7,7 +7,7 @@ use Rattle.df_program.specs.declared.expr.Ty.TheVariants as types
 use Rattle.df_program.specs.Program.{Place, Clause, Method, Program}
 use Rattle.df_meaning.specs.declared.kind.Kind.{Kind}
 use Rattle.df_meaning.specs.declared.kind.Kind.TheVariants as kinds
-use Rattle.df_meaning.specs.Value.{Value, Truth, Number, Text, truth_of}
+use Rattle.df_meaning.specs.Value.{Value, Truth, Number, truth_of}
 use Rattle.df_meaning.specs.Outcome.{State, Evaluated, Known, Undefined, OutOfDepth, Outcome}
 use Rattle.df_meaning.specs.Outcome as outcomes
 use Rattle.df_runs.specs.Evaluation.{is_in, evaluate}
@@ -60,8 +60,8 @@ begin method arguments = record { locals = arguments ++ map (λ (place : Place).
 abbrev pub modular_run : ℕ → List Newtype → Method → List Value → Run
 modular_run depth newtypes method arguments =
     require depth newtypes (begin method arguments) method.preconditions
-      (after_body (execute_all depth newtypes (begin method arguments) method.body) (λ state.
-      ensure depth newtypes state method.postconditions))
+    (after_body (execute_all depth newtypes (begin method arguments) method.body) (λ state.
+    ensure depth newtypes state method.postconditions))
 
 -- the value is of the type
 abbrev pub HasType : List Newtype → Ty → Value → Type 0

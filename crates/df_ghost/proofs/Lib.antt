@@ -1,0 +1,10 @@
+mod Lists
+mod Least
+mod Steps
+mod Lengths
+mod Places
+mod Firsts
+mod Lefts
+mod Low
+mod Methods
+mod Programs

@@ -1,0 +1,7 @@
+mod Cases
+mod Depth
+mod Reaching
+mod Types
+mod Typed
+mod Texts
+mod Examples
