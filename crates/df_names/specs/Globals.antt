@@ -1,6 +1,6 @@
 -- What a file declares.
 use Rattle.std.specs.Prelude.{ℕ, Bool, nat_eq, List, [], ◌∷◌}
-use Rattle.std.specs.List.{list_any, flat_map}
+use Rattle.std.specs.List.{list_any}
 use Rattle.df_tree.specs.File.{Declaration, Newtype, Method, File}
 
 -- the names of the newtypes and of the methods, each in the order of their declarations

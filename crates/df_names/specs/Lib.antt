@@ -1,3 +1,4 @@
 pub mod Scope
 pub mod Globals
 pub mod Faults
+pub mod Latest

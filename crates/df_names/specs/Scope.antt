@@ -1,5 +1,5 @@
 -- Scopes of locals: which local a name means.
-use Rattle.std.specs.Prelude.{◌≡◌, ◌≢◌, ℕ, suc, ◌<◌, Bool, ◌==◌, if◌then◌else◌, List, [], ◌∷◌, ◌++◌, Option, Some, None, slice_get}
+use Rattle.std.specs.Prelude.{◌≡◌, ◌≢◌, ℕ, ◌<◌, List, [], ◌∷◌, ◌++◌, Some, slice_get, take, drop}
 
 -- the names of the locals of the scopes around, and of the innermost one, each in the order of their
 -- declarations
@@ -21,6 +21,10 @@ enter scope = record { outer = scope.outer ++ scope.inner; inner = [] }
 -- one more local
 abbrev pub declare : Scope → ℕ → Scope
 declare scope name = record { outer = scope.outer; inner = scope.inner ++ name ∷ [] }
+
+-- The innermost scope ends, and so many locals stand in the scopes around the one before it.
+abbrev pub leave : Scope → ℕ → Scope
+leave scope count = record { outer = take count scope.outer; inner = drop count scope.outer }
 
 -- the name means the local of this number: the last one of all that has it
 pub record IsLocal (names : List ℕ) (name number : ℕ) : Type 0 where

@@ -1,5 +1,6 @@
 //! Names: what each name of a file means, and which have no meaning or two.
 #![tactic(auto)]
 
-/// Nothing yet.
-pub fn nothing() {}
+mod scope;
+
+pub use scope::{Mark, Scope};
