@@ -1,5 +1,5 @@
 -- The last local of a name, and how it changes with the locals.
-use Rattle.std.proofs.Common.{◌≡◌, ◌≢◌, ◌⊎◌, inl, inr, ℕ, zero, suc, ◌+◌, ◌<◌, ◌≤◌, Bool, true, false, not, cond, nat_eq, nat_lt, List, [], ◌∷◌, ◌++◌, length, take, drop, slice_get, Option, Some, None, IfSome, IfNone, refl, sym, ap, ◌∙◌, arith}
+use Rattle.std.proofs.Common.{◌≡◌, ◌≢◌, ◌⊎◌, inl, inr, ℕ, zero, suc, ◌+◌, ◌<◌, ◌≤◌, Bool, true, false, not, cond, nat_eq, nat_lt, List, [], ◌∷◌, ◌++◌, length, take, drop, slice_get, Option, Some, None, is_some, IfSome, IfNone, refl, sym, ap, ◌∙◌, arith}
 use Rattle.std.proofs.lemmas.Bool.{eqb-true}
 use Rattle.std.proofs.lemmas.Bool.Decides.{nat_tests}
 use Rattle.std.proofs.lemmas.List.{append-nil, drop_all, length-append, length-drop, length-take, take-append-le, take-append-drop, map-append, length-map}
@@ -249,3 +249,7 @@ left_as_before before scope same = rw same (λ i. record { outer = take-whole be
     drop-whole : (xs ys : List ℕ) → drop (length xs) (xs ++ ys) ≡ ys
     drop-whole [] ys = refl
     drop-whole (x ∷ xs) ys = drop-whole xs ys
+
+pub among_of : (names : List ℕ) (name : ℕ) (o : Option ℕ) → last_of names name ≡ o → is_some o ≡ is_among names name
+among_of names name None e = sym (none_among names name e)
+among_of names name (Some number) e = sym (some_among names name number e)

@@ -103,11 +103,13 @@ parameter_faults globals scope [] = []
 parameter_faults globals scope (parameter ∷ others) =
     new_faults scope parameter.name ++ (type_faults globals parameter.ty ++ parameter_faults globals (declare scope parameter.name.name) others)
 
+-- none where `returns` is not written
+abbrev pub results_in : Option (List Parameter) → List Parameter
+results_in None = []
+results_in (Some results) = results
+
 abbrev pub results_of : MethodDeclaration → List Parameter
-results_of method = or_none method.results where
-  or_none : Option (List Parameter) → List Parameter
-  or_none None = []
-  or_none (Some results) = results
+results_of method = results_in method.results
 
 abbrev pub scope_of_clause : ClauseKind → Scope → Scope → Scope
 scope_of_clause clauses.Requires parameters both = parameters

@@ -1,6 +1,6 @@
 //! Scopes of locals: which local a name means.
 
-ghost use Rattle.std.specs.Prelude.{◌≡◌, ◌+◌, ◌<◌, ◌≤◌, false, not, length, IfSome, IfNone, IfOk, OnOk, OnErr};
+ghost use Rattle.std.specs.Prelude.{◌≡◌, ◌+◌, ◌<◌, ◌≤◌, false, not, length, is_some, IfSome, IfNone, IfOk, OnOk, OnErr};
 ghost use Rattle.df_names.specs.Scope.{no_locals, all_locals, enter, declare, leave, IsLocal};
 ghost use Rattle.df_names.specs.Globals.{is_among};
 ghost use Rattle.df_names.specs.Latest.{last_of};
@@ -63,9 +63,17 @@ impl Scope {
     pub fn find(&self, name: Name) -> Option<usize>
         ensures number { result ≡ last_of (all_locals self.now) name }
         ensures local { IfSome result (λ number. IsLocal (all_locals self.now) name number) }
+        ensures among { is_some result ≡ is_among (all_locals self.now) name }
         ensures none { IfNone result (is_among (all_locals self.now) name ≡ false) }
     {
         self.latest.get(&name).copied()
+    }
+
+    /// Whether the name means a local.
+    pub fn has(&self, name: Name) -> bool
+        ensures { result ≡ is_among (all_locals self.now) name }
+    {
+        self.find(name).is_some()
     }
 
     /// Whether the innermost scope has no local of this name.
