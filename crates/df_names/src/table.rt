@@ -1,0 +1,102 @@
+//! What a file declares.
+
+ghost use Rattle.std.specs.Prelude.{◌≡◌, map, nat_eq, position, IfOk, OnOk};
+ghost use Rattle.df_tree.specs.File.{declaration_of, file_of};
+ghost use Rattle.df_names.specs.Globals.{is_among, globals_of};
+ghost use Rattle.df_names.specs.Faults.{file_faults};
+ghost use Rattle.df_names.specs.Listing.{no_globals, with_declaration, with_declarations};
+ghost use Rattle.df_names.specs.Telling.{Tells};
+
+use crate::declarations::declarations;
+use df_base::{Global, Name, Stop};
+use df_tree::{Declaration, File};
+use indexmap::IndexSet;
+use std::alloc::AllocError;
+use std::marker::Model;
+
+/// The newtypes and the methods of a file, by their names. A newtype is known by its number: they
+/// count from 0 in the order of their declarations.
+#[derive(Drop)]
+pub struct Table {
+    newtypes: IndexSet<Name>,
+    methods: IndexSet<Name>,
+}
+
+impl Model for Table {
+    ghost use Rattle.df_names.specs.Globals.{Globals};
+
+    ghost Value = { Globals };
+
+    ghost view = { λ t. record { newtypes = t.newtypes.keys; methods = t.methods.keys } };
+}
+
+impl Table {
+    /// Nothing is declared.
+    fn new(alloc: Global) -> Table
+        ensures { result ≡ no_globals }
+    {
+        Table {
+            newtypes: IndexSet::new(alloc),
+            methods: IndexSet::new(alloc),
+        }
+    }
+
+    /// The newtype of the name.
+    pub fn newtype(&self, name: Name) -> Option<usize>
+        ensures { result ≡ position (nat_eq name) self.now.newtypes }
+    {
+        self.newtypes.get_index_of(&name)
+    }
+
+    /// Whether a newtype has the name.
+    pub fn is_newtype(&self, name: Name) -> bool
+        ensures { result ≡ is_among self.now.newtypes name }
+    {
+        self.newtypes.contains(&name)
+    }
+
+    /// Whether a method has the name.
+    pub fn is_method(&self, name: Name) -> bool
+        ensures { result ≡ is_among self.now.methods name }
+    {
+        self.methods.contains(&name)
+    }
+
+    /// One more declaration.
+    fn add(&mut self, declaration: &Declaration) -> Result<(), AllocError>
+        ensures { OnOk result (self.new ≡ with_declaration self.old (declaration_of declaration.now)) }
+    {
+        match declaration {
+            Declaration::Newtype(newtype) => {
+                self.newtypes.insert(newtype.name.name)?;
+                Ok(())
+            }
+            Declaration::Method(method) => {
+                self.methods.insert(method.name.name)?;
+                Ok(())
+            }
+        }
+    }
+}
+
+/// The names that declarations declare.
+fn names_of(alloc: Global, all: &[Declaration]) -> Result<Table, AllocError>
+    ensures { IfOk result (λ table. table ≡ with_declarations no_globals (map declaration_of all.now)) }
+{
+    let mut table = Table::new(alloc);
+    for declaration in all {
+        table.add(declaration)?;
+    }
+    Ok(table)
+}
+
+/// The newtypes and the methods of a file in which each name has one meaning where it stands. It is
+/// refused for the first name that has none, or that is declared twice in one scope.
+pub fn table_of(alloc: Global, file: &File) -> Result<Table, Stop>
+    ensures table { IfOk result (λ table. table ≡ globals_of (file_of file.now)) }
+    ensures faults { Tells result (file_faults (file_of file.now)) }
+{
+    let table = names_of(alloc, &file.declarations)?;
+    declarations(alloc, &table, &file.declarations)?;
+    Ok(table)
+}

@@ -1,0 +1,4 @@
+pub mod Newtypes
+pub mod Statements
+pub mod Faults
+pub mod Elaboration

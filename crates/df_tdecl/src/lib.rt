@@ -1,0 +1,5 @@
+//! Typing of files.
+#![tactic(auto)]
+
+/// Nothing yet.
+pub fn nothing() {}

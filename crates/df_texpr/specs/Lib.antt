@@ -1,0 +1,4 @@
+pub mod Context
+pub mod Open
+pub mod Elaboration
+pub mod Faults

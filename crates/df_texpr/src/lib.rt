@@ -1,0 +1,5 @@
+//! Typing of expressions.
+#![tactic(auto)]
+
+/// Nothing yet.
+pub fn nothing() {}
