@@ -1,4 +1,0 @@
-pub mod Newtypes
-pub mod Statements
-pub mod Faults
-pub mod Elaboration

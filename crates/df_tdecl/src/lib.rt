@@ -1,5 +1,0 @@
-//! Typing of files.
-#![tactic(auto)]
-
-/// Nothing yet.
-pub fn nothing() {}

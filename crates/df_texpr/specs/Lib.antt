@@ -1,4 +1,0 @@
-pub mod Context
-pub mod Open
-pub mod Elaboration
-pub mod Faults

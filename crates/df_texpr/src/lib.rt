@@ -1,5 +1,0 @@
-//! Typing of expressions.
-#![tactic(auto)]
-
-/// Nothing yet.
-pub fn nothing() {}
