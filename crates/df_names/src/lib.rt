@@ -6,6 +6,8 @@ mod expressions;
 mod scope;
 mod statements;
 mod table;
+#[cfg(test)]
+mod tests;
 
 pub use scope::{Mark, Scope};
 pub use table::{Table, table_of};
