@@ -1,0 +1,10 @@
+pub mod Puts
+pub mod LinkView
+pub mod Tail
+pub mod Filled
+pub mod Emitted
+pub mod Reach
+pub mod ExpressionRuns
+pub mod StatementRuns
+pub mod MethodRuns
+pub mod Whole

@@ -1,0 +1,4 @@
+pub mod Code
+pub mod Emitting
+pub mod Drafts
+pub mod Correct
