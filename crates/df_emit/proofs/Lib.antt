@@ -8,3 +8,4 @@ pub mod ExpressionRuns
 pub mod StatementRuns
 pub mod MethodRuns
 pub mod Whole
+pub mod Examples
