@@ -1,0 +1,11 @@
+use Rattle.std.proofs.Common.{◌≡◌, ◌++◌, map, length}
+use Rattle.std.specs.Vec.Iter.{into_iter_items, into_iter_len}
+use Rattle.df_texpr.specs.Rows.{operation_of}
+use Rattle.df_texpr.proofs.Turning.{operation_from}
+use Rattle.df_texpr.proofs.runs.operations.Given as goal
+
+-- the operations so far, and those of the parts that are left, are those of all
+abbrev pub invariant-loop-part : goal.invariant-loop-part
+invariant-loop-part l =
+    (map operation_of l.operations.items ++ map operation_from (into_iter_items l.part-iterator) ≡ map operation_from (into_iter_items l.initial.part-iterator))
+    × (into_iter_len l.part-iterator ≡ length (into_iter_items l.part-iterator))

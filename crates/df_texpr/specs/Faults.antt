@@ -1,0 +1,100 @@
+-- All typing rules that an expression breaks, each at its node, in the order in which the nodes end in the
+-- text; of two that end together the inner one comes first, and then the lower rule. The first of them is told.
+use Rattle.std.specs.Prelude.{ℕ, Bool, true, false, not, ◌&&◌, ◌||◌, List, [], ◌∷◌, ◌++◌, Option, Some, None, if◌then◌else◌}
+use Rattle.df_base.specs.declared.pos.Pos.{Pos}
+use Rattle.df_base.specs.declared.refusal.Code.TheVariants as codes
+use Rattle.df_base.specs.declared.refusal.Detail.TheVariants as details
+use Rattle.df_base.specs.declared.refusal.Refusal.{Refusal}
+use Rattle.df_program.specs.declared.expr.Ty.{Ty}
+use Rattle.df_program.specs.declared.expr.Ty.TheVariants as types
+use Rattle.df_program.specs.Typing.{same_type}
+use Rattle.df_tree.specs.declared.tree.Ident.{Ident}
+use Rattle.df_tree.specs.declared.expr.BinaryOperator.{BinaryOperator}
+use Rattle.df_tree.specs.declared.expr.UnaryOperator.TheVariants as unary
+use Rattle.df_tree.specs.declared.expr.Group.{Group}
+use Rattle.df_tree.specs.declared.expr.Group.TheVariants as groups
+use Rattle.df_tree.specs.Operator.{group_of}
+use Rattle.df_tree.specs.Expr.{Expr, Number, Truth, Name, Parentheses, Unary, Operations, Leading, Members, end, more}
+use Rattle.df_tree.specs.ExprSpelling.{first_group}
+use Rattle.df_names.specs.Globals.{is_among}
+use Rattle.df_names.specs.Faults.{else_told}
+use Rattle.df_texpr.specs.Context.{Context, names_of}
+use Rattle.df_texpr.specs.Open.{is_literal, is_integer, operand_type, type_in, first_place}
+use Rattle.df_texpr.specs.Elaboration.{orders, keeps_direction, is_junction, is_of_group}
+
+-- a typing rule is broken at a place
+abbrev pub broken : ℕ → Pos → Refusal
+broken rule place = record { code = codes.Typing; pos = place; detail = details.Rule rule }
+
+abbrev pub is_truth : Ty → Bool
+is_truth ty = same_type ty types.Bool
+
+-- E15: what is no local is a method, which does not stand in an expression
+abbrev pub use_faults : Context → Ident → List Refusal
+use_faults context ident = else_told (is_among (names_of context) ident.name) (broken 15 ident.pos)
+
+-- the two are of one integer type
+abbrev pub are_alike : Ty → Ty → Bool
+are_alike left right = is_integer left && is_integer right && same_type left right
+
+-- the operator takes its left and its right operand; that of a run that holds to the right is looked at later
+abbrev pub takes : Option Group → BinaryOperator → Ty → Ty → Bool
+takes (Some groups.Sum) operator left right = are_alike left right
+takes (Some groups.Comparison) operator left right = if orders operator then are_alike left right else same_type left right
+takes (Some groups.Implication) operator left right = true
+takes group operator left right = is_truth left && is_truth right
+
+-- E3 for sums, E4 and E5 for comparisons, E7 for logical operators
+abbrev pub rule_of : Option Group → BinaryOperator → ℕ
+rule_of (Some groups.Sum) operator = 3
+rule_of (Some groups.Comparison) operator = if orders operator then 4 else 5
+rule_of group operator = 7
+
+abbrev pub is_end : Members → Bool
+is_end end = true
+is_end (more operator place operand rest) = false
+
+-- E7 in a run that holds to the right: the last operator is the innermost one, and what stands on the right of the
+-- others is a truth
+abbrev pub implication_faults : Context → Ty → Members → List Refusal
+implication_faults context left end = []
+implication_faults context left (more operator place operand rest) =
+    let right = type_in context None operand in
+    implication_faults context right rest ++ else_told (is_truth left && (is_truth right || not (is_end rest))) (broken 7 place)
+
+-- what is told of a whole run, after its last operand: E6 of a chain
+abbrev pub whole_faults : Context → Option Group → Ty → Members → List Refusal
+whole_faults context (Some groups.Comparison) left rest = else_told (keeps_direction rest) (broken 6 (first_place rest))
+whole_faults context (Some groups.Implication) left rest = implication_faults context left rest
+whole_faults context None left rest = broken 7 (first_place rest) ∷ []
+whole_faults context group left rest = []
+
+abbrev mutual
+  pub expr_faults : Context → Option Ty → Expr → List Refusal
+  expr_faults context expected (Number literal) = else_told (is_literal literal) (record { code = codes.Number; pos = literal.pos; detail = details.Nothing })
+  expr_faults context expected (Truth value place) = []
+  expr_faults context expected (Name ident) = use_faults context ident
+  expr_faults context expected (Parentheses place inner) = expr_faults context expected inner
+  expr_faults context expected (Unary unary.Negate place operand) =
+      expr_faults context expected operand ++ else_told (is_integer (type_in context expected operand)) (broken 3 place)
+  expr_faults context expected (Unary unary.Not place operand) =
+      expr_faults context None operand ++ else_told (is_truth (type_in context None operand)) (broken 7 place)
+  expr_faults context expected (Operations first rest) =
+      let group = first_group rest in
+      let own = operand_type context expected group first rest in
+      expr_faults context own first
+      ++ (member_faults context own group (type_in context own first) rest ++ whole_faults context group (type_in context own first) rest)
+  expr_faults context expected (Leading end) = broken 7 (first_place end) ∷ []
+  expr_faults context expected (Leading (more operator place operand rest)) =
+      expr_faults context None operand
+      ++ (else_told (is_junction operator && is_truth (type_in context None operand)) (broken 7 place)
+      ++ member_faults context None (Some (group_of operator)) types.Bool rest)
+
+  -- each operand, and then its operator with what stands on the left
+  pub member_faults : Context → Option Ty → Option Group → Ty → Members → List Refusal
+  member_faults context own group left end = []
+  member_faults context own group left (more operator place operand rest) =
+      let right = type_in context own operand in
+      expr_faults context own operand
+      ++ (else_told (is_of_group group operator && takes group operator left right) (broken (rule_of group operator) place)
+      ++ member_faults context own group right rest)

@@ -1,0 +1,11 @@
+pub mod Context
+pub mod Open
+pub mod Elaboration
+pub mod Faults
+pub mod Elaborating
+pub mod WellTyped
+pub mod Laws
+pub mod Locals
+pub mod Shown
+pub mod Rows
+pub mod Gives
