@@ -1,0 +1,15 @@
+pub mod Lists
+pub mod Growing
+pub mod Coding
+pub mod Keeping
+pub mod Walking
+pub mod Assigning
+pub mod Steps
+pub mod Telling
+pub mod Doing
+pub mod Demands
+pub mod Operating
+pub mod Closing
+pub mod Expressions
+pub mod Arithmetic
+pub mod Passing
