@@ -1,0 +1,6 @@
+pub mod Passing
+pub mod Obligation
+pub mod State
+pub mod Values
+pub mod Ways
+pub mod Laws
