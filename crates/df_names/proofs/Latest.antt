@@ -1,6 +1,6 @@
 -- The last local of a name, and how it changes with the locals.
 use Rattle.std.proofs.Common.{◌≡◌, ◌≢◌, ◌⊎◌, inl, inr, ℕ, zero, suc, ◌+◌, ◌<◌, ◌≤◌, Bool, true, false, not, cond, nat_eq, nat_lt, List, [], ◌∷◌, ◌++◌, length, take, drop, slice_get, Option, Some, None, is_some, IfSome, IfNone, refl, sym, ap, ◌∙◌, arith}
-use Rattle.std.proofs.lemmas.Bool.{eqb-true}
+use Rattle.std.proofs.lemmas.Bool.{cases_order, eqb-true}
 use Rattle.std.proofs.lemmas.Bool.Decides.{nat_tests}
 use Rattle.std.proofs.lemmas.List.{append-nil, drop_all, length-append, length-drop, length-take, take-append-le, take-append-drop, map-append, length-map}
 use Rattle.std.proofs.lemmas.Option.{slice_get_within}
@@ -79,7 +79,7 @@ last_earlier : (a b : List ℕ) (name : ℕ) → last_of b name ≡ None → las
 last_earlier [] b name e = e
 last_earlier (x ∷ xs) b name e = ap (after_first x name) (last_earlier xs b name e)
 
-some_among : (names : List ℕ) (name number : ℕ) → last_of names name ≡ Some number → is_among names name ≡ true
+pub some_among : (names : List ℕ) (name number : ℕ) → last_of names name ≡ Some number → is_among names name ≡ true
 some_among [] name number e = absurd cc
 some_among (x ∷ xs) name number e = elim (some_parts x name number (last_of xs name) e) [
   | inl p ↦ rw (some_among xs name p.0 p.1) (grind (arith, nat_tests))
@@ -253,3 +253,19 @@ left_as_before before scope same = rw same (λ i. record { outer = take-whole be
 pub among_of : (names : List ℕ) (name : ℕ) (o : Option ℕ) → last_of names name ≡ o → is_some o ≡ is_among names name
 among_of names name None e = sym (none_among names name e)
 among_of names name (Some number) e = sym (some_among names name number e)
+
+-- what means a local is found
+pub last_is : (names : List ℕ) (name number : ℕ) → IsLocal names name number → last_of names name ≡ Some number
+last_is names name number local = by (last_of names name) refl
+  where
+    by : (o : Option ℕ) → last_of names name ≡ o → last_of names name ≡ Some number
+    by None e = absurd (none_there names name number e local.there)
+    by (Some other) e =
+        let found = is_local names name other e in
+        elim (cases_order number other) [
+          | inl same ↦ rw same e
+          | inr order ↦ absurd (elim order [
+            | inl lt ↦ local.last other lt found.there
+            | inr gt ↦ found.last number gt local.there
+          ])
+        ]

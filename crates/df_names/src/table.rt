@@ -1,6 +1,6 @@
 //! What a file declares.
 
-ghost use Rattle.std.specs.Prelude.{◌≡◌, map, nat_eq, position, IfOk, OnOk};
+ghost use Rattle.std.specs.Prelude.{◌≡◌, map, length, nat_eq, position, IfOk, OnOk};
 ghost use Rattle.df_tree.specs.File.{declaration_of, file_of};
 ghost use Rattle.df_names.specs.Globals.{is_among, globals_of};
 ghost use Rattle.df_names.specs.Faults.{file_faults};
@@ -46,6 +46,13 @@ impl Table {
         ensures { result ≡ position (nat_eq name) self.now.newtypes }
     {
         self.newtypes.get_index_of(&name)
+    }
+
+    /// How many newtypes there are.
+    pub fn count(&self) -> usize
+        ensures { result ≡ length self.now.newtypes }
+    {
+        self.newtypes.len()
     }
 
     /// Whether a newtype has the name.

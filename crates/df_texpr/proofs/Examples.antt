@@ -1,5 +1,5 @@
 -- Rows of expressions, computed.
-use Rattle.std.proofs.Common.{◌≡◌, ℕ, pos, Bool, true, false, ◌^◌, List, [], ◌∷◌, Option, Some, None, refl}
+use Rattle.std.proofs.Common.{◌≡◌, ℕ, pos, true, false, ◌^◌, [], ◌∷◌, Some, None, refl}
 use Rattle.df_base.specs.declared.pos.Pos.{Pos}
 use Rattle.df_base.specs.declared.refusal.Code.TheVariants as codes
 use Rattle.df_base.specs.declared.refusal.Detail.TheVariants as details
@@ -11,12 +11,11 @@ use Rattle.df_program.specs.Expr as typed
 use Rattle.df_tree.specs.declared.expr.BinaryOperator.{BinaryOperator}
 use Rattle.df_tree.specs.declared.expr.BinaryOperator.TheVariants as binary
 use Rattle.df_tree.specs.declared.expr.UnaryOperator.TheVariants as unary
-use Rattle.df_tree.specs.Expr.{Expr, Number, Truth, Name, Parentheses, Unary, Operations, Leading, Members, end, more}
+use Rattle.df_tree.specs.Expr.{Expr, Number, Truth, Name, Parentheses, Unary, Operations, Leading, end, more}
 use Rattle.df_texpr.specs.Context.{Context}
 use Rattle.df_texpr.specs.Open.{place_of}
 use Rattle.df_texpr.specs.Elaboration.{IsTyped}
 use Rattle.df_texpr.specs.Faults.{broken, expr_faults}
-use Rattle.df_texpr.specs.Elaborating.{elaborated}
 use Rattle.df_texpr.proofs.Types.{not_empty}
 use Rattle.df_texpr.proofs.Sound.{sound}
 use Rattle.df_texpr.proofs.Complete.{complete}
