@@ -1,0 +1,4 @@
+pub mod Known
+pub mod Declared
+pub mod Sources
+pub mod Results

@@ -1,0 +1,12 @@
+//! The front: the program of a source, or the first rule that the source breaks.
+#![tactic(auto)]
+
+mod law;
+mod line;
+mod reading;
+#[cfg(test)]
+mod tests;
+
+pub use law::{one_program, refused_is_unlawful};
+pub use line::{place_text, refusal_line};
+pub use reading::read;
