@@ -1,0 +1,8 @@
+pub mod Places
+pub mod Erased
+pub mod Truths
+pub mod Kinded
+pub mod Alike
+pub mod Executed
+pub mod Runs
+mod Examples

@@ -1,0 +1,12 @@
+//! Erasure: the program without its ghost code, whose types are ranges.
+#![tactic(auto)]
+
+mod eraser;
+mod erasure;
+mod fault;
+mod native;
+#[cfg(test)]
+mod tests;
+
+pub use erasure::erase;
+pub use fault::EraseFault;

@@ -1,0 +1,99 @@
+//! Programs by hand.
+
+ghost use Rattle.std.specs.Prelude.{◌≡◌, true, [], map, IfOk};
+ghost use Rattle.df_program.specs.declared.expr.Ty.TheVariants as types;
+ghost use Rattle.df_program.specs.Expr.{expr_of};
+ghost use Rattle.df_program.specs.Stmt.{stmt_of, stmts_of};
+ghost use Rattle.df_program.specs.MethodView.{method_of};
+ghost use Rattle.df_program.specs.Typing.{is_expr, is_stmt, are_stmts, locals_after, is_method};
+
+use crate::{EraseFault, erase};
+use df_base::Pos;
+use df_program::{Expr, Method, Operand, Program, Stmt, Ty};
+use df_types::Declared;
+use std::alloc::{AllocError, Global};
+use std::test::Fail;
+
+fn at(line: u32, col: u32) -> Pos {
+    Pos { line, col }
+}
+
+/// A literal of type `int`.
+fn number(line: u32, col: u32) -> Expr
+    ensures { is_expr 0 [] types.Int (expr_of result) ≡ true }
+{
+    Expr::Number {
+        ty: Ty::Int,
+        value: 7,
+        pos: at(line, col),
+    }
+}
+
+/// Prints a literal of type `int`.
+fn print(alloc: Global, line: u32, col: u32) -> Result<Stmt, AllocError>
+    ensures typed { IfOk result (λ stmt. is_stmt 0 [] (stmt_of stmt) ≡ true) }
+    ensures locals { IfOk result (λ stmt. locals_after [] (stmt_of stmt) ≡ []) }
+{
+    let value = Operand::Value {
+        ty: Ty::Int,
+        value: number(line, col),
+    };
+    Ok(Stmt::Print(vec![in alloc; value]?))
+}
+
+/// A program of a method without places.
+fn program(alloc: Global, body: Vec<Stmt>) -> Result<Program, AllocError>
+    requires { are_stmts 0 [] (stmts_of (map stmt_of body.items)) ≡ true }
+{
+    let main = Method {
+        declared: Declared {
+            name: 0,
+            text: String::from_str(alloc, "Main")?,
+        },
+        parameters: Vec::new(alloc),
+        results: Vec::new(alloc),
+        preconditions: Vec::new(alloc),
+        postconditions: Vec::new(alloc),
+        pos: at(1, 1),
+        body,
+    };
+    Ok(Program::new(Vec::new(alloc), vec![in alloc; main]?))
+}
+
+#[test]
+fn drops_assertions(rt: HostRuntime) -> Result<(), Fail> {
+    let alloc = rt.alloc();
+    let text = Operand::Text(vec![in alloc; b'a']?);
+    let condition = Expr::Truth(true);
+    let assert = Stmt::Assert {
+        pos: at(1, 1),
+        condition,
+    };
+    let body = vec![in alloc; assert, Stmt::Print(vec![in alloc; text]?)]?;
+    let program = program(alloc, body)?;
+    match erase(alloc, &program) {
+        Ok(plain) => {
+            let main = plain.methods.as_slice().first().ok_or("Main")?;
+            assert!(rt; matches!(main.body.as_slice(), [df_plain::Stmt::Print(_)]));
+            Ok(())
+        }
+        Err(_) => Err("erased".into()),
+    }
+}
+
+/// The fault of a program of one method.
+fn fault(alloc: Global, program: &Program) -> Option<EraseFault> {
+    match erase(alloc, program) {
+        Ok(_) => None,
+        Err(fault) => Some(fault),
+    }
+}
+
+#[test]
+fn tells_the_least_literal(rt: HostRuntime) -> Result<(), Fail> {
+    let alloc = rt.alloc();
+    let body = vec![in alloc; print(alloc, 9, 1)?, print(alloc, 8, 5)?]?;
+    let program = program(alloc, body)?;
+    assert!(rt; fault(alloc, &program) == Some(EraseFault::NotNative(at(8, 5), 2)));
+    Ok(())
+}
