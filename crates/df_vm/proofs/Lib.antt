@@ -4,4 +4,6 @@ pub mod Read
 pub mod Begins
 pub mod Reached
 pub mod Ending
+pub mod Stays
+pub mod Tried
 pub mod Sampled

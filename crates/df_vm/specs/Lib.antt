@@ -10,6 +10,7 @@ pub mod Rows
 pub mod Turns
 pub mod Operators
 pub mod Machine
+pub mod Room
 pub mod Vm
 pub mod Runs
 pub mod Finishes

@@ -1,11 +1,13 @@
 //! Frames, and what instructions do in them.
 
-ghost use Rattle.std.specs.Prelude.{◌≡◌, ◌<◌, ◌^◌, ◌∷◌, IfOk, Err};
+ghost use Rattle.std.specs.Prelude.{◌≡◌, ◌≢◌, ◌<◌, ◌≤◌, ◌^◌, ◌∷◌, false, IfOk, Err};
 ghost use Rattle.df_base.specs.Outside.{HasCause};
 ghost use Rattle.df_mach.specs.Step.{leaves};
 ghost use Rattle.df_mach.specs.View.{value_of, values_of};
 ghost use Rattle.df_vm.specs.Rows as rows;
 ghost use Rattle.df_vm.specs.Rows.{beginning_of};
+ghost use Rattle.df_vm.specs.Operands.{words_of};
+ghost use Rattle.df_vm.specs.Room.{has_room, stays_within};
 ghost use Rattle.df_vm.specs.Turns.{Works, Gives, Turns};
 
 use crate::halt::{Halt, Turn};
@@ -13,7 +15,7 @@ use crate::operands::Operands;
 use crate::operators::{binary, unary};
 use crate::printing::print;
 use df_base::Sink;
-use df_mach::{BinaryOperator, Method, Shape, UnaryOperator, Value};
+use df_mach::{BinaryOperator, Instruction, Method, Shape, UnaryOperator, Value};
 use std::alloc::{AllocError, Global};
 
 /// The length of the longest list that there can be.
@@ -59,6 +61,8 @@ impl Frame {
     pub fn push(&mut self, value: Value) -> Result<Turn, Halt>
         requires { self.old.next < 2 ^ 63 }
         ensures works { Works result (frame_of self.old) (frame_of self.new) (leaves (frame_of self.old) (value_of value ∷ (frame_of self.old).operands)) }
+        ensures full { result ≡ Err Halt.Memory → has_room (words_of self.old.operands) (frame_of self.old) ≡ false }
+        ensures words { words_of self.old.operands ≤ words_of self.new.operands }
     {
         self.operands.push(value)?;
         self.next += 1;
@@ -69,6 +73,8 @@ impl Frame {
     pub fn get(&mut self, local: usize) -> Result<Turn, Halt>
         requires { self.old.next < 2 ^ 63 }
         ensures works { Works result (frame_of self.old) (frame_of self.new) (rows.get_row (frame_of self.old) local) }
+        ensures full { result ≡ Err Halt.Memory → stays_within (words_of self.old.operands) (frame_of self.old) (Instruction.Get local) ≡ false }
+        ensures words { words_of self.old.operands ≤ words_of self.new.operands }
     {
         if local >= self.locals.len() {
             return Err(Halt::Fault);
@@ -81,6 +87,8 @@ impl Frame {
     pub fn set(&mut self, local: usize) -> Result<Turn, Halt>
         requires { self.old.next < 2 ^ 63 }
         ensures works { Works result (frame_of self.old) (frame_of self.new) (rows.set_row (frame_of self.old) local) }
+        ensures memory { result ≢ Err Halt.Memory }
+        ensures words { words_of self.old.operands ≤ words_of self.new.operands }
     {
         if local >= self.locals.len() {
             return Err(Halt::Fault);
@@ -97,6 +105,8 @@ impl Frame {
     pub fn discard(&mut self) -> Result<Turn, Halt>
         requires { self.old.next < 2 ^ 63 }
         ensures works { Works result (frame_of self.old) (frame_of self.new) (rows.drop_row (frame_of self.old)) }
+        ensures memory { result ≢ Err Halt.Memory }
+        ensures words { words_of self.old.operands ≤ words_of self.new.operands }
     {
         let Some(_) = self.operands.pop() else {
             return Err(Halt::Fault);
@@ -109,6 +119,8 @@ impl Frame {
     pub fn apply_unary(&mut self, operator: UnaryOperator) -> Result<Turn, Halt>
         requires { self.old.next < 2 ^ 63 }
         ensures works { Works result (frame_of self.old) (frame_of self.new) (rows.unary_row (frame_of self.old) operator) }
+        ensures memory { result ≢ Err Halt.Memory }
+        ensures words { words_of self.old.operands ≤ words_of self.new.operands }
     {
         let Some(operand) = self.operands.pop() else {
             return Err(Halt::Fault);
@@ -125,6 +137,8 @@ impl Frame {
     pub fn apply_binary(&mut self, operator: BinaryOperator) -> Result<Turn, Halt>
         requires { self.old.next < 2 ^ 63 }
         ensures works { Works result (frame_of self.old) (frame_of self.new) (rows.binary_row (frame_of self.old) operator) }
+        ensures memory { result ≢ Err Halt.Memory }
+        ensures words { words_of self.old.operands ≤ words_of self.new.operands }
     {
         let Some(right) = self.operands.pop() else {
             return Err(Halt::Fault);
@@ -143,6 +157,8 @@ impl Frame {
     /// Goes to one of so many instructions.
     pub fn jump(&mut self, count: usize, place: usize) -> Result<Turn, Halt>
         ensures works { Works result (frame_of self.old) (frame_of self.new) (rows.jump_row count (frame_of self.old) place) }
+        ensures memory { result ≢ Err Halt.Memory }
+        ensures words { words_of self.old.operands ≤ words_of self.new.operands }
     {
         if place >= count {
             return Err(Halt::Fault);
@@ -155,6 +171,8 @@ impl Frame {
     pub fn jump_unless(&mut self, count: usize, place: usize) -> Result<Turn, Halt>
         requires { self.old.next < 2 ^ 63 }
         ensures works { Works result (frame_of self.old) (frame_of self.new) (rows.unless_row count (frame_of self.old) place) }
+        ensures memory { result ≢ Err Halt.Memory }
+        ensures words { words_of self.old.operands ≤ words_of self.new.operands }
     {
         let Some(Value::Truth(truth)) = self.operands.pop() else {
             return Err(Halt::Fault);
@@ -170,6 +188,7 @@ impl Frame {
     pub fn gather(&mut self, count: usize) -> Result<Turn, Halt>
         requires { self.old.next < 2 ^ 63 }
         ensures works { Works result (frame_of self.old) (frame_of self.new) (rows.sequence_row (frame_of self.old) count) }
+        ensures words { words_of self.old.operands ≤ words_of self.new.operands }
     {
         if count > self.operands.len() {
             return Err(Halt::Fault);
@@ -203,6 +222,8 @@ impl Frame {
         ensures turns { Turns result (frame_of self.old) (frame_of self.new) (S.taken sink.old) (S.taken sink.new) (rows.print_row shapes.now (frame_of self.old) shape) }
         ensures cause { HasCause (S.fault_count sink.old) (S.fault_count sink.new) (result ≡ Err Halt.Write) }
         ensures stays { S.takes_memory sink.new ≡ S.takes_memory sink.old }
+        ensures full { result ≡ Err Halt.Memory → S.takes_memory sink.old ≡ false → stays_within (words_of self.old.operands) (frame_of self.old) (Instruction.Print shape) ≡ false }
+        ensures words { words_of self.old.operands ≤ words_of self.new.operands }
     {
         let Some(value) = self.operands.top() else {
             return Err(Halt::Fault);

@@ -4,6 +4,7 @@
 
 mod frame;
 mod halt;
+mod law;
 mod operands;
 mod operators;
 mod printing;
@@ -12,4 +13,5 @@ mod tests;
 mod turn;
 mod vm;
 
+pub use law::more_words_serve;
 pub use vm::{Ran, Results, Stepped, Vm};

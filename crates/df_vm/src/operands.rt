@@ -14,7 +14,7 @@ pub(crate) struct Operands {
 }
 
 impl Operands {
-    ghost use Rattle.df_vm.specs.Operands.{operands_of, room_of};
+    ghost use Rattle.df_vm.specs.Operands.{operands_of, room_of, words_of};
 
     /// No operands.
     pub fn new(alloc: Global) -> Operands
@@ -36,6 +36,7 @@ impl Operands {
     pub fn reserve(&mut self, words: usize) -> Result<(), AllocError>
         ensures ok { OnOk result (words ≤ room_of self.new) }
         ensures operands { operands_of self.new ≡ operands_of self.old }
+        ensures words { words_of self.old ≤ words_of self.new }
     {
         self.values.reserve(words)
     }
@@ -44,7 +45,8 @@ impl Operands {
     pub fn push(&mut self, value: Value) -> Result<(), AllocError>
         ensures ok { OnOk result (operands_of self.new ≡ value_of value ∷ operands_of self.old) }
         ensures err { OnErr result (operands_of self.new ≡ operands_of self.old) }
-        ensures full { OnErr result (room_of self.old ≡ 0) }
+        ensures full { OnErr result (words_of self.old ≤ length (operands_of self.old)) }
+        ensures words { words_of self.old ≤ words_of self.new }
     {
         self.values.push(value)?;
         Ok(())
@@ -54,6 +56,7 @@ impl Operands {
     pub fn put(&mut self, value: Value)
         requires { 0 < room_of self.old }
         ensures operands { operands_of self.new ≡ value_of value ∷ operands_of self.old }
+        ensures words { words_of self.new ≡ words_of self.old }
     {
         self.values.push_reserved(value);
     }
@@ -63,6 +66,7 @@ impl Operands {
         ensures some { IfSome result (λ value. operands_of self.old ≡ value_of value ∷ operands_of self.new) }
         ensures none { IfNone result (operands_of self.old ≡ []) }
         ensures room { IfSome result (λ _. 0 < room_of self.new) }
+        ensures words { words_of self.new ≡ words_of self.old }
     {
         self.values.pop()
     }
@@ -81,6 +85,7 @@ impl Operands {
         requires { count ≤ length (operands_of self.old) }
         ensures ok { OnOk result (operands_of self.new ≡ Sequence (held (reverse (take count (operands_of self.old)))) ∷ drop count (operands_of self.old)) }
         ensures err { OnErr result (operands_of self.new ≡ operands_of self.old) }
+        ensures words { words_of self.old ≤ words_of self.new }
     {
         // With this room the sequence can be put in its place.
         self.values.reserve(1)?;

@@ -1,8 +1,8 @@
 //! What is printed.
 
-ghost use Rattle.std.specs.Prelude.{◌≡◌, OnOk, Err};
+ghost use Rattle.std.specs.Prelude.{◌≡◌, ◌||◌, IsTrue, OnOk, Err};
 ghost use Rattle.df_base.specs.Outside.{Appends, AppendsPrefix, HasCause};
-ghost use Rattle.df_mach.specs.Value.{held};
+ghost use Rattle.df_mach.specs.Value.{held, holds_values};
 ghost use Rattle.df_mach.specs.View.{value_of, values_of};
 ghost use Rattle.df_mach.specs.Printing as meaning;
 ghost use Rattle.df_vm.specs.Turns.{Prints, Reads, char_in};
@@ -17,6 +17,7 @@ fn put<S: Sink>(sink: &mut S, text: &[u8]) -> Result<(), SinkFault>
     ensures took { OnOk result (Appends (S.taken sink.old) (S.taken sink.new) text.now) }
     ensures cut { result ≡ Err SinkFault.Failed → AppendsPrefix (S.taken sink.old) (S.taken sink.new) text.now }
     ensures memory { result ≡ Err SinkFault.Memory → S.taken sink.new ≡ S.taken sink.old }
+    ensures from_memory { result ≡ Err SinkFault.Memory → IsTrue (S.takes_memory sink.old) }
     ensures cause { HasCause (S.fault_count sink.old) (S.fault_count sink.new) (result ≡ Err SinkFault.Failed) }
     ensures stays { S.takes_memory sink.new ≡ S.takes_memory sink.old }
 {
@@ -53,6 +54,8 @@ fn characters(values: &Vec<Value>) -> Result<Vec<u8>, Halt>
 /// Puts the text of a value by a shape. It is a fault if the value is of another kind.
 pub(crate) fn print<S: Sink>(shape: Shape, value: &Value, sink: &mut S) -> Result<(), Halt>
     ensures prints { Prints result (S.taken sink.old) (S.taken sink.new) (meaning.text_of shape (value_of value.now)) }
+    // Without a text only the sink takes memory.
+    ensures from_memory { result ≡ Err Halt.Memory → IsTrue (S.takes_memory sink.old || holds_values (value_of value.now)) }
     ensures cause { HasCause (S.fault_count sink.old) (S.fault_count sink.new) (result ≡ Err Halt.Write) }
     ensures stays { S.takes_memory sink.new ≡ S.takes_memory sink.old }
 {

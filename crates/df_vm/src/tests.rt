@@ -1,13 +1,16 @@
-ghost use Rattle.std.specs.Prelude.{◌≡◌, IfOk};
+ghost use Rattle.std.specs.Prelude.{◌≡◌, ◌≢◌, ◌≤◌, [], false, IfOk};
+ghost use Rattle.df_mach.specs.Run.{start_of};
+ghost use Rattle.df_mach.specs.Step.{On};
 ghost use Rattle.df_mach.specs.View.{code_of};
 ghost use Rattle.df_vm.specs.Sample.{sample};
+ghost use Rattle.df_vm.specs.Vm.{code_in, machine_of, room_in};
 
 use crate::frame::Frame;
 use crate::halt::{Halt, Turn};
 use crate::operators::{binary, unary};
 use crate::turn::turn;
 use crate::{Ran, Stepped, Vm};
-use df_base::{MemSink, Sink, SureSink};
+use df_base::{HostSink, MemSink, Sink, SureSink};
 use df_mach::{
     BinaryOperator, Code, Heap, Instruction, Method, Range, Shape, UnaryOperator, Value,
 };
@@ -281,6 +284,8 @@ fn sample_code(alloc: Global) -> Result<Code, AllocError>
 /// The machine at the beginning of the sample.
 fn sample_vm<'a>(alloc: Global, code: &'a Code) -> Result<Vm<'a>, AllocError>
     requires { code_of code.now ≡ sample }
+    ensures code { IfOk result (λ vm. code_in vm ≡ sample) }
+    ensures start { IfOk result (λ vm. start_of sample 0 [] [] ≡ On (machine_of vm [])) }
 {
     Vm::new(alloc, code, 0, Heap::new(alloc), Vec::new(alloc))
 }
@@ -336,5 +341,28 @@ fn steps_are_those_of_the_run(rt: HostRuntime) -> Result<(), Fail> {
     }
     assert!(rt; sink.taken() == b"21ok".as_slice());
     assert!(rt; vm.step(&mut sink) == Stepped::Ended);
+    Ok(())
+}
+
+/// The sample up to its text, which stays within two words.
+fn counted<S: Sink>(vm: Vm, sink: &mut S) -> Ran
+    requires bare { S.takes_memory sink.old ≡ false }
+    requires code { code_in vm ≡ sample }
+    requires start { start_of sample 0 [] [] ≡ On (machine_of vm []) }
+    requires room { 2 ≤ room_in vm }
+    ensures { result ≢ Ran.Memory }
+{
+    vm.run(30, sink)
+}
+
+#[test]
+fn a_run_within_its_room_takes_no_memory(rt: HostRuntime) -> Result<(), Fail> {
+    let alloc = rt.alloc();
+    let code = sample_code(alloc)?;
+    let mut vm = sample_vm(alloc, &code)?;
+    vm.reserve(2, 0)?;
+    let mut sink = HostSink::new(Vec::new(alloc));
+    assert!(rt; matches!(counted(vm, &mut sink), Ran::FuelSpent));
+    assert!(rt; sink.writer().as_slice() == b"21".as_slice());
     Ok(())
 }

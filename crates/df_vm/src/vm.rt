@@ -1,6 +1,6 @@
 //! The machine.
 
-ghost use Rattle.std.specs.Prelude.{◌≡◌, ◌≤◌, [], IfOk, OnOk, Err, length, take, reverse};
+ghost use Rattle.std.specs.Prelude.{◌≡◌, ◌≢◌, ◌≤◌, true, false, [], IfOk, OnOk, Err, length, take, reverse};
 ghost use Rattle.df_base.specs.Outside.{HasCause};
 ghost use Rattle.df_mach.specs.Run.{NeverFaults, start_of};
 ghost use Rattle.df_mach.specs.Step.{On};
@@ -8,6 +8,7 @@ ghost use Rattle.df_mach.specs.View.{values_of, heap_of, code_of};
 ghost use Rattle.df_vm.specs.Machine.{state_at};
 ghost use Rattle.df_vm.specs.Finishes.{Finishes};
 ghost use Rattle.df_vm.specs.Operands.{operands_of};
+ghost use Rattle.df_vm.specs.Room.{step_stays, StaysWithin};
 
 use crate::frame::Frame;
 use crate::halt::{Halt, Turn};
@@ -72,7 +73,7 @@ fn finish(running: Frame, heap: Heap, count: usize) -> Ran
 }
 
 impl<'a> Vm<'a> {
-    ghost use Rattle.df_vm.specs.Vm.{code_in, machine_of, room_in};
+    ghost use Rattle.df_vm.specs.Vm.{code_in, machine_of, room_in, words_in};
     ghost use Rattle.df_vm.specs.Runs.{Advances, Steps, Runs};
 
     /// The machine at the beginning of a method with these arguments. No number of steps from there may
@@ -103,6 +104,7 @@ impl<'a> Vm<'a> {
         ensures room { OnOk result (words ≤ room_in self.new) }
         ensures machine { machine_of self.new [] ≡ machine_of self.old [] }
         ensures code { code_in self.new ≡ code_in self.old }
+        ensures words { words_in self.old ≤ words_in self.new }
     {
         self.running.operands.reserve(words as usize)
     }
@@ -113,6 +115,8 @@ impl<'a> Vm<'a> {
         ensures cause { HasCause (S.fault_count sink.old) (S.fault_count sink.new) (result ≡ Advanced.Write) }
         ensures stays { S.takes_memory sink.new ≡ S.takes_memory sink.old }
         ensures code { code_in self.new ≡ code_in self.old }
+        ensures within { S.takes_memory sink.old ≡ false → step_stays (code_in self.old) (words_in self.old) (machine_of self.old []) ≡ true → result ≢ Advanced.Memory }
+        ensures words { words_in self.old ≤ words_in self.new }
     {
         match turn(self.code, &mut self.running, sink) {
             Ok(Turn::On) => Advanced::On,
@@ -130,6 +134,10 @@ impl<'a> Vm<'a> {
         ensures cause { HasCause (S.fault_count sink.old) (S.fault_count sink.new) (result ≡ Stepped.Write) }
         ensures stays { S.takes_memory sink.new ≡ S.takes_memory sink.old }
         ensures code { code_in self.new ≡ code_in self.old }
+        // Over a sink that takes no memory, a step that stays within the words there are is not refused memory.
+        ensures within { S.takes_memory sink.old ≡ false → step_stays (code_in self.old) (words_in self.old) (machine_of self.old []) ≡ true → result ≢ Stepped.Memory }
+        // No step gives room back.
+        ensures words { words_in self.old ≤ words_in self.new }
     {
         match self.advance(sink) {
             Advanced::On => Stepped::On,
@@ -145,6 +153,8 @@ impl<'a> Vm<'a> {
         // A failed write is a counted fault of the sink.
         ensures cause { HasCause (S.fault_count sink.old) (S.fault_count sink.new) (result ≡ Ran.Write) }
         ensures stays { S.takes_memory sink.new ≡ S.takes_memory sink.old }
+        // Over a sink that takes no memory, a run that stays within the words there are is not refused memory.
+        ensures within { S.takes_memory sink.old ≡ false → StaysWithin (code_in self.entry) (machine_of self.entry []) fuel (words_in self.entry) → result ≢ Ran.Memory }
     {
         for _ in 0..fuel {
             match self.advance(sink) {

@@ -6,8 +6,8 @@ use Rattle.df_vm.proofs.Held.{set_goes, set_values}
 use Rattle.df_vm.proofs.Lists.{length-map_of}
 use Rattle.df_vm.proofs.frame.Frame.set.Goals as goal
 
-pub returns : goal.returns
-returns c =
+pub returns-clause-works : goal.returns-clause-works
+returns-clause-works c =
     let xs = c.args.self.now.locals.items in
     let lt : c.args.local < length (values_of xs) = omega (arith, length-map_of value_of xs) in
-    record { works = set_goes (frame_of c.args.self.now) c.args.local (value_of c.in-Some.value) (operands_of c.pop.new.self) _ lt c.in-Some.ensures.some (set_values xs c.args.local c.in-Some.value) }
+    set_goes (frame_of c.args.self.now) c.args.local (value_of c.in-Some.value) (operands_of c.pop.new.self) _ lt c.in-Some.ensures.some (set_values xs c.args.local c.in-Some.value)

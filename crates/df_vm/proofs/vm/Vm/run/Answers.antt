@@ -1,13 +1,15 @@
-use Rattle.std.proofs.Common.{◌≡◌, ◌+◌, ℕ, [], reverse, take, arith, rules, ap, sym, subst, ◌∙◌}
+use Rattle.std.proofs.Common.{◌≡◌, ◌+◌, ℕ, [], reverse, take, arith, rules, refl, ap, sym, subst, ◌∙◌}
 use Rattle.df_mach.specs.State.{Code, State}
 use Rattle.df_mach.specs.Step.{machine_step}
 use Rattle.df_mach.specs.View.{heap_of}
 use Rattle.df_vm.specs.Frame.{frame_of}
 use Rattle.df_vm.specs.Operands.{operands_of}
 use Rattle.df_vm.specs.Runs.{HasRun}
-use Rattle.df_vm.specs.Vm.{machine_of, code_in}
+use Rattle.df_vm.specs.Vm.{machine_of, code_in, words_in}
 use Rattle.df_vm.proofs.Ending.{finish_runs, goes_on_by, is_cut_by}
 use Rattle.df_vm.proofs.Reached.{reached_none, reached_more, reached_end, reached_run, reached_cut}
+use Rattle.df_vm.proofs.Stays.{next_more}
+use Rattle.df_vm.specs.Room.{next_stays}
 use Rattle.df_vm.proofs.vm.Vm.run.Goals as goal
 
 pub loop-init : goal.loop-init
@@ -15,6 +17,7 @@ loop-init g c = record {
   reached = reached_none (code_in c.args.self) (heap_of c.args.self.heap) (frame_of c.args.self.running) (g.S.Sink.taken c.args.sink.now);
   code = search rules;
   counted = search rules;
+  words = search rules;
   stays = search rules;
 }
 
@@ -25,6 +28,7 @@ loop-preserved g c = record {
       (goes_on_by _ _ _ _ _ _ c.loop.invariant.code c.in-On.ensures.advances);
   code = c.in-On.ensures.code ∙ c.loop.invariant.code;
   counted = search rules;
+  words = search rules;
   stays = search rules;
 }
 
@@ -42,6 +46,14 @@ returns-in-Write-clause-runs g c = (
   omega arith,
   reached_cut (code_in c.args.self) _ c.loop.counter (machine_of c.loop.self []) _ _ _ c.loop.invariant.reached (is_cut_by _ _ _ _ _ c.loop.invariant.code c.in-Write.ensures.advances.0),
 )
+
+pub returns-in-Memory-clause-within : goal.returns-in-Memory-clause-within
+returns-in-Memory-clause-within g c bare within =
+    let f = frame_of c.loop.self.running in
+    let stays = next_more (code_in c.args.self) (words_in c.args.self) (words_in c.loop.self) f c.loop.invariant.words (within.each c.loop.counter _ c.loop-test.true c.loop.invariant.reached.runs) in
+    let here = ap (λ (code : Code). next_stays code (words_in c.loop.self) f) c.loop.invariant.code ∙ stays in
+    let refused = c.in-Memory.ensures.within (c.loop.invariant.stays ∙ bare) here in
+    absurd (refused refl)
 
 pub returns-clause-runs : goal.returns-clause-runs
 returns-clause-runs g c =

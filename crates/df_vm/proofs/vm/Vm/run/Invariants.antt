@@ -1,5 +1,5 @@
 use Rattle.std.proofs.Common.{◌≡◌, ◌≤◌, []}
-use Rattle.df_vm.specs.Vm.{machine_of, code_in}
+use Rattle.df_vm.specs.Vm.{machine_of, code_in, words_in}
 use Rattle.df_vm.proofs.Reached.{Reached}
 use Rattle.df_vm.proofs.vm.Vm.run.Given as goal
 
@@ -11,5 +11,6 @@ invariant-loop g l =
       reached : Reached (code_in l.fn.self) (machine_of l.fn.self []) l.counter (machine_of l.self []) (sink.taken l.fn.sink) (sink.taken l.sink);
       code : code_in l.self ≡ code_in l.fn.self;
       counted : sink.fault_count l.fn.sink ≤ sink.fault_count l.sink;
+      words : words_in l.fn.self ≤ words_in l.self;
       stays : sink.takes_memory l.sink ≡ sink.takes_memory l.fn.sink;
     }
