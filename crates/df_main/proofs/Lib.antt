@@ -1,0 +1,5 @@
+mod Printing
+mod Fronts
+mod Telling
+mod Searching
+mod Sampled
