@@ -1,1 +1,4 @@
 pub mod Judgements
+pub mod Methods
+pub mod Positions
+pub mod Numbers

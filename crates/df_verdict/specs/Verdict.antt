@@ -1,19 +1,27 @@
 -- Verdicts: what proving a program comes to.
-use Rattle.std.specs.Prelude.{◌≡◌, ◌⊎◌, ℕ, ◌≤◌, ℤ, Bool, List, [], ◌∷◌}
+use Rattle.std.specs.Prelude.{◌≡◌, ◌⊎◌, ℕ, ◌≤◌, ℤ, pos, Bool, false, ◌==◌, ◌&&◌, List, [], ◌∷◌, position}
 use Rattle.std.specs.List.{list_all, AllByRecursion}
-use Rattle.df_types.specs.Program.{Program}
+use Rattle.std.specs.Option.{option_map_or}
+use Rattle.df_types.specs.Program.{Newtype}
+use Rattle.df_program.specs.Program.{Place, Method, Program}
 use Rattle.df_meaning.specs.Kind.{word_of}
+use Rattle.df_runs.specs.Modular.{IsModularlySafeMethod}
+use Rattle.df_form.specs.declared.node.Sort.TheVariants as sorts
+use Rattle.df_form.specs.declared.node.Op.{Op}
+use Rattle.df_form.specs.declared.node.Op.TheVariants as ops
+use Rattle.df_form.specs.Node.{Node, same_sort}
 use Rattle.df_form.specs.declared.log.Lit.{Lit}
 use Rattle.df_form.specs.Log.{Step}
-use Rattle.df_form.specs.Sequent.{Sequent, IsSequent, IsValid}
+use Rattle.df_form.specs.Sequent.{Sequent, IsSequent}
 use Rattle.df_kern.specs.Derivation.{Derives}
-use Rattle.df_pass.specs.Modular.{IsModularlySafe}
-use Rattle.df_pass.specs.Obligation.{Obligation, IsOwed}
+use Rattle.df_table.specs.TableModel.{number_at}
+use Rattle.df_enc.specs.Obligation.{Obligation}
+use Rattle.df_owed.specs.Obligation.{AreValid, IsOwed}
 use Rattle.df_ground.specs.Lines.{ground_lines, unbound_count}
 use Rattle.df_search.specs.Found.{HasModel, AreSpent, IsTooWide, HasManyRows}
 use Rattle.df_report.specs.declared.outcome.Evidence.{Evidence}
 use Rattle.df_report.specs.declared.outcome.Evidence.TheVariants as evidences
-use Rattle.df_report.specs.Report.{Failure, Outcome, is_verified}
+use Rattle.df_report.specs.Report.{Parameter, Failure, Outcome, is_verified}
 
 -- a log derives the sequent
 abbrev pub IsProved : Sequent → Type 0
@@ -23,38 +31,64 @@ IsProved s = (log : List Step) × Derives s log
 abbrev pub IsTooMany : Sequent → Type 0
 IsTooMany s = (200000 ≤ unbound_count s.nodes (ground_lines s)) ⊎ ((count : ℕ) × HasManyRows s count)
 
--- evidence of this kind for why a search of so many steps stopped
-abbrev pub IsEvidence : Sequent → ℕ → Evidence → Type 0
-IsEvidence s steps evidences.Model = (table : List ℤ) × HasModel s table
-IsEvidence s steps evidences.Spent = (branches : List (List Lit)) × AreSpent s steps branches
-IsEvidence s steps evidences.Wide = IsTooWide s
-IsEvidence s steps evidences.Many = IsTooMany s
+-- the operation is the free number
+abbrev pub is_free : ℕ → Op → Bool
+is_free number (ops.Free free) = free.number == number && same_sort free.sort sorts.Number
+is_free number op = false
 
--- The failure is the obligation's: its place, the word of its kind, and evidence. Main has no parameters.
-pub record IsFailureOf (steps : ℕ) (o : Obligation) (f : Failure) : Type 0 where
+-- the number of a free term in a table, or 0 where no node has it
+abbrev pub free_number : List Node → List ℤ → ℕ → ℤ
+free_number nodes table number = option_map_or (number_at table) (position (λ (node : Node). is_free number node.op) nodes) (pos 0)
+
+-- the parameters in order with the numbers of their free terms
+abbrev pub numbers_of : List Node → List ℤ → List Place → List ℕ → List Parameter
+numbers_of nodes table [] frees = []
+numbers_of nodes table (place ∷ places) [] = []
+numbers_of nodes table (place ∷ places) (free ∷ frees) = record { name = place.text; value = free_number nodes table free } ∷ numbers_of nodes table places frees
+
+-- Evidence of this kind for why a search of so many steps stopped. A table gives numbers to the parameters,
+-- for which these free terms stand.
+abbrev pub IsEvidence : List Place → List ℕ → Sequent → ℕ → Evidence → List Parameter → Type 0
+IsEvidence places frees s steps evidences.Model parameters = (table : List ℤ) × HasModel s table × (parameters ≡ numbers_of s.nodes table places frees)
+IsEvidence places frees s steps evidences.Spent parameters = ((branches : List (List Lit)) × AreSpent s steps branches) × (parameters ≡ [])
+IsEvidence places frees s steps evidences.Wide parameters = IsTooWide s × (parameters ≡ [])
+IsEvidence places frees s steps evidences.Many parameters = IsTooMany s × (parameters ≡ [])
+
+-- The failure is the obligation's: its place, the word of its kind, and evidence.
+pub record IsFailureOf (places : List Place) (frees : List ℕ) (steps : ℕ) (o : Obligation) (f : Failure) : Type 0 where
   pub line : f.line ≡ o.pos.line
   pub col : f.col ≡ o.pos.col
   pub kind : f.kind ≡ word_of o.kind
-  pub evidence : IsEvidence o.sequent steps f.evidence
-  pub parameters : f.parameters ≡ []
+  pub evidence : IsEvidence places frees o.sequent steps f.evidence f.parameters
 
 -- Each obligation in order is proved, or the next failure is its.
-pub data Judges (steps : ℕ) : List Obligation → List Failure → Type 0 where
-  none : Judges steps [] []
-  proved : {o : Obligation} {others : List Obligation} {failures : List Failure} → IsProved o.sequent → Judges steps others failures → Judges steps (o ∷ others) failures
-  failed : {o : Obligation} {f : Failure} {others : List Obligation} {failures : List Failure} → IsFailureOf steps o f → Judges steps others failures → Judges steps (o ∷ others) (f ∷ failures)
+pub data Judges (places : List Place) (frees : List ℕ) (steps : ℕ) : List Obligation → List Failure → Type 0 where
+  none : Judges places frees steps [] []
+  proved : {o : Obligation} {others : List Obligation} {failures : List Failure} → IsProved o.sequent → Judges places frees steps others failures → Judges places frees steps (o ∷ others) failures
+  failed : {o : Obligation} {f : Failure} {others : List Obligation} {failures : List Failure} → IsFailureOf places frees steps o f → Judges places frees steps others failures → Judges places frees steps (o ∷ others) (f ∷ failures)
 
--- The one outcome is Main's, by obligations of which a program with none that is refuted has need: where
--- all are valid no modular run is wrong, and where one is refuted some modular run is wrong by it.
-pub record IsJudged (program : Program) (steps : ℕ) (outcomes : List Outcome) : Type 0 where
+-- The outcome is the method's, by obligations of which a method with none that is refuted has need: where all
+-- are valid no modular run is wrong, and where one is refuted a modular run is wrong by it.
+pub record IsJudgedMethod (newtypes : List Newtype) (steps : ℕ) (method : Method) (outcome : Outcome) : Type 0 where
+  pub frees : List ℕ
   pub all : List Obligation
-  pub safe : AllByRecursion (λ (o : Obligation). IsValid o.sequent) all → IsModularlySafe program
-  pub owed : AllByRecursion (IsOwed program) all
+  pub safe : AreValid all → IsModularlySafeMethod newtypes method
+  pub owed : AllByRecursion (IsOwed newtypes method frees) all
   pub sequents : AllByRecursion (λ (o : Obligation). IsSequent o.sequent) all
-  pub newtypes : AllByRecursion (λ (o : Obligation). o.sequent.newtypes ≡ program.newtypes) all
+  pub over : AllByRecursion (λ (o : Obligation). o.sequent.newtypes ≡ newtypes) all
   pub failures : List Failure
-  pub judges : Judges steps all failures
-  pub main : outcomes ≡ record { name = program.main.text; failures = failures } ∷ []
+  pub judges : Judges method.parameters frees steps all failures
+  pub outcome_is : outcome ≡ record { name = method.text; failures = failures }
+
+-- an outcome for each method, in order
+abbrev pub AreJudged : List Newtype → ℕ → List Method → List Outcome → Type 0
+AreJudged newtypes steps [] [] = Unit {0}
+AreJudged newtypes steps [] (outcome ∷ outcomes) = ⊥
+AreJudged newtypes steps (method ∷ methods) [] = ⊥
+AreJudged newtypes steps (method ∷ methods) (outcome ∷ outcomes) = IsJudgedMethod newtypes steps method outcome × AreJudged newtypes steps methods outcomes
+
+abbrev pub IsJudged : Program → ℕ → List Outcome → Type 0
+IsJudged program steps outcomes = AreJudged program.newtypes steps program.methods outcomes
 
 -- there is no failure
 abbrev pub are_verified : List Outcome → Bool

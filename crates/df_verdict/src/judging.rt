@@ -7,17 +7,34 @@ ghost use Rattle.df_form.specs.Log.{step_of};
 ghost use Rattle.df_form.specs.SequentView.{sequent_of};
 ghost use Rattle.df_kern.specs.Derivation.{Derives};
 ghost use Rattle.df_meaning.specs.Kind.{word_of};
-ghost use Rattle.df_pass.specs.Obligation.{obligation_of};
+ghost use Rattle.df_program.specs.MethodView.{place_of};
+ghost use Rattle.df_enc.specs.Obligation.{obligation_of};
 ghost use Rattle.df_report.specs.View.{failure_of};
 ghost use Rattle.df_verdict.specs.Verdict.{Judges};
-ghost use Rattle.df_verdict.specs.Judging.{Finding, Adds};
+ghost use Rattle.df_verdict.specs.Judging.{Finds, Adds};
 
+use crate::parameters::parameters;
+use df_enc::Obligation;
 use df_form::{Sequent, Step};
 use df_kern::{KernFault, check, logs_derive_or_are_refused};
-use df_pass::Obligation;
-use df_report::{Evidence, Failure};
+use df_program::Place;
+use df_report::{Evidence, Failure, Parameter};
 use df_search::{Budget, Found, search};
 use std::alloc::{AllocError, Global};
+
+/// The method whose obligations are judged: its parameters, and the free terms that stand for them.
+#[derive(Clone, Copy)]
+pub(crate) struct Entry<'a> {
+    pub places: &'a [Place],
+    pub frees: &'a [usize],
+}
+
+/// Why there is no proof, and the numbers of the parameters in a table.
+#[derive(Drop)]
+pub(crate) struct Finding {
+    pub evidence: Evidence,
+    pub parameters: Vec<Parameter>,
+}
 
 /// Has the kernel take the log that a search found.
 fn confirm(alloc: Global, sequent: &Sequent, log: &[Step]) -> Result<(), AllocError>
@@ -31,56 +48,72 @@ fn confirm(alloc: Global, sequent: &Sequent, log: &[Step]) -> Result<(), AllocEr
     }
 }
 
+/// Evidence without a table.
+fn found(alloc: Global, evidence: Evidence) -> Finding
+    ensures evidence { result.evidence ≡ evidence }
+    ensures parameters { result.parameters.items ≡ [] }
+{
+    Finding {
+        evidence,
+        parameters: Vec::new(alloc),
+    }
+}
+
 /// Why there is no proof of the sequent, where none is found.
-fn judge(alloc: Global, sequent: &Sequent, budget: Budget) -> Result<Option<Evidence>, AllocError>
+fn judge(
+    alloc: Global,
+    entry: &Entry,
+    sequent: &Sequent,
+    budget: Budget,
+) -> Result<Option<Finding>, AllocError>
     requires arithmetic { IsArithmeticSequent (sequent_of sequent.now) }
     requires steps { 1 ≤ budget.steps }
-    ensures { IfOk result (Finding (sequent_of sequent.now) budget.steps) }
+    ensures { IfOk result (Finds (map place_of entry.now.places.now) entry.now.frees.now (sequent_of sequent.now) budget.steps) }
 {
     match search(alloc, sequent, budget)? {
         Found::Proved(log) => {
             confirm(alloc, sequent, log.as_slice())?;
             Ok(None)
         }
-        Found::Modelled(_) => Ok(Some(Evidence::Model)),
-        Found::Spent(_) => Ok(Some(Evidence::Spent)),
-        Found::Wide => Ok(Some(Evidence::Wide)),
-        Found::Many(_) => Ok(Some(Evidence::Many)),
+        Found::Modelled(table) => Ok(Some(Finding {
+            evidence: Evidence::Model,
+            parameters: parameters(alloc, sequent, &table, entry.places, entry.frees)?,
+        })),
+        Found::Spent(_) => Ok(Some(found(alloc, Evidence::Spent))),
+        Found::Wide => Ok(Some(found(alloc, Evidence::Wide))),
+        Found::Many(_) => Ok(Some(found(alloc, Evidence::Many))),
     }
 }
 
 /// The failure of an obligation.
-fn failure(
-    alloc: Global,
-    obligation: &Obligation,
-    evidence: Evidence,
-) -> Result<Failure, AllocError>
+fn failure(alloc: Global, obligation: &Obligation, finding: Finding) -> Result<Failure, AllocError>
     ensures place { IfOk result (λ f. f.pos ≡ obligation.now.pos) }
     ensures kind { IfOk result (λ f. string_bytes f.kind ≡ word_of obligation.now.kind) }
-    ensures evidence { IfOk result (λ f. f.evidence ≡ evidence) }
-    ensures parameters { IfOk result (λ f. f.parameters.items ≡ []) }
+    ensures evidence { IfOk result (λ f. f.evidence ≡ finding.evidence) }
+    ensures parameters { IfOk result (λ f. f.parameters ≡ finding.parameters) }
 {
     Ok(Failure {
         pos: obligation.pos,
         kind: String::from_str(alloc, obligation.kind.word())?,
-        evidence,
-        parameters: Vec::new(alloc),
+        evidence: finding.evidence,
+        parameters: finding.parameters,
     })
 }
 
 /// Judges an obligation, and adds its failure where it has no proof.
 fn add(
     alloc: Global,
+    entry: &Entry,
     failures: &mut Vec<Failure>,
     obligation: &Obligation,
     budget: Budget,
 ) -> Result<(), AllocError>
     requires arithmetic { IsArithmeticSequent (sequent_of obligation.now.sequent) }
     requires steps { 1 ≤ budget.steps }
-    ensures { OnOk result (Adds budget.steps (obligation_of obligation.now) (map failure_of failures.old.items) (map failure_of failures.new.items)) }
+    ensures { OnOk result (Adds (map place_of entry.now.places.now) entry.now.frees.now budget.steps (obligation_of obligation.now) (map failure_of failures.old.items) (map failure_of failures.new.items)) }
 {
-    if let Some(evidence) = judge(alloc, &obligation.sequent, budget)? {
-        failures.push(failure(alloc, obligation, evidence)?)?;
+    if let Some(finding) = judge(alloc, entry, &obligation.sequent, budget)? {
+        failures.push(failure(alloc, obligation, finding)?)?;
     }
     Ok(())
 }
@@ -88,16 +121,17 @@ fn add(
 /// The failures of obligations, in their order.
 pub(crate) fn failures(
     alloc: Global,
+    entry: &Entry,
     obligations: &[Obligation],
     budget: Budget,
 ) -> Result<Vec<Failure>, AllocError>
     requires arithmetic { AllByRecursion (λ obligation. IsArithmeticSequent obligation.sequent) (map obligation_of obligations.now) }
     requires steps { 1 ≤ budget.steps }
-    ensures { IfOk result (λ failures. Judges budget.steps (map obligation_of obligations.now) (map failure_of failures.items)) }
+    ensures { IfOk result (λ failures. Judges (map place_of entry.now.places.now) entry.now.frees.now budget.steps (map obligation_of obligations.now) (map failure_of failures.items)) }
 {
     let mut failures = Vec::new(alloc);
     for obligation in obligations {
-        add(alloc, &mut failures, obligation, budget)?;
+        add(alloc, entry, &mut failures, obligation, budget)?;
     }
     Ok(failures)
 }

@@ -1,4 +1,4 @@
-use Rattle.df_verdict.proofs.Judgements.{is_safe}
+use Rattle.df_verdict.proofs.Methods.{is_safe}
 use Rattle.df_verdict.proofs.verdict.judged_is_safe.Goals as goal
 
 pub returns : goal.returns

@@ -1,15 +1,17 @@
-use Rattle.std.proofs.Common.{rules, map, List, subst}
-use Rattle.df_pass.specs.Obligation.{obligation_of}
-use Rattle.df_pass.specs.declared.obligation.Obligation.{Obligation}
-use Rattle.df_report.specs.View.{failure_of}
-use Rattle.df_report.specs.declared.outcome.Outcome.{Outcome}
-use Rattle.df_types.specs.View.{program_of}
-use Rattle.df_verdict.specs.Verdict.{Judges}
-use Rattle.df_verdict.proofs.Judgements.{is_judged}
+use Rattle.std.proofs.Common.{List, subst}
+use Rattle.df_types.specs.declared.program.Newtype.{Newtype}
+use Rattle.df_program.specs.MethodView.{method_of}
+use Rattle.df_report.specs.View.{outcome_of}
+use Rattle.df_verdict.specs.Verdict.{IsJudgedMethod}
+use Rattle.df_types.specs.View.{newtypes_of}
+use Rattle.df_verdict.proofs.Methods.{methods_more, are_typed}
 use Rattle.df_verdict.proofs.verdict.verdicts.Goals as goal
 
-pub returns : goal.returns
-returns c =
-    let outcome : Outcome = record { name = c.in_ok-name.name; failures = c.in_ok-failures.failures } in
-    let judges = subst (λ (all : List Obligation). Judges c.args.budget.steps (map obligation_of all) (map failure_of c.in_ok-failures.failures.items)) c.as_slice.ensures.value c.in_ok-failures.ensures in
-    is_judged (program_of c.args.program.now) _ c.in_ok-all.all.items outcome _ c.in_ok-all.ensures.safe c.in_ok-all.ensures.owed c.in_ok-all.ensures.newtypes judges (search rules) (search rules)
+pub outcome-requires-clause-typed : goal.outcome-requires-clause-typed
+outcome-requires-clause-typed c =
+    are_typed c.args.program.now.newtypes.items c.deref.result.now c.args.program.now.methods.items c.deref-method-items.result.now c.loop-method.method-index c.method-item.result c.args.program.now.is_well_typed c.deref.ensures.value c.deref-method-items.ensures.value c.loop-method-test.true c.method-item.is
+
+pub loop-method-preserved : goal.loop-method-preserved
+loop-method-preserved c =
+    let judged = subst (λ (newtypes : List Newtype). IsJudgedMethod (newtypes_of newtypes) c.args.budget.steps (method_of c.method-item.result) (outcome_of c.in_ok-outcome.outcome)) c.deref.ensures.value c.in_ok-outcome.ensures in
+    methods_more (newtypes_of c.args.program.now.newtypes.items) c.args.budget.steps c.deref-method-items.result.now c.loop-method.method-index c.method-item.result c.loop-method.outcomes.items c.in_ok-outcome.outcome _ c.loop-method-test.true c.method-item.is c.loop-method.invariant judged c.in_ok-push.ensures.items

@@ -1,0 +1,7 @@
+use Rattle.std.proofs.Common.{length}
+use Rattle.df_form.specs.SequentView.{sequent_of}
+use Rattle.df_verdict.proofs.Numbers.{AreSoFar}
+use Rattle.df_verdict.proofs.parameters.parameters.Given as goal
+
+abbrev pub invariant-loop-place : goal.invariant-loop-place
+invariant-loop-place l = AreSoFar (sequent_of l.sequent).nodes l.table l.places l.frees (length l.yielded) l.parameters.items
