@@ -13,8 +13,8 @@ use Rattle.df_cmd.specs.declared.command.LineFault.{LineFault}
 use Rattle.df_cmd.specs.declared.command.LineFault.TheVariants as faults
 use Rattle.df_cmd.specs.Reads.{GivesCommand}
 use Rattle.df_cmd.specs.View.{command_of, ReadsLine}
-use Rattle.df_cmd.specs.Line.{Budget, Command, Verify, Run, command_word, file_of, budget_of, default, IsSet, left_out, given, IsLine, option_word, is_plain, Argument, File, Joined, Apart, argument_words, is_argument, Ending, Nothing, Files, ending_words, files_after, files_in, numbers_in}
-use Rattle.df_cmd.specs.Reading.{Given, setting_named, joined_setting, joined_text, is_equals, takes_number, number_in, with_files, with_number, with_word, last_word, read_word, read_from, only_file, number_of, command_named, budget_from, command_from, nothing, command_of_words}
+use Rattle.df_cmd.specs.Line.{Budget, Command, Verify, Run, command_word, file_of, budget_of, default, IsSet, left_out, given, IsFuel, IsLine, option_word, is_plain, Argument, File, Joined, Apart, argument_words, is_argument, Ending, Nothing, Files, ending_words, files_after, files_in, numbers_in}
+use Rattle.df_cmd.specs.Reading.{Given, setting_named, joined_setting, joined_text, is_equals, takes_number, number_in, with_files, with_number, with_word, last_word, read_word, read_from, only_file, number_of, verify_given, run_given, command_named, budget_from, command_from, nothing, command_of_words}
 use Rattle.df_cmd.proofs.Answers.{some_is, then_some, map_some, both_true}
 use Rattle.df_cmd.proofs.Numbers.{both, number_of_decimal, number_is_written}
 use Rattle.df_cmd.proofs.Words.{plain_goes, option_goes}
@@ -45,7 +45,7 @@ begins_plain c others e = rw (turned c 45 e) refl
 one_is_none : (c : ℕ) → setting_named (c ∷ []) ≡ None
 one_is_none c = by (45 == c)
   where
-    by : (b : Bool) → cond (b && false) (Some settings.Steps) (cond (b && false) (Some settings.Rounds) None) ≡ None
+    by : (b : Bool) → cond (b && false) (Some settings.Steps) (cond (b && false) (Some settings.Rounds) (cond (b && false) (Some settings.Fuel) None)) ≡ None
     by true = refl
     by false = refl
 
@@ -100,6 +100,12 @@ joins settings.Steps n = record {
   joins = ap (λ (b : Bool). cond b (Some settings.Steps) None) (lt-ltb 7 (length (joined_word settings.Steps n)) (omega arith));
   text = refl;
 }
+joins settings.Fuel n = record {
+  no_end = refl;
+  no_option = refl;
+  joins = ap (λ (b : Bool). cond b (Some settings.Fuel) None) (lt-ltb 6 (length (joined_word settings.Fuel n)) (omega arith));
+  text = refl;
+}
 joins settings.Rounds n = record {
   no_end = refl;
   no_option = refl;
@@ -110,13 +116,15 @@ joins settings.Rounds n = record {
 named_itself : (option : Setting) → setting_named (option_word option) ≡ Some option
 named_itself settings.Steps = refl
 named_itself settings.Rounds = refl
+named_itself settings.Fuel = refl
 
 option_is_no_end : (option : Setting) → same_text (codes "--") (option_word option) ≡ false
 option_is_no_end settings.Steps = refl
 option_is_no_end settings.Rounds = refl
+option_is_no_end settings.Fuel = refl
 
 unchanged : (g : Given) → g ≡ with_files g []
-unchanged g = λ i. record { files = sym (append-nil g.files) i; steps = g.steps; rounds = g.rounds }
+unchanged g = λ i. record { files = sym (append-nil g.files) i; steps = g.steps; rounds = g.rounds; fuel = g.fuel }
 
 -- ---- a line is read
 
@@ -167,16 +175,19 @@ same_is : (a b : List ℕ) → same_text a b ≡ true → a ≡ b
 same_is a b e = (bytes_decides a b).0 e
 
 setting_is : (word : List ℕ) (option : Setting) → setting_named word ≡ Some option → word ≡ option_word option
-setting_is word option e = by (same_text (codes "--steps") word) refl (same_text (codes "--rounds") word) refl e
+setting_is word option e = by (same_text (codes "--steps") word) refl (same_text (codes "--rounds") word) refl (same_text (codes "--fuel") word) refl e
   where
-    by : (s : Bool) → same_text (codes "--steps") word ≡ s → (r : Bool) → same_text (codes "--rounds") word ≡ r → cond s (Some settings.Steps) (cond r (Some settings.Rounds) None) ≡ Some option → word ≡ option_word option
-    by true is r other e = sym (same_is (codes "--steps") word is) ∙ ap option_word (some_is settings.Steps option e)
-    by false is true other e = sym (same_is (codes "--rounds") word other) ∙ ap option_word (some_is settings.Rounds option e)
-    by false is false other e = absurd cc
+    by : (s : Bool) → same_text (codes "--steps") word ≡ s → (r : Bool) → same_text (codes "--rounds") word ≡ r → (f : Bool) → same_text (codes "--fuel") word ≡ f
+        → cond s (Some settings.Steps) (cond r (Some settings.Rounds) (cond f (Some settings.Fuel) None)) ≡ Some option → word ≡ option_word option
+    by true is r other f third e = sym (same_is (codes "--steps") word is) ∙ ap option_word (some_is settings.Steps option e)
+    by false is true other f third e = sym (same_is (codes "--rounds") word other) ∙ ap option_word (some_is settings.Rounds option e)
+    by false is false other true third e = sym (same_is (codes "--fuel") word third) ∙ ap option_word (some_is settings.Fuel option e)
+    by false is false other false third e = absurd cc
 
 ends : (option : Setting) (n : ℕ) → option_word option ++ 61 ∷ decimal n ≡ joined_word option n
 ends settings.Steps n = refl
 ends settings.Rounds n = refl
+ends settings.Fuel n = refl
 
 joined_is : (word : List ℕ) (option : Setting) (n : ℕ) → joined_setting word ≡ Some option → joined_text word ≡ decimal n → word ≡ joined_word option n
 joined_is word option n e text = by (nat_lt (position_or_len is_equals word) (length word)) refl e
@@ -259,6 +270,8 @@ all_files g (Joined settings.Steps n ∷ others) = all_files (with_number g sett
 all_files g (Joined settings.Rounds n ∷ others) = all_files (with_number g settings.Rounds n) others
 all_files g (Apart settings.Steps n ∷ others) = all_files (with_number g settings.Steps n) others
 all_files g (Apart settings.Rounds n ∷ others) = all_files (with_number g settings.Rounds n) others
+all_files g (Joined settings.Fuel n ∷ others) = all_files (with_number g settings.Fuel n) others
+all_files g (Apart settings.Fuel n ∷ others) = all_files (with_number g settings.Fuel n) others
 
 all_steps : (g : Given) (arguments : List Argument) → (with_all g arguments).steps ≡ g.steps ++ flat_map (numbers_in settings.Steps) arguments
 all_steps g [] = sym (append-nil g.steps)
@@ -267,6 +280,8 @@ all_steps g (Joined settings.Steps n ∷ others) = all_steps (with_number g sett
 all_steps g (Joined settings.Rounds n ∷ others) = all_steps (with_number g settings.Rounds n) others
 all_steps g (Apart settings.Steps n ∷ others) = all_steps (with_number g settings.Steps n) others ∙ append_assoc g.steps (n ∷ []) (flat_map (numbers_in settings.Steps) others)
 all_steps g (Apart settings.Rounds n ∷ others) = all_steps (with_number g settings.Rounds n) others
+all_steps g (Joined settings.Fuel n ∷ others) = all_steps (with_number g settings.Fuel n) others
+all_steps g (Apart settings.Fuel n ∷ others) = all_steps (with_number g settings.Fuel n) others
 
 all_rounds : (g : Given) (arguments : List Argument) → (with_all g arguments).rounds ≡ g.rounds ++ flat_map (numbers_in settings.Rounds) arguments
 all_rounds g [] = sym (append-nil g.rounds)
@@ -275,6 +290,18 @@ all_rounds g (Joined settings.Rounds n ∷ others) = all_rounds (with_number g s
 all_rounds g (Joined settings.Steps n ∷ others) = all_rounds (with_number g settings.Steps n) others
 all_rounds g (Apart settings.Rounds n ∷ others) = all_rounds (with_number g settings.Rounds n) others ∙ append_assoc g.rounds (n ∷ []) (flat_map (numbers_in settings.Rounds) others)
 all_rounds g (Apart settings.Steps n ∷ others) = all_rounds (with_number g settings.Steps n) others
+all_rounds g (Joined settings.Fuel n ∷ others) = all_rounds (with_number g settings.Fuel n) others
+all_rounds g (Apart settings.Fuel n ∷ others) = all_rounds (with_number g settings.Fuel n) others
+
+all_fuel : (g : Given) (arguments : List Argument) → (with_all g arguments).fuel ≡ g.fuel ++ flat_map (numbers_in settings.Fuel) arguments
+all_fuel g [] = sym (append-nil g.fuel)
+all_fuel g (File name ∷ others) = all_fuel (with_files g (name ∷ [])) others
+all_fuel g (Joined settings.Fuel n ∷ others) = all_fuel (with_number g settings.Fuel n) others ∙ append_assoc g.fuel (n ∷ []) (flat_map (numbers_in settings.Fuel) others)
+all_fuel g (Joined settings.Steps n ∷ others) = all_fuel (with_number g settings.Steps n) others
+all_fuel g (Joined settings.Rounds n ∷ others) = all_fuel (with_number g settings.Rounds n) others
+all_fuel g (Apart settings.Fuel n ∷ others) = all_fuel (with_number g settings.Fuel n) others ∙ append_assoc g.fuel (n ∷ []) (flat_map (numbers_in settings.Fuel) others)
+all_fuel g (Apart settings.Steps n ∷ others) = all_fuel (with_number g settings.Steps n) others
+all_fuel g (Apart settings.Rounds n ∷ others) = all_fuel (with_number g settings.Rounds n) others
 
 -- ---- commands
 
@@ -292,22 +319,32 @@ one_is [] file e = absurd cc
 one_is (name ∷ []) file e = ap (λ (f : List ℕ). f ∷ []) (some_is name file e)
 one_is (name ∷ other ∷ others) file e = absurd cc
 
-word_names : (command : Command) → command_named (command_word command) (file_of command) (budget_of command) ≡ Some command
-word_names (Verify file budget) = refl
-word_names (Run file budget) = refl
+word_names : (command : Command) (fuel : List ℕ) → IsFuel command fuel → command_named (command_word command) (file_of command) fuel (budget_of command) ≡ Some command
+word_names (Verify file budget) fuel is = ap (verify_given file budget) is
+word_names (Run file budget n) fuel is = ap (option_map (Run file budget)) (set_is settings.Fuel fuel n is)
 
 -- the word is the command's
-pub record IsNamed (word file : List ℕ) (budget : Budget) (command : Command) : Type 0 where
+pub record IsNamed (word file fuel_of : List ℕ) (budget : Budget) (command : Command) : Type 0 where
   pub word_is : word ≡ command_word command
   pub file_is : file ≡ file_of command
   pub budget_is : budget ≡ budget_of command
+  pub fuel_is : IsFuel command fuel_of
 
-named_is : (word file : List ℕ) (budget : Budget) (command : Command) → command_named word file budget ≡ Some command → IsNamed word file budget command
-named_is word file budget command e = by (same_text (codes "verify") word) refl (same_text (codes "run") word) refl e
+verify_is : (word file fuel : List ℕ) (budget : Budget) (command : Command) → word ≡ codes "verify" → verify_given file budget fuel ≡ Some command → IsNamed word file fuel budget command
+verify_is word file [] budget command is e = subst (IsNamed word file [] budget) (some_is (Verify file budget) command e) (record { word_is = is; file_is = refl; budget_is = refl; fuel_is = refl })
+verify_is word file (n ∷ others) budget command is e = absurd cc
+
+run_is : (word file fuel : List ℕ) (budget : Budget) (command : Command) → word ≡ codes "run" → run_given file budget fuel ≡ Some command → IsNamed word file fuel budget command
+run_is word file fuel budget command is e =
+    let found = map_some (Run file budget) (number_of settings.Fuel fuel) command e in
+    subst (IsNamed word file fuel budget) found.2 (record { word_is = is; file_is = refl; budget_is = refl; fuel_is = is_set settings.Fuel fuel found.0 found.1 })
+
+named_is : (word file fuel : List ℕ) (budget : Budget) (command : Command) → command_named word file fuel budget ≡ Some command → IsNamed word file fuel budget command
+named_is word file fuel budget command e = by (same_text (codes "verify") word) refl (same_text (codes "run") word) refl e
   where
-    by : (v : Bool) → same_text (codes "verify") word ≡ v → (r : Bool) → same_text (codes "run") word ≡ r → cond v (Some (Verify file budget)) (cond r (Some (Run file budget)) None) ≡ Some command → IsNamed word file budget command
-    by true is r other e = subst (IsNamed word file budget) (some_is (Verify file budget) command e) (record { word_is = sym (same_is (codes "verify") word is); file_is = refl; budget_is = refl })
-    by false is true other e = subst (IsNamed word file budget) (some_is (Run file budget) command e) (record { word_is = sym (same_is (codes "run") word other); file_is = refl; budget_is = refl })
+    by : (v : Bool) → same_text (codes "verify") word ≡ v → (r : Bool) → same_text (codes "run") word ≡ r → cond v (verify_given file budget fuel) (cond r (run_given file budget fuel) None) ≡ Some command → IsNamed word file fuel budget command
+    by true is r other e = verify_is word file fuel budget command (sym (same_is (codes "verify") word is)) e
+    by false is true other e = run_is word file fuel budget command (sym (same_is (codes "run") word other)) e
     by false is false other e = absurd cc
 
 budget_given : (g : Given) (budget : Budget) → number_of settings.Steps g.steps ≡ Some budget.steps → number_of settings.Rounds g.rounds ≡ Some budget.rounds → budget_from g ≡ Some budget
@@ -324,9 +361,9 @@ line_is_found words command is =
     let rounds : number_of settings.Rounds g.rounds ≡ Some (budget_of command).rounds = ap (number_of settings.Rounds) (all_rounds nothing is.arguments) ∙ set_is settings.Rounds _ _ is.rounds in
     ap command_of_words is.words_are
     ∙ ap (option_and_then (command_from (command_word command))) read
-    ∙ ap (λ (names : List (List ℕ)). option_and_then (λ file. option_and_then (command_named (command_word command) file) (budget_from g)) (only_file names)) files
-    ∙ ap (option_and_then (command_named (command_word command) (file_of command))) (budget_given g (budget_of command) steps rounds)
-    ∙ word_names command
+    ∙ ap (λ (names : List (List ℕ)). option_and_then (λ file. option_and_then (command_named (command_word command) file g.fuel) (budget_from g)) (only_file names)) files
+    ∙ ap (option_and_then (command_named (command_word command) (file_of command) g.fuel)) (budget_given g (budget_of command) steps rounds)
+    ∙ word_names command g.fuel (subst (IsFuel command) (sym (all_fuel nothing is.arguments)) is.fuel)
 
 -- what is found is a line
 pub found_is_line : (words : List (List ℕ)) (command : Command) → command_of_words words ≡ Some command → IsLine words command
@@ -334,15 +371,16 @@ found_is_line [] command e = absurd cc
 found_is_line (word ∷ others) command e =
     let read = then_some (command_from word) (read_from nothing others) command e in
     let are = read_is nothing read.0 others read.1 in
-    let file = then_some (λ file. option_and_then (command_named word file) (budget_from read.0)) (only_file read.0.files) command read.2 in
-    let budget = then_some (command_named word file.0) (budget_from read.0) command file.2 in
+    let file = then_some (λ file. option_and_then (command_named word file read.0.fuel) (budget_from read.0)) (only_file read.0.files) command read.2 in
+    let budget = then_some (command_named word file.0 read.0.fuel) (budget_from read.0) command file.2 in
     let steps = then_some (λ steps. option_map (λ rounds. record { steps = steps; rounds = rounds }) (number_of settings.Rounds read.0.rounds)) (number_of settings.Steps read.0.steps) budget.0 budget.1 in
     let rounds = map_some (λ rounds. record { steps = steps.0; rounds = rounds }) (number_of settings.Rounds read.0.rounds) budget.0 steps.2 in
-    let is = named_is word file.0 budget.0 command budget.2 in
+    let is = named_is word file.0 read.0.fuel budget.0 command budget.2 in
     let files_are : read.0.files ≡ flat_map files_in are.arguments ++ files_after are.ending =
     ap (λ (g : Given). g.files) are.gives ∙ ap (λ (names : List (List ℕ)). names ++ files_after are.ending) (all_files nothing are.arguments) in
     let steps_are : read.0.steps ≡ flat_map (numbers_in settings.Steps) are.arguments = ap (λ (g : Given). g.steps) are.gives ∙ all_steps nothing are.arguments in
     let rounds_are : read.0.rounds ≡ flat_map (numbers_in settings.Rounds) are.arguments = ap (λ (g : Given). g.rounds) are.gives ∙ all_rounds nothing are.arguments in
+    let fuel_are : read.0.fuel ≡ flat_map (numbers_in settings.Fuel) are.arguments = ap (λ (g : Given). g.fuel) are.gives ∙ all_fuel nothing are.arguments in
     let steps_is : steps.0 ≡ (budget_of command).steps = ap (λ (b : Budget). b.steps) (rounds.2 ∙ is.budget_is) in
     let rounds_is : rounds.0 ≡ (budget_of command).rounds = ap (λ (b : Budget). b.rounds) (rounds.2 ∙ is.budget_is) in
     record {
@@ -353,6 +391,7 @@ found_is_line (word ∷ others) command e =
       one_file = sym files_are ∙ one_is read.0.files file.0 file.1 ∙ ap (λ (f : List ℕ). f ∷ []) is.file_is;
       steps = subst (λ (ns : List ℕ). IsSet settings.Steps ns (budget_of command).steps) steps_are (subst (IsSet settings.Steps read.0.steps) steps_is (is_set settings.Steps read.0.steps steps.0 steps.1));
       rounds = subst (λ (ns : List ℕ). IsSet settings.Rounds ns (budget_of command).rounds) rounds_are (subst (IsSet settings.Rounds read.0.rounds) rounds_is (is_set settings.Rounds read.0.rounds rounds.0 rounds.1));
+      fuel = subst (IsFuel command) fuel_are is.fuel_is;
     }
 
 -- and where nothing is found there is none

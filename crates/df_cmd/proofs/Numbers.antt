@@ -17,6 +17,7 @@ both false b e = absurd (true≢false (sym e))
 small : (option : Setting) (n : ℕ) → takes_number option n ≡ true → n < 2 ^ 64
 small settings.Steps n e = let less = leb-true n 10000000 (both (nat_le 1 n) (nat_le n 10000000) e).1 in omega (arith, less)
 small settings.Rounds n e = let less = leb-true n 8 (both (nat_le 0 n) (nat_le n 8) e).1 in omega (arith, less)
+small settings.Fuel n e = let less = leb-true n 9223372036854775807 (both (nat_le 0 n) (nat_le n 9223372036854775807) e).1 in omega (arith, less)
 
 pub number_of_decimal : (option : Setting) (n : ℕ) → takes_number option n ≡ true → number_in option (decimal n) ≡ Some n
 number_of_decimal option n takes =

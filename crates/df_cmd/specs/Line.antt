@@ -12,38 +12,43 @@ pub record Budget : Type 0 where
 
 pub data Command : Type 0 where
   Verify : (file : List ℕ) (budget : Budget) → Command
-  Run : (file : List ℕ) (budget : Budget) → Command
+  -- for at most so many steps of the machine
+  Run : (file : List ℕ) (budget : Budget) (fuel : ℕ) → Command
 
 -- the word that begins a command's line
 abbrev pub command_word : Command → List ℕ
 command_word (Verify file budget) = codes "verify"
-command_word (Run file budget) = codes "run"
+command_word (Run file budget fuel) = codes "run"
 
 abbrev pub file_of : Command → List ℕ
 file_of (Verify file budget) = file
-file_of (Run file budget) = file
+file_of (Run file budget fuel) = file
 
 abbrev pub budget_of : Command → Budget
 budget_of (Verify file budget) = budget
-budget_of (Run file budget) = budget
+budget_of (Run file budget fuel) = budget
 
 -- the word of an option
 abbrev pub option_word : Setting → List ℕ
 option_word settings.Steps = codes "--steps"
 option_word settings.Rounds = codes "--rounds"
+option_word settings.Fuel = codes "--fuel"
 
 -- the least number that an option takes, the greatest, and the one that it has where it is left out
 abbrev pub least : Setting → ℕ
 least settings.Steps = 1
 least settings.Rounds = 0
+least settings.Fuel = 0
 
 abbrev pub greatest : Setting → ℕ
 greatest settings.Steps = 10000000
 greatest settings.Rounds = 8
+greatest settings.Fuel = 9223372036854775807
 
 abbrev pub default : Setting → ℕ
 default settings.Steps = 20000
 default settings.Rounds = 4
+default settings.Fuel = 9223372036854775807
 
 -- What stands behind a command's word: a file, or an option with its number, in one word or in two.
 pub data Argument : Type 0 where
@@ -88,6 +93,7 @@ files_in (Apart option n) = []
 abbrev pub number_for : Setting → Setting → ℕ → List ℕ
 number_for settings.Steps settings.Steps n = n ∷ []
 number_for settings.Rounds settings.Rounds n = n ∷ []
+number_for settings.Fuel settings.Fuel n = n ∷ []
 number_for option other n = []
 
 -- the numbers that arguments give an option
@@ -101,6 +107,11 @@ pub data IsSet (option : Setting) : List ℕ → ℕ → Type 0 where
   left_out : IsSet option [] (default option)
   given : {n : ℕ} → IsSet option (n ∷ []) n
 
+-- only a run has fuel
+abbrev pub IsFuel : Command → List ℕ → Type 0
+IsFuel (Verify file budget) numbers = numbers ≡ []
+IsFuel (Run file budget fuel) numbers = IsSet settings.Fuel numbers fuel
+
 -- The words are a line of the command: its word, then its file and options in any order.
 pub record IsLine (words : List (List ℕ)) (command : Command) : Type 0 where
   pub arguments : List Argument
@@ -110,3 +121,4 @@ pub record IsLine (words : List (List ℕ)) (command : Command) : Type 0 where
   pub one_file : flat_map files_in arguments ++ files_after ending ≡ file_of command ∷ []
   pub steps : IsSet settings.Steps (flat_map (numbers_in settings.Steps) arguments) (budget_of command).steps
   pub rounds : IsSet settings.Rounds (flat_map (numbers_in settings.Rounds) arguments) (budget_of command).rounds
+  pub fuel : IsFuel command (flat_map (numbers_in settings.Fuel) arguments)

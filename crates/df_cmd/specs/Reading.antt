@@ -11,7 +11,7 @@ use Rattle.df_cmd.specs.Line.{Budget, Command, Verify, Run, least, greatest, def
 
 -- the option of a word
 abbrev pub setting_named : List ℕ → Option Setting
-setting_named word = if same_text (codes "--steps") word then Some settings.Steps else if same_text (codes "--rounds") word then Some settings.Rounds else None
+setting_named word = if same_text (codes "--steps") word then Some settings.Steps else if same_text (codes "--rounds") word then Some settings.Rounds else if same_text (codes "--fuel") word then Some settings.Fuel else None
 
 -- the number lies in the option's range
 abbrev pub takes_number : Setting → ℕ → Bool
@@ -31,13 +31,15 @@ pub record Given : Type 0 where
   pub files : List (List ℕ)
   pub steps : List ℕ
   pub rounds : List ℕ
+  pub fuel : List ℕ
 
 abbrev pub with_files : Given → List (List ℕ) → Given
-with_files g names = record { files = g.files ++ names; steps = g.steps; rounds = g.rounds }
+with_files g names = record { files = g.files ++ names; steps = g.steps; rounds = g.rounds; fuel = g.fuel }
 
 abbrev pub with_number : Given → Setting → ℕ → Given
-with_number g settings.Steps n = record { files = g.files; steps = g.steps ++ n ∷ []; rounds = g.rounds }
-with_number g settings.Rounds n = record { files = g.files; steps = g.steps; rounds = g.rounds ++ n ∷ [] }
+with_number g settings.Steps n = record { files = g.files; steps = g.steps ++ n ∷ []; rounds = g.rounds; fuel = g.fuel }
+with_number g settings.Rounds n = record { files = g.files; steps = g.steps; rounds = g.rounds ++ n ∷ []; fuel = g.fuel }
+with_number g settings.Fuel n = record { files = g.files; steps = g.steps; rounds = g.rounds; fuel = g.fuel ++ n ∷ [] }
 
 abbrev pub is_equals : ℕ → Bool
 is_equals b = b == 61
@@ -83,18 +85,26 @@ number_of option [] = Some (default option)
 number_of option (n ∷ []) = Some n
 number_of option (n ∷ m ∷ others) = None
 
+-- only a run takes fuel
+abbrev pub verify_given : List ℕ → Budget → List ℕ → Option Command
+verify_given file budget [] = Some (Verify file budget)
+verify_given file budget (n ∷ others) = None
+
+abbrev pub run_given : List ℕ → Budget → List ℕ → Option Command
+run_given file budget fuel = option_map (Run file budget) (number_of settings.Fuel fuel)
+
 -- the command of a word
-abbrev pub command_named : List ℕ → List ℕ → Budget → Option Command
-command_named word file budget = if same_text (codes "verify") word then Some (Verify file budget) else if same_text (codes "run") word then Some (Run file budget) else None
+abbrev pub command_named : List ℕ → List ℕ → List ℕ → Budget → Option Command
+command_named word file fuel budget = if same_text (codes "verify") word then verify_given file budget fuel else if same_text (codes "run") word then run_given file budget fuel else None
 
 abbrev pub budget_from : Given → Option Budget
 budget_from g = option_and_then (λ steps. option_map (λ rounds. record { steps = steps; rounds = rounds }) (number_of settings.Rounds g.rounds)) (number_of settings.Steps g.steps)
 
 abbrev pub command_from : List ℕ → Given → Option Command
-command_from word g = option_and_then (λ file. option_and_then (command_named word file) (budget_from g)) (only_file g.files)
+command_from word g = option_and_then (λ file. option_and_then (command_named word file g.fuel) (budget_from g)) (only_file g.files)
 
 abbrev pub nothing : Given
-nothing = record { files = []; steps = []; rounds = [] }
+nothing = record { files = []; steps = []; rounds = []; fuel = [] }
 
 -- the command of a line
 abbrev pub command_of_words : List (List ℕ) → Option Command

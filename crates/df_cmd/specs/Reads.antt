@@ -13,7 +13,7 @@ use Rattle.df_cmd.specs.Reading.{Given, read_from, joined_text}
 
 -- the code's lists, without where they lie in memory
 abbrev pub given_of : declared.Given → Given
-given_of g = record { files = map string_bytes g.files.items; steps = g.steps.items; rounds = g.rounds.items }
+given_of g = record { files = map string_bytes g.files.items; steps = g.steps.items; rounds = g.rounds.items; fuel = g.fuel.items }
 
 -- what words give, or they are no arguments
 abbrev pub Reads : Result declared.Given LineFault → Option Given → Type 0

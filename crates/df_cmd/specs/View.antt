@@ -12,7 +12,7 @@ budget_of b = record { steps = b.steps; rounds = b.rounds }
 
 abbrev pub command_of : Command → pure.Command
 command_of (commands.Verify file budget) = pure.Verify (string_bytes file) (budget_of budget)
-command_of (commands.Run file budget) = pure.Run (string_bytes file) (budget_of budget)
+command_of (commands.Run file budget fuel) = pure.Run (string_bytes file) (budget_of budget) fuel
 
 -- the command whose line the words are, or there is none
 abbrev pub ReadsLine : List (List ℕ) → Result Command LineFault → Type 0

@@ -15,9 +15,16 @@ pub struct Budget {
 #[derive(Debug, Drop)]
 pub enum Command {
     /// Proves the obligations of the file, and reports.
-    Verify { file: String, budget: Budget },
-    /// Proves them, and runs Main.
-    Run { file: String, budget: Budget },
+    Verify {
+        file: String,
+        budget: Budget,
+    },
+    /// Proves them, and runs Main for at most so many steps: 0 to 2^63 - 1.
+    Run {
+        file: String,
+        budget: Budget,
+        fuel: u64,
+    },
 }
 
 /// Why there is no command.

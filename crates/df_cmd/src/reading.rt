@@ -17,16 +17,18 @@ pub(crate) struct Given {
     pub(crate) files: Vec<String>,
     pub(crate) steps: Vec<u64>,
     pub(crate) rounds: Vec<u64>,
+    pub(crate) fuel: Vec<u64>,
 }
 
 impl Given {
     fn new(alloc: Global) -> Given
-        ensures { given_of result ≡ record { files = []; steps = []; rounds = [] } }
+        ensures { given_of result ≡ record { files = []; steps = []; rounds = []; fuel = [] } }
     {
         Given {
             files: Vec::new(alloc),
             steps: Vec::new(alloc),
             rounds: Vec::new(alloc),
+            fuel: Vec::new(alloc),
         }
     }
 
@@ -53,6 +55,7 @@ impl Given {
         match option {
             Setting::Steps => self.steps.push(number)?,
             Setting::Rounds => self.rounds.push(number)?,
+            Setting::Fuel => self.fuel.push(number)?,
         }
         Ok(())
     }
@@ -131,7 +134,7 @@ fn is_plain(word: &str) -> bool
 
 /// What words give.
 pub(crate) fn read(alloc: Global, words: &[String]) -> Result<Given, LineFault>
-    ensures { Reads result (read_from (record { files = []; steps = []; rounds = [] }) (map string_bytes words.now)) }
+    ensures { Reads result (read_from (record { files = []; steps = []; rounds = []; fuel = [] }) (map string_bytes words.now)) }
 {
     let mut given = Given::new(alloc);
     let mut rest = words;

@@ -1,4 +1,4 @@
-//! The options of a search, and their numbers.
+//! The options of a search and of a run, and their numbers.
 
 ghost use Rattle.std.specs.Prelude.{◌≡◌, ℕ, ◌<◌, ◌^◌, Some, IfOk};
 ghost use Rattle.std.specs.Fmt.{decimal};
@@ -15,6 +15,8 @@ pub(crate) enum Setting {
     Steps,
     /// How many rounds of instances there may be.
     Rounds,
+    /// How many steps a run may take.
+    Fuel,
 }
 
 impl Setting {
@@ -25,6 +27,7 @@ impl Setting {
         match word {
             "--steps" => Some(Setting::Steps),
             "--rounds" => Some(Setting::Rounds),
+            "--fuel" => Some(Setting::Fuel),
             _ => None,
         }
     }
@@ -36,6 +39,7 @@ impl Setting {
         match self {
             Setting::Steps => 1,
             Setting::Rounds => 0,
+            Setting::Fuel => 0,
         }
     }
 
@@ -46,6 +50,7 @@ impl Setting {
         match self {
             Setting::Steps => 10_000_000,
             Setting::Rounds => 8,
+            Setting::Fuel => 9_223_372_036_854_775_807,
         }
     }
 
@@ -56,6 +61,7 @@ impl Setting {
         match self {
             Setting::Steps => 20_000,
             Setting::Rounds => 4,
+            Setting::Fuel => 9_223_372_036_854_775_807,
         }
     }
 

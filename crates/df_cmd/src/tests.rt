@@ -4,35 +4,47 @@ use crate::{Budget, Command, LineFault, line, one_line};
 use std::alloc::Global;
 use std::test::Fail;
 
-/// What a line asks for: whether it runs, its file, steps and rounds.
-type Asked<'a> = (bool, &'a str, u64, u64);
+/// What a line asks for: the fuel of its run, if it runs, its file, steps and rounds.
+type Asked<'a> = (Option<u64>, &'a str, u64, u64);
+
+/// The fuel of a run that is given none.
+const FULL: Option<u64> = Some(9_223_372_036_854_775_807);
 
 /// Lines, and what they ask for.
-const LINES: [(&[&str], Asked); 14] = [
-    (&["verify", "p.dfy"], (false, "p.dfy", 20000, 4)),
-    (&["run", "p.dfy"], (true, "p.dfy", 20000, 4)),
-    (&["run", "--steps", "5", "p.dfy"], (true, "p.dfy", 5, 4)),
-    (&["run", "p.dfy", "--steps=5"], (true, "p.dfy", 5, 4)),
+const LINES: [(&[&str], Asked); 17] = [
+    (&["verify", "p.dfy"], (None, "p.dfy", 20000, 4)),
+    (&["run", "p.dfy"], (FULL, "p.dfy", 20000, 4)),
+    (&["run", "--steps", "5", "p.dfy"], (FULL, "p.dfy", 5, 4)),
+    (&["run", "p.dfy", "--steps=5"], (FULL, "p.dfy", 5, 4)),
     (
         &["verify", "--rounds=8", "p.dfy", "--steps", "10000000"],
-        (false, "p.dfy", 10000000, 8),
+        (None, "p.dfy", 10000000, 8),
     ),
     (
         &["verify", "--rounds", "0", "--steps=1", "p.dfy"],
-        (false, "p.dfy", 1, 0),
+        (None, "p.dfy", 1, 0),
     ),
-    (&["run", "-"], (true, "-", 20000, 4)),
-    (&["run", ""], (true, "", 20000, 4)),
-    (&["run", "a=b"], (true, "a=b", 20000, 4)),
-    (&["run", "run"], (true, "run", 20000, 4)),
-    (&["run", "p.dfy", "--"], (true, "p.dfy", 20000, 4)),
-    (&["run", "--", "p.dfy"], (true, "p.dfy", 20000, 4)),
-    (&["run", "--", "--steps"], (true, "--steps", 20000, 4)),
-    (&["run", "--steps=7", "--", "--"], (true, "--", 7, 4)),
+    (&["run", "-"], (FULL, "-", 20000, 4)),
+    (&["run", ""], (FULL, "", 20000, 4)),
+    (&["run", "a=b"], (FULL, "a=b", 20000, 4)),
+    (&["run", "run"], (FULL, "run", 20000, 4)),
+    (&["run", "p.dfy", "--"], (FULL, "p.dfy", 20000, 4)),
+    (&["run", "--", "p.dfy"], (FULL, "p.dfy", 20000, 4)),
+    (&["run", "--", "--steps"], (FULL, "--steps", 20000, 4)),
+    (&["run", "--steps=7", "--", "--"], (FULL, "--", 7, 4)),
+    (
+        &["run", "--fuel", "0", "p.dfy"],
+        (Some(0), "p.dfy", 20000, 4),
+    ),
+    (&["run", "p.dfy", "--fuel=5"], (Some(5), "p.dfy", 20000, 4)),
+    (
+        &["run", "--fuel=9223372036854775807", "p.dfy"],
+        (FULL, "p.dfy", 20000, 4),
+    ),
 ];
 
 /// Words that are no line.
-const USAGES: [&[&str]; 32] = [
+const USAGES: [&[&str]; 35] = [
     &[],
     &["p.dfy"],
     &["run"],
@@ -66,7 +78,10 @@ const USAGES: [&[&str]; 32] = [
     &["run", "p.dfy", "--step=5"],
     &["run", "p.dfy", "-s"],
     &["run", "p.dfy", "--steps5"],
-    &["run", "--fuel", "5", "p.dfy"],
+    &["run", "--fuel=9223372036854775808", "p.dfy"],
+    &["run", "--fuel", "5", "p.dfy", "--fuel=5"],
+    &["run", "p.dfy", "--fuel"],
+    &["verify", "--fuel", "5", "p.dfy"],
     &["run", "p.dfy", "--help"],
     &["--help"],
     &["help"],
@@ -81,12 +96,12 @@ fn words(alloc: Global, texts: &[&str]) -> Result<Vec<String>, Fail> {
 }
 
 fn is_asked(command: &Command, asked: &Asked) -> bool {
-    let (runs, name, steps, rounds) = *asked;
-    let (does_run, file, budget) = match command {
-        Command::Verify { file, budget } => (false, file, *budget),
-        Command::Run { file, budget } => (true, file, *budget),
+    let (fuel, name, steps, rounds) = *asked;
+    let (fuel_given, file, budget) = match command {
+        Command::Verify { file, budget } => (None, file, *budget),
+        Command::Run { file, budget, fuel } => (Some(*fuel), file, *budget),
     };
-    does_run == runs && file.as_str() == name && budget == Budget { steps, rounds }
+    fuel_given == fuel && file.as_str() == name && budget == Budget { steps, rounds }
 }
 
 #[test]
