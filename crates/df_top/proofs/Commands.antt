@@ -1,229 +1,155 @@
--- How a command ends with its program, with its source, with its files, and with the words.
-use Rattle.std.proofs.Common.{◌≡◌, ◌⊎◌, ⊎_elim, inl, inr, ℕ, ◌≤◌, Bool, true, false, List, Option, refl, sym, ap, subst, ◌∙◌, arith, true≢false}
+-- How a call ends by its words.
+use Rattle.std.proofs.Common.{◌≡◌, ◌⊎◌, ⊎_elim, inl, inr, ℕ, ◌≤◌, List, Option, refl, sym, subst, arith}
 use Rattle.df_base.specs.Outside.{Contents, Appends, AppendsPrefix}
 use Rattle.df_base.specs.declared.status.Status.{Status}
 use Rattle.df_base.specs.declared.status.Status.TheVariants as statuses
-use Rattle.df_cmd.specs.Line.{Budget, Command, Verify, Run, IsLine, file_of, budget_of}
-use Rattle.df_types.specs.Program.{Program}
-use Rattle.df_meaning.specs.Run.{Prints}
+use Rattle.df_cmd.specs.Line.{Command, Verify, Run, IsLine}
+use Rattle.df_program.specs.Program.{Program}
 use Rattle.df_top.specs.declared.ending.End.{End}
 use Rattle.df_top.specs.declared.ending.End.TheVariants as ends
-use Rattle.df_top.specs.Source.{IsLawful}
-use Rattle.df_top.specs.Answer.{IsReport, IsRunText, IsOutText, IsRunReport, IsLoaded, Puts, IsNoLine, IsToldLine, IsUnreadLine, OutPart, ErrPart, usage_line, memory_line, unread_line, Rose}
-use Rattle.df_top.specs.Ending.{Streams, Known, PutsText, Ends, of_program, of_source, of_files, Answers}
+use Rattle.df_top.specs.Answer.{IsSpentText, IsOutText, IsRunReport, ProgramTells, not_native, no_main, SourceTells, refused, lawful, FilesTell, unread, large, loaded, Puts, IsNoLine, IsToldLine, OutPart, ErrPart, usage_line, memory_line, fuel_line, Rose}
+use Rattle.df_top.specs.Ending.{Streams, Ends, of_files, Answers}
 use Rattle.df_top.specs.Telling.{Tells}
-use Rattle.df_top.proofs.Texts.{nothing_of, all_of_text}
-
--- ---- with a program
-
-module _ (program : Program) (old new : Streams) where
-  as_verified : (steps : ℕ) (verified other : Bool) (text : List ℕ) → verified ≡ other → IsReport program steps verified text → IsReport program steps other text
-  as_verified steps verified other text same report = subst (λ (b : Bool). IsReport program steps b text) same report
-
-  out_report : (file : List ℕ) (budget : Budget) (verified : Bool) (text : List ℕ) → IsReport program budget.steps verified text → IsOutText (Verify file budget) program text
-  out_report file budget true text report = inl report
-  out_report file budget false text report = inr report
-
-  of_verify : (file : List ℕ) (budget : Budget) (verified : Bool) (text : List ℕ) (end : End) → IsReport program budget.steps verified text → PutsText verified text old.out new.out old.out_faults new.out_faults end → new.err ≡ old.err → Ends (of_program (Verify file budget) program) old new end
-  of_verify file budget verified text ends.Done report puts same = ((text, as_verified budget.steps verified true text puts.0 report, puts.1), same)
-  of_verify file budget verified text ends.Unproved report puts same = inl ((text, as_verified budget.steps verified false text puts.0 report, puts.1), same)
-  of_verify file budget verified text ends.Refused report puts same = absurd puts
-  of_verify file budget verified text ends.Unread report puts same = absurd puts
-  of_verify file budget verified text ends.Unwritten report puts same = inl (puts.0, ((text, out_report file budget verified text report, puts.1), same))
-  of_verify file budget verified text ends.Memory report puts same = inr (inl ((text, out_report file budget verified text report, puts), same))
-
-  of_failing : (file : List ℕ) (budget : Budget) (text : List ℕ) (end : End) → IsReport program budget.steps false text → PutsText false text old.err new.err old.err_faults new.err_faults end → new.out ≡ old.out → Ends (of_program (Run file budget) program) old new end
-  of_failing file budget text ends.Done report puts same = absurd (true≢false (sym puts.0))
-  of_failing file budget text ends.Unproved report puts same = inr ((text, report, puts.1), same)
-  of_failing file budget text ends.Refused report puts same = absurd puts
-  of_failing file budget text ends.Unread report puts same = absurd puts
-  of_failing file budget text ends.Unwritten report puts same = inr (puts.0, ((text, report, puts.1), same))
-  of_failing file budget text ends.Memory report puts same = inr (inr ((text, report, puts), same))
-
-  of_main : (file : List ℕ) (budget : Budget) (text : List ℕ) (end : End) → IsRunText program budget.steps text → PutsText true text old.out new.out old.out_faults new.out_faults end → new.err ≡ old.err → Ends (of_program (Run file budget) program) old new end
-  of_main file budget text ends.Done runs puts same = ((text, runs, puts.1), same)
-  of_main file budget text ends.Unproved runs puts same = absurd (true≢false puts.0)
-  of_main file budget text ends.Refused runs puts same = absurd puts
-  of_main file budget text ends.Unread runs puts same = absurd puts
-  of_main file budget text ends.Unwritten runs puts same = inl (puts.0, ((text, inl runs, puts.1), same))
-  of_main file budget text ends.Memory runs puts same = inr (inl ((text, inl runs, puts), same))
-
-  module _ (command : Command) (file : List ℕ) (budget : Budget) (steps : ℕ) (verified : Bool) (text : List ℕ) (end : End) where
-    abbrev EndsSo : Type 0
-    EndsSo = Ends (of_program command program) old new end
-
-    at_command : (other : Command) → command ≡ other → Ends (of_program other program) old new end → EndsSo
-    at_command other is h = subst (λ (c : Command). Ends (of_program c program) old new end) (sym is) h
-
-    at_steps : (other : Command) → command ≡ other → steps ≡ (budget_of command).steps → IsReport program steps verified text → IsReport program (budget_of other).steps verified text
-    at_steps other is same report = subst (λ (n : ℕ). IsReport program n verified text) (same ∙ ap (λ (c : Command). (budget_of c).steps) is) report
-
-    pub verify_ends : command ≡ Verify file budget → steps ≡ (budget_of command).steps → IsReport program steps verified text → PutsText verified text old.out new.out old.out_faults new.out_faults end → new.err ≡ old.err → EndsSo
-    verify_ends is same report puts quiet = at_command (Verify file budget) is (of_verify file budget verified text end (at_steps (Verify file budget) is same report) puts quiet)
-
-    pub failing_ends : command ≡ Run file budget → steps ≡ (budget_of command).steps → IsReport program steps verified text → verified ≡ false → PutsText verified text old.err new.err old.err_faults new.err_faults end → new.out ≡ old.out → EndsSo
-    failing_ends is same report failing puts quiet =
-        at_command (Run file budget) is
-        (of_failing file budget text end (as_verified budget.steps verified false text failing (at_steps (Run file budget) is same report)) (subst (λ (b : Bool). PutsText b text old.err new.err old.err_faults new.err_faults end) failing puts) quiet)
-
-    pub main_ends : command ≡ Run file budget → steps ≡ (budget_of command).steps → IsReport program steps verified text → verified ≡ true → (printed : List ℕ) × Prints program printed × PutsText true printed old.out new.out old.out_faults new.out_faults end → new.err ≡ old.err → EndsSo
-    main_ends is same report all puts quiet =
-        let whole = at_steps (Run file budget) is same report in
-        let runs : IsRunText program budget.steps puts.0 = record { outcomes = whole.outcomes; judged = whole.judged; verified = whole.verdict ∙ all; prints = puts.1 } in
-        at_command (Run file budget) is (of_main file budget puts.0 end runs puts.2 quiet)
-
--- ---- with more known
-
-module _ (k l : Known) (old new : Streams) (texts : (is_of : Command → Program → List ℕ → Type 0) (put : List ℕ → Type 0) → k.puts is_of put → l.puts is_of put) (refused : k.refused → l.refused) (unread : k.unread → l.unread) where
-  pub ends_with : (end : End) → Ends k old new end → Ends l old new end
-  ends_with ends.Done h = (texts _ _ h.0, h.1)
-  ends_with ends.Unproved (inl h) = inl (texts _ _ h.0, h.1)
-  ends_with ends.Unproved (inr h) = inr (texts _ _ h.0, h.1)
-  ends_with ends.Refused h = (refused h.0, h.1)
-  ends_with ends.Unread h = (unread h.0, h.1)
-  ends_with ends.Unwritten (inl h) = inl (h.0, (texts _ _ h.1.0, h.1.1))
-  ends_with ends.Unwritten (inr h) = inr (h.0, (texts _ _ h.1.0, h.1.1))
-  ends_with ends.Memory (inl h) = inl h
-  ends_with ends.Memory (inr (inl h)) = inr (inl (texts _ _ h.0, h.1))
-  ends_with ends.Memory (inr (inr h)) = inr (inr (texts _ _ h.0, h.1))
-
-pub source_ends : (command : Command) (source : List ℕ) (program : Program) (old new : Streams) (end : End) → IsLawful source program → Ends (of_program command program) old new end → Ends (of_source command source) old new end
-source_ends command source program old new end lawful h =
-    ends_with (of_program command program) (of_source command source) old new (λ is_of put t. (program, lawful, t)) (λ r. absurd r) (λ r. r) end h
-
-pub files_ends : (command : Command) (held : Option Contents) (before now : ℕ) (name source bytes : List ℕ) (old new : Streams) (end : End) → name ≡ file_of command → bytes ≡ source → IsLoaded held name source → Ends (of_source command bytes) old new end → Ends (of_files command held before now) old new end
-files_ends command held before now name source bytes old new end file same loaded h =
-    let there = subst (λ (n : List ℕ). IsLoaded held n source) file loaded in
-    let whole = subst (λ (b : List ℕ). Ends (of_source command b) old new end) same h in
-    ends_with (of_source command source) (of_files command held before now) old new (λ is_of put t. (source, there, t)) (λ r. inl (source, there, r)) (λ r. absurd r) end whole
-
--- ---- with the words
-
-module _ (words : List (List ℕ)) (command : Command) (held : Option Contents) (before now : ℕ) (old new : Streams) (line : IsLine words command) where
-  abbrev Given : End → Type 0
-  Given end = Ends (of_files command held before now) old new end
-
-  abbrev Wanted : Status → Type 0
-  Wanted status = Answers words held before now old new status
-
-  to_words : (is_of : Command → Program → List ℕ → Type 0) (put : List ℕ → Type 0) → (of_files command held before now).puts is_of put → Puts words held is_of put
-  to_words is_of put t =
-      let p = t.2 in
-      let q = p.2 in
-      record {
-        command = command;
-        line = line;
-        source = t.0;
-        loaded = t.1;
-        program = p.0;
-        lawful = p.1;
-        text = q.0;
-        is = q.1;
-        was_put = q.2;
-      }
-
-  pub done : Given ends.Done → Wanted statuses.Done
-  done h = (to_words _ _ h.0, h.1)
-
-  pub unproved : Given ends.Unproved → Wanted statuses.Unproved
-  unproved (inl h) = inl (to_words _ _ h.0, h.1)
-  unproved (inr h) = inr (to_words _ _ h.0, h.1)
-
-  pub refused : Given ends.Refused → Wanted statuses.Refused
-  refused h = (record { command = command; line = line; refused = h.0 }, h.1)
-
-  pub unwritten : Given ends.Unwritten → Wanted statuses.Unwritten
-  unwritten (inl h) = inl (h.0, to_words _ _ h.1.0, h.1.1)
-  unwritten (inr h) = inr (
-    h.0,
-    inl h.1.1,
-    record {
-      middle = new.err;
-      report = inr (to_words _ _ h.1.0);
-      line = memory_line;
-      is_line = inr (inr refl);
-      told = nothing_of new.err new.err memory_line refl;
-    },
-  )
-
-  -- what is put before memory is refused
-  pub out_before : Given ends.Memory → OutPart words held old.out new.out
-  out_before (inl h) = inl h.0
-  out_before (inr (inl h)) = inr (to_words _ _ h.0)
-  out_before (inr (inr h)) = inl h.1
-
-  pub err_before : Given ends.Memory → (new.err ≡ old.err) ⊎ Puts words held IsRunReport (AppendsPrefix old.err new.err)
-  err_before (inl h) = inl h.1
-  err_before (inr (inl h)) = inl h.1
-  err_before (inr (inr h)) = inr (to_words _ _ h.0)
+use Rattle.df_top.proofs.Texts.{nothing_of, all_of_text, part_of_whole}
 
 later : (before middle now : ℕ) → before ≤ middle → Rose middle now → Rose before now
 later before middle now kept (inl less) = inl (omega arith)
 later before middle now kept (inr last) = inr last
 
-module _ (words : List (List ℕ)) (held : Option Contents) (before now : ℕ) (old : Streams) where
-  module _ (line : List ℕ) (out middle err : Option (List ℕ)) (out_faults middle_faults err_faults : ℕ) where
-    abbrev AnswersSo : Status → Type 0
-    AnswersSo status = Answers words held before now old (record { out = out; err = err; out_faults = out_faults; err_faults = err_faults }) status
+-- the text so far of a run is a prefix of its whole text
+spent_part : (command : Command) (program : Program) (old new : Option (List ℕ)) (text : List ℕ) → IsSpentText command program text → Appends old new text → (whole : List ℕ) × IsOutText command program whole × AppendsPrefix old new whole
+spent_part (Verify file budget) program old new text is put = absurd is
+spent_part (Run file budget fuel) program old new text is put =
+    (is.whole, (is.number, is.code, is.accepted), part_of_whole old new is.whole text is.unended.more is.unended.is_part put)
 
-    err_part : (middle ≡ old.err) ⊎ Puts words held IsRunReport (AppendsPrefix old.err middle) → (told : List ℕ) → IsToldLine words told → AppendsPrefix middle err told → ErrPart words held old.err err
-    err_part report told is_line put = record { middle = middle; report = report; line = told; is_line = is_line; told = put }
+module _ (words : List (List ℕ)) (command : Command) (held : Option Contents) (before now : ℕ) (old : Streams) (words_are : IsLine words command) where
+  -- ---- before err is told
 
-    -- a line is told after what was put before
-    pub tells_end : (status result : Status)
-        → OutPart words held old.out out
-        → (middle ≡ old.err) ⊎ Puts words held IsRunReport (AppendsPrefix old.err middle)
-        → IsToldLine words line
-        → old.err_faults ≤ middle_faults
-        → Tells status line middle err middle_faults err_faults result
-        → (Appends middle err line → AnswersSo status)
-        → AnswersSo result
-    tells_end status result part report is_line kept (inl h) whole = subst AnswersSo (sym h.0) (whole h.1)
-    tells_end status result part report is_line kept (inr (inl h)) whole =
-        let rose = later old.err_faults middle_faults err_faults kept h.1 in
-        let told : ErrPart words held old.err err = ⊎_elim (λ (p : AppendsPrefix middle err line). err_part report line is_line p) (λ (p : AppendsPrefix middle err memory_line). err_part report memory_line (inr (inr refl)) p) h.2 in
-        subst AnswersSo (sym h.0) (inr (rose, part, told))
-    tells_end status result part report is_line kept (inr (inr h)) whole =
-        let told : ErrPart words held old.err err = err_part report memory_line (inr (inr refl)) (⊎_elim (λ (p : Appends middle err memory_line). all_of_text middle err memory_line p) (λ (p : err ≡ middle). nothing_of middle err memory_line p) h.1) in
-        subst AnswersSo (sym h.0) (part, told)
+  module _ (new : Streams) where
+    abbrev Given : End → Type 0
+    Given end = Ends (of_files command held before now) old new end
 
-    -- so is the line on memory
-    pub memory_end : (result : Status)
-        → line ≡ memory_line
-        → OutPart words held old.out out
-        → (middle ≡ old.err) ⊎ Puts words held IsRunReport (AppendsPrefix old.err middle)
-        → old.err_faults ≤ middle_faults
-        → Tells statuses.Memory line middle err middle_faults err_faults result
-        → AnswersSo result
-    memory_end result is part report kept told =
-        tells_end statuses.Memory result part report (inr (inr is)) kept told (λ put. (part, err_part report line (inr (inr is)) (all_of_text middle err line put)))
+    to_words : (is_of : Command → Program → List ℕ → Type 0) (put : List ℕ → Type 0) → (of_files command held before now).puts is_of put → Puts words held is_of put
+    to_words is_of put (source, there, (program, is, (text, kind, was_put))) =
+        record { command = command; line = words_are; source = source; loaded = there; program = program; lawful = is; text = text; is = kind; was_put = was_put }
 
-    -- so is the line on a file that is unread
-    pub unread_end : (command : Command) (name : List ℕ) (result : Status)
-        → IsLine words command
-        → name ≡ file_of command
-        → line ≡ unread_line name
-        → Rose before now
-        → out ≡ old.out
-        → middle ≡ old.err
-        → old.err_faults ≤ middle_faults
-        → Tells statuses.Unread line middle err middle_faults err_faults result
-        → AnswersSo result
-    unread_end command name result of_words file is rose quiet silent kept told =
-        let named : IsUnreadLine words line = (command, of_words, is ∙ ap unread_line file) in
-        tells_end statuses.Unread result (inl quiet) (inl silent) (inr (inl named)) kept told (λ put. (rose, (line, named, (quiet, subst (λ (m : Option (List ℕ)). Appends m err line) silent put))))
+    pub done : Given ends.Done → Answers words held before now old new statuses.Done
+    done h = (to_words _ _ h.0, h.1)
 
-    -- and the line on words that are no command
-    pub usage_end : (result : Status)
-        → IsNoLine words
-        → line ≡ usage_line
-        → out ≡ old.out
-        → middle ≡ old.err
-        → old.err_faults ≤ middle_faults
-        → Tells statuses.Usage line middle err middle_faults err_faults result
-        → AnswersSo result
-    usage_end result none is quiet silent kept told =
-        tells_end statuses.Usage result (inl quiet) (inl silent) (inl (none, is)) kept told (λ put. (none, (quiet, subst (λ (m : Option (List ℕ)). Appends m err usage_line) silent (subst (Appends middle err) is put))))
+    pub unproved : Given ends.Unproved → Answers words held before now old new statuses.Unproved
+    unproved (inl h) = inl (to_words _ _ h.0, h.1)
+    unproved (inr h) = inr (to_words _ _ h.0, h.1)
+
+    pub unwritten : Given ends.Unwritten → Answers words held before now old new statuses.Unwritten
+    unwritten (inl h) = inl (h.0, to_words _ _ h.1.0, h.1.1)
+    unwritten (inr h) = inr (
+      h.0,
+      inl h.1.1,
+      record {
+        middle = new.err;
+        report = inr (to_words _ _ h.1.0);
+        line = memory_line;
+        is_line = inr (inr (inr refl));
+        told = nothing_of new.err new.err memory_line refl;
+      },
+    )
+
+    -- what is put before memory is refused
+    out_before : Given ends.Memory → OutPart words held old.out new.out
+    out_before (inl h) = inl h.0
+    out_before (inr (inl h)) = inr (to_words _ _ h.0)
+    out_before (inr (inr h)) = inl h.1
+
+    err_before : Given ends.Memory → (new.err ≡ old.err) ⊎ Puts words held IsRunReport (AppendsPrefix old.err new.err)
+    err_before (inl h) = inl h.1
+    err_before (inr (inl h)) = inl h.1
+    err_before (inr (inr h)) = inr (to_words _ _ h.0)
+
+    -- what is put before the fuel is spent
+    spent_before : Given ends.FuelSpent → OutPart words held old.out new.out
+    spent_before ((source, there, (program, is, (text, kind, was_put))), same) =
+        let part = spent_part command program old.out new.out text kind was_put in
+        inr (record { command = command; line = words_are; source = source; loaded = there; program = program; lawful = is; text = part.0; is = part.1; was_put = part.2 })
+
+-- ---- a line is told after what was put before
+
+module _ (words : List (List ℕ)) (held : Option Contents) (before now : ℕ) (old middle : Streams) (err : Option (List ℕ)) (err_faults : ℕ) (kept : old.err_faults ≤ middle.err_faults) where
+  abbrev AnswersSo : Status → Type 0
+  AnswersSo status = Answers words held before now old (record { out = middle.out; err = err; out_faults = middle.out_faults; err_faults = err_faults }) status
+
+  tells_end : (line : List ℕ) (status result : Status)
+      → OutPart words held old.out middle.out
+      → (middle.err ≡ old.err) ⊎ Puts words held IsRunReport (AppendsPrefix old.err middle.err)
+      → IsToldLine words held before now line
+      → Tells status line middle.err err middle.err_faults err_faults result
+      → (Appends middle.err err line → AnswersSo status)
+      → AnswersSo result
+  tells_end line status result part report is_line told whole = by_cases told
+    where
+      err_part : (text : List ℕ) → IsToldLine words held before now text → AppendsPrefix middle.err err text → ErrPart words held before now old.err err
+      err_part text is_text put = record { middle = middle.err; report = report; line = text; is_line = is_text; told = put }
+
+      by_cases : Tells status line middle.err err middle.err_faults err_faults result → AnswersSo result
+      by_cases (inl h) = subst AnswersSo (sym h.0) (whole h.1)
+      by_cases (inr (inl h)) =
+          let cut : ErrPart words held before now old.err err = ⊎_elim (λ (p : AppendsPrefix middle.err err line). err_part line is_line p) (λ (p : AppendsPrefix middle.err err memory_line). err_part memory_line (inr (inr (inr refl))) p) h.2 in
+          subst AnswersSo (sym h.0) (inr (later old.err_faults middle.err_faults err_faults kept h.1, part, cut))
+      by_cases (inr (inr h)) =
+          let put : AppendsPrefix middle.err err memory_line = ⊎_elim (λ (p : Appends middle.err err memory_line). all_of_text middle.err err memory_line p) (λ (p : err ≡ middle.err). nothing_of middle.err err memory_line p) h.1 in
+          subst AnswersSo (sym h.0) (part, err_part memory_line (inr (inr (inr refl))) put)
+
+  -- the line on memory
+  memory_told : (result : Status)
+      → OutPart words held old.out middle.out
+      → (middle.err ≡ old.err) ⊎ Puts words held IsRunReport (AppendsPrefix old.err middle.err)
+      → Tells statuses.Memory memory_line middle.err err middle.err_faults err_faults result
+      → AnswersSo result
+  memory_told result part report told =
+      tells_end memory_line statuses.Memory result part report (inr (inr (inr refl))) told
+      (λ put. (part, record { middle = middle.err; report = report; line = memory_line; is_line = inr (inr (inr refl)); told = all_of_text middle.err err memory_line put }))
+
+  -- before there is a command
+  pub nothing_read : (result : Status) → middle.out ≡ old.out → middle.err ≡ old.err → Tells statuses.Memory memory_line middle.err err middle.err_faults err_faults result → AnswersSo result
+  nothing_read result quiet silent told = memory_told result (inl quiet) (inl silent) told
+
+  -- the line on words that are no command
+  pub usage_end : (result : Status) → IsNoLine words → middle.out ≡ old.out → middle.err ≡ old.err → Tells statuses.Usage usage_line middle.err err middle.err_faults err_faults result → AnswersSo result
+  usage_end result none quiet silent told =
+      tells_end usage_line statuses.Usage result (inl quiet) (inl silent) (inl (none, refl)) told
+      (λ put. (none, (quiet, subst (λ (m : Option (List ℕ)). Appends m err usage_line) silent put)))
+
+  module _ (command : Command) (words_are : IsLine words command) where
+    pub memory_end : (result : Status) → Ends (of_files command held before now) old middle ends.Memory → Tells statuses.Memory memory_line middle.err err middle.err_faults err_faults result → AnswersSo result
+    memory_end result h told =
+        memory_told result (out_before words command held before now old words_are middle h) (err_before words command held before now old words_are middle h) told
+
+    -- the line on fuel
+    pub fuel_end : (result : Status) → Ends (of_files command held before now) old middle ends.FuelSpent → Tells statuses.FuelSpent fuel_line middle.err err middle.err_faults err_faults result → AnswersSo result
+    fuel_end result h told =
+        tells_end fuel_line statuses.FuelSpent result (spent_before words command held before now old words_are middle h) (inl h.1) (inr (inr (inl refl))) told
+        (λ put. (to_words words command held before now old words_are middle _ _ h.0, subst (λ (m : Option (List ℕ)). Appends m err fuel_line) h.1 put))
+
+    -- a line of the command
+    by_status : (line : List ℕ) (status : Status) → FilesTell held before now command status line → middle.out ≡ old.out → Appends old.err err line → AnswersSo status
+    by_status line status tells quiet put = by_files command status line tells words_are put
+      where
+        by_program : (command : Command) (source : List ℕ) (program : Program) (status : Status) (line : List ℕ) → FilesTell held before now command status line → ProgramTells program command status line → IsLine words command → Appends old.err err line → AnswersSo status
+        by_program command source program status line tells (not_native place first) is put = (line, record { command = command; words_are = is; tells = tells }, (quiet, put))
+        by_program command source program status line tells (no_main native none) is put = (line, record { command = command; words_are = is; tells = tells }, (quiet, put))
+
+        by_source : (command : Command) (source : List ℕ) (status : Status) (line : List ℕ) → FilesTell held before now command status line → SourceTells source command status line → IsLine words command → Appends old.err err line → AnswersSo status
+        by_source command source status line tells (refused names r why) is put = (line, record { command = command; words_are = is; tells = tells }, (quiet, put))
+        by_source command source status line tells (lawful program there told) is put = by_program command source program status line tells told is put
+
+        by_files : (command : Command) (status : Status) (line : List ℕ) → FilesTell held before now command status line → IsLine words command → Appends old.err err line → AnswersSo status
+        by_files command status line (unread rose) is put = (line, record { command = command; words_are = is; tells = unread rose }, (quiet, put))
+        by_files command status line (large long) is put = (line, record { command = command; words_are = is; tells = large long }, (quiet, put))
+        by_files command status line (loaded source there told) is put = by_source command source status line (loaded source there told) told is put
+
+    pub told_end : (line : List ℕ) (status result : Status) → FilesTell held before now command status line → middle.out ≡ old.out → middle.err ≡ old.err → Tells status line middle.err err middle.err_faults err_faults result → AnswersSo result
+    told_end line status result tells quiet silent told =
+        tells_end line status result (inl quiet) (inl silent) (inr (inl (status, record { command = command; words_are = words_are; tells = tells }))) told
+        (λ put. by_status line status tells quiet (subst (λ (m : Option (List ℕ)). Appends m err line) silent put))
 
 -- ---- clause by clause
 
@@ -233,11 +159,11 @@ module _ (words : List (List ℕ)) (held : Option Contents) (before now : ℕ) (
   no_line statuses.Unproved (inl a) none = absurd (none a.0.command a.0.line)
   no_line statuses.Unproved (inr a) none = absurd (none a.0.command a.0.line)
   no_line statuses.Usage a none = inl refl
-  no_line statuses.Refused a none = absurd (none a.0.command a.0.line)
-  no_line statuses.Unread a none = absurd (none a.1.1.0 a.1.1.1)
+  no_line statuses.Refused a none = absurd (none a.1.command a.1.words_are)
+  no_line statuses.Unread a none = absurd (none a.1.command a.1.words_are)
   no_line statuses.Unwritten a none = inr (inl refl)
   no_line statuses.Memory a none = inr (inr refl)
-  no_line statuses.FuelSpent a none = absurd a
-  no_line statuses.NotCompilable a none = absurd a
-  no_line statuses.NoMain a none = absurd a
+  no_line statuses.FuelSpent a none = absurd (none a.0.command a.0.line)
+  no_line statuses.NotCompilable a none = absurd (none a.1.command a.1.words_are)
+  no_line statuses.NoMain a none = absurd (none a.1.command a.1.words_are)
   no_line statuses.BadLog a none = absurd a

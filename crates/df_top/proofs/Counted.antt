@@ -1,9 +1,15 @@
 -- A command may close at least one branch.
-use Rattle.std.proofs.Common.{◌≡◌, ℕ, ◌≤◌, true, ◌&&◌, nat_le, List, [], ◌∷◌, refl, arith}
+use Rattle.std.proofs.Common.{◌≡◌, ℕ, ◌≤◌, Bool, true, false, ◌&&◌, nat_le, List, [], ◌∷◌, ◌++◌, refl, arith}
 use Rattle.std.specs.List.{list_all, flat_map, AllByRecursion}
-use Rattle.df_form.proofs.Same.{and_true}
-use Rattle.df_pass.proofs.Lists.{all_joined}
 use Rattle.df_cmd.specs.Line.{Command, Argument, File, Joined, Apart, least, greatest, default, number_for, numbers_in, is_argument, is_plain, IsSet, left_out, given, IsLine, budget_of}
+
+and_true : (a b : Bool) → (a && b) ≡ true → (a ≡ true) × (b ≡ true)
+and_true true b e = (refl, e)
+and_true false b e = cc
+
+all_joined : {A : Type 0} (P : A → Type 0) (xs ys : List A) → AllByRecursion P xs → AllByRecursion P ys → AllByRecursion P (xs ++ ys)
+all_joined P [] ys a b = b
+all_joined P (x ∷ xs) ys a b = (a.0, all_joined P xs ys a.1 b)
 
 for_one : (option other : _) (n : ℕ) → (nat_le (least other) n && nat_le n (greatest other)) ≡ true → AllByRecursion (λ m. nat_le (least option) m ≡ true) (number_for option other n)
 for_one option other n e = grind arith

@@ -4,13 +4,29 @@ use Rattle.std.proofs.Math.Seq.{take-add}
 use Rattle.df_base.specs.declared.sink.SinkFault.{SinkFault}
 use Rattle.df_base.specs.declared.sink.SinkFault.TheVariants as faults
 use Rattle.df_base.specs.Outside.{Appends, AppendsPrefix}
-use Rattle.df_top.proofs.Steps.{prefix_more}
 
-pub appends_more : (old mid new : Option (List ℕ)) (t u : List ℕ) → Appends old mid t → Appends mid new u → Appends old new (t ++ u)
+appends_more : (old mid new : Option (List ℕ)) (t u : List ℕ) → Appends old mid t → Appends mid new u → Appends old new (t ++ u)
 appends_more None mid new t u a b = let P : Option (List ℕ) → Type 0 = λ m. Appends m new u in subst P a b
 appends_more (Some x) mid new t u a b =
     let P : Option (List ℕ) → Type 0 = λ m. Appends m new u in
     subst P a b ∙ ap Some (append_assoc x t u)
+
+take_front : (x y : List ℕ) → take (length x) (x ++ y) ≡ x
+take_front [] y = refl
+take_front (a ∷ x) y = ap (λ r. a ∷ r) (take_front x y)
+
+-- a text that a whole begins with is a prefix of it
+pub part_of_whole : (old new : Option (List ℕ)) (whole text more : List ℕ) → whole ≡ text ++ more → Appends old new text → AppendsPrefix old new whole
+part_of_whole old new whole text more is put = (length text, subst (λ (x : List ℕ). Appends old new x) (sym (ap (take (length text)) is ∙ take_front text more)) put)
+
+-- a text that goes on after a part of it is put
+prefix_more : (old mid new : Option (List ℕ)) (t u more : List ℕ) → Appends old mid t → AppendsPrefix mid new u → AppendsPrefix old new ((t ++ u) ++ more)
+prefix_more old mid new t u more a b =
+    let part : List ℕ = take b.0 u in
+    let rest : List ℕ = drop b.0 u ++ more in
+    let whole : (t ++ part) ++ rest ≡ (t ++ u) ++ more =
+    append_assoc t part rest ∙ ap (λ x. t ++ x) (sym (append_assoc part (drop b.0 u) more) ∙ ap (λ x. x ++ more) (take-append-drop b.0 u)) ∙ sym (append_assoc t u more) in
+    part_of_whole old new ((t ++ u) ++ more) (t ++ part) rest (sym whole) (appends_more old mid new t part a b.1)
 
 -- nothing is put
 pub appends_nothing : (old : Option (List ℕ)) → Appends old old []

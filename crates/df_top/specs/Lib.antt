@@ -1,12 +1,4 @@
 pub use Rattle.df_base.specs.Outside
-pub use Rattle.df_meaning.specs.Run
-pub mod Fault
-pub mod Gives
-pub mod Elaboration
-pub mod Elaborating
-pub mod Bounds
-pub mod Source
 pub mod Answer
 pub mod Ending
 pub mod Telling
-pub mod Running

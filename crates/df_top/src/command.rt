@@ -6,27 +6,17 @@ ghost use Rattle.df_base.specs.declared.status.Status.TheVariants as statuses;
 ghost use Rattle.df_cmd.specs.Line as lines;
 ghost use Rattle.df_cmd.specs.Line.{IsLine, file_of, budget_of as budget_in};
 ghost use Rattle.df_cmd.specs.View.{command_of};
-ghost use Rattle.df_top.specs.Answer.{Puts, IsDoneText, IsVerifyReport, IsRunReport, IsOutText, IsRefused, IsUnreadLine, IsNoLine, usage_line, OutPart, ErrPart, Rose};
+ghost use Rattle.df_top.specs.Answer.{Puts, IsDoneText, IsSpentText, IsVerifyReport, IsRunReport, IsOutText, Tells, IsNoLine, usage_line, fuel_line, OutPart, ErrPart, Rose};
 ghost use Rattle.df_top.specs.Ending.{Ends, of_files, Answers};
 
 use crate::ending::End;
-use crate::running::end_source;
-use crate::telling::{tell_memory, tell_unread, tell_usage};
+use crate::running::{end_source, file, told};
+use crate::telling::{large_text, tell, tell_fuel, tell_memory, tell_usage, unread_text};
 use df_base::{Files, Global, LoadFault, Sink, Status};
 use df_cmd::{Command, LineFault, line};
 
 /// A source has at most this many bytes.
 const BYTE_LIMIT: u64 = 4_194_304;
-
-/// The file of a command.
-fn file(command: &Command) -> &str
-    ensures { result.now ≡ file_of (command_of command.now) }
-{
-    match command {
-        Command::Verify { file, .. } => file.as_str(),
-        Command::Run { file, .. } => file.as_str(),
-    }
-}
 
 /// Loads the file of a command, and carries out the command.
 fn end_command<F: Files, O: Sink, E: Sink>(
@@ -44,8 +34,8 @@ fn end_command<F: Files, O: Sink, E: Sink>(
 {
     match files.load(alloc, file(command), BYTE_LIMIT) {
         Ok(source) => end_source(alloc, command, source.as_slice(), out, err),
-        Err(LoadFault::Failed) => End::Unread,
-        Err(LoadFault::Large(_)) => End::Refused,
+        Err(LoadFault::Failed) => told(Status::Unread, unread_text(alloc, file(command))),
+        Err(LoadFault::Large(_)) => told(Status::Refused, large_text(alloc, file(command))),
         Err(LoadFault::Memory) => End::Memory,
     }
 }
@@ -68,8 +58,8 @@ fn carry_out<F: Files, O: Sink, E: Sink>(
     match end_command(alloc, command, files, out, err) {
         End::Done => Status::Done,
         End::Unproved => Status::Unproved,
-        End::Refused => Status::Refused,
-        End::Unread => tell_unread(alloc, file(command), err),
+        End::FuelSpent => tell_fuel(err),
+        End::Told(status, line) => tell(err, line.as_slice(), status),
         End::Unwritten => Status::Unwritten,
         End::Memory => tell_memory(err),
     }
@@ -97,9 +87,9 @@ fn answer<F: Files, O: Sink, E: Sink>(
 
 /// Carries out the command of the words.
 ///
-/// `verify FILE` puts the report on the file's program on `out`. `run FILE` puts the text of Main there,
-/// where all obligations are proved, and else the report on `err`. Status 1 tells that an obligation is
-/// unproved. The statuses 2, 4 and 6 are told by a line on `err`.
+/// `verify FILE` puts the report on the file's program on `out`. `run FILE` compiles the program, proves it,
+/// and puts the text of Main on `out` as the machine runs it; where an obligation is unproved the report is
+/// put on `err`. The statuses but 0, 1 and 5 are told by a line on `err`.
 pub fn top<F: Files, O: Sink, E: Sink>(
     alloc: Global,
     words: &[String],
@@ -108,18 +98,25 @@ pub fn top<F: Files, O: Sink, E: Sink>(
     err: &mut E,
 ) -> Status
     requires { (command : lines.Command) → IsLine (map string_bytes words.now) command → F.allowed files.old (file_of command) }
-    // The report tells of no failure, or all is proved and Main has run to its end.
+    // The report tells of no failure, or all is proved and the machine has run Main to its end.
     ensures done { result ≡ statuses.Done → Puts (map string_bytes words.now) (F.holds files.old) IsDoneText (Appends (O.taken out.old) (O.taken out.new)) × (E.taken err.new ≡ E.taken err.old) }
     // The report tells of a failure: `verify` puts it on `out`, and `run` on `err`.
     ensures unproved { result ≡ statuses.Unproved → (Puts (map string_bytes words.now) (F.holds files.old) IsVerifyReport (Appends (O.taken out.old) (O.taken out.new)) × (E.taken err.new ≡ E.taken err.old)) ⊎ (Puts (map string_bytes words.now) (F.holds files.old) IsRunReport (Appends (E.taken err.old) (E.taken err.new)) × (O.taken out.new ≡ O.taken out.old)) }
     ensures usage { result ≡ statuses.Usage → IsNoLine (map string_bytes words.now) × (O.taken out.new ≡ O.taken out.old) × Appends (E.taken err.old) (E.taken err.new) usage_line }
     ensures no_line { IsNoLine (map string_bytes words.now) → (result ≡ statuses.Usage) ⊎ ((result ≡ statuses.Unwritten) ⊎ (result ≡ statuses.Memory)) }
-    ensures refused { result ≡ statuses.Refused → IsRefused (map string_bytes words.now) (F.holds files.old) × (O.taken out.new ≡ O.taken out.old) × (E.taken err.new ≡ E.taken err.old) }
-    ensures unread { result ≡ statuses.Unread → Rose (F.fault_count files.old) (F.fault_count files.new) × ((line : List ℕ) × IsUnreadLine (map string_bytes words.now) line × (O.taken out.new ≡ O.taken out.old) × Appends (E.taken err.old) (E.taken err.new) line) }
+    // The source breaks a rule, or is too long; the line tells the first one.
+    ensures refused { result ≡ statuses.Refused → (line : List ℕ) × Tells (map string_bytes words.now) (F.holds files.old) (F.fault_count files.old) (F.fault_count files.new) statuses.Refused line × (O.taken out.new ≡ O.taken out.old) × Appends (E.taken err.old) (E.taken err.new) line }
+    ensures unread { result ≡ statuses.Unread → (line : List ℕ) × Tells (map string_bytes words.now) (F.holds files.old) (F.fault_count files.old) (F.fault_count files.new) statuses.Unread line × (O.taken out.new ≡ O.taken out.old) × Appends (E.taken err.old) (E.taken err.new) line }
+    // All is proved, and the machine has not run Main to its end in so many steps.
+    ensures spent { result ≡ statuses.FuelSpent → Puts (map string_bytes words.now) (F.holds files.old) IsSpentText (Appends (O.taken out.old) (O.taken out.new)) × Appends (E.taken err.old) (E.taken err.new) fuel_line }
+    // A literal breaks the rule on what compiles, and the line tells the first one.
+    ensures not_compilable { result ≡ statuses.NotCompilable → (line : List ℕ) × Tells (map string_bytes words.now) (F.holds files.old) (F.fault_count files.old) (F.fault_count files.new) statuses.NotCompilable line × (O.taken out.new ≡ O.taken out.old) × Appends (E.taken err.old) (E.taken err.new) line }
+    // The program compiles, and no method is the entry.
+    ensures no_main { result ≡ statuses.NoMain → (line : List ℕ) × Tells (map string_bytes words.now) (F.holds files.old) (F.fault_count files.old) (F.fault_count files.new) statuses.NoMain line × (O.taken out.new ≡ O.taken out.old) × Appends (E.taken err.old) (E.taken err.new) line }
     // A put failed on `out`, or on `err`.
-    ensures unwritten { result ≡ statuses.Unwritten → (Rose (O.fault_count out.old) (O.fault_count out.new) × Puts (map string_bytes words.now) (F.holds files.old) IsOutText (AppendsPrefix (O.taken out.old) (O.taken out.new)) × (E.taken err.new ≡ E.taken err.old)) ⊎ (Rose (E.fault_count err.old) (E.fault_count err.new) × OutPart (map string_bytes words.now) (F.holds files.old) (O.taken out.old) (O.taken out.new) × ErrPart (map string_bytes words.now) (F.holds files.old) (E.taken err.old) (E.taken err.new)) }
-    ensures memory { result ≡ statuses.Memory → OutPart (map string_bytes words.now) (F.holds files.old) (O.taken out.old) (O.taken out.new) × ErrPart (map string_bytes words.now) (F.holds files.old) (E.taken err.old) (E.taken err.new) }
-    ensures others { (result ≢ statuses.FuelSpent) × (result ≢ statuses.NotCompilable) × (result ≢ statuses.NoMain) × (result ≢ statuses.BadLog) }
+    ensures unwritten { result ≡ statuses.Unwritten → (Rose (O.fault_count out.old) (O.fault_count out.new) × Puts (map string_bytes words.now) (F.holds files.old) IsOutText (AppendsPrefix (O.taken out.old) (O.taken out.new)) × (E.taken err.new ≡ E.taken err.old)) ⊎ (Rose (E.fault_count err.old) (E.fault_count err.new) × OutPart (map string_bytes words.now) (F.holds files.old) (O.taken out.old) (O.taken out.new) × ErrPart (map string_bytes words.now) (F.holds files.old) (F.fault_count files.old) (F.fault_count files.new) (E.taken err.old) (E.taken err.new)) }
+    ensures memory { result ≡ statuses.Memory → OutPart (map string_bytes words.now) (F.holds files.old) (O.taken out.old) (O.taken out.new) × ErrPart (map string_bytes words.now) (F.holds files.old) (F.fault_count files.old) (F.fault_count files.new) (E.taken err.old) (E.taken err.new) }
+    ensures others { result ≢ statuses.BadLog }
     ensures held { F.holds files.new ≡ F.holds files.old }
     ensures counts { (F.fault_count files.old ≤ F.fault_count files.new) × (O.fault_count out.old ≤ O.fault_count out.new) × (E.fault_count err.old ≤ E.fault_count err.new) }
 {

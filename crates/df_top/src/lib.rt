@@ -2,16 +2,14 @@
 #![tactic(auto)]
 
 mod command;
-mod elaboration;
 mod ending;
-mod execution;
 mod proving;
 mod putting;
-mod reading;
 mod running;
+#[cfg(test)]
+mod sources;
 mod telling;
 #[cfg(test)]
 mod tests;
 
 pub use command::top;
-pub use reading::one_program;

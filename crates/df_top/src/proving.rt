@@ -3,13 +3,13 @@
 ghost use Rattle.std.specs.Prelude.{◌≡◌, ◌≤◌, IfOk, map};
 ghost use Rattle.df_report.specs.Report.{count_unproved};
 ghost use Rattle.df_report.specs.View.{outcome_of};
-ghost use Rattle.df_types.specs.View.{program_of};
+ghost use Rattle.df_program.specs.View.{program_of};
 ghost use Rattle.df_verdict.specs.Verdict.{are_verified};
 ghost use Rattle.df_top.specs.Answer.{IsReport};
 
+use df_program::Program;
 use df_report::{Outcome, lines};
 use df_search::Budget;
-use df_types::Program;
 use df_verdict::verdicts;
 use std::alloc::{AllocError, Global};
 

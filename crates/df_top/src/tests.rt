@@ -14,7 +14,7 @@ fn words(alloc: Global, texts: &[&str]) -> Result<Vec<String>, Fail> {
 }
 
 /// Calls `top` with these words, and this source as the file `p.dfy`.
-fn call<O: Sink, E: Sink>(
+pub(crate) fn call<O: Sink, E: Sink>(
     alloc: Global,
     texts: &[&str],
     source: &[u8],
@@ -45,48 +45,6 @@ fn with_body(alloc: Global, body: &[u8]) -> Result<Vec<u8>, Fail> {
     source.extend_from_slice(body)?;
     source.push(b'}')?;
     Ok(source)
-}
-
-#[test]
-fn prints_six(rt: HostRuntime) -> Result<(), Fail> {
-    let alloc = rt.alloc();
-    let source = with_body(alloc, b" var x: i32 := 5; print x + 1, \"\\n\"; ")?;
-    let mut out = MemSink::new(alloc);
-    assert_eq!(rt; run(alloc, &source, &mut out)?, Status::Done);
-    assert_eq!(rt; out.taken(), b"6\n".as_slice());
-    Ok(())
-}
-
-#[test]
-fn verifies_it(rt: HostRuntime) -> Result<(), Fail> {
-    let alloc = rt.alloc();
-    let source = with_body(alloc, b" var x: i32 := 5; print x + 1, \"\\n\"; ")?;
-    let mut out = MemSink::new(alloc);
-    let mut err = SureSink::new(alloc);
-    let status = call(alloc, &["verify", "p.dfy"], &source, &mut out, &mut err)?;
-    assert_eq!(rt; status, Status::Done);
-    assert_eq!(rt;
-        out.taken(),
-        b"Main: verified\n1 verified, 0 unproved\n".as_slice()
-    );
-    Ok(())
-}
-
-#[test]
-fn runs_nothing_unproved(rt: HostRuntime) -> Result<(), Fail> {
-    let alloc = rt.alloc();
-    let source = with_body(alloc, b" var x: i32 := 2147483647; print x + 1; ")?;
-    let report = b"Main: unproved\n  2:51 range: model\n0 verified, 1 unproved\n".as_slice();
-    let mut out = MemSink::new(alloc);
-    let mut err = MemSink::new(alloc);
-    let status = call(alloc, &["run", "p.dfy"], &source, &mut out, &mut err)?;
-    assert_eq!(rt; status, Status::Unproved);
-    assert_eq!(rt; out.taken().len(), 0);
-    assert_eq!(rt; err.taken(), report);
-    let status = call(alloc, &["verify", "p.dfy"], &source, &mut out, &mut err)?;
-    assert_eq!(rt; status, Status::Unproved);
-    assert_eq!(rt; out.taken(), report);
-    Ok(())
 }
 
 const SIX: &[u8] =
@@ -142,161 +100,8 @@ fn proves_a_sum_of_three_hundred(rt: HostRuntime) -> Result<(), Fail> {
     Ok(())
 }
 
-#[test]
-fn runs_bodies(rt: HostRuntime) -> Result<(), Fail> {
-    let alloc = rt.alloc();
-    let table: [(&[u8], Status, &[u8]); 13] = [
-        (b"", Status::Done, b""),
-        (
-            b"print \"\", \"a\\tb\\\\\\'\\\"\";",
-            Status::Done,
-            b"a\tb\\'\"",
-        ),
-        (
-            b"var x: i32 := 0x7FFF_FFFF; print x;",
-            Status::Done,
-            b"2147483647",
-        ),
-        (
-            b"var x: i32 := 1 + 2 + 3; var y: i32 := x + x; print y, x;",
-            Status::Done,
-            b"126",
-        ),
-        (
-            b"var i32: i32 := 1_0; print i32 + i32;",
-            Status::Done,
-            b"20",
-        ),
-        (
-            b"/* /* \xff */ */ print \"x\"; // \xfe",
-            Status::Refused,
-            b"",
-        ),
-        (
-            b"/* /* \xff */ */ print \"x\"; // \xfe\n",
-            Status::Done,
-            b"x",
-        ),
-        (b"var x: i32 := 2147483648;", Status::Unproved, b""),
-        (
-            b"print \"a\"; var x: i32 := 2147483647; print x + 1;",
-            Status::Unproved,
-            b"",
-        ),
-        (b"var x: i32 := 2147483647 + 0 + 1;", Status::Unproved, b""),
-        (b"print 1;", Status::Refused, b""),
-        (b"print;", Status::Refused, b""),
-        (b"var x: i32 := -1;", Status::Refused, b""),
-    ];
-    for (body, status, printed) in table {
-        let mut out = MemSink::new(alloc);
-        let source = with_body(alloc, body)?;
-        assert_eq!(rt; run(alloc, &source, &mut out)?, status, "at {body:?}");
-        assert_eq!(rt; out.taken(), printed, "at {body:?}");
-    }
-    Ok(())
-}
-
-#[test]
-fn refuses_unlawful_bodies(rt: HostRuntime) -> Result<(), Fail> {
-    let alloc = rt.alloc();
-    let table: [&[u8]; 17] = [
-        b"print \"\x80\";",
-        b"/* ",
-        b"print \"a;",
-        b"var x: i32 := 0x;",
-        b"var x: i32 := 1_;",
-        b"var x: i32 := 12a;",
-        b"var x: i32 := 170141183460469231731687303715884105728;",
-        b"print y;",
-        b"var x: i32 := x;",
-        b"var x: i32 := 1; var x: i32 := 2;",
-        b"var x: u32 := 1;",
-        b"var trait: i32 := 1;",
-        b"var print: i32 := 1;",
-        b"var _: i32 := 1;",
-        b"var x: i32 := 1 + ;",
-        b"print \"a\" + \"b\";",
-        b"}",
-    ];
-    for body in table {
-        let mut out = MemSink::new(alloc);
-        let source = with_body(alloc, body)?;
-        assert_eq!(rt;
-            run(alloc, &source, &mut out)?,
-            Status::Refused,
-            "at {body:?}"
-        );
-        assert_eq!(rt; out.taken().len(), 0);
-    }
-    Ok(())
-}
-
-#[test]
-fn reads_newtypes(rt: HostRuntime) -> Result<(), Fail> {
-    let alloc = rt.alloc();
-    let table: [(&[u8], Status); 15] = [
-        (b"newtype n = x | 0 <= x < 1 method Main() {}", Status::Done),
-        (
-            b"newtype n = x: int | - 3 < x <= 0 method Main() {}",
-            Status::Done,
-        ),
-        (
-            b"newtype n = x | -1 < x < 1 method Main() { var a: n := 0; }",
-            Status::Done,
-        ),
-        (
-            b"newtype n = x | 0 < x < 2 witness 1 method Main() {}",
-            Status::Done,
-        ),
-        (
-            b"newtype n = x | 0 < x < 2 method Main() {}",
-            Status::Refused,
-        ),
-        (
-            b"newtype n = x | 0 <= x < 2 witness 2 method Main() {}",
-            Status::Refused,
-        ),
-        (
-            b"newtype n = x | 0 <= x < 0 method Main() {}",
-            Status::Refused,
-        ),
-        (
-            b"newtype n = x | 0 <= y < 9 method Main() {}",
-            Status::Refused,
-        ),
-        (
-            b"newtype Main = x | 0 <= x < 9 method Main() {}",
-            Status::Refused,
-        ),
-        (
-            b"newtype n = x | 0 <= x < 9 method main() {}",
-            Status::Refused,
-        ),
-        (
-            b"newtype n = x | 170141183460469231731687303715884105727 < x <= 170141183460469231731687303715884105727 method Main() {}",
-            Status::Refused,
-        ),
-        (
-            b"newtype n = x | -170141183460469231731687303715884105727 <= x <= 170141183460469231731687303715884105727 method Main() { var a: n := 170141183460469231731687303715884105727; var b: n := a + a; }",
-            Status::Unproved,
-        ),
-        (b"method Main() {}", Status::Refused),
-        (b"newtype n = x | 0 <= x < 1", Status::Refused),
-        (b"", Status::Refused),
-    ];
-    for (source, status) in table {
-        assert_eq!(rt;
-            run(alloc, source, &mut MemSink::new(alloc))?,
-            status,
-            "at {source:?}"
-        );
-    }
-    Ok(())
-}
-
 /// Words, the status, and what is told on `err`.
-const LINES: [(&[&str], Status, &str); 13] = [
+const LINES: [(&[&str], Status, &str); 14] = [
     (&[], Status::Usage, "dfy: usage\n"),
     (&["run"], Status::Usage, "dfy: usage\n"),
     (&["runs", "p.dfy"], Status::Usage, "dfy: usage\n"),
@@ -332,11 +137,20 @@ const LINES: [(&[&str], Status, &str); 13] = [
         Status::Unread,
         "q.dfy: cannot read\n",
     ),
-    (&["run", "p.dfy", "--steps", "1"], Status::Refused, ""),
     (
-        &["verify", "--rounds=0", "--", "p.dfy"],
-        Status::Refused,
-        "",
+        &["run", "--fuel=-1", "p.dfy"],
+        Status::Usage,
+        "dfy: usage\n",
+    ),
+    (
+        &["run", "p.dfy", "--steps", "1"],
+        Status::NoMain,
+        "p.dfy: no Main\n",
+    ),
+    (
+        &["run", "--rounds=0", "--fuel", "7", "--", "p.dfy"],
+        Status::NoMain,
+        "p.dfy: no Main\n",
     ),
 ];
 
@@ -420,18 +234,41 @@ fn touches_no_stack_for_siblings(rt: HostRuntime) -> Result<(), Fail> {
 #[test]
 fn keeps_the_limits(rt: HostRuntime) -> Result<(), Fail> {
     let alloc = rt.alloc();
-    let mut source = with_body(alloc, b"")?;
-    let blanks = vec![in alloc; b' '; 4_194_304]?;
-    source.extend_from_slice(&blanks[source.len().min(4_194_304)..])?;
-    assert_eq!(rt; source.len(), 4_194_304);
-    assert_eq!(rt;
-        run(alloc, &source, &mut MemSink::new(alloc))?,
-        Status::Done
-    );
+    let mut source = vec![in alloc; b' '; 4_194_304]?;
+    let mut out = MemSink::new(alloc);
+    let mut err = MemSink::new(alloc);
+    let status = call(alloc, &["verify", "p.dfy"], &source, &mut out, &mut err)?;
+    assert_eq!(rt; status, Status::Done);
+    assert_eq!(rt; out.taken(), b"0 verified, 0 unproved\n".as_slice());
     source.push(b' ')?;
-    assert_eq!(rt;
-        run(alloc, &source, &mut MemSink::new(alloc))?,
-        Status::Refused
-    );
+    let status = call(alloc, &["verify", "p.dfy"], &source, &mut out, &mut err)?;
+    assert_eq!(rt; status, Status::Refused);
+    assert_eq!(rt; err.taken(), b"p.dfy:1:1: S14 limit\n".as_slice());
+    Ok(())
+}
+
+#[test]
+fn stops_at_a_failed_report(rt: HostRuntime) -> Result<(), Fail> {
+    let alloc = rt.alloc();
+    let source = with_body(alloc, b" var x: i32 := 2147483647; print x + 1; ")?;
+    let table: [(u64, usize, Status, &[u8]); 3] = [
+        (0, 4, Status::Unwritten, b"Main"),
+        (1, 0, Status::Unwritten, b"Main: unproved\n"),
+        (
+            9,
+            0,
+            Status::Unproved,
+            b"Main: unproved\n  2:51 range: model\n0 verified, 1 unproved\n",
+        ),
+    ];
+    for (call_number, takes, status, told) in table {
+        let mut out = MemSink::new(alloc);
+        let mut err = MemSink::new(alloc);
+        err.fail_at(call_number, takes)?;
+        let ended = call(alloc, &["run", "p.dfy"], &source, &mut out, &mut err)?;
+        assert_eq!(rt; ended, status, "at {call_number}");
+        assert_eq!(rt; err.taken(), told, "at {call_number}");
+        assert_eq!(rt; out.taken().len(), 0);
+    }
     Ok(())
 }

@@ -1,4 +1,0 @@
-pub mod Modular
-pub mod Obligation
-pub mod Passing
-pub mod State
