@@ -3,7 +3,7 @@ use Rattle.std.proofs.Common.{◌≡◌, ℕ, ◌<◌, ◌⊎◌, inl, inr, ℤ,
 use Rattle.std.specs.Option.{option_map}
 use Rattle.std.proofs.lemmas.Int.{ints}
 use Rattle.std.proofs.lemmas.List.Folds.{list_all-append}
-use Rattle.df_types.specs.Program.{Newtype}
+use Rattle.df_types.specs.Newtype.{Newtype}
 use Rattle.df_form.specs.declared.log.Lit.{Lit}
 use Rattle.df_form.specs.declared.node.Sort.{Sort}
 use Rattle.df_form.specs.declared.node.Sort.TheVariants as sorts
@@ -11,7 +11,8 @@ use Rattle.df_form.specs.declared.node.Op.{Op}
 use Rattle.df_form.specs.declared.node.Op.TheVariants as ops
 use Rattle.df_form.specs.Node.{Node, same_sort}
 use Rattle.df_form.specs.Sorting.{sort_at}
-use Rattle.df_form.specs.Truth.{Assignment, truth, same_truth}
+use Rattle.df_form.specs.Truth.{Assignment, truth}
+use Rattle.df_meaning.specs.Value.{same_truth}
 use Rattle.df_form.specs.Clause.{same_literal, is_among, literal_truth}
 use Rattle.df_linear.specs.Row.{Row, difference}
 use Rattle.df_linear.specs.Value.{row_value, row_holds, rows_hold}

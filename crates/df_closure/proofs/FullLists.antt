@@ -2,9 +2,9 @@
 use Rattle.std.proofs.Common.{◌≡◌, ℕ, zero, suc, ◌<◌, ◌⊎◌, inl, inr, int_le, Bool, true, false, not, ◌&&◌, ◌||◌, List, [], ◌∷◌, ◌++◌, map, length, Option, Some, slice_get, nat_lt, refl, sym, ap, ◌∙◌, arith, subst, true≢false, ltb-true}
 use Rattle.std.specs.Option.{option_and_then}
 use Rattle.std.specs.List.{list_all, list_any}
-use Rattle.df_types.specs.declared.program.Ty.TheVariants as types
-use Rattle.df_types.specs.Program.{Newtype}
-use Rattle.df_meaning.specs.Value.{truth_of}
+use Rattle.df_types.specs.declared.newtype.Ty.TheVariants as types
+use Rattle.df_types.specs.Newtype.{Newtype}
+use Rattle.df_meaning.specs.Value.{truth_of, same_truth}
 use Rattle.df_form.specs.declared.log.Lit.{Lit}
 use Rattle.df_form.specs.declared.node.Sort.{Sort}
 use Rattle.df_form.specs.declared.node.Sort.TheVariants as sorts
@@ -14,7 +14,7 @@ use Rattle.df_form.specs.Node.{Node, same_sort}
 use Rattle.df_form.specs.Made.{made}
 use Rattle.df_form.specs.Sorting.{sort_of, sort_at, is_formula, takes}
 use Rattle.df_form.specs.Arithmetic.{IsOfNumbers}
-use Rattle.df_form.specs.Truth.{Assignment, truth, same_truth}
+use Rattle.df_form.specs.Truth.{Assignment, truth}
 use Rattle.df_form.specs.Clause.{Clause, yes, no, negation, same_literal, is_among, are_literals}
 use Rattle.df_kern.specs.Bound.{number, at_most, made_at_least, made_at_most}
 use Rattle.df_kern.specs.Connective.{Added, and_clauses, equal_by_sort, connective_clause}

@@ -2,7 +2,7 @@
 use Rattle.std.proofs.Common.{◌≡◌, ℕ, zero, suc, ◌<◌, ◌≤◌, ◌⊎◌, inl, inr, Bool, true, false, not, ◌&&◌, ◌||◌, ◌==◌, cond, List, [], ◌∷◌, ◌++◌, Some, slice_get, refl, sym, ◌∙◌, subst, arith, true≢false}
 use Rattle.std.specs.List.{list_all}
 use Rattle.df_form.specs.declared.log.Lit.{Lit}
-use Rattle.df_form.specs.Truth.{same_truth}
+use Rattle.df_meaning.specs.Value.{same_truth}
 use Rattle.df_form.specs.Clause.{Clause, same_literal, negation, is_among}
 use Rattle.df_kern.specs.Propagation.{left, only}
 use Rattle.df_closure.specs.Closure.{GroundClause, Teaches, Taught, nothing, more, after}

@@ -1,12 +1,13 @@
 -- Lists of literals beside which nothing is open.
 use Rattle.std.specs.Prelude.{◌≡◌, ℕ, Bool, true, false, ◌||◌, List, [], ◌∷◌, slice_get, Some}
 use Rattle.std.specs.List.{list_any}
-use Rattle.df_types.specs.Program.{Newtype}
+use Rattle.df_types.specs.Newtype.{Newtype}
 use Rattle.df_form.specs.declared.log.Lit.{Lit}
 use Rattle.df_form.specs.declared.node.Op.{Op}
 use Rattle.df_form.specs.declared.node.Op.TheVariants as ops
 use Rattle.df_form.specs.Node.{Node}
-use Rattle.df_form.specs.Truth.{Assignment, truth, same_truth}
+use Rattle.df_form.specs.Truth.{Assignment, truth}
+use Rattle.df_meaning.specs.Value.{same_truth}
 use Rattle.df_form.specs.Clause.{yes, no, negation, is_among}
 use Rattle.df_kern.specs.Connective.{Added, connective_line}
 use Rattle.df_kern.specs.Schema.{schema_line}

@@ -1,7 +1,7 @@
 //! What closed lists are worth.
 
 ghost use Rattle.std.specs.Prelude.{◌≡◌, ◌↔◌, ℕ, ℤ, true, List, [], ◌∷◌, ◌++◌, map, length, slice_get, Some};
-ghost use Rattle.df_types.specs.Program.{Newtype};
+ghost use Rattle.df_types.specs.Newtype.{Newtype};
 ghost use Rattle.df_form.specs.declared.log.Lit.{Lit};
 ghost use Rattle.df_form.specs.Node.{Node};
 ghost use Rattle.df_form.specs.Sorting.{IsTable};

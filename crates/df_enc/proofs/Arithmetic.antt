@@ -2,8 +2,8 @@
 use Rattle.std.proofs.Common.{◌≡◌, ℕ, Bool, true, false, nat_lt, List, [], ◌∷◌, length, get_or, Option, Some, None, refl, sym, ap, subst}
 use Rattle.std.specs.List.{AllByRecursion}
 use Rattle.df_base.specs.declared.pos.Pos.{Pos}
-use Rattle.df_types.specs.declared.program.Ty.TheVariants as places
-use Rattle.df_types.specs.Program.{Newtype}
+use Rattle.df_types.specs.declared.newtype.Ty.TheVariants as places
+use Rattle.df_types.specs.Newtype.{Newtype}
 use Rattle.df_program.specs.declared.expr.Ty.{Ty}
 use Rattle.df_program.specs.declared.expr.Ty.TheVariants as types
 use Rattle.df_program.specs.declared.expr.Operator.{Operator}

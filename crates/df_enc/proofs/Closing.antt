@@ -1,6 +1,6 @@
 -- The ends of runs and chains, and contexts.
 use Rattle.std.proofs.Common.{◌≡◌, ℕ, zero, suc, ◌<◌, pos, Bool, true, false, ◌&&◌, ◌||◌, not, if◌then◌else◌, List, [], ◌∷◌, map, length, slice_index_or, Option, refl, sym, ap, ◌∙◌, subst, arith, append-nil}
-use Rattle.df_types.specs.Program.{Newtype}
+use Rattle.df_types.specs.Newtype.{Newtype}
 use Rattle.df_meaning.specs.Value.{Value, Truth, Number, truth_of}
 use Rattle.df_meaning.specs.Outcome.{State, Evaluated, Known, Undefined, OutOfDepth, with_value}
 use Rattle.df_form.specs.declared.node.Sort.TheVariants as sorts

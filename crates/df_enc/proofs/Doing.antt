@@ -2,15 +2,15 @@
 use Rattle.std.proofs.Common.{◌≡◌, ℕ, Bool, true, false, ◌&&◌, ◌||◌, not, List, [], ◌∷◌, map, length, Option, None, Some, refl, sym, ap, ◌∙◌, subst, arith, append-nil}
 use Rattle.std.specs.List.{AllByRecursion}
 use Rattle.std.proofs.lemmas.Bool.Decides.{Decides-int_eq}
-use Rattle.df_types.specs.Program.{Newtype}
-use Rattle.df_meaning.specs.Value.{Value, Truth, Number, Text, truth_of}
+use Rattle.df_types.specs.Newtype.{Newtype}
+use Rattle.df_meaning.specs.Value.{Value, Truth, Number, Text, truth_of, same_truth, same_value}
 use Rattle.df_meaning.specs.Outcome.{Known, Undefined}
 use Rattle.df_form.specs.declared.node.Sort.TheVariants as sorts
 use Rattle.df_form.specs.declared.node.Op.{Op}
 use Rattle.df_form.specs.declared.node.Op.TheVariants as ops
 use Rattle.df_form.specs.Node.{Node}
 use Rattle.df_form.specs.Sorting.{is_well_sorted}
-use Rattle.df_form.specs.Truth.{Assignment, has_sort, apply, truth, same_truth, same_value}
+use Rattle.df_form.specs.Truth.{Assignment, has_sort, apply, truth}
 use Rattle.df_form.proofs.Values.{worth}
 use Rattle.df_enc.specs.Passing.{Passed, with_term, assumed, with_name, named, narrowed_by, narrowed, weakened_by, weakened, entered}
 use Rattle.df_enc.specs.State.{is_truth, is_path}

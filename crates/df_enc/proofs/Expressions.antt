@@ -2,7 +2,7 @@
 use Rattle.std.proofs.Common.{◌≡◌, ℕ, ◌<◌, neg_ℤ, Bool, true, false, ◌&&◌, not, if◌then◌else◌, List, [], ◌∷◌, length, Some, None, slice_index_or, refl, sym, ap, ◌∙◌, subst}
 use Rattle.std.specs.Prelude.{◌+ℤ◌, ◌-ℤ◌}
 use Rattle.df_base.specs.declared.pos.Pos.{Pos}
-use Rattle.df_types.specs.Program.{Newtype}
+use Rattle.df_types.specs.Newtype.{Newtype}
 use Rattle.df_program.specs.declared.expr.Ty.{Ty}
 use Rattle.df_program.specs.declared.expr.Ty.TheVariants as types
 use Rattle.df_program.specs.declared.expr.Operator.{Operator}
@@ -10,7 +10,7 @@ use Rattle.df_program.specs.declared.expr.Operator.TheVariants as operators
 use Rattle.df_program.specs.declared.expr.Comparison.{Comparison}
 use Rattle.df_program.specs.Expr.{Expr, Number, Truth, Local, Negate, Not, Operations, Chain, Members, end, more, Links, last, link}
 use Rattle.df_program.specs.Typing.{same_type, is_integer, fits, compares, run_together, all_run, is_one_run, is_expr, are_members, are_links}
-use Rattle.df_meaning.specs.Value.{Value, number_of, truth_of}
+use Rattle.df_meaning.specs.Value.{Value, number_of, truth_of, same_truth}
 use Rattle.df_meaning.specs.Value as values
 use Rattle.df_meaning.specs.Outcome.{State, Evaluated, Known, with_value}
 use Rattle.df_runs.specs.Evaluation.{in_range, compare, decided, combined, unless, evaluate, evaluate_members, evaluate_links}
@@ -109,9 +109,9 @@ module _ (at : ℕ) (n : List Newtype) (depth : ℕ) (state : State) where
 
   -- the same of truths: the left one has a name
   iff : (P : Assignment → Type 0) (b e : Passed) (v : Value) (r : Evaluated) → IsContext at n state P b → is_truth b.nodes b.term ≡ true → ((a : Assignment) → P a → worth at n a b.nodes b.term ≡ v) → Keeps types.Bool b e → Says P b e r
-      → Says P b (same b.term e) (with_value r (λ w. Known (values.Truth (runs.same_truth (truth_of v) (truth_of w)))))
+      → Says P b (same b.term e) (with_value r (λ w. Known (values.Truth (same_truth (truth_of v) (truth_of w)))))
   iff P b e v r context of value keeps first =
-      goes_seq at n P b e (same b.term e) r (λ w. Known (values.Truth (runs.same_truth (truth_of v) (truth_of w)))) (AnyValue at n) context.order context.stable first keeps.path (λ w.
+      goes_seq at n P b e (same b.term e) r (λ w. Known (values.Truth (same_truth (truth_of v) (truth_of w)))) (AnyValue at n) context.order context.stable first keeps.path (λ w.
       goes_same at n (With at n P e e.term w) b.term e v w first.order (λ a says. left_kept P b v context value e sorts.Truth first.on of a says.0) (λ a says. says.1) (on_keeps b e keeps.on sorts.Truth b.term of) keeps.valued.term)
 
   -- a plain operator on operands that are passed over
@@ -121,7 +121,7 @@ module _ (at : ℕ) (n : List Newtype) (depth : ℕ) (state : State) where
   plain_step operators.Iff P p e own place v r plain context valued value keeps operand =
       let b = named p in
       let first = goes_named at n P p v context.order valued.term value in
-      goes_seq at n P p b (same b.term e) (Known v) (λ u. with_value r (λ w. Known (values.Truth (runs.same_truth (truth_of u) (truth_of w))))) (AnyValue at n) context.order context.stable first (path_named p) (λ u.
+      goes_seq at n P p b (same b.term e) (Known v) (λ u. with_value r (λ w. Known (values.Truth (same_truth (truth_of u) (truth_of w))))) (AnyValue at n) context.order context.stable first (path_named p) (λ u.
       let c = context_with at n state P b b.term u (context_on at n state P p b first.on first.order context) in
       iff (With at n P b b.term u) b e u r c (keeps_named p valued.ready).valued.term (λ a says. says.1) keeps (operand (With at n P b b.term u) c))
   plain_step operators.Add P p e own place v r plain context valued value keeps operand = add P p v context value own place e r valued.term keeps (operand P context)

@@ -3,13 +3,13 @@ use Rattle.std.proofs.Common.{◌≡◌, ℕ, ℤ, negsuc, neg_ℤ, Bool, true, 
 use Rattle.std.specs.Prelude.{◌+ℤ◌, ◌-ℤ◌, ◌*ℤ◌, int_le, int_lt}
 use Rattle.std.proofs.lemmas.Int.{ints}
 use Rattle.df_base.specs.declared.pos.Pos.{Pos}
-use Rattle.df_types.specs.Program.{Newtype}
+use Rattle.df_types.specs.Newtype.{Newtype}
 use Rattle.df_program.specs.declared.expr.Ty.{Ty}
 use Rattle.df_program.specs.declared.expr.Ty.TheVariants as types
 use Rattle.df_program.specs.declared.expr.Comparison.{Comparison}
 use Rattle.df_program.specs.declared.expr.Comparison.TheVariants as comparisons
 use Rattle.df_program.specs.Typing.{compares}
-use Rattle.df_meaning.specs.Value.{Value, Truth, Number, Text, number_of, truth_of}
+use Rattle.df_meaning.specs.Value.{Value, Truth, Number, Text, number_of, truth_of, same_truth, same_value}
 use Rattle.df_meaning.specs.Outcome.{Known}
 use Rattle.df_runs.specs.Evaluation.{in_range, compare}
 use Rattle.df_runs.specs.Evaluation as runs
@@ -18,7 +18,7 @@ use Rattle.df_form.specs.declared.node.Sort.TheVariants as sorts
 use Rattle.df_form.specs.declared.node.Op.{Op}
 use Rattle.df_form.specs.declared.node.Op.TheVariants as ops
 use Rattle.df_form.specs.Sorting.{is_well_sorted}
-use Rattle.df_form.specs.Truth.{Assignment, has_sort, same_truth, same_value, apply}
+use Rattle.df_form.specs.Truth.{Assignment, has_sort, apply}
 use Rattle.df_form.proofs.Values.{worth}
 use Rattle.df_enc.specs.Passing.{Passed, with_term, negated, numbered, opposite, plus, minus, same, compared_truths, compared_numbers, compared}
 use Rattle.df_enc.specs.State.{is_of, is_number, is_truth, sort_for}
@@ -41,21 +41,14 @@ minus_is v w = omega (arith, ints)
 less_is : (v w : ℤ) → not (int_le w v) ≡ int_lt v w
 less_is v w = grind (arith, ints)
 
-truths_same : (a b : Bool) → same_truth b a ≡ runs.same_truth a b
-truths_same true true = refl
-truths_same true false = refl
-truths_same false true = refl
-truths_same false false = refl
+turned_truths : (a b : Bool) → same_truth b a ≡ same_truth a b
+turned_truths true true = refl
+turned_truths true false = refl
+turned_truths false true = refl
+turned_truths false false = refl
 
-values_same : (v w : Value) → has_sort sorts.Number v ≡ true → has_sort sorts.Number w ≡ true → same_value v w ≡ runs.same_value v w
-values_same (Number a) (Number b) e f = refl
-values_same (Truth a) w e f = absurd cc
-values_same (Text a) w e f = absurd cc
-values_same (Number a) (Truth b) e f = absurd cc
-values_same (Number a) (Text b) e f = absurd cc
-
-truth_values_same : (v w : Value) → has_sort sorts.Truth v ≡ true → has_sort sorts.Truth w ≡ true → same_truth (truth_of w) (truth_of v) ≡ runs.same_value v w
-truth_values_same (Truth a) (Truth b) e f = truths_same a b
+truth_values_same : (v w : Value) → has_sort sorts.Truth v ≡ true → has_sort sorts.Truth w ≡ true → same_truth (truth_of w) (truth_of v) ≡ same_value v w
+truth_values_same (Truth a) (Truth b) e f = turned_truths a b
 truth_values_same (Number a) w e f = absurd cc
 truth_values_same (Text a) w e f = absurd cc
 truth_values_same (Truth a) (Number b) e f = absurd cc
@@ -151,10 +144,10 @@ module _ (at : ℕ) (newtypes : List Newtype) where
 
   module _ (P : Assignment → Type 0) (left : ℕ) (p : Passed) (v w : Value) (order : IsInOrder p)
       (left_value : (a : Assignment) → P a → worth at newtypes a p.nodes left ≡ v) (right_value : (a : Assignment) → P a → worth at newtypes a p.nodes p.term ≡ w) where
-    pub goes_same : is_truth p.nodes left ≡ true → is_truth p.nodes p.term ≡ true → Goes at newtypes P p (same left p) (Known (Truth (runs.same_truth (truth_of v) (truth_of w)))) (AnyValue at newtypes)
+    pub goes_same : is_truth p.nodes left ≡ true → is_truth p.nodes p.term ≡ true → Goes at newtypes P p (same left p) (Known (Truth (same_truth (truth_of v) (truth_of w)))) (AnyValue at newtypes)
     goes_same left_of right_of =
-        goes_term at newtypes P p ops.Iff (p.term ∷ left ∷ []) (Truth (runs.same_truth (truth_of v) (truth_of w))) order (two_parts p.nodes ops.Iff sorts.Truth p.term left refl right_of left_of) (not_free p.nodes ops.Iff refl)
-        (λ a says. ap Truth (sym (truths_same (truth_of v) (truth_of w))) ∙ (λ i. Truth (same_truth (truth_of (sym (right_value a says) i)) (truth_of (sym (left_value a says) i)))))
+        goes_term at newtypes P p ops.Iff (p.term ∷ left ∷ []) (Truth (same_truth (truth_of v) (truth_of w))) order (two_parts p.nodes ops.Iff sorts.Truth p.term left refl right_of left_of) (not_free p.nodes ops.Iff refl)
+        (λ a says. ap Truth (sym (turned_truths (truth_of v) (truth_of w))) ∙ (λ i. Truth (same_truth (truth_of (sym (right_value a says) i)) (truth_of (sym (left_value a says) i)))))
 
     left_sort : (a : Assignment) → P a → (sort : Sort) → is_of sort p.nodes left ≡ true → has_sort sort v ≡ true
     left_sort a says sort of = ap (has_sort sort) (sym (left_value a says)) ∙ worth_sort at newtypes p a sort left order of
@@ -169,8 +162,7 @@ module _ (at : ℕ) (newtypes : List Newtype) where
 
     numbers_equal : (a : Assignment) → P a → is_number p.nodes left ≡ true → is_number p.nodes p.term ≡ true → compare comparisons.Equal v w ≡ truth_of (apply at newtypes a ops.Equal (map (worth at newtypes a p.nodes) (left ∷ p.term ∷ [])))
     numbers_equal a says left_of right_of =
-        sym (values_same v w (left_sort a says sorts.Number left_of) (right_sort a says sorts.Number right_of))
-        ∙ (λ i. same_value (sym (left_value a says) i) (sym (right_value a says) i))
+        λ i. same_value (sym (left_value a says) i) (sym (right_value a says) i)
 
     left_below : (a : Assignment) → P a → int_le (number_of v) (number_of w) ≡ truth_of (apply at newtypes a ops.AtMost (map (worth at newtypes a p.nodes) (left ∷ p.term ∷ [])))
     left_below a says = λ i. int_le (number_of (sym (left_value a says) i)) (number_of (sym (right_value a says) i))

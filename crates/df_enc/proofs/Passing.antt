@@ -1,6 +1,6 @@
 -- The law of expressions, as contracts say it.
 use Rattle.std.proofs.Common.{ℕ, List, [], map, ◌∙◌, subst}
-use Rattle.df_types.specs.Program.{Newtype}
+use Rattle.df_types.specs.Newtype.{Newtype}
 use Rattle.df_meaning.specs.Outcome.{State}
 use Rattle.df_runs.specs.Evaluation.{evaluate}
 use Rattle.df_enc.specs.Obligation.{Obligation}

@@ -2,7 +2,7 @@
 use Rattle.std.proofs.Common.{◌≡◌, ℕ, inl, inr, Bool, true, false, ◌&&◌, if◌then◌else◌, List, [], ◌∷◌, ◌++◌, length, drop, Option, None, Some, refl, sym, ap, ◌∙◌, subst, append-nil}
 use Rattle.std.specs.List.{AllByRecursion}
 use Rattle.df_base.specs.declared.pos.Pos.{Pos}
-use Rattle.df_types.specs.Program.{Newtype}
+use Rattle.df_types.specs.Newtype.{Newtype}
 use Rattle.df_meaning.specs.declared.kind.Kind.{Kind}
 use Rattle.df_meaning.specs.Value.{Value, Truth, truth_of}
 use Rattle.df_meaning.specs.Outcome.{Evaluated, Known, Undefined, OutOfDepth, with_value}

@@ -1,6 +1,6 @@
 -- Going over the comparisons of a chain, one after another: before the first no comparison is there.
 use Rattle.std.specs.Prelude.{◌≡◌, ℕ, Bool, true, false, List, [], ◌∷◌}
-use Rattle.df_types.specs.Program.{Newtype}
+use Rattle.df_types.specs.Newtype.{Newtype}
 use Rattle.df_program.specs.declared.expr.Ty.{Ty}
 use Rattle.df_program.specs.Expr.{Links, last, link}
 use Rattle.df_form.specs.declared.node.Op.TheVariants as ops

@@ -1,7 +1,7 @@
 -- The state of the code that passes over expressions, and the sorts of its terms.
 use Rattle.std.specs.Prelude.{◌≡◌, ℕ, Bool, true, ◌&&◌, nat_lt, List, [], ◌∷◌, map, length, Option, None, Some}
 use Rattle.std.specs.List.{list_all}
-use Rattle.df_types.specs.Program.{Newtype}
+use Rattle.df_types.specs.Newtype.{Newtype}
 use Rattle.df_types.specs.View.{newtypes_of}
 use Rattle.df_program.specs.declared.expr.Ty.{Ty}
 use Rattle.df_program.specs.declared.expr.Ty.TheVariants as types

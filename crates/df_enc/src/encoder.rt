@@ -3,7 +3,7 @@
 ghost use Rattle.std.specs.Prelude.{◌≡◌, true, nat_lt, ◌≤◌, [], ◌∷◌, ◌++◌, length, map, Some, OnOk};
 ghost use Rattle.std.specs.List.{list_all};
 ghost use Rattle.df_types.specs.View.{newtypes_of};
-ghost use Rattle.df_types.specs.declared.program.Ty.TheVariants as places;
+ghost use Rattle.df_types.specs.declared.newtype.Ty.TheVariants as places;
 ghost use Rattle.df_program.specs.declared.expr.Ty.TheVariants as types;
 ghost use Rattle.df_form.specs.Sorting.{takes, sort_at, sort_of, is_formula};
 ghost use Rattle.df_form.specs.Draft.{last_terms, other_terms};

@@ -1,7 +1,7 @@
 -- The definitions, computed on a small sequent.
 use Rattle.std.proofs.Common.{◌≡◌, ℕ, zero, suc, ◌<◌, ℤ, pos, ◌+ℤ◌, int_le, ◌≤ℤ◌, true, false, true≢false, List, [], ◌∷◌, take, slice_get, None, Some, refl, sym, arith}
 use Rattle.std.proofs.lemmas.Int.{ints}
-use Rattle.df_types.specs.Program.{Newtype}
+use Rattle.df_types.specs.Newtype.{Newtype}
 use Rattle.df_meaning.specs.Value.{Value, Number, Truth, number_of}
 use Rattle.df_form.specs.declared.node.Sort.{Sort}
 use Rattle.df_form.specs.declared.node.Sort.TheVariants as sorts

@@ -1,7 +1,7 @@
 -- Arithmetic: formulas of which linear arithmetic can decide.
 use Rattle.std.specs.Prelude.{◌≡◌, ℕ, ℤ, true, nat_lt, List, [], ◌∷◌, length, slice_get, Some}
-use Rattle.df_types.specs.declared.program.Ty.TheVariants as types
-use Rattle.df_types.specs.Program.{Newtype}
+use Rattle.df_types.specs.declared.newtype.Ty.TheVariants as types
+use Rattle.df_types.specs.Newtype.{Newtype}
 use Rattle.df_form.specs.declared.node.Sort.TheVariants as sorts
 use Rattle.df_form.specs.declared.node.Op.TheVariants as ops
 use Rattle.df_form.specs.Node.{Node}

@@ -4,7 +4,7 @@ use Rattle.std.specs.List.{list_all, list_any}
 use Rattle.df_form.specs.declared.log.Lit.{Lit}
 use Rattle.df_form.specs.Node.{Node}
 use Rattle.df_form.specs.Sorting.{is_formula}
-use Rattle.df_form.specs.Truth.{same_truth}
+use Rattle.df_meaning.specs.Value.{same_truth}
 
 -- a clause is a list of literals
 abbrev pub Clause : Type 0

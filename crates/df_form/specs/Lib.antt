@@ -1,5 +1,5 @@
 pub use Rattle.df_meaning.specs.Value
-pub use Rattle.df_types.specs.Program
+pub use Rattle.df_types.specs.Newtype
 pub use Rattle.df_types.specs.View
 pub mod Node
 pub mod Made

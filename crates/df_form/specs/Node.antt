@@ -2,8 +2,8 @@
 use Rattle.std.specs.Prelude.{ℕ, Bool, true, false, ◌==◌, ◌&&◌, nat_eq, List, Option, position}
 use Rattle.std.specs.Cmp.Lexicographic.{pointwise}
 use Rattle.std.specs.Ordering.{int_eq}
-use Rattle.df_types.specs.declared.program.Ty.{Ty}
-use Rattle.df_types.specs.declared.program.Ty.TheVariants as types
+use Rattle.df_types.specs.declared.newtype.Ty.{Ty}
+use Rattle.df_types.specs.declared.newtype.Ty.TheVariants as types
 use Rattle.df_form.specs.declared.node.Sort.{Sort}
 use Rattle.df_form.specs.declared.node.Sort.TheVariants as sorts
 use Rattle.df_form.specs.declared.node.Op.{Op}

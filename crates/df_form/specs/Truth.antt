@@ -2,9 +2,9 @@
 use Rattle.std.specs.Prelude.{◌≡◌, ℕ, ℤ, pos, ◌+ℤ◌, ◌*ℤ◌, int_le, Bool, true, false, ◌||◌, not, List, [], ◌∷◌, ◌++◌, map, slice_index_or}
 use Rattle.std.specs.List.{list_all, list_any}
 use Rattle.std.specs.Ordering.{int_eq}
-use Rattle.df_types.specs.Program.{Newtype}
-use Rattle.df_meaning.specs.Value.{Value, Truth, Number, number_of, truth_of}
-use Rattle.df_meaning.specs.Evaluation.{is_of}
+use Rattle.df_types.specs.Newtype.{Newtype}
+use Rattle.df_meaning.specs.Value.{Value, Truth, Number, number_of, truth_of, same_truth, same_value}
+use Rattle.df_meaning.specs.Range.{is_of}
 use Rattle.df_form.specs.declared.node.Sort.{Sort}
 use Rattle.df_form.specs.declared.node.Sort.TheVariants as sorts
 use Rattle.df_form.specs.declared.node.Free.{Free}
@@ -32,15 +32,6 @@ number_at known n = number_of (value_at known n)
 
 abbrev pub truth_at : List Value → ℕ → Bool
 truth_at known n = truth_of (value_at known n)
-
-abbrev pub same_truth : Bool → Bool → Bool
-same_truth true b = b
-same_truth false b = not b
-
-abbrev pub same_value : Value → Value → Bool
-same_value (Truth a) (Truth b) = same_truth a b
-same_value (Number a) (Number b) = int_eq a b
-same_value a b = false
 
 -- the value of an operation at the values of its parts
 abbrev pub apply : ℕ → List Newtype → Assignment → Op → List Value → Value

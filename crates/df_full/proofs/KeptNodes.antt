@@ -1,9 +1,9 @@
 -- Ground lines make literal numbers and comparisons alone: what these keep, each line keeps.
 use Rattle.std.proofs.Common.{◌≡◌, ℕ, zero, suc, ◌≤◌, ◌⊎◌, inl, inr, ℤ, true, ◌==◌, List, [], ◌∷◌, length, Option, Some, None, slice_get, refl, subst}
 use Rattle.std.specs.Option.{option_map}
-use Rattle.df_types.specs.declared.program.Ty.{Ty}
-use Rattle.df_types.specs.declared.program.Ty.TheVariants as types
-use Rattle.df_types.specs.Program.{Newtype}
+use Rattle.df_types.specs.declared.newtype.Ty.{Ty}
+use Rattle.df_types.specs.declared.newtype.Ty.TheVariants as types
+use Rattle.df_types.specs.Newtype.{Newtype}
 use Rattle.df_form.specs.declared.node.Sort.{Sort}
 use Rattle.df_form.specs.declared.node.Sort.TheVariants as sorts
 use Rattle.df_form.specs.declared.node.Op.{Op}

@@ -1,9 +1,9 @@
 -- The clauses of an arithmetic sequent make comparisons and literals alone.
 use Rattle.std.proofs.Common.{◌≡◌, ℕ, zero, suc, ℤ, true, ◌==◌, List, [], ◌∷◌, Option, Some, slice_get, refl, subst}
 use Rattle.std.specs.Option.{option_map}
-use Rattle.df_types.specs.declared.program.Ty.{Ty}
-use Rattle.df_types.specs.declared.program.Ty.TheVariants as types
-use Rattle.df_types.specs.Program.{Newtype}
+use Rattle.df_types.specs.declared.newtype.Ty.{Ty}
+use Rattle.df_types.specs.declared.newtype.Ty.TheVariants as types
+use Rattle.df_types.specs.Newtype.{Newtype}
 use Rattle.df_form.specs.declared.node.Sort.{Sort}
 use Rattle.df_form.specs.declared.node.Sort.TheVariants as sorts
 use Rattle.df_form.specs.declared.node.Op.{Op}

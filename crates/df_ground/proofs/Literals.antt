@@ -2,9 +2,9 @@
 use Rattle.std.proofs.Common.{◌≡◌, ℕ, zero, suc, Bool, true, ◌&&◌, ◌==◌, List, [], ◌∷◌, ◌++◌, map, length, Option, Some, slice_get, nat_lt, refl, sym, ap, ◌∙◌, subst, arith, ltb-true, lt-ltb}
 use Rattle.std.specs.Option.{option_map}
 use Rattle.std.specs.List.{list_all, AllByRecursion}
-use Rattle.df_types.specs.declared.program.Ty.{Ty}
-use Rattle.df_types.specs.declared.program.Ty.TheVariants as types
-use Rattle.df_types.specs.Program.{Newtype}
+use Rattle.df_types.specs.declared.newtype.Ty.{Ty}
+use Rattle.df_types.specs.declared.newtype.Ty.TheVariants as types
+use Rattle.df_types.specs.Newtype.{Newtype}
 use Rattle.df_form.specs.declared.log.Lit.{Lit}
 use Rattle.df_form.specs.declared.node.Sort.{Sort}
 use Rattle.df_form.specs.declared.node.Sort.TheVariants as sorts

@@ -3,9 +3,9 @@
 use Rattle.std.specs.Prelude.{ℕ, ◌+◌, Bool, true, false, List, [], ◌∷◌, ◌++◌, map, length, slice_get, Option, None, Some}
 use Rattle.std.specs.Option.{option_map_or, option_and_then}
 use Rattle.std.specs.List.{range_with_len, flat_map, count_by}
-use Rattle.df_types.specs.declared.program.Ty.{Ty}
-use Rattle.df_types.specs.declared.program.Ty.TheVariants as types
-use Rattle.df_types.specs.Program.{Newtype}
+use Rattle.df_types.specs.declared.newtype.Ty.{Ty}
+use Rattle.df_types.specs.declared.newtype.Ty.TheVariants as types
+use Rattle.df_types.specs.Newtype.{Newtype}
 use Rattle.df_form.specs.declared.node.Sort.{Sort}
 use Rattle.df_form.specs.declared.node.Sort.TheVariants as sorts
 use Rattle.df_form.specs.declared.node.Op.{Op}

@@ -10,7 +10,7 @@ use Rattle.df_kern.specs.Derivation.{is_number}
 use Rattle.df_closure.specs.Atoms.{is_atom}
 use Rattle.df_lin.specs.Elimination.{Eliminates}
 use Rattle.std.specs.List.{slice_index_or}
-use Rattle.df_types.specs.Program.{Newtype}
+use Rattle.df_types.specs.Newtype.{Newtype}
 use Rattle.df_meaning.specs.Value.{Value, Truth, Number, Text, number_of}
 use Rattle.df_form.specs.declared.log.Lit.{Lit}
 use Rattle.df_form.specs.Node.{Node, same_sort}

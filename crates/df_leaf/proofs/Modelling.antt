@@ -2,8 +2,8 @@
 use Rattle.std.proofs.Common.{◌≡◌, ◌⊎◌, inl, inr, ℕ, ◌<◌, ◌≤◌, ℤ, pos, Bool, true, false, not, List, [], ◌∷◌, ◌++◌, map, length, take, Some, slice_get, nat_lt, refl, sym, ap, ◌∙◌, subst, arith, ltb-true}
 use Rattle.std.proofs.lemmas.Bool.Decides.{nat_tests}
 use Rattle.std.specs.Option.{is_none}
-use Rattle.df_types.specs.Program.{Newtype}
-use Rattle.df_meaning.specs.Value.{Value, Truth, Number, Text, number_of}
+use Rattle.df_types.specs.Newtype.{Newtype}
+use Rattle.df_meaning.specs.Value.{Value, Truth, Number, Text, number_of, same_truth}
 use Rattle.df_form.specs.declared.log.Lit.{Lit}
 use Rattle.df_form.specs.declared.node.Sort.{Sort}
 use Rattle.df_form.specs.declared.node.Sort.TheVariants as sorts
@@ -12,7 +12,7 @@ use Rattle.df_form.specs.declared.node.Op.{Op}
 use Rattle.df_form.specs.declared.node.Op.TheVariants as ops
 use Rattle.df_form.specs.Node.{Node, same_sort}
 use Rattle.df_form.specs.Sorting.{IsTable, sort_at, sort_of, is_formula, takes, are_none}
-use Rattle.df_form.specs.Truth.{values, truth, same_truth, has_sort}
+use Rattle.df_form.specs.Truth.{values, truth, has_sort}
 use Rattle.df_form.specs.Truth as truths
 use Rattle.df_form.specs.Arithmetic.{IsOfNumbers, IsLiteral, IsArithmeticSequent}
 use Rattle.df_form.specs.Clause.{yes, no, is_among, are_literals}

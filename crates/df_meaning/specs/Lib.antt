@@ -1,10 +1,7 @@
 pub use Rattle.df_types.specs.Interval
-pub use Rattle.df_types.specs.Program
-pub use Rattle.df_types.specs.Typing
+pub use Rattle.df_types.specs.Newtype
 pub use Rattle.df_types.specs.View
 pub mod Value
+pub mod Range
 pub mod Outcome
-pub mod Evaluation
-pub mod Execution
-pub mod Run
 pub mod Kind

@@ -1,5 +1,6 @@
 -- Values, and the text that prints them.
-use Rattle.std.specs.Prelude.{ℕ, ℤ, pos, Bool, true, false, List, codes}
+use Rattle.std.specs.Prelude.{ℕ, ℤ, pos, Bool, true, false, not, List, codes}
+use Rattle.std.specs.Ordering.{int_eq}
 use Rattle.std.specs.Fmt.{signed_decimal}
 
 -- a truth, a whole number, or a text: a sequence of characters
@@ -30,3 +31,13 @@ abbrev pub truth_of : Value → Bool
 truth_of (Truth b) = b
 truth_of (Number n) = false
 truth_of (Text characters) = false
+
+abbrev pub same_truth : Bool → Bool → Bool
+same_truth true b = b
+same_truth false b = not b
+
+-- the same truth or the same number; no operator compares texts
+abbrev pub same_value : Value → Value → Bool
+same_value (Truth a) (Truth b) = same_truth a b
+same_value (Number a) (Number b) = int_eq a b
+same_value a b = false

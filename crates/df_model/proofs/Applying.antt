@@ -2,16 +2,16 @@
 use Rattle.std.proofs.Common.{◌≡◌, ℕ, ℤ, pos, ◌+ℤ◌, ◌*ℤ◌, int_le, Bool, true, false, not, ◌&&◌, ◌||◌, List, [], ◌∷◌, map, refl, ap, subst}
 use Rattle.std.specs.List.{list_all, list_any}
 use Rattle.std.specs.Ordering.{int_eq}
-use Rattle.df_types.specs.Program.{Newtype}
-use Rattle.df_meaning.specs.Value.{Value, Number, Truth, Text, truth_of, number_of}
-use Rattle.df_meaning.specs.Evaluation.{is_of}
+use Rattle.df_types.specs.Newtype.{Newtype}
+use Rattle.df_meaning.specs.Value.{Value, Number, Truth, Text, truth_of, number_of, same_truth, same_value}
+use Rattle.df_meaning.specs.Range.{is_of}
 use Rattle.df_form.specs.declared.node.Sort.{Sort}
 use Rattle.df_form.specs.declared.node.Sort.TheVariants as sorts
 use Rattle.df_form.specs.declared.node.Op.{Op}
 use Rattle.df_form.specs.declared.node.Op.TheVariants as ops
 use Rattle.df_form.specs.Node.{same_sort}
 use Rattle.df_form.specs.Sorting.{takes}
-use Rattle.df_form.specs.Truth.{Assignment, has_sort, same_truth, same_value, apply}
+use Rattle.df_form.specs.Truth.{Assignment, has_sort, apply}
 use Rattle.df_form.proofs.Lists.{both}
 use Rattle.df_form.proofs.Same.{same_sort_equal}
 use Rattle.df_model.specs.Valuation.{number_of_truth, number_of_value}

@@ -1,12 +1,13 @@
 -- Clauses that hold are true in the table.
 use Rattle.std.proofs.Common.{◌≡◌, ℕ, ◌⊎◌, inl, inr, Bool, true, ◌||◌, List, [], ◌∷◌, length, nat_lt, refl, ap, ◌∙◌}
 use Rattle.std.specs.List.{list_all, list_any, AllByRecursion}
-use Rattle.df_types.specs.Program.{Newtype}
+use Rattle.df_types.specs.Newtype.{Newtype}
 use Rattle.df_form.specs.declared.log.Lit.{Lit}
 use Rattle.df_form.specs.declared.node.Sort.TheVariants as sorts
 use Rattle.df_form.specs.Node.{Node, same_sort}
 use Rattle.df_form.specs.Sorting.{is_formula, sort_at}
-use Rattle.df_form.specs.Truth.{Assignment, same_truth, truth}
+use Rattle.df_form.specs.Truth.{Assignment, truth}
+use Rattle.df_meaning.specs.Value.{same_truth}
 use Rattle.df_form.specs.Clause.{Clause, are_literals, literal_truth, clause_truth}
 use Rattle.df_form.proofs.Lists.{both, both_true, either, first_true, second_true}
 use Rattle.df_form.proofs.Same.{same_sort_equal}

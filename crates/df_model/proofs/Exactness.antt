@@ -2,12 +2,12 @@
 use Rattle.std.proofs.Common.{◌≡◌, ℕ, ℤ, ◌+ℤ◌, ◌*ℤ◌, int_le, Bool, true, false, List, [], ◌∷◌, map, Option, None, Some, slice_get, refl, sym, ap, ◌∙◌}
 use Rattle.std.specs.Ordering.{int_eq}
 use Rattle.std.proofs.lemmas.Bool.Decides.{Decides-int_eq}
-use Rattle.df_types.specs.Program.{Newtype}
+use Rattle.df_types.specs.Newtype.{Newtype}
 use Rattle.df_form.specs.declared.node.Free.{Free}
 use Rattle.df_form.specs.declared.node.Op.{Op}
 use Rattle.df_form.specs.declared.node.Op.TheVariants as ops
 use Rattle.df_form.specs.Node.{Node}
-use Rattle.df_form.specs.Truth.{same_truth}
+use Rattle.df_meaning.specs.Value.{same_truth}
 use Rattle.df_linear.specs.Row.{number_of_op, literal_number}
 use Rattle.df_table.specs.TableModel.{number_at, is_multiple, is_exact}
 use Rattle.df_model.specs.Valuation.{number_of_truth}

@@ -1,6 +1,6 @@
 -- More nodes do not change what the first ones mean.
 use Rattle.std.proofs.Common.{◌≡◌, ℕ, ◌<◌, List, take, length, ap}
-use Rattle.df_types.specs.Program.{Newtype}
+use Rattle.df_types.specs.Newtype.{Newtype}
 use Rattle.df_meaning.specs.Value.{number_of, truth_of}
 use Rattle.df_form.specs.Node.{Node}
 use Rattle.df_form.specs.Truth.{Assignment, values, number_at, truth}

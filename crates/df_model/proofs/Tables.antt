@@ -1,7 +1,7 @@
 -- Tables of the numbers of the first nodes.
 use Rattle.std.proofs.Common.{◌≡◌, ℕ, ◌+◌, ◌<◌, ◌≤◌, ℤ, pos, ◌+ℤ◌, ◌*ℤ◌, Bool, true, false, List, [], ◌∷◌, ◌++◌, map, length, None, Some, slice_get, nat_lt, refl, sym, ap, ◌∙◌, arith, cond, ltb-true}
 use Rattle.std.proofs.lemmas.List.{length-append, get_or_append_left, get_or_push, ext_get_or}
-use Rattle.df_types.specs.Program.{Newtype}
+use Rattle.df_types.specs.Newtype.{Newtype}
 use Rattle.df_form.specs.declared.node.Free.{Free}
 use Rattle.df_form.specs.declared.node.Op.{Op}
 use Rattle.df_form.specs.declared.node.Op.TheVariants as ops

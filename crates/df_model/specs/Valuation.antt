@@ -1,7 +1,7 @@
 -- Assignments by the nodes of free terms, and the numbers of all nodes.
 use Rattle.std.specs.Prelude.{◌≡◌, ℕ, ℤ, pos, Bool, true, false, refl, List, [], map, Option}
 use Rattle.std.specs.Option.{option_map_or}
-use Rattle.df_types.specs.Program.{Newtype}
+use Rattle.df_types.specs.Newtype.{Newtype}
 use Rattle.df_meaning.specs.Value.{Value, Truth, Number, Text}
 use Rattle.df_form.specs.declared.node.Sort.{Sort}
 use Rattle.df_form.specs.declared.node.Sort.TheVariants as sorts

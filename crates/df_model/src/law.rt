@@ -1,7 +1,7 @@
 //! What tabulated assignments are worth.
 
 ghost use Rattle.std.specs.Prelude.{◌≡◌, ℕ, ℤ, ◌<◌, Bool, true, false, List, [], take, length, slice_get, Some};
-ghost use Rattle.df_types.specs.Program.{Newtype};
+ghost use Rattle.df_types.specs.Newtype.{Newtype};
 ghost use Rattle.df_form.specs.declared.node.Free.{Free};
 ghost use Rattle.df_form.specs.declared.node.Sort.TheVariants as sorts;
 ghost use Rattle.df_form.specs.declared.node.Op.TheVariants as ops;

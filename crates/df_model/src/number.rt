@@ -3,9 +3,9 @@
 ghost use Rattle.std.specs.Prelude.{◌≡◌, length, map};
 ghost use Rattle.std.specs.List.{list_all, list_any};
 ghost use Rattle.df_types.specs.View.{newtypes_of};
-ghost use Rattle.df_meaning.specs.Evaluation.{is_of};
+ghost use Rattle.df_meaning.specs.Range.{is_of};
 ghost use Rattle.df_form.specs.Clause.{yes};
-ghost use Rattle.df_form.specs.Truth.{same_truth};
+ghost use Rattle.df_meaning.specs.Value.{same_truth};
 ghost use Rattle.df_kern.specs.Known.{knows};
 ghost use Rattle.df_table.specs.TableModel.{number_at, is_true};
 ghost use Rattle.df_model.specs.Valuation.{number_of_truth};

@@ -8,16 +8,12 @@ use Rattle.df_program.specs.declared.expr.Comparison.TheVariants as comparisons
 use Rattle.df_plain.specs.declared.expr.Operator.{Operator}
 use Rattle.df_plain.specs.declared.expr.Operator.TheVariants as operators
 use Rattle.df_plain.specs.Expr.{Expr, Number, Truth, Local, Negate, Not, Operations, Chain, Members, end, more, Links, last, link}
-use Rattle.df_meaning.specs.Value.{Value}
+use Rattle.df_meaning.specs.Value.{Value, same_truth}
 use Rattle.df_meaning.specs.Value as values
 
 -- the number, if it lies in the interval
 abbrev pub within : Interval → ℤ → Option Value
 within range n = cond (int_le range.low n && int_le n range.high) (Some (values.Number n)) None
-
-abbrev pub same_truth : Bool → Bool → Bool
-same_truth true b = b
-same_truth false b = not b
 
 abbrev pub negated : Interval → Value → Option Value
 negated range (values.Number n) = within range (neg_ℤ n)

@@ -1,7 +1,7 @@
 -- Methods and programs as contracts see them.
 use Rattle.std.specs.Prelude.{ℕ, List}
 use Rattle.df_base.specs.declared.pos.Pos.{Pos}
-use Rattle.df_types.specs.Program.{Newtype}
+use Rattle.df_types.specs.Newtype.{Newtype}
 use Rattle.df_program.specs.declared.expr.Ty.{Ty}
 use Rattle.df_program.specs.Expr.{Expr}
 use Rattle.df_program.specs.Stmt.{Stmts}

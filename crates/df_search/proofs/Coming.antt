@@ -1,7 +1,7 @@
 -- What comes at a leaf.
 use Rattle.std.proofs.Common.{◌≡◌, inl, ⊎_elim, ℕ, zero, suc, true, false, List, [], ◌∷◌, ◌++◌, Some, slice_get, refl, sym, ap, ◌∙◌, subst, append_assoc, append-nil}
 use Rattle.std.specs.List.{list_all, list_any}
-use Rattle.df_types.specs.Program.{Newtype}
+use Rattle.df_types.specs.Newtype.{Newtype}
 use Rattle.df_types.specs.View.{newtypes_of}
 use Rattle.df_table.specs.declared.table.Table.{Table}
 use Rattle.df_form.specs.declared.log.Lit.{Lit}

@@ -4,7 +4,7 @@ use Rattle.std.specs.Option.{option_and_then, option_map}
 use Rattle.df_form.specs.declared.log.Lit.{Lit}
 use Rattle.df_form.specs.Node.{Node}
 use Rattle.df_form.specs.Sorting.{is_formula}
-use Rattle.df_form.specs.Truth.{same_truth}
+use Rattle.df_meaning.specs.Value.{same_truth}
 use Rattle.df_form.specs.Clause.{Clause, negation, same_literal, is_among, are_literals}
 use Rattle.df_kern.specs.Propagation.{left, only, is_empty, if_some, propagates, clauses_at, propagation_of, propagation_line}
 use Rattle.df_trail.specs.Trail.{IsUndecided}

@@ -4,16 +4,14 @@ use Rattle.std.proofs.Math.ListN.{drop_of_length-le}
 use Rattle.std.proofs.lemmas.List.{drop-drop}
 use Rattle.std.proofs.lemmas.Bool.{ltb-true, ltb-false}
 use Rattle.df_tok.specs.Token.{Token}
-use Rattle.df_tree.specs.declared.tree.Ident.{Ident}
 use Rattle.df_tree.specs.declared.expr.TreeType.{TreeType}
 use Rattle.df_tree.specs.declared.expr.TreeType.TheVariants as types
 use Rattle.df_tree.specs.Expr.{Expr}
-use Rattle.df_tree.specs.Spelling.{NameAt}
-use Rattle.df_tree.specs.ExprSpelling.{Piece, name_piece, IsExpressionAt, IsTypeAt, IsEnd, Begins, spell, spell_type}
+use Rattle.df_tree.specs.ExprSpelling.{Piece, IsExpressionAt, IsTypeAt, IsEnd, Begins, spell, spell_type}
 use Rattle.df_tree.specs.Reading.{name_at}
 use Rattle.df_tree.specs.ExprReading.{expression_at, type_at}
 use Rattle.df_tree.proofs.Repeat.{some_is, bind_some, got, finish}
-use Rattle.df_tree.proofs.Tokens.{Eats, name_sound, name_complete}
+use Rattle.df_tree.proofs.Tokens.{name_sound, name_complete}
 use Rattle.df_tree.proofs.ExprOperands.{expression_sound}
 use Rattle.df_tree.proofs.ExprWhole.{expression_complete}
 
@@ -73,23 +71,15 @@ same_expression tokens start after other_after e other x y =
 
 -- ---- types
 
-name_begins : (x : Ident) (tokens rest : List Token) → Eats (NameAt x ∷ []) tokens rest → Begins (name_piece x ∷ []) tokens rest
-name_begins x [] rest p = absurd p
-name_begins x (t ∷ tokens) rest p = p
-
-begins_name : (x : Ident) (tokens rest : List Token) → Begins (name_piece x ∷ []) tokens rest → Eats (NameAt x ∷ []) tokens rest
-begins_name x [] rest p = absurd p
-begins_name x (t ∷ tokens) rest p = p
-
 pub type_sound : (tokens : List Token) (ty : TreeType) (rest : List Token) → type_at tokens ≡ Some (ty, rest) → Begins (spell_type ty) tokens rest
 unfolding type_at
 type_sound tokens ty rest e =
     let b = bind_some (name_at tokens) (λ name. got (types.Named name.0) name.1) (ty, rest) e in
-    finish (λ (y : TreeType) (ts : List Token). Begins (spell_type y) tokens ts) (types.Named b.0.0) ty b.0.1 rest b.2 (name_begins b.0.0 tokens b.0.1 (name_sound tokens b.0.1 b.0.0 b.1))
+    finish (λ (y : TreeType) (ts : List Token). Begins (spell_type y) tokens ts) (types.Named b.0.0) ty b.0.1 rest b.2 (name_sound tokens b.0.1 b.0.0 b.1)
 
 pub type_complete : (ty : TreeType) (tokens rest : List Token) → Begins (spell_type ty) tokens rest → type_at tokens ≡ Some (ty, rest)
 unfolding type_at
-type_complete (types.Named x) tokens rest b = rw (name_complete x tokens rest (begins_name x tokens rest b)) refl
+type_complete (types.Named x) tokens rest b = rw (name_complete x tokens rest b) refl
 
 pub type_is_spelled : (tokens : List Token) (start : ℕ) (ty : TreeType) (rest : List Token) → type_at (drop start tokens) ≡ Some (ty, rest) → IsTypeAt tokens start ty (length tokens - length rest)
 type_is_spelled tokens start ty rest h =

@@ -13,12 +13,11 @@ use Rattle.df_tree.specs.declared.expr.Level.{Level}
 use Rattle.df_tree.specs.declared.expr.Level.TheVariants as levels
 use Rattle.df_tree.specs.Operator.{unary_sign_of, rank}
 use Rattle.df_tree.specs.Expr.{Expr, Number, Truth, Name, Parentheses, Unary}
-use Rattle.df_tree.specs.Spelling.{TheSign}
 use Rattle.df_tree.specs.ExprSpelling.{Begins, spell, rank_of, IsUnsignedNumber, IsOperandOf, IsExpr, height, IsEnd}
 use Rattle.df_tree.specs.Reading.{◌>>=◌, Read, sign_at}
 use Rattle.df_tree.specs.ExprReading.{operator_at, number_by, optional_number, Reader, deeper, signed_by, negated_from, negated_by, parentheses_by, unary_from, unary_by, at_level, unary_at, if_end, expression_at}
 use Rattle.df_tree.proofs.Repeat.{bind_some, finish, pair, some_is, differ}
-use Rattle.df_tree.proofs.Tokens.{Eats, sign_sound}
+use Rattle.df_tree.proofs.Tokens.{sign_sound}
 use Rattle.df_tree.proofs.ExprTokens.{Begins-then, none_end}
 use Rattle.df_tree.proofs.ExprSound.{deeper_sound, IsRead, Sound, tower_sound}
 
@@ -62,10 +61,6 @@ not_unsigned _ tokens rest after h b is = is
 
 -- ---- signs
 
-piece_of_sign : (tokens rest : List Token) → Eats (TheSign signs.CloseParenthesis ∷ []) tokens rest → Begins (record { kind = kinds.Sign signs.CloseParenthesis; place = None } ∷ []) tokens rest
-piece_of_sign [] rest p = absurd p
-piece_of_sign (t ∷ tokens) rest p = ((p.0, tt), p.1)
-
 pub record IsSigned (operator : UnaryOperator) (pos : Pos) (x : Expr × ℕ) (tokens rest : List Token) : Type 0 where
   pub operand : Expr
   pub eats : Begins (spell operand) tokens rest
@@ -108,7 +103,7 @@ parentheses_sound inner s t tokens k x rest e =
     let c = bind_some (deeper a.0.0.1) (λ h. read (Parentheses t.pos a.0.0.0) h b.0) (x, rest) b.2 in
     let r = s.reads tokens a.0.0 a.0.1 a.1 in
     let d = deeper_sound a.0.0.1 c.0 c.1 in
-    let close = piece_of_sign a.0.1 b.0 (sign_sound signs.CloseParenthesis a.0.1 b.0 b.1) in
+    let close = sign_sound signs.CloseParenthesis a.0.1 b.0 b.1 in
     finish (λ (y : Expr × ℕ) (ts : List Token). IsRead 5 y (t ∷ tokens) ts) (Parentheses t.pos a.0.0.0, c.0) x b.0 rest c.2
     (record {
       eats = ((k, refl), Begins-then (spell a.0.0.0) (record { kind = kinds.Sign signs.CloseParenthesis; place = None } ∷ []) tokens a.0.1 b.0 r.eats close);

@@ -15,12 +15,11 @@ use Rattle.df_tree.specs.declared.expr.Level.{Level}
 use Rattle.df_tree.specs.declared.expr.Level.TheVariants as levels
 use Rattle.df_tree.specs.Operator.{unary_sign_of, level_of, rank}
 use Rattle.df_tree.specs.Expr.{Expr, Number, Truth, Name, Parentheses, Unary, Operations, Leading}
-use Rattle.df_tree.specs.Spelling.{TheSign}
 use Rattle.df_tree.specs.ExprSpelling.{Piece, sign_piece, name_piece, Begins, spell, rank_of, IsUnsignedNumber, IsOperandOf, IsExpr, height, if_negative}
 use Rattle.df_tree.specs.Reading.{◌>>=◌, sign_at}
 use Rattle.df_tree.specs.ExprReading.{operator_of, operator_at, number_by, optional_number, Reader, deeper, signed_by, negated_from, negated_by, parentheses_by, unary_from, unary_by, at_level, unary_at, if_end, expression_at}
 use Rattle.df_tree.proofs.Repeat.{found, pair}
-use Rattle.df_tree.proofs.Tokens.{Eats, sign_complete}
+use Rattle.df_tree.proofs.Tokens.{sign_complete}
 use Rattle.df_tree.proofs.ExprTokens.{Begins-parts, Before, before_end, kind_there, end_none}
 use Rattle.df_tree.proofs.ExprSound.{deeper_complete}
 use Rattle.df_tree.proofs.ExprOperands.{read, IsWhole, depth_sound}
@@ -69,10 +68,6 @@ operand_no_number (Leading m) tokens rest is t h b = absurd (omega arith)
 
 -- ---- signs and parentheses
 
-sign_of_piece : (tokens rest : List Token) → Begins (record { kind = kinds.Sign signs.CloseParenthesis; place = None } ∷ []) tokens rest → Eats (TheSign signs.CloseParenthesis ∷ []) tokens rest
-sign_of_piece [] rest b = absurd b
-sign_of_piece (t ∷ tokens) rest b = (b.0.0, b.1)
-
 signed_complete : (inner : Level → Reader) (f : ℕ) → f + 1 ≤ 200 → Complete (inner levels.Unary) 5 f → (operator : UnaryOperator) (pos : Pos) (operand : Expr) (tokens rest : List Token) → Begins (spell operand) tokens rest → IsExpr operand → 5 ≤ rank_of operand
     → height operand ≤ f → Before 5 rest → signed_by inner operator pos tokens ≡ Some ((Unary operator pos operand, height operand + 1), rest)
 unfolding signed_by
@@ -87,7 +82,7 @@ parentheses_complete inner f small c pos e tokens rest b is low =
     let p = Begins-parts (spell e) (record { kind = kinds.Sign signs.CloseParenthesis; place = None } ∷ []) tokens rest b in
     let none = kind_there (record { kind = kinds.Sign signs.CloseParenthesis; place = None }) [] p.between rest None refl p.second in
     let one = c.finds e tokens p.between p.first is (omega arith) low (before_end 0 p.between none) in
-    let sign = sign_complete signs.CloseParenthesis p.between rest (sign_of_piece p.between rest p.second) in
+    let sign = sign_complete signs.CloseParenthesis p.between rest p.second in
     ap (λ (z : Option ((Expr × ℕ) × List Token)). z >>= λ y. sign_at signs.CloseParenthesis y.1 >>= λ after. deeper y.0.1 >>= λ k. read (Parentheses pos y.0.0) k after) one
     ∙ ap (λ (z : Option (List Token)). z >>= λ after. deeper (height e) >>= λ k. read (Parentheses pos e) k after) sign
     ∙ ap (λ (z : Option ℕ). z >>= λ k. read (Parentheses pos e) k rest) (deeper_complete (height e) (omega arith))

@@ -1,15 +1,27 @@
 -- The grammar of files, computed on small ones.
-use Rattle.std.proofs.Common.{◌≡◌, ℕ, [], ◌∷◌, None, refl}
+use Rattle.std.proofs.Common.{◌≡◌, ℕ, false, List, [], ◌∷◌, length, take, Option, Some, None, refl, sym, ap, ◌∙◌, arith, rules}
+use Rattle.std.specs.Prelude.{unwrap_or}
 use Rattle.df_base.specs.declared.pos.Pos.{Pos}
 use Rattle.df_tok.specs.declared.word.Word.TheVariants as words
 use Rattle.df_tok.specs.declared.sign.Sign.TheVariants as signs
 use Rattle.df_tok.specs.declared.token.Kind.{Kind}
 use Rattle.df_tok.specs.declared.token.Kind.TheVariants as kinds
 use Rattle.df_tok.specs.Token.{Token}
+use Rattle.df_tok.specs.Lexeme.{Escape}
+use Rattle.df_tok.proofs.Examples.{small_tokens}
 use Rattle.df_tree.specs.declared.tree.Ident.{Ident}
-use Rattle.df_tree.specs.Expr.{Name, Parentheses}
-use Rattle.df_tree.specs.File.{Statement, Nested, Assign, If, Assert, Print, done, next, end, more, without, otherwise, Method, File}
-use Rattle.df_tree.specs.FileSpelling.{StartsWith, spell_file, statement_height, IsStatement, SpellsFile}
+use Rattle.df_tree.specs.declared.expr.BinaryOperator.{BinaryOperator}
+use Rattle.df_tree.specs.declared.expr.BinaryOperator.TheVariants as binary
+use Rattle.df_tree.specs.declared.expr.Group.TheVariants as groups
+use Rattle.df_tree.specs.declared.expr.TreeType.TheVariants as types
+use Rattle.df_tree.specs.Expr.{Expr, Number, Name, Parentheses, Operations}
+use Rattle.df_tree.specs.Expr as members
+use Rattle.df_tree.specs.Reading.{escape_at, part_at, some_of, all_of, characters_of}
+use Rattle.df_tree.specs.File.{Nested, Var, Assign, If, Assert, Print, done, next, end, more, without, otherwise, Declaration, Newtype, Method, File}
+use Rattle.df_tree.specs.FileSpelling.{Characters, IsFilePiece, StartsWith, spell_file, statement_height, IsStatement, SpellsFile}
+use Rattle.df_tree.proofs.Text.{characters_complete}
+use Rattle.df_tree.proofs.FileTokens.{StartsWith-length}
+use Rattle.df_tree.proofs.FileLaw.{same_file}
 
 at : ℕ → Pos
 at col = record { line = 1; col = col }
@@ -63,3 +75,69 @@ branches_are_siblings = refl
 -- `print ;` is no statement
 nothing_printed : IsStatement (Print []) → ⊥
 nothing_printed is = is.0 refl
+
+-- ---- a newtype and a method
+
+number : ℕ → ℕ → Expr
+number n col = Number (record { negative = false; magnitude = n; pos = at col })
+
+-- the file of `newtype N=x|0<=x<9 method Main(){var y:N:=1;}`, with this operator after the 0
+with_operator : BinaryOperator → File
+with_operator operator = record {
+  declarations = Newtype (record {
+    name = ident 0 9;
+    variable = ident 1 11;
+    is_typed = false;
+    predicate = Operations (number 0 13) (members.more operator (at 14) (Name (ident 1 16)) (members.more binary.Less (at 17) (number 9 18) members.end));
+    witness = None;
+  }) ∷ Method (record {
+    name = ident 2 27;
+    parameters = [];
+    results = None;
+    clauses = [];
+    body = record { pos = at 33; statements = next (Var (ident 3 38) (types.Named (ident 0 40)) (number 1 43)) done };
+  }) ∷ [];
+}
+
+-- the tokens of the program spell the file
+ranged_spelled : SpellsFile (with_operator binary.AtMost) small_tokens
+unfolding with_operator number ident at
+ranged_spelled =
+    (((((groups.Comparison, refl, tt, omega arith, (refl, tt, omega arith, (refl, tt, omega arith, tt))), omega arith), tt), ((tt, ((tt, tt), omega arith)), tt)), search rules)
+
+-- but not without the closing brace
+not_without_brace : SpellsFile (with_operator binary.AtMost) (take 22 small_tokens) → ⊥
+unfolding with_operator number ident at
+not_without_brace h = let e = StartsWith-length (spell_file (with_operator binary.AtMost)) (take 22 small_tokens) [] h.1 in omega arith
+
+first_operator : Expr → Option BinaryOperator
+first_operator (Operations e (members.more operator pos operand rest)) = Some operator
+first_operator _ = None
+
+after_zero : List Declaration → Option BinaryOperator
+after_zero (Newtype x ∷ rest) = first_operator x.predicate
+after_zero _ = None
+
+-- and not the file with `<` for `<=`
+at_most_is_not_less : SpellsFile (with_operator binary.Less) small_tokens → ⊥
+unfolding with_operator first_operator after_zero
+at_most_is_not_less h = let e = ap (λ (x : File). after_zero x.declarations) (same_file small_tokens (with_operator binary.AtMost) (with_operator binary.Less) ranged_spelled h) in cc
+
+-- ---- string literals
+
+-- `"\n"`
+line_end : Token
+line_end = record { kind = kinds.Text; text = 34 ∷ 92 ∷ 110 ∷ 34 ∷ []; pos = at 1 }
+
+-- an escape stands for its character
+escape_is_line_feed : IsFilePiece (Characters (10 ∷ [])) line_end
+unfolding line_end
+escape_is_line_feed = (refl, (Escape 110 ∷ [], 92 ∷ 110 ∷ [], refl, (92 ∷ 110 ∷ [], [], 10, [], refl, refl, (refl, refl), (refl, refl))))
+
+-- and not for its two bytes
+escape_is_not_plain : IsFilePiece (Characters (92 ∷ 110 ∷ [])) line_end → ⊥
+unfolding line_end characters_of all_of some_of part_at escape_at
+escape_is_not_plain h =
+    let read : characters_of line_end.text ≡ Some (10 ∷ []) = refl in
+    let same : Some (10 ∷ []) ≡ Some (92 ∷ 110 ∷ []) = sym read ∙ characters_complete line_end.text (92 ∷ 110 ∷ []) h.1 in
+    omega (arith, ap (λ (o : Option (List ℕ)). length (unwrap_or o [])) same)

@@ -13,17 +13,16 @@ use Rattle.df_tok.specs.Token.{Token}
 use Rattle.df_tree.specs.declared.tree.Ident.{Ident}
 use Rattle.df_tree.specs.declared.expr.TreeType.{TreeType}
 use Rattle.df_tree.specs.declared.file.Parameter.{Parameter}
-use Rattle.df_tree.specs.Spelling.{NameAt}
 use Rattle.df_tree.specs.Operator.{sign_of, unary_sign_of}
 use Rattle.df_tree.specs.Expr.{Expr, Number, Truth, Name, Parentheses, Unary, Operations, Leading, end, more}
-use Rattle.df_tree.specs.ExprSpelling.{Piece, Begins, spell, spell_members, spell_type, IsExpr, height}
+use Rattle.df_tree.specs.ExprSpelling.{Piece, name_piece, Begins, spell, spell_members, spell_type, IsExpr, height}
 use Rattle.df_tree.specs.Reading.{◌>>=◌, is_word, is_sign, name_at, characters_of, text_at, kind_at}
 use Rattle.df_tree.specs.ExprReading.{operator_of, operator_by, operator_at, expression_at, type_at}
 use Rattle.df_tree.specs.File.{PrintOperand, Text, Value}
 use Rattle.df_tree.specs.FileSpelling.{FilePiece, Plain, Characters, StartsWith, a_word, a_sign, word_there, sign_there, a_name, an_expression, a_type, separated, spell_more, spell_operand, operand_height, IsOperand, spell_parameter, spell_parameters}
 use Rattle.df_tree.specs.FileReading.{Reader, both, made, after_sign, kind_is_word, kind_is_sign, word_stands, sign_stands, parameter_stands, place_of_word, place_of_sign, if_low, expression_within, many, one_or_more, operand_by, operand_at, value_at, parameter_at, parameters_in, parameters_at}
 use Rattle.df_tree.proofs.Repeat.{bind_some, found, nothing, pair, got, finish, some_is, differ}
-use Rattle.df_tree.proofs.Tokens.{Eats, name_sound, name_complete, word_true, word_is, sign_true, sign_is, guard_some}
+use Rattle.df_tree.proofs.Tokens.{name_sound, name_complete, word_true, word_is, sign_true, sign_is, guard_some}
 use Rattle.df_tree.proofs.Text.{characters_sound, characters_complete}
 use Rattle.df_tree.proofs.ExprTokens.{Begins-parts, none_end}
 use Rattle.df_tree.proofs.ExprOperands.{expression_sound}
@@ -65,18 +64,10 @@ brace_no_operator pos others tokens rest starts = no_operator (record { kind = k
 
 -- ---- names, types and places
 
-name_starts : (x : Ident) (tokens rest : List Token) → Eats (NameAt x ∷ []) tokens rest → StartsWith (a_name x ∷ []) tokens rest
-name_starts x [] rest p = absurd p
-name_starts x (t ∷ tokens) rest p = p
-
-name_eaten : (x : Ident) (tokens rest : List Token) → StartsWith (a_name x ∷ []) tokens rest → Eats (NameAt x ∷ []) tokens rest
-name_eaten x [] rest p = absurd p
-name_eaten x (t ∷ tokens) rest p = p
-
 pub name_reads : ReadsAs name_at (λ (x : Ident). a_name x ∷ []) (Anything {X = Ident}) (Anything {X = List Token})
 name_reads = record {
-  sound = λ x tokens rest e. (name_starts x tokens rest (name_sound tokens rest x e), tt);
-  complete = λ x tokens rest starts is after. name_complete x tokens rest (name_eaten x tokens rest starts);
+  sound = λ x tokens rest e. (from_begins (name_piece x ∷ []) tokens rest (name_sound tokens rest x e), tt);
+  complete = λ x tokens rest starts is after. name_complete x tokens rest (to_begins (name_piece x ∷ []) tokens rest starts);
 }
 
 pub type_reads : ReadsAs type_at a_type (Anything {X = TreeType}) (Anything {X = List Token})

@@ -6,13 +6,12 @@ use Rattle.df_tok.specs.declared.word.Word.{Word}
 use Rattle.df_tok.specs.declared.sign.Sign.{Sign}
 use Rattle.df_tok.specs.declared.token.Kind.{Kind}
 use Rattle.df_tok.specs.Token.{Token}
-use Rattle.df_tree.specs.Spelling.{TheWord, TheSign}
 use Rattle.df_tree.specs.ExprSpelling.{Piece, Begins}
 use Rattle.df_tree.specs.Reading.{◌>>=◌, word_at, sign_at, kind_at}
 use Rattle.df_tree.specs.FileSpelling.{FilePiece, Plain, StartsWith, a_word, a_sign, optional, IsOption}
 use Rattle.df_tree.specs.FileReading.{Reader, both, made, after_word, after_sign, before_sign, optionally, many}
 use Rattle.df_tree.proofs.Repeat.{Shrinks, Run, sound, complete, bind_some, found, nothing, pair, got, finish, finish_some, no_end, no_find, some_is}
-use Rattle.df_tree.proofs.Tokens.{Eats, word_sound, word_complete, sign_sound, sign_complete}
+use Rattle.df_tree.proofs.Tokens.{plain_word, plain_sign, word_sound, word_complete, sign_sound, sign_complete}
 
 -- ---- pieces from the front
 
@@ -53,22 +52,6 @@ pub kind_there : (piece : Piece) (more : List FilePiece) (tokens rest : List Tok
 kind_there piece more [] rest p = absurd p
 kind_there piece more (t ∷ tokens) rest p = ap (λ (k : Kind). found k) p.0.0
 
-word_starts : (word : Word) (tokens rest : List Token) → Eats (TheWord word ∷ []) tokens rest → StartsWith (a_word word ∷ []) tokens rest
-word_starts word [] rest p = absurd p
-word_starts word (t ∷ tokens) rest p = ((p.0, tt), p.1)
-
-word_eaten : (word : Word) (tokens rest : List Token) → StartsWith (a_word word ∷ []) tokens rest → Eats (TheWord word ∷ []) tokens rest
-word_eaten word [] rest p = absurd p
-word_eaten word (t ∷ tokens) rest p = (p.0.0, p.1)
-
-sign_starts : (sign : Sign) (tokens rest : List Token) → Eats (TheSign sign ∷ []) tokens rest → StartsWith (a_sign sign ∷ []) tokens rest
-sign_starts sign [] rest p = absurd p
-sign_starts sign (t ∷ tokens) rest p = ((p.0, tt), p.1)
-
-sign_eaten : (sign : Sign) (tokens rest : List Token) → StartsWith (a_sign sign ∷ []) tokens rest → Eats (TheSign sign ∷ []) tokens rest
-sign_eaten sign [] rest p = absurd p
-sign_eaten sign (t ∷ tokens) rest p = (p.0.0, p.1)
-
 -- ---- readers
 
 -- A reader finds what the tokens begin with, where what comes after lets it.
@@ -106,10 +89,10 @@ word_reads {X = X} word read a A F r = record {
   sound = λ x tokens rest e.
       let p = bind_some (word_at word tokens) read (x, rest) e in
       let one = r.sound x p.0 rest p.2 in
-      (StartsWith-then (a_word word ∷ []) (a x) tokens p.0 rest (word_starts word tokens p.0 (word_sound word tokens p.0 p.1)) one.0, one.1);
+      (StartsWith-then (a_word word ∷ []) (a x) tokens p.0 rest (from_begins (plain_word word ∷ []) tokens p.0 (word_sound word tokens p.0 p.1)) one.0, one.1);
   complete = λ x tokens rest starts is after.
       let p = StartsWith-parts (a_word word ∷ []) (a x) tokens rest starts in
-      ap (λ (o : Option (List Token)). o >>= read) (word_complete word tokens p.between (word_eaten word tokens p.between p.first)) ∙ r.complete x p.between rest p.second is after;
+      ap (λ (o : Option (List Token)). o >>= read) (word_complete word tokens p.between (to_begins (plain_word word ∷ []) tokens p.between p.first)) ∙ r.complete x p.between rest p.second is after;
 }
 
 pub sign_reads : {X : Type 0} (sign : Sign) (read : Reader X) (a : X → List FilePiece) (A : X → Type 0) (F : List Token → Type 0) → ReadsAs read a A F → ReadsAs (after_sign sign read) (λ (x : X). a_sign sign ∷ a x) A F
@@ -117,10 +100,10 @@ sign_reads {X = X} sign read a A F r = record {
   sound = λ x tokens rest e.
       let p = bind_some (sign_at sign tokens) read (x, rest) e in
       let one = r.sound x p.0 rest p.2 in
-      (StartsWith-then (a_sign sign ∷ []) (a x) tokens p.0 rest (sign_starts sign tokens p.0 (sign_sound sign tokens p.0 p.1)) one.0, one.1);
+      (StartsWith-then (a_sign sign ∷ []) (a x) tokens p.0 rest (from_begins (plain_sign sign ∷ []) tokens p.0 (sign_sound sign tokens p.0 p.1)) one.0, one.1);
   complete = λ x tokens rest starts is after.
       let p = StartsWith-parts (a_sign sign ∷ []) (a x) tokens rest starts in
-      ap (λ (o : Option (List Token)). o >>= read) (sign_complete sign tokens p.between (sign_eaten sign tokens p.between p.first)) ∙ r.complete x p.between rest p.second is after;
+      ap (λ (o : Option (List Token)). o >>= read) (sign_complete sign tokens p.between (to_begins (plain_sign sign ∷ []) tokens p.between p.first)) ∙ r.complete x p.between rest p.second is after;
 }
 
 pub before_reads : {X : Type 0} (sign : Sign) (read : Reader X) (a : X → List FilePiece) (A : X → Type 0) (F : List Token → Type 0) → ReadsAs read a A F
@@ -131,11 +114,11 @@ before_reads {X = X} sign read a A F r joins = record {
       let q = bind_some (sign_at sign p.0.1) (λ after. got p.0.0 after) (x, rest) p.2 in
       let one = r.sound p.0.0 tokens p.0.1 p.1 in
       finish (λ (y : X) (ts : List Token). StartsWith (a y ++ a_sign sign ∷ []) tokens ts × A y) p.0.0 x q.0 rest q.2
-      (StartsWith-then (a p.0.0) (a_sign sign ∷ []) tokens p.0.1 q.0 one.0 (sign_starts sign p.0.1 q.0 (sign_sound sign p.0.1 q.0 q.1)), one.1);
+      (StartsWith-then (a p.0.0) (a_sign sign ∷ []) tokens p.0.1 q.0 one.0 (from_begins (plain_sign sign ∷ []) p.0.1 q.0 (sign_sound sign p.0.1 q.0 q.1)), one.1);
   complete = λ x tokens rest starts is after.
       let p = StartsWith-parts (a x) (a_sign sign ∷ []) tokens rest starts in
       let one = r.complete x tokens p.between p.first is (joins p.between rest p.second) in
-      let two = sign_complete sign p.between rest (sign_eaten sign p.between rest p.second) in
+      let two = sign_complete sign p.between rest (to_begins (plain_sign sign ∷ []) p.between rest p.second) in
       ap (λ (o : Option (X × List Token)). o >>= λ y. sign_at sign y.1 >>= λ ts. got y.0 ts) one
       ∙ ap (λ (o : Option (List Token)). o >>= λ ts. got x ts) two;
 }

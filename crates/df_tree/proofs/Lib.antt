@@ -1,12 +1,6 @@
 pub mod Repeat
 pub mod Tokens
 pub mod Text
-pub mod Siblings
-pub mod Expressions
-pub mod Statements
-pub mod Declarations
-pub mod Law
-pub mod Examples
 pub mod ExprTokens
 pub mod ExprSound
 pub mod ExprOperands

@@ -1,10 +1,8 @@
-//! The source tree, and its grammar as a relation between a tree and the tokens that it spells.
+//! Source files as trees, and their grammar as a relation between a tree and the tokens that spell it.
 #![tactic(auto)]
 
 ghost use Rattle.std.specs.Prelude.{◌≡◌, ℕ, List};
 ghost use Rattle.df_tok.specs.Token as token;
-ghost use Rattle.df_tree.specs.Tree as pure;
-ghost use Rattle.df_tree.specs.Spelling.{Spells};
 ghost use Rattle.df_tree.specs.Expr as pure_expr;
 ghost use Rattle.df_tree.specs.ExprSpelling.{IsExpressionAt};
 ghost use Rattle.df_tree.specs.File as pure_file;
@@ -19,14 +17,7 @@ pub use file::{
     Block, Branch, Clause, ClauseKind, Declaration, File, MethodDeclaration, NewtypeDeclaration,
     Parameter, PrintOperand, Statement,
 };
-pub use tree::{
-    Ident, Literal, Member, Newtype, Operand, Order, Plus, Range, SourceTree, Stmt, TreeExpr,
-};
-
-/// Tokens spell at most one tree.
-pub fn one_tree()
-    ensures { (tokens : List token.Token) (tree other : pure.Tree) → Spells tree tokens → Spells other tokens → tree ≡ other }
-{}
+pub use tree::{Ident, Literal};
 
 /// From one token on, tokens spell at most one expression that ends before a token that cannot
 /// continue it.

@@ -1,4 +1,3 @@
 pub mod Interval
-pub mod Program
-pub mod Typing
+pub mod Newtype
 pub mod View

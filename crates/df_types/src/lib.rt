@@ -1,8 +1,8 @@
-//! Types, and the typed program with what is well typed as its invariant.
+//! Newtypes and the intervals of whole numbers that they name.
 #![tactic(auto)]
 
 mod interval;
-mod program;
+mod newtype;
 
 pub use interval::Interval;
-pub use program::{Declared, Expr, Member, Method, Newtype, Operand, Plus, Program, Stmt, Ty};
+pub use newtype::{Declared, Newtype, Ty};

@@ -1,7 +1,7 @@
 use Rattle.std.proofs.Common.{◌≡◌, ◌∙◌, ℕ, ℤ, sym, ap, refl, slice_get, map, length, List, [], ◌∷◌, ◌++◌, Option, rules}
 use Rattle.std.proofs.lemmas.Int.{to_z-of_z}
 use Rattle.df_types.specs.View.{newtypes_of}
-use Rattle.df_types.specs.Program.{Newtype}
+use Rattle.df_types.specs.Newtype.{Newtype}
 use Rattle.df_form.specs.declared.node.Op.{Op}
 use Rattle.df_form.specs.Node.{node_of}
 use Rattle.df_form.specs.Clause.{yes}

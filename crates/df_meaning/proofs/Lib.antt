@@ -1,3 +1,0 @@
-pub mod Depth
-pub mod Determined
-pub mod Examples
