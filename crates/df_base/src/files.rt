@@ -1,18 +1,17 @@
 //! Files, as the program reads them.
 
-ghost use Rattle.std.specs.Prelude.{◌≡◌, ◌≢◌, None, ℕ, ◌+◌, ◌<◌, ◌≤◌, List, Option, Some, length, vec_len, IfOk, IfSome, Err};
+ghost use Rattle.std.specs.Prelude.{◌≡◌, ◌≢◌, ◌↔◌, None, ℕ, ◌+◌, ◌<◌, ◌≤◌, List, Option, Some, length, vec_len, IfOk, IfSome, Err};
 ghost use Rattle.df_base.specs.Outside.{Contents, bytes_of, HasCause};
 ghost use Rattle.df_base.specs.declared.files.LoadFault.TheVariants.{Failed, Large, Memory};
 
 mod host;
 mod mem;
-mod read;
+pub(crate) mod read;
 mod store;
 mod sure;
 
 pub use host::HostFiles;
 pub use mem::MemFiles;
-pub use read::read_all;
 use std::alloc::{AllocError, Global};
 pub use sure::SureFiles;
 use thiserror::Error;
@@ -67,5 +66,7 @@ pub trait Files {
         ensures cause { HasCause (fault_count self.old) (fault_count self.new) (result ≡ Err Failed) }
         // What it holds and allows stays.
         ensures held { holds self.new ≡ holds self.old }
-        ensures allows { (other : List ℕ) → allowed self.old other → allowed self.new other };
+        ensures allows { (other : List ℕ) → allowed self.old other ↔ allowed self.new other }
+        // A file that is too large is no fault.
+        ensures clean { (n : ℕ) → result ≡ Err (Large n) → fault_count self.new ≡ fault_count self.old };
 }

@@ -12,11 +12,11 @@ mod status;
 #[cfg(test)]
 mod tests;
 
-pub use files::{Files, HostFiles, LoadFault, MemFiles, SureFiles, read_all};
+pub use files::{Files, HostFiles, LoadFault, MemFiles, SureFiles};
 pub use memory::Memory;
 pub use name::{Name, Names};
 pub use pos::Pos;
 pub use refusal::{Code, Detail, Refusal, Stop};
-pub use sink::{HostSink, MemSink, Sink, SinkFault, SureSink, write_all};
+pub use sink::{HostSink, MemSink, Sink, SinkFault, SureSink};
 pub use status::Status;
 pub use std::alloc::Global;

@@ -7,14 +7,13 @@ ghost use Rattle.df_base.specs.declared.sink.SinkFault.TheVariants.{Failed, Memo
 mod host;
 mod mem;
 mod sure;
-mod write;
+pub(crate) mod write;
 
 pub use host::HostSink;
 pub use mem::MemSink;
 use std::alloc::AllocError;
 pub use sure::SureSink;
 use thiserror::Error;
-pub use write::write_all;
 
 /// Why bytes were not taken.
 #[derive(Debug, Drop, Error)]

@@ -1,6 +1,8 @@
+use crate::files::read::read_all;
+use crate::sink::write::write_all;
 use crate::{
     Files, HostFiles, HostSink, LoadFault, MemFiles, MemSink, Memory, Names, Sink, SinkFault,
-    Status, Stop, SureFiles, SureSink, read_all, write_all,
+    Status, Stop, SureFiles, SureSink,
 };
 use std::alloc::Global;
 use std::io::Write;

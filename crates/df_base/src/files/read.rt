@@ -23,7 +23,11 @@ pub(super) fn fault_of(error: &Error) -> LoadFault
 ///
 /// `Failed`: a read failed. `Large(limit + 1)`: there are more bytes than the limit. `Memory`:
 /// memory was refused.
-pub fn read_all<R: Read>(alloc: Global, reader: &mut R, limit: u64) -> Result<Vec<u8>, LoadFault>
+pub(crate) fn read_all<R: Read>(
+    alloc: Global,
+    reader: &mut R,
+    limit: u64,
+) -> Result<Vec<u8>, LoadFault>
     ensures all { IfOk result (λ bytes. Consumes (R.remaining reader.old) (R.remaining reader.new) bytes.items) }
     ensures end { OnOk result (IsAtEnd (R.remaining reader.new)) }
     ensures within { IfOk result (λ bytes. vec_len bytes ≤ limit) }

@@ -11,7 +11,7 @@ use std::io::Write;
 /// Writes all of these bytes.
 ///
 /// `Failed`: a write failed, or took none of the bytes that were left. A prefix was written then.
-pub fn write_all<W: Write>(writer: &mut W, bytes: &[u8]) -> Result<(), SinkFault>
+pub(crate) fn write_all<W: Write>(writer: &mut W, bytes: &[u8]) -> Result<(), SinkFault>
     ensures all { OnOk result (Appends (W.contents writer.old) (W.contents writer.new) bytes.now) }
     ensures prefix { OnErr result (AppendsKnownPrefix (W.contents writer.old) (W.contents writer.new) bytes.now) }
     ensures empty { length bytes.now ≡ 0 → IsOk result }
