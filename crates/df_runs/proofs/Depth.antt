@@ -1,6 +1,6 @@
 -- More depth keeps an answer.
 use Rattle.std.proofs.Common.{◌≡◌, ℕ, Bool, true, false, List, [], ◌∷◌, Option, if◌then◌else◌, length, refl, ap, ◌∙◌}
-use Rattle.df_types.specs.Program.{Newtype}
+use Rattle.df_types.specs.Newtype.{Newtype}
 use Rattle.df_program.specs.declared.expr.Ty.{Ty}
 use Rattle.df_program.specs.Expr.{Expr, Number, Truth, Local, Negate, Not, Operations, Chain, Members, end, more, Links, last, link}
 use Rattle.df_program.specs.Stmt.{Operand, Text, Stmt, Block, Var, Assign, If, Assert, Print, Stmts, done, next, Branches}

@@ -1,6 +1,7 @@
 mod Cases
 mod Depth
 mod Reaching
+mod Right
 mod Types
 mod Typed
 mod Texts

@@ -1,7 +1,7 @@
 -- Every depth reaches, and nothing returns, breaks or is chosen.
 use Rattle.std.proofs.Common.{ℕ, Bool, true, false, List, [], ◌∷◌, Option, Some, None, ℤ, if◌then◌else◌, subst}
 use Rattle.df_base.specs.declared.pos.Pos.{Pos}
-use Rattle.df_types.specs.Program.{Newtype}
+use Rattle.df_types.specs.Newtype.{Newtype}
 use Rattle.df_program.specs.declared.expr.Ty.{Ty}
 use Rattle.df_program.specs.declared.expr.Operator.{Operator}
 use Rattle.df_program.specs.declared.expr.Operator.TheVariants as operators

@@ -1,7 +1,7 @@
 -- What is printed stays.
 use Rattle.std.proofs.Common.{ℕ, List, [], ◌∷◌, ◌++◌, sym, ap, ◌∙◌, subst, append_assoc}
 use Rattle.std.proofs.lemmas.List.{append-nil}
-use Rattle.df_types.specs.Program.{Newtype}
+use Rattle.df_types.specs.Newtype.{Newtype}
 use Rattle.df_program.specs.Stmt.{Operand, Stmt, Block, Var, Assign, If, Assert, Print, Stmts, done, next, Branches}
 use Rattle.df_program.specs.Stmt as stmt
 use Rattle.df_meaning.specs.Value.{truth_of, text_of}

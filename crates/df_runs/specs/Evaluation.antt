@@ -3,7 +3,7 @@ use Rattle.std.specs.Prelude.{ℕ, ℤ, pos, neg_ℤ, ◌+ℤ◌, ◌-ℤ◌, in
 use Rattle.std.specs.Option.{option_map_or}
 use Rattle.std.specs.Ordering.{int_eq}
 use Rattle.df_base.specs.declared.pos.Pos.{Pos}
-use Rattle.df_types.specs.Program.{Newtype}
+use Rattle.df_types.specs.Newtype.{Newtype}
 use Rattle.df_program.specs.declared.expr.Ty.{Ty}
 use Rattle.df_program.specs.declared.expr.Ty.TheVariants as types
 use Rattle.df_program.specs.declared.expr.Operator.{Operator}
@@ -12,9 +12,9 @@ use Rattle.df_program.specs.declared.expr.Comparison.{Comparison}
 use Rattle.df_program.specs.declared.expr.Comparison.TheVariants as comparisons
 use Rattle.df_program.specs.Expr.{Expr, Number, Truth, Local, Negate, Not, Operations, Chain, Members, end, more, Links, last, link}
 use Rattle.df_meaning.specs.declared.kind.Kind.TheVariants as kinds
-use Rattle.df_meaning.specs.Value.{Value, number_of, truth_of}
+use Rattle.df_meaning.specs.Value.{Value, number_of, truth_of, same_truth, same_value}
 use Rattle.df_meaning.specs.Value as values
-use Rattle.df_meaning.specs.Evaluation.{holds}
+use Rattle.df_meaning.specs.Range.{holds}
 use Rattle.df_meaning.specs.Outcome.{State, Evaluated, Known, Undefined, with_value}
 
 -- the number is a value of the type: any number is an `int`
@@ -25,15 +25,6 @@ is_in newtypes ty n = true
 -- a literal and each result of arithmetic must be a value of its type
 abbrev pub in_range : List Newtype → Ty → Pos → ℤ → Evaluated
 in_range newtypes ty place n = if is_in newtypes ty n then Known (values.Number n) else Undefined place kinds.Range
-
-abbrev pub same_truth : Bool → Bool → Bool
-same_truth true b = b
-same_truth false b = not b
-
-abbrev pub same_value : Value → Value → Bool
-same_value (values.Truth a) (values.Truth b) = same_truth a b
-same_value (values.Number a) (values.Number b) = int_eq a b
-same_value a b = false
 
 -- two neighbours of a chain compare so
 abbrev pub compare : Comparison → Value → Value → Bool

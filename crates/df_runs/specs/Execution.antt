@@ -1,6 +1,6 @@
 -- Execution of statements, by depth.
 use Rattle.std.specs.Prelude.{ℕ, zero, suc, List, [], ◌∷◌, ◌++◌, length, take, if◌then◌else◌}
-use Rattle.df_types.specs.Program.{Newtype}
+use Rattle.df_types.specs.Newtype.{Newtype}
 use Rattle.df_program.specs.Stmt.{Operand, Text, Value, Stmt, Block, Var, Assign, If, Assert, Print, Stmts, done, next, Branches, end, more}
 use Rattle.df_meaning.specs.declared.kind.Kind.TheVariants as kinds
 use Rattle.df_meaning.specs.Value.{text_of, truth_of}

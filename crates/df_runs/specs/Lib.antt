@@ -4,4 +4,5 @@ pub mod Modular
 pub mod Whole
 pub mod Typed
 pub mod Reaching
+pub mod Right
 pub mod Text

@@ -1,7 +1,7 @@
 -- Modular runs of a method, whose arguments are handed in, and modular safety.
 use Rattle.std.specs.Prelude.{◌≡◌, ℕ, pos, true, List, [], ◌∷◌, ◌++◌, map, Contains, if◌then◌else◌}
 use Rattle.df_base.specs.declared.pos.Pos.{Pos}
-use Rattle.df_types.specs.Program.{Newtype}
+use Rattle.df_types.specs.Newtype.{Newtype}
 use Rattle.df_program.specs.declared.expr.Ty.{Ty}
 use Rattle.df_program.specs.declared.expr.Ty.TheVariants as types
 use Rattle.df_program.specs.Program.{Place, Clause, Method, Program}

@@ -1,6 +1,6 @@
 -- Every depth reaches, as there are no calls or loops yet; nothing returns, breaks or is chosen.
 use Rattle.std.specs.Prelude.{◌≢◌, ℕ, List}
-use Rattle.df_types.specs.Program.{Newtype}
+use Rattle.df_types.specs.Newtype.{Newtype}
 use Rattle.df_program.specs.Expr.{Expr}
 use Rattle.df_program.specs.Stmt.{Stmts}
 use Rattle.df_program.specs.Program.{Method}

@@ -1,6 +1,6 @@
 -- What is printed stays.
 use Rattle.std.specs.Prelude.{◌≡◌, ℕ, List, ◌++◌}
-use Rattle.df_types.specs.Program.{Newtype}
+use Rattle.df_types.specs.Newtype.{Newtype}
 use Rattle.df_program.specs.Stmt.{Stmts}
 use Rattle.df_meaning.specs.Outcome.{State, Next}
 use Rattle.df_runs.specs.Execution.{execute_all}

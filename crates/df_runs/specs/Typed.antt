@@ -1,6 +1,6 @@
 -- States whose locals have values of their types, and that what is well typed keeps them so.
 use Rattle.std.specs.Prelude.{◌≡◌, ℕ, true, List, [], ◌∷◌, length, take}
-use Rattle.df_types.specs.Program.{Newtype}
+use Rattle.df_types.specs.Newtype.{Newtype}
 use Rattle.df_program.specs.declared.expr.Ty.{Ty}
 use Rattle.df_program.specs.Expr.{Expr}
 use Rattle.df_program.specs.Stmt.{Stmt, Stmts}

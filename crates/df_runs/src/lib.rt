@@ -3,11 +3,12 @@
 #![tactic(auto)]
 
 ghost use Rattle.std.specs.Prelude.{◌≡◌, ◌≢◌, ◌≤◌, ℕ, List};
-ghost use Rattle.df_types.specs.Program as types;
+ghost use Rattle.df_types.specs.Newtype as types;
 ghost use Rattle.df_program.specs.Program as pure;
 ghost use Rattle.df_meaning.specs.Value as values;
-ghost use Rattle.df_runs.specs.Modular.{modular_run, TooDeep};
+ghost use Rattle.df_runs.specs.Modular.{modular_run, TooDeep, IsModularlySafe};
 ghost use Rattle.df_runs.specs.Reaching.{RunsReachTheDepth};
+ghost use Rattle.df_runs.specs.Right.{AreRight};
 ghost use Rattle.df_runs.specs.Text.{PrintedTextsStay};
 ghost use Rattle.df_runs.specs.Typed.{ExpressionsHaveTypedValues, StatementsKeepTypes};
 
@@ -34,4 +35,9 @@ pub fn runs_reach_the_depth()
 /// What is printed stays.
 pub fn printed_texts_stay()
     ensures { PrintedTextsStay }
+{}
+
+/// Where no modular run is wrong, every method is right.
+pub fn safe_methods_are_right()
+    ensures { (program : pure.Program) → IsModularlySafe program → AreRight program }
 {}
