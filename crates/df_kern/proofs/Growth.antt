@@ -7,7 +7,7 @@ use Rattle.std.proofs.lemmas.Option.{slice_get-get_or, slice_get_within}
 use Rattle.std.proofs.lemmas.Bool.Decides.{nat_tests}
 use Rattle.df_form.specs.declared.node.Sort.{Sort}
 use Rattle.df_form.specs.declared.node.Sort.TheVariants as sorts
-use Rattle.df_types.specs.declared.program.Ty.{Ty}
+use Rattle.df_types.specs.declared.newtype.Ty.{Ty}
 use Rattle.df_form.specs.Node.{Node, number_of, same_sort}
 use Rattle.df_form.specs.Made.{Made, made, made_where}
 use Rattle.df_form.specs.Sorting.{is_well_sorted, sort_at, sort_of}

@@ -5,16 +5,18 @@ use Rattle.std.specs.List.{list_all, AllByRecursion}
 use Rattle.df_form.specs.Log.{Step, Hypothesis, Goal, Connective, Schema, Propagation, Linear, Split, Make}
 use Rattle.df_form.specs.declared.node.Sort.TheVariants as sorts
 use Rattle.df_form.specs.Node.{Node, number_of, same_sort}
-use Rattle.df_form.specs.Sorting.{is_formula, is_well_sorted, sort_at}
+use Rattle.df_form.specs.Sorting.{IsTable, is_formula, is_well_sorted, sort_at}
 use Rattle.df_form.specs.Truth.{Assignment, truth}
 use Rattle.df_form.specs.Sequent.{Sequent, IsSequent, IsValid}
-use Rattle.df_form.specs.Clause.{Clause, yes, no}
+use Rattle.df_form.specs.Clause.{Clause, yes, no, literal_truth, clause_truth}
 use Rattle.df_kern.specs.Connective.{Added, connective_line}
 use Rattle.df_kern.specs.Schema.{schema_line}
+use Rattle.df_kern.specs.Truth.{IsTrue}
+use Rattle.df_types.specs.Newtype.{Newtype}
 use Rattle.df_kern.specs.Propagation.{propagation_line}
 use Rattle.df_linear.specs.Linear.{linear_line}
 use Rattle.df_kern.specs.Derivation.{State, begin, only_clause, split_line, is_free, is_new, made_line, with_clause, adds, after, after_all, ends_empty, Derives}
-use Rattle.df_form.proofs.Lists.{then_some, map_some, test_some, some_is, both, both_true, is_true_or_false}
+use Rattle.df_form.proofs.Lists.{then_some, map_some, test_some, some_is, both, both_true, either, first_true, second_true, is_true_or_false}
 use Rattle.df_form.proofs.Values.{Grows, grows_not, grows_by, grows_twice, AreSorted, one_more_sorted}
 use Rattle.df_kern.proofs.SoundClauses.{Holds, holds_grown, propagation_holds, IsLine}
 use Rattle.df_kern.proofs.SoundConnectives.{connective_is_line, all_appended}
@@ -147,6 +149,25 @@ module _ (depth : ℕ) (assignment : Assignment) (s : Sequent) (is : IsSequent s
   not_derived log derives =
       let keeps = after_all_keeps (begin s) derives.0 log begin_keeps derives.1 in
       none_empty derives.0.nodes derives.0.clauses keeps.hold derives.2
+
+-- a clause of which a literal is held is true
+held_is_true : (depth : ℕ) (newtypes : List Newtype) (assignment : Assignment) (nodes : List Node) (clause : Clause) → Holds depth newtypes assignment nodes clause → clause_truth (truth depth newtypes assignment nodes) clause ≡ true
+held_is_true depth newtypes assignment nodes [] e = absurd cc
+held_is_true depth newtypes assignment nodes (l ∷ others) e = next (either (nat_lt l.node (length nodes) && literal_truth (truth depth newtypes assignment nodes) l) _ e) (held_is_true depth newtypes assignment nodes others)
+  where
+    next : ((nat_lt l.node (length nodes) && literal_truth (truth depth newtypes assignment nodes) l) ≡ true) ⊎ Holds depth newtypes assignment nodes others
+        → (Holds depth newtypes assignment nodes others → clause_truth (truth depth newtypes assignment nodes) others ≡ true)
+        → (literal_truth (truth depth newtypes assignment nodes) l || clause_truth (truth depth newtypes assignment nodes) others) ≡ true
+    next (inl here) more = first_true (literal_truth (truth depth newtypes assignment nodes) l) _ (both (nat_lt l.node (length nodes)) (literal_truth (truth depth newtypes assignment nodes) l) here).1
+    next (inr there) more = second_true (literal_truth (truth depth newtypes assignment nodes) l) _ (more there)
+
+pub true_schemas : (newtypes : List Newtype) (nodes : List Node) (schema clause : ℕ) (terms : List ℕ) (added : Added) → IsTable nodes → schema_line newtypes nodes schema clause terms ≡ Some added → IsTrue newtypes added
+true_schemas newtypes nodes schema clause terms added table line depth assignment =
+    held_is_true depth newtypes assignment added.nodes added.clause (schema_is_line depth newtypes assignment nodes schema clause terms added (record { sorted = table.sorted }) line).holds
+
+pub true_connectives : (newtypes : List Newtype) (nodes : List Node) (node clause : ℕ) (added : Added) → IsTable nodes → connective_line nodes node clause ≡ Some added → IsTrue newtypes added
+true_connectives newtypes nodes node clause added table line depth assignment =
+    held_is_true depth newtypes assignment added.nodes added.clause (connective_is_line depth newtypes assignment nodes node clause added (record { sorted = table.sorted }) line).holds
 
 pub derivation_is_valid : (s : Sequent) → IsSequent s → (log : List Step) → Derives s log → IsValid s
 derivation_is_valid s is log derives = λ depth assignment all. by_truth depth assignment all (is_true_or_false (truth depth s.newtypes assignment s.nodes s.goal))

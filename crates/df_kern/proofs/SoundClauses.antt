@@ -2,13 +2,13 @@
 use Rattle.std.proofs.Common.{◌≡◌, ℕ, zero, suc, ◌⊎◌, inl, inr, Bool, true, false, not, cond, ◌&&◌, ◌==◌, List, [], ◌∷◌, map, length, Option, Some, None, slice_get, nat_lt, refl, sym, ap, subst, ltb-true, eqb-true}
 use Rattle.std.specs.Option.{option_and_then, option_map}
 use Rattle.std.specs.List.{list_all, list_any, AllByRecursion}
-use Rattle.df_types.specs.Program.{Newtype}
-use Rattle.df_meaning.specs.Value.{truth_of}
+use Rattle.df_types.specs.Newtype.{Newtype}
+use Rattle.df_meaning.specs.Value.{truth_of, same_truth}
 use Rattle.df_form.specs.declared.log.Lit.{Lit}
 use Rattle.df_form.specs.declared.node.Sort.TheVariants as sorts
 use Rattle.df_form.specs.Node.{Node, same_sort}
 use Rattle.df_form.specs.Sorting.{is_formula, sort_at}
-use Rattle.df_form.specs.Truth.{Assignment, truth, same_truth}
+use Rattle.df_form.specs.Truth.{Assignment, truth}
 use Rattle.df_form.specs.Clause.{Clause, negation, same_literal, is_among, literal_truth, are_literals}
 use Rattle.df_kern.specs.Connective.{Added}
 use Rattle.df_kern.specs.Propagation.{left, only, is_empty, if_some, propagates, clauses_at, propagation_of, propagation_line}

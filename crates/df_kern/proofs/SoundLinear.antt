@@ -4,8 +4,8 @@ use Rattle.std.specs.Option.{option_and_then, option_map}
 use Rattle.std.specs.List.{AllByRecursion}
 use Rattle.std.proofs.lemmas.Int.{ints}
 use Rattle.std.proofs.lemmas.Bool.Decides.{Decides-int_eq}
-use Rattle.df_types.specs.Program.{Newtype}
-use Rattle.df_meaning.specs.Value.{number_of}
+use Rattle.df_types.specs.Newtype.{Newtype}
+use Rattle.df_meaning.specs.Value.{number_of, same_truth}
 use Rattle.df_form.specs.declared.node.Sort.{Sort}
 use Rattle.df_form.specs.declared.node.Sort.TheVariants as sorts
 use Rattle.df_form.specs.declared.node.Op.{Op}
@@ -15,7 +15,7 @@ use Rattle.df_form.specs.declared.log.Multiple.{Multiple}
 use Rattle.df_form.specs.Log.{Combination}
 use Rattle.df_form.specs.Node.{Node}
 use Rattle.df_form.specs.Sorting.{sort_at}
-use Rattle.df_form.specs.Truth.{Assignment, truth, same_truth}
+use Rattle.df_form.specs.Truth.{Assignment, truth}
 use Rattle.df_form.specs.Clause.{Clause, negation, literal_truth, are_literals}
 use Rattle.df_linear.specs.Row.{Row, constant_row, difference}
 use Rattle.df_linear.specs.Linear.{one_row, two_rows, comparison_rows, rows_by_sort, rows_of_parts, rows_of_node, rows_of, all_below, sum_fits, sum_of, with_multiple, sum_from, quotient, divides, divided, combined, is_false, if_row, refutes, linear_of, linear_line}

@@ -1,6 +1,7 @@
 pub mod Bound
 pub mod Connective
 pub mod Schema
+pub mod Truth
 pub mod Propagation
 pub mod Growth
 pub mod Typed

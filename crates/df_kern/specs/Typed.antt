@@ -1,8 +1,8 @@
 -- The clauses on types as the code chooses them.
 use Rattle.std.specs.Prelude.{ℕ, ℤ, List, [], slice_get, Option, None, Some}
 use Rattle.std.specs.Option.{option_and_then}
-use Rattle.df_types.specs.declared.program.Ty.{Ty}
-use Rattle.df_types.specs.declared.program.Ty.TheVariants as types
+use Rattle.df_types.specs.declared.newtype.Ty.{Ty}
+use Rattle.df_types.specs.declared.newtype.Ty.TheVariants as types
 use Rattle.df_form.specs.declared.node.Op.{Op}
 use Rattle.df_form.specs.declared.node.Op.TheVariants as ops
 use Rattle.df_form.specs.Node.{Node}

@@ -1,14 +1,26 @@
 //! What a derivation is worth.
 
-ghost use Rattle.std.specs.Prelude.{◌≡◌, ◌↔◌, List, None};
+ghost use Rattle.std.specs.Prelude.{◌≡◌, ◌↔◌, ℕ, List, None, Some};
+ghost use Rattle.df_types.specs.Newtype as types;
+ghost use Rattle.df_form.specs.Node as pure;
+ghost use Rattle.df_form.specs.Sorting.{IsTable};
 ghost use Rattle.df_form.specs.Log.{Step};
 ghost use Rattle.df_form.specs.Sequent.{Sequent, IsSequent, IsValid};
 ghost use Rattle.df_kern.specs.Derivation.{Derives};
+ghost use Rattle.df_kern.specs.Connective.{Added, connective_line};
 ghost use Rattle.df_kern.specs.Refusal.{refusal};
+ghost use Rattle.df_kern.specs.Schema.{schema_line};
+ghost use Rattle.df_kern.specs.Truth.{IsTrue};
 
 /// A log that derives a sequent makes it valid.
 pub fn derivations_are_valid()
     ensures { (s : Sequent) (log : List Step) → IsSequent s → Derives s log → IsValid s }
+{}
+
+/// The clauses of schemas and of connectives are true, whatever the free terms are.
+pub fn clauses_are_true()
+    ensures schemas { (newtypes : List types.Newtype) (nodes : List pure.Node) (schema clause : ℕ) (terms : List ℕ) (added : Added) → IsTable nodes → schema_line newtypes nodes schema clause terms ≡ Some added → IsTrue newtypes added }
+    ensures connectives { (newtypes : List types.Newtype) (nodes : List pure.Node) (node clause : ℕ) (added : Added) → IsTable nodes → connective_line nodes node clause ≡ Some added → IsTrue newtypes added }
 {}
 
 /// A log derives its sequent exactly where it is refused nowhere.

@@ -21,4 +21,4 @@ pub use checker::{Checker, check};
 pub use fault::KernFault;
 pub use instances::{AxiomFault, connective, instance};
 pub use known::Known;
-pub use law::{derivations_are_valid, logs_derive_or_are_refused};
+pub use law::{clauses_are_true, derivations_are_valid, logs_derive_or_are_refused};

@@ -77,11 +77,8 @@ fn sequent<'a>(
 
 fn literals(alloc: Global, signed: &[Signed]) -> Result<Vec<Lit>, Fail> {
     let mut literals = Vec::new(alloc);
-    for (positive, node) in signed {
-        literals.push(Lit {
-            positive: *positive,
-            node: *node,
-        })?;
+    for &(positive, node) in signed {
+        literals.push(Lit { positive, node })?;
     }
     Ok(literals)
 }
@@ -89,11 +86,8 @@ fn literals(alloc: Global, signed: &[Signed]) -> Result<Vec<Lit>, Fail> {
 fn combination(alloc: Global, sum: &Sum) -> Result<Combination, Fail> {
     let (divisor, multiples) = *sum;
     let mut members = Vec::new(alloc);
-    for (factor, row) in multiples {
-        members.push(Multiple {
-            factor: *factor,
-            row: *row,
-        })?;
+    for &(factor, row) in multiples {
+        members.push(Multiple { factor, row })?;
     }
     Ok(Combination { divisor, members })
 }
@@ -150,12 +144,9 @@ fn refuses_each(
     sequent: &Sequent,
     cases: &[Case],
 ) -> Result<(), Fail> {
-    for (number, (lines, at, broken)) in cases.iter().enumerate() {
-        let log = steps(alloc, *lines)?;
-        let refused = KernFault::Refused {
-            at: *at,
-            broken: *broken,
-        };
+    for (number, &(lines, at, broken)) in cases.iter().enumerate() {
+        let log = steps(alloc, lines)?;
+        let refused = KernFault::Refused { at, broken };
         assert_eq!(rt; check(alloc, sequent, &log), Err(refused), "at {number}");
     }
     Ok(())
