@@ -47,13 +47,14 @@ pub record IsWhole (rows : List Row) (levels : Levels) : Type 0 where
   pub chained : AreChained rows (levels.first ∷ levels.others.items)
   pub few : AreFew (levels.first ∷ levels.others.items)
 
--- a level of the rows has at least so many rows
+-- a level of the rows has at least so many rows, and neither it nor one before it refutes them: a row 0 <= c stays
 pub record AreMany (rows : List Row) (count : ℕ) : Type 0 where
   pub first : List Row
   pub is_first : IsFirstLevel rows first
   pub from : ℕ
   pub level : List Row
   pub reaches : Reaches 0 first from level
+  pub stands : HasFalse level → ⊥
   pub many : count ≤ length level
 
 abbrev pub TellsElimination : List Row → Elimination → Type 0
@@ -92,7 +93,7 @@ pub record IsPassed (rows : List Row) : Type 0 where
 -- what comes after a level
 abbrev pub TellsNext : ℕ → List Row → Next → Type 0
 TellsNext low rows nexts.Refuted = HasFalse rows
-TellsNext low rows nexts.Many = most_rows ≤ length rows
+TellsNext low rows nexts.Many = (HasFalse rows → ⊥) × (most_rows ≤ length rows)
 TellsNext low rows (nexts.Variable n) = IsPassed rows × IsVariable low n rows
 TellsNext low rows nexts.End = IsPassed rows × AreFreeFrom low rows
 
