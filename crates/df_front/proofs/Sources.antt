@@ -25,11 +25,11 @@ abbrev pub NoDivision : Type 0
 NoDivision = (before : List (List ℕ)) (source : List ℕ) (r : Refusal) (tokens : List Token) (after : List (List ℕ)) → IsFault before source r → Divides before source tokens after → length source ≤ 4194304 → length tokens ≤ 500000 → ⊥
 
 -- no fault is the first of none
-not_first : (faults : List Refusal) (r : Refusal) → faults ≡ [] → IsFirst faults r → ⊥
+pub not_first : (faults : List Refusal) (r : Refusal) → faults ≡ [] → IsFirst faults r → ⊥
 not_first faults r none first = subst (λ (all : List Refusal). IsFirst all r) none first
 
 module _ (one_division : OneDivision) (one_file : OneFile) (one : OneProgram) where
-  same_read : (source : List ℕ) (names others : List (List ℕ)) (file other : File) → IsRead source names file → IsRead source others other → (names ≡ others) × (file ≡ other)
+  pub same_read : (source : List ℕ) (names others : List (List ℕ)) (file other : File) → IsRead source names file → IsRead source others other → (names ≡ others) × (file ≡ other)
   same_read source names others file other read its =
       let same = one_division [] source read.tokens its.tokens names others read.divided.divided its.divided.divided in
       (same.1, one_file its.tokens file other (subst (SpellsFile file) same.0 read.spelled) its.spelled)
@@ -38,7 +38,7 @@ module _ (one_division : OneDivision) (one_file : OneFile) (one : OneProgram) wh
   same_elaborates names others file other program same_names same_file elaborates =
       subst (λ (f : File). Elaborates others f program) same_file (subst (λ (ns : List (List ℕ)). Elaborates ns file program) same_names elaborates)
 
-  same_program : (source : List ℕ) (names others : List (List ℕ)) (program other : Program) → IsElaborated source names program → IsElaborated source others other → program ≡ other
+  pub same_program : (source : List ℕ) (names others : List (List ℕ)) (program other : Program) → IsElaborated source names program → IsElaborated source others other → program ≡ other
   same_program source names others program other elaborated its =
       let same = same_read source names others elaborated.file its.file elaborated.read its.read in
       one others its.file program other (same_elaborates names others elaborated.file its.file program same.0 same.1 elaborated.elaborates) its.elaborates

@@ -5,10 +5,11 @@ ghost use Rattle.df_base.specs.declared.refusal.Refusal.{Refusal};
 ghost use Rattle.df_program.specs.Program as pure;
 ghost use Rattle.df_front.specs.Source.{IsLawful, IsUnlawful};
 ghost use Rattle.df_front.specs.Refused.{IsRefused};
+ghost use Rattle.df_front.specs.Told.{TellTheSame};
 
 use df_ghost::definite_is_not_refused;
 use df_tdecl::elaborated_is_faultless;
-use df_tok::{no_division, one_division};
+use df_tok::{no_division, one_division, one_fault, one_place};
 use df_tree::one_file;
 
 /// A source is lawful for at most one program.
@@ -30,4 +31,19 @@ pub fn refused_is_unlawful()
     elaborated_is_faultless();
     df_tdecl::one_program();
     definite_is_not_refused();
+}
+
+/// A source is refused in one way, but for the place where the syntax is.
+pub fn one_refusal()
+    ensures { (source : List ℕ) (names others : List (List ℕ)) (r other : Refusal) → IsRefused source names r → IsRefused source others other → TellTheSame names others r other }
+{
+    one_fault();
+    one_place();
+    no_division();
+    one_division();
+    one_file();
+    elaborated_is_faultless();
+    df_tdecl::one_program();
+    definite_is_not_refused();
+    df_ghost::one_refusal();
 }

@@ -43,6 +43,7 @@ fn elaborated(alloc: Global, source: &[u8], names: &mut Names) -> Result<Program
 pub fn read(alloc: Global, source: &[u8], names: &mut Names) -> Result<Checked, Stop>
     requires { names.old ≡ [] }
     ensures lawful { IfOk result (λ checked. IsLawful source.now (program_of checked.program)) }
+    ensures names { IfOk result (λ checked. IsElaborated source.now names.new (program_of checked.program)) }
     ensures refused { (r : Refusal) → result ≡ Err (stops.Refused r) → IsRefused source.now names.new r }
 {
     let program = elaborated(alloc, source, names)?;

@@ -23,7 +23,7 @@ refused step s front h rest total e so_far =
 
 pub fails : (stop : Stop) (step : Step) → Shrinks step → (front : List Operation) (h : ℕ) (rest : List Token) (total : Total) → Stops stop (step rest) → gathered front h (all_of step rest) ≡ total → Stops stop total
 fails stops.Memory step s front h rest total f so_far = tt
-fails (stops.Refused refusal) step s front h rest total f so_far = (refused step s front h rest total f.0 so_far, f.1)
+fails (stops.Refused refusal) step s front h rest total f so_far = (refused step s front h rest total f.0 so_far, f.1, f.2)
 
 regroup : (front : List Operation) (h : ℕ) (x : Operation × ℕ) (found : Option (List (Operation × ℕ) × List Token))
     → gathered front h (found >>= λ more. Some (x ∷ more.0, more.1)) ≡ gathered (front ++ x.0 ∷ []) (max h x.1) found

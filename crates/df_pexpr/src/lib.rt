@@ -4,6 +4,7 @@
 ghost use Rattle.std.specs.Prelude.{◌≡◌, ℕ, map, drop, IfOk};
 ghost use Rattle.df_base.specs.declared.refusal.Refusal.{Refusal};
 ghost use Rattle.df_base.specs.declared.refusal.Code.TheVariants as codes;
+ghost use Rattle.df_base.specs.declared.refusal.Detail.TheVariants as details;
 ghost use Rattle.df_tok.specs.Token.{view};
 ghost use Rattle.df_tree.specs.Expr as pure;
 ghost use Rattle.df_tree.specs.Expr.{expr_of};
@@ -78,7 +79,7 @@ impl Cursor<'_, '_> {
 pub fn expression(alloc: Global, tokens: &Tokens, start: usize) -> Result<(Expr, usize), Stop>
     ensures expression { IfOk result (λ x. IsExpressionAt (map view tokens.now.all.items) start (expr_of x.0) x.1) }
     ensures refused { (r : Refusal) → result ≡ Err (Stop.Refused r) → (e : pure.Expr) (after : ℕ) → IsExpressionAt (map view tokens.now.all.items) start e after → ⊥ }
-    ensures syntax { (r : Refusal) → result ≡ Err (Stop.Refused r) → r.code ≡ codes.Syntax }
+    ensures syntax { (r : Refusal) → result ≡ Err (Stop.Refused r) → (r.code ≡ codes.Syntax) × (r.detail ≡ details.Nothing) }
 {
     let all = tokens.all.as_slice();
     let mut cursor = Cursor::new(from(all, start), end(all));
@@ -92,7 +93,7 @@ pub fn front(alloc: Global, tokens: &[Token], end: Pos) -> Result<Front, Stop>
     ensures expression { IfOk result (λ x. IsExpressionAt (map view tokens.now) 0 (expr_of x.tree) x.len) }
     ensures height { IfOk result (λ x. x.height ≡ height (expr_of x.tree)) }
     ensures refused { (r : Refusal) → result ≡ Err (Stop.Refused r) → (e : pure.Expr) (after : ℕ) → IsExpressionAt (map view tokens.now) 0 e after → ⊥ }
-    ensures syntax { (r : Refusal) → result ≡ Err (Stop.Refused r) → r.code ≡ codes.Syntax }
+    ensures syntax { (r : Refusal) → result ≡ Err (Stop.Refused r) → (r.code ≡ codes.Syntax) × (r.detail ≡ details.Nothing) }
 {
     let mut cursor = Cursor::new(tokens, end);
     let part = cursor.expression(alloc)?;
@@ -108,7 +109,7 @@ pub fn front(alloc: Global, tokens: &[Token], end: Pos) -> Result<Front, Stop>
 pub fn ty(_alloc: Global, tokens: &Tokens, start: usize) -> Result<(TreeType, usize), Stop>
     ensures ty { IfOk result (λ x. IsTypeAt (map view tokens.now.all.items) start x.0 x.1) }
     ensures refused { (r : Refusal) → result ≡ Err (Stop.Refused r) → (ty : TreeType) (after : ℕ) → IsTypeAt (map view tokens.now.all.items) start ty after → ⊥ }
-    ensures syntax { (r : Refusal) → result ≡ Err (Stop.Refused r) → r.code ≡ codes.Syntax }
+    ensures syntax { (r : Refusal) → result ≡ Err (Stop.Refused r) → (r.code ≡ codes.Syntax) × (r.detail ≡ details.Nothing) }
 {
     let all = tokens.all.as_slice();
     let mut cursor = Cursor::new(from(all, start), end(all));

@@ -3,6 +3,7 @@ use Rattle.std.proofs.Common.{◌≡◌, ℕ, ◌≤◌, ◌<◌, Bool, cond, Li
 use Rattle.std.proofs.lemmas.List.{drop-map}
 use Rattle.std.proofs.lemmas.Bool.{lt-ltb}
 use Rattle.df_base.specs.declared.refusal.Code.TheVariants as codes
+use Rattle.df_base.specs.declared.refusal.Detail.TheVariants as details
 use Rattle.df_base.specs.declared.refusal.Refusal.{Refusal}
 use Rattle.df_base.specs.declared.refusal.Stop.{Stop}
 use Rattle.df_base.specs.declared.refusal.Stop.TheVariants as stops
@@ -16,7 +17,7 @@ use Rattle.df_tree.specs.FileReading.{if_low, expression_within}
 use Rattle.df_tree.proofs.Repeat.{found, nothing, pair}
 use Rattle.df_tree.proofs.ExprLaw.{read_is_spelled, spelled_is_read}
 use Rattle.df_tree.proofs.FileParts.{not_less}
-use Rattle.df_pfile.specs.Reads.{Stops}
+use Rattle.df_pexpr.specs.Reads.{Stops}
 
 none_by : (tokens : List Token) (o : Option (Expr × List Token)) → expression_at tokens ≡ o → ((e : Expr) (after : ℕ) → IsExpressionAt tokens 0 e after → ⊥) → o ≡ None
 none_by tokens None h none = refl
@@ -32,9 +33,9 @@ error X stop = Err stop
 
 pub refused : {X : Type 0} (tokens : List Token) (room : ℕ) (stop : Stop) (result : Result X Stop) → result ≡ Err stop
     → ((r : Refusal) → result ≡ Err (stops.Refused r) → (e : Expr) (after : ℕ) → IsExpressionAt tokens 0 e after → ⊥)
-    → ((r : Refusal) → result ≡ Err (stops.Refused r) → r.code ≡ codes.Syntax) → Stops stop (expression_within room tokens)
+    → ((r : Refusal) → result ≡ Err (stops.Refused r) → (r.code ≡ codes.Syntax) × (r.detail ≡ details.Nothing)) → Stops stop (expression_within room tokens)
 refused tokens room stops.Memory result h none syntax = tt
-refused tokens room (stops.Refused r) result h none syntax = (no_expression tokens room (none r h), syntax r h)
+refused tokens room (stops.Refused r) result h none syntax = (no_expression tokens room (none r h), (syntax r h).0, (syntax r h).1)
 
 -- what is too high is not read
 pub too_high : (tokens : List Token) (room after : ℕ) (e : Expr) → IsExpressionAt tokens 0 e after → room < height e → expression_within room tokens ≡ None

@@ -4,12 +4,12 @@ use Rattle.df_base.specs.declared.refusal.Stop.{Stop}
 use Rattle.df_base.specs.declared.refusal.Stop.TheVariants as stops
 use Rattle.df_tree.specs.Reading.{all_of}
 use Rattle.df_tree.proofs.Repeat.{Shrinks, with_front, ends}
-use Rattle.df_pfile.specs.Reads.{Stops}
+use Rattle.df_pexpr.specs.Reads.{Stops}
 
 pub fails : {S X : Type 0} (stop : Stop) (step : List S → Option (Option X × List S)) → Shrinks step → (front : List X) (rest : List S) (total : Option (List X × List S)) → Stops stop (step rest)
     → with_front front (all_of step rest) ≡ total → Stops stop total
 fails stops.Memory step s front rest total h so_far = tt
-fails (stops.Refused refusal) step s front rest total h so_far = (ends step s front rest total h.0 so_far, h.1)
+fails (stops.Refused refusal) step s front rest total h so_far = (ends step s front rest total h.0 so_far, h.1, h.2)
 
 pub none_left : {X : Type 0} (o : Option X) → ((x : X) → o ≡ Some x → ⊥) → o ≡ None
 none_left (Some x) h = absurd (h x refl)

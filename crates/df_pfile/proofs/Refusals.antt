@@ -28,7 +28,7 @@ use Rattle.df_tree.specs.File.{PrintOperand, Text, Value, Statement, Nested, Var
 use Rattle.df_tree.specs.FileSpelling.{FilePiece, Plain, Characters, IsFilePiece, StartsWith, a_sign, a_word, separated, spell_more, optional, braces, an_expression, a_type, spell_operand, spell_statement, spell_statements, spell_branches, spell_otherwise, spell_parameter, spell_parameters, spell_results, spell_clause, spell_typed, spell_witness, spell_declaration, spell_file, SpellsFile}
 use Rattle.df_tree.specs.FileReading.{file_at}
 use Rattle.df_tree.proofs.FileLaw.{file_sound, file_complete}
-use Rattle.df_pfile.specs.Reads.{Reads, Stops}
+use Rattle.df_pexpr.specs.Reads.{Reads, Stops}
 use Rattle.df_pfile.specs.Refusing.{outside_of, or_else, begins_attribute, first_outside_after, first_outside}
 
 -- ---- no word outside the language is spelled

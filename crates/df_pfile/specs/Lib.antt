@@ -1,6 +1,5 @@
 pub use Rattle.df_tree.specs.File
 pub use Rattle.df_tree.specs.FileSpelling
-pub mod Reads
 pub mod Rest
 pub mod Refusing
 pub mod Text

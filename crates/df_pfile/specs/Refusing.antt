@@ -58,10 +58,10 @@ first_outside_after behind (token ∷ tokens) = or_else (outside_at behind token
 abbrev pub first_outside : List Token → Option Refusal
 first_outside tokens = first_outside_after false tokens
 
--- A word outside the language comes first, and else the syntax is refused.
+-- A word outside the language comes first, and else the syntax is refused, with nothing more told.
 abbrev pub IsRefusalOr : Option Refusal → Refusal → Type 0
 IsRefusalOr (Some outside) refusal = refusal ≡ outside
-IsRefusalOr None refusal = refusal.code ≡ codes.Syntax
+IsRefusalOr None refusal = (refusal.code ≡ codes.Syntax) × (refusal.detail ≡ details.Nothing)
 
 abbrev pub IsRefusal : List Token → Refusal → Type 0
 IsRefusal tokens refusal = IsRefusalOr (first_outside tokens) refusal

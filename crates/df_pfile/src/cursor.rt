@@ -6,7 +6,7 @@ ghost use Rattle.df_tree.specs.Expr.{expr_of};
 ghost use Rattle.df_tree.specs.Reading.{is_word, is_sign, word_at, sign_at, name_at, text_at, kind_at};
 ghost use Rattle.df_tree.specs.ExprReading.{type_at};
 ghost use Rattle.df_tree.specs.FileReading.{word_stands, sign_stands, else_if_stands, some_stands, place_of_word, place_of_sign, expression_within, clause_kind_at};
-ghost use Rattle.df_pfile.specs.Reads.{Reads};
+ghost use Rattle.df_pexpr.specs.Reads.{Reads};
 ghost use Rattle.df_pfile.specs.Rest.{rest_of};
 
 use crate::text::characters;

@@ -5,7 +5,7 @@ ghost use Rattle.df_tree.specs.Expr.{expr_of};
 ghost use Rattle.df_tree.specs.File.{clause_of, newtype_of, method_of, declaration_of};
 ghost use Rattle.df_tree.specs.Reading.{all_of};
 ghost use Rattle.df_tree.specs.FileReading.{optionally, after_sign, sign_stands, clause_stands, some_stands, one_or_more, parameter_at, parameters_in, parameters_at, results_at, clause_at, typed_at, witness_at, newtype_head_at, predicate_at, newtype_at, method_head_at, method_at, declaration_at};
-ghost use Rattle.df_pfile.specs.Reads.{Reads};
+ghost use Rattle.df_pexpr.specs.Reads.{Reads};
 ghost use Rattle.df_pfile.specs.Rest.{rest_of};
 
 use crate::cursor::{Cursor, syntax};

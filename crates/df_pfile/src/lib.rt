@@ -8,7 +8,7 @@ ghost use Rattle.df_tree.specs.File as pure;
 ghost use Rattle.df_tree.specs.File.{file_of};
 ghost use Rattle.df_tree.specs.FileSpelling.{SpellsFile};
 ghost use Rattle.df_tree.specs.FileReading.{file_at};
-ghost use Rattle.df_pfile.specs.Reads.{Reads};
+ghost use Rattle.df_pexpr.specs.Reads.{Reads};
 ghost use Rattle.df_pfile.specs.Refusing.{outside_of, begins_attribute as kind_begins_attribute, begins_with_false as begins_false, is_attribute_outside as is_outside_attribute, attribute_outside as outside_attribute, outside_at as token_outside, first_outside, IsRefusal};
 
 mod cursor;

@@ -4,7 +4,7 @@ ghost use Rattle.std.specs.Prelude.{◌≡◌, ◌≤◌, ◌<◌, ◌-◌, map,
 ghost use Rattle.df_tree.specs.File.{statement_of, block_of, branch_of};
 ghost use Rattle.df_tree.specs.Reading.{all_of, kind_at};
 ghost use Rattle.df_tree.specs.FileReading.{optionally, else_if_stands, statement_stands, block_by, branch_by, else_if_by, otherwise_by, if_by, statement_by, statement_at, block_at};
-ghost use Rattle.df_pfile.specs.Reads.{Reads};
+ghost use Rattle.df_pexpr.specs.Reads.{Reads};
 ghost use Rattle.df_pfile.specs.Rest.{rest_of};
 
 use crate::cursor::{Cursor, syntax};

@@ -4,7 +4,7 @@ ghost use Rattle.std.specs.Prelude.{◌≡◌, ◌≤◌, map, option_map};
 ghost use Rattle.df_tree.specs.Expr.{expr_of};
 ghost use Rattle.df_tree.specs.File.{operand_of, statement_of};
 ghost use Rattle.df_tree.specs.FileReading.{optionally, many, sign_stands, after_sign, one_or_more, operand_at, print_at, assert_at, value_at, assign_at, parameter_at, var_at};
-ghost use Rattle.df_pfile.specs.Reads.{Reads};
+ghost use Rattle.df_pexpr.specs.Reads.{Reads};
 ghost use Rattle.df_pfile.specs.Rest.{rest_of};
 
 use crate::cursor::{Cursor, syntax};

@@ -3,7 +3,7 @@
 ghost use Rattle.std.specs.Prelude.{◌≡◌, Option, Some, None};
 ghost use Rattle.df_tok.specs.Byte.{is_plain_in_text, escaped};
 ghost use Rattle.df_tree.specs.Reading.{escape_at, part_at, characters_of, all_of};
-ghost use Rattle.df_pfile.specs.Reads.{Reads};
+ghost use Rattle.df_pexpr.specs.Reads.{Reads};
 
 use crate::cursor::syntax;
 use df_base::{Global, Pos, Stop};

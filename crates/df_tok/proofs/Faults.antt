@@ -101,7 +101,7 @@ cannot_from names rest pos form n count r h (full kind after has c e) =
 
 -- ---- a refusal excludes a division
 
-no_piece_begins : (names : List (List ℕ)) (rest : List ℕ) → NothingBegins rest → NoPiece names rest
+pub no_piece_begins : (names : List (List ℕ)) (rest : List ℕ) → NothingBegins rest → NoPiece names rest
 no_piece_begins names rest h (Blank b) more after is p = both_ways (is_blank b) (subst (NotNext is_blank) is h.blank) p.0
 no_piece_begins names rest h (LineComment text) more after is ((inner, t, all), ends, kept) =
     h.comment (47, inner ++ more, is ∙ ap (λ (x : List ℕ). x ++ more) t, inl refl)
@@ -113,7 +113,7 @@ some_bytes : (rest : List ℕ) → rest ≢ [] → 0 < length rest
 some_bytes [] h = absurd (h refl)
 some_bytes (b ∷ bs) h = omega arith
 
-unclosed_none : (rest : List ℕ) → IsUnclosed rest → front_at rest ≡ None
+pub unclosed_none : (rest : List ℕ) → IsUnclosed rest → front_at rest ≡ None
 unclosed_none rest (inner, is, h) = ap front_at is ∙ block_case inner ∙ ap (skips 2) (by (comment_len 0 0 inner) refl)
   where
     by : (o : Option ℕ) → comment_len 0 0 inner ≡ o → comment_len 0 0 inner ≡ None

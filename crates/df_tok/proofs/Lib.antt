@@ -13,4 +13,6 @@ mod Divisions
 mod Results
 mod Begins
 mod Faults
+mod OneFault
+mod Ordered
 pub mod Examples

@@ -138,7 +138,7 @@ lexed_is f g a b e = cc
 apart : (f : Form) (a b : ℕ) → Some (Skipped a) ≡ Some (Lexed f b) → ⊥
 apart f a b e = cc
 
-fronts_same : (text other rest more : List ℕ) → length text ≡ length other → text ++ rest ≡ other ++ more → (text ≡ other) × (rest ≡ more)
+pub fronts_same : (text other rest more : List ℕ) → length text ≡ length other → text ++ rest ≡ other ++ more → (text ≡ other) × (rest ≡ more)
 fronts_same text other rest more len e = (
   sym (take_at text rest (length text) refl) ∙ ap (take (length text)) e ∙ take_at other more (length text) (sym len),
   sym (drop_at text rest (length text) refl) ∙ ap (drop (length text)) e ∙ drop_at other more (length text) (sym len),

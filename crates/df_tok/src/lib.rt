@@ -1,7 +1,7 @@
 //! Divides the bytes of a source into tokens.
 #![tactic(auto)]
 
-ghost use Rattle.std.specs.Prelude.{◌≡◌, ℕ, ◌≤◌, List, length, map};
+ghost use Rattle.std.specs.Prelude.{◌≡◌, ℕ, ◌≤◌, List, length, map, Contains};
 ghost use Rattle.df_tok.specs.Token as pure;
 ghost use Rattle.df_base.specs.declared.refusal.Refusal.{Refusal};
 ghost use Rattle.df_tok.specs.Division.{Divides};
@@ -35,6 +35,17 @@ pub fn one_division()
 pub fn no_division()
     ensures { (before : List (List ℕ)) (source : List ℕ) (r : Refusal) (tokens : List pure.Token) (after : List (List ℕ))
         → IsFault before source r → Divides before source tokens after → length source ≤ 4194304 → length tokens ≤ 500000 → ⊥ }
+{}
+
+/// A source has at most one fault to be refused for.
+pub fn one_fault()
+    ensures { (before : List (List ℕ)) (source : List ℕ) (r other : Refusal) → IsFault before source r → IsFault before source other → r ≡ other }
+{}
+
+/// No two tokens of a source stand at one place.
+pub fn one_place()
+    ensures { (before : List (List ℕ)) (source : List ℕ) (tokens : List pure.Token) (after : List (List ℕ)) (one other : pure.Token)
+        → Divides before source tokens after → Contains tokens one → Contains tokens other → one.pos ≡ other.pos → one ≡ other }
 {}
 
 #[cfg(test)]

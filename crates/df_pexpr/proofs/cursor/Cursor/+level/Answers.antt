@@ -45,7 +45,7 @@ operations-returns t c =
     (operations_at c.args.group (operand_of c.args.depth c.args.level) c.args.height (rest_of c.args.self.now)) e c.loop-operations.invariant
 
 pub unary-returns-then-depth-eq0 : goal.unary-returns-then-depth-eq0
-unary-returns-then-depth-eq0 t c = rw (no_depth c.args.depth (rest_of c.args.self.now) c.if-depth-eq0.true, c.syntax.ensures) (refl, refl)
+unary-returns-then-depth-eq0 t c = rw (no_depth c.args.depth (rest_of c.args.self.now) c.if-depth-eq0.true, c.syntax.ensures) (refl, refl, refl)
 
 pub unary-returns : goal.unary-returns
 unary-returns t c = rw (sym (depth_is c.args.depth (rest_of c.args.self.now) c.if-depth-eq0.false)) c.operand.ensures

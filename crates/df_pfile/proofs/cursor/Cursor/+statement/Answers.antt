@@ -11,10 +11,10 @@ use Rattle.df_pfile.proofs.Rows.{statement_shrinks, else_if_shrinks, no_statemen
 use Rattle.df_pfile.proofs.cursor.Cursor.+statement.Goals as goal
 
 pub statement-returns-then-room-eq0 : goal.statement-returns-then-room-eq0
-statement-returns-then-room-eq0 t c = rw (no_statement c.args.room (rest_of c.args.self.now) c.if-room-eq0.true, c.syntax.ensures) (refl, refl)
+statement-returns-then-room-eq0 t c = rw (no_statement c.args.room (rest_of c.args.self.now) c.if-room-eq0.true, c.syntax.ensures) (refl, refl, refl)
 
 pub block-returns-then-room-eq0 : goal.block-returns-then-room-eq0
-block-returns-then-room-eq0 t c = rw (no_block c.args.room (rest_of c.args.self.now) c.if-room-eq0.true, c.syntax.ensures) (refl, refl)
+block-returns-then-room-eq0 t c = rw (no_block c.args.room (rest_of c.args.self.now) c.if-room-eq0.true, c.syntax.ensures) (refl, refl, refl)
 
 pub statements-returns-in_err-statement : goal.statements-returns-in_err-statement
 statements-returns-in_err-statement t c =

@@ -14,7 +14,7 @@ pub returns-then-room-found : goal.returns-then-room-found
 returns-then-room-found c =
     let h = c.in_ok-found.ensures.height in
     let l = c.if-room-found.true in
-    rw c.syntax.ensures (too_high (rest_of c.args.self.now) c.args.room c.in_ok-found.found.len (expr_of c.in_ok-found.found.tree) c.in_ok-found.ensures.expression (omega arith), refl)
+    rw c.syntax.ensures (too_high (rest_of c.args.self.now) c.args.room c.in_ok-found.found.len (expr_of c.in_ok-found.found.tree) c.in_ok-found.ensures.expression (omega arith), refl, refl)
 
 pub returns : goal.returns
 returns c =
