@@ -12,7 +12,8 @@ use Rattle.df_tree.specs.declared.expr.BinaryOperator.{BinaryOperator}
 use Rattle.df_tree.specs.declared.expr.BinaryOperator.TheVariants as binary
 use Rattle.df_tree.specs.declared.file.Parameter.{Parameter}
 use Rattle.df_tree.specs.declared.file.ClauseKind.TheVariants as clauses
-use Rattle.df_tree.specs.Expr.{Expr, Number, Truth, Name, Operations, end, more}
+use Rattle.df_tree.specs.declared.expr.UnaryOperator.TheVariants as unary
+use Rattle.df_tree.specs.Expr.{Expr, Number, Truth, Name, Parentheses, Unary, Operations, end, more}
 use Rattle.df_tree.specs.File as source
 use Rattle.df_tree.specs.File.{Statement, Nested, Var, Assign, If, Assert, Statements, done, next, without, Clause, NewtypeDeclaration, MethodDeclaration, Newtype, Method, File}
 use Rattle.df_texpr.specs.Context.{Context}
@@ -20,7 +21,7 @@ use Rattle.df_texpr.specs.Faults.{broken}
 use Rattle.df_texpr.proofs.Types.{not_empty}
 use Rattle.df_tdecl.specs.Newtypes.{bounds_of}
 use Rattle.df_tdecl.specs.Statements.{AreStatements}
-use Rattle.df_tdecl.specs.Faults.{statements_faults, method_faults}
+use Rattle.df_tdecl.specs.Faults.{value_faults, statements_faults, method_faults}
 use Rattle.df_tdecl.specs.Elaboration.{Elaborates}
 use Rattle.df_tdecl.proofs.Typed.{statements_sound, statements_complete}
 use Rattle.df_tdecl.proofs.Whole.{file_sound}
@@ -106,6 +107,51 @@ no_truths = refl
 
 no_truths_elaborate : (stmts : typed.Stmts) → AreStatements (0 ∷ []) 1 context (next (Assert (at 50) (Name (x 57))) done) stmts → ⊥
 no_truths_elaborate stmts h = not_empty (broken 7 (at 57)) [] (statements_complete (0 ∷ []) 1 context (next (Assert (at 50) (Name (x 57))) done) stmts h).0
+
+-- ---- values where a small number is wanted
+
+-- one sign, and two
+abbrev pair : Expr → BinaryOperator → ℕ → Expr → Expr
+pair left operator col right = Operations left (more operator (at col) right end)
+
+abbrev triple : Expr → BinaryOperator → ℕ → Expr → BinaryOperator → ℕ → Expr → Expr
+triple a one col b other col' c = Operations a (more one (at col) b (more other (at col') c end))
+
+-- ! x: of what the whole breaks the lower rule comes first
+denied : value_faults context (types.Newtype 0) (Unary unary.Not (at 1) (Name (x 3))) ≡ broken 1 (at 1) ∷ broken 7 (at 1) ∷ []
+denied = refl
+
+-- x < true, x < x > x, and x < x < true, all at the first sign
+one_sign : value_faults context (types.Newtype 0) (pair (Name (x 1)) binary.Less 3 (Truth true (at 5))) ≡ broken 1 (at 3) ∷ broken 4 (at 3) ∷ []
+one_sign = refl
+
+two_ways : value_faults context (types.Newtype 0) (triple (Name (x 1)) binary.Less 3 (Name (x 5)) binary.Greater 7 (Name (x 9))) ≡ broken 1 (at 3) ∷ broken 6 (at 3) ∷ []
+two_ways = refl
+
+second_sign : value_faults context (types.Newtype 0) (triple (Name (x 1)) binary.Less 3 (Name (x 5)) binary.Less 7 (Truth true (at 9))) ≡ broken 1 (at 3) ∷ broken 4 (at 7) ∷ []
+second_sign = refl
+
+-- x < true < x: what ends before the whole comes before
+first_sign : value_faults context (types.Newtype 0) (triple (Name (x 1)) binary.Less 3 (Truth true (at 5)) binary.Less 10 (Name (x 12))) ≡ broken 4 (at 3) ∷ broken 1 (at 3) ∷ broken 4 (at 10) ∷ []
+first_sign = refl
+
+-- true ==> x ==> x, and x ==> true: the second run is inside the first
+inner_run : value_faults context (types.Newtype 0) (triple (Truth true (at 1)) binary.Implies 6 (Name (x 10)) binary.Implies 12 (Name (x 16))) ≡ broken 7 (at 12) ∷ broken 1 (at 6) ∷ []
+inner_run = refl
+
+outer_run : value_faults context (types.Newtype 0) (pair (Name (x 1)) binary.Implies 3 (Truth true (at 7))) ≡ broken 1 (at 3) ∷ broken 7 (at 3) ∷ []
+outer_run = refl
+
+-- !(!x), and (x < true): parentheses end later
+denied_twice : value_faults context (types.Newtype 0) (Unary unary.Not (at 1) (Parentheses (at 2) (Unary unary.Not (at 3) (Name (x 4))))) ≡ broken 7 (at 3) ∷ broken 1 (at 1) ∷ []
+denied_twice = refl
+
+in_parentheses : value_faults context (types.Newtype 0) (Parentheses (at 1) (pair (Name (x 2)) binary.Less 4 (Truth true (at 6)))) ≡ broken 4 (at 4) ∷ broken 1 (at 1) ∷ []
+in_parentheses = refl
+
+-- true + x: the type of a sum rests on its operands
+no_sum : value_faults context (types.Newtype 0) (pair (Truth true (at 1)) binary.Add 6 (Name (x 8))) ≡ broken 3 (at 6) ∷ broken 1 (at 6) ∷ []
+no_sum = refl
 
 -- ---- files: method m(x: small) returns (y: small) ensures y < 5 { y := 1; }
 

@@ -1,3 +1,4 @@
+pub mod Values
 pub mod Typed
 pub mod Whole
 pub mod WellTyped

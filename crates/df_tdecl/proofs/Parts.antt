@@ -5,7 +5,7 @@ use Rattle.df_base.specs.declared.pos.Pos.{Pos}
 use Rattle.df_base.specs.declared.refusal.Stop.{Stop}
 use Rattle.df_program.specs.declared.expr.Ty.{Ty}
 use Rattle.df_program.specs.Expr as typed_expr
-use Rattle.df_types.specs.Program as types
+use Rattle.df_types.specs.Newtype as types
 use Rattle.df_program.specs.Program as program
 use Rattle.df_program.specs.Typing.{are_methods}
 use Rattle.df_program.specs.Stmt as typed

@@ -6,7 +6,6 @@ use Rattle.df_program.specs.declared.expr.Ty.{Ty}
 use Rattle.df_program.specs.declared.expr.Ty.TheVariants as types
 use Rattle.df_program.specs.Expr as typed_expr
 use Rattle.df_program.specs.Stmt as typed
-use Rattle.df_program.specs.Typing.{same_type}
 use Rattle.df_tree.specs.declared.tree.Ident.{Ident}
 use Rattle.df_tree.specs.Expr.{Expr}
 use Rattle.df_tree.specs.File.{PrintOperand, Text, Value, Statement, Nested, Var, Assign, If, Assert, Print, Statements, done, next, Branches, end, more, Otherwise, without, otherwise}
@@ -24,6 +23,7 @@ use Rattle.df_texpr.proofs.Complete.{complete}
 use Rattle.df_texpr.proofs.Sound.{sound}
 use Rattle.df_tdecl.specs.Statements.{type_of, context_after, IsCondition, IsOperand, AreOperands, IsStatement, AreStatements, AreBranches, IsOtherwise}
 use Rattle.df_tdecl.specs.Faults.{condition_faults, value_faults, operand_faults, local_number, is_assignable, assigned_type, statement_faults, statements_faults, branches_faults, otherwise_faults}
+use Rattle.df_tdecl.proofs.Values.{value_clear, clear_value}
 use Rattle.df_tdecl.specs.Elaborating.{operand_in, statement_in, statements_in, branches_in, otherwise_in}
 
 -- ---- expressions
@@ -41,13 +41,12 @@ condition_sound context e f =
 pub value_complete : (context : Context) (ty : Ty) (e : Expr) (t : typed_expr.Expr) → IsTyped context (Some ty) e ty t → (value_faults context ty e ≡ []) × (t ≡ elaborated context (Some ty) e)
 value_complete context ty e t h =
     let shown = complete context (Some ty) e ty t h in
-    (append_nils (expr_faults context (Some ty) e) _ shown.faultless (none_told (same_type (type_in context (Some ty) e) ty) (broken 1 (place_of e)) (rw (← shown.type) (same_type_refl ty))), shown.expr)
+    (value_clear context ty e shown.faultless (rw (← shown.type) (same_type_refl ty)), shown.expr)
 
 pub value_sound : (context : Context) (ty : Ty) (e : Expr) → value_faults context ty e ≡ [] → IsTyped context (Some ty) e ty (elaborated context (Some ty) e)
 value_sound context ty e f =
-    let h = nil_append (expr_faults context (Some ty) e) _ f in
-    subst (λ (own : Ty). IsTyped context (Some ty) e own (elaborated context (Some ty) e)) (same_type_equal (type_in context (Some ty) e) ty (untold (same_type (type_in context (Some ty) e) ty) (broken 1 (place_of e)) h.1))
-    (sound context (Some ty) e h.0)
+    let h = clear_value context ty e f in
+    subst (λ (own : Ty). IsTyped context (Some ty) e own (elaborated context (Some ty) e)) (same_type_equal (type_in context (Some ty) e) ty h.1) (sound context (Some ty) e h.0)
 
 -- ---- what is printed
 

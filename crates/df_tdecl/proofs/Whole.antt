@@ -7,7 +7,7 @@ use Rattle.std.proofs.lemmas.Option.{slice_get-get_or}
 use Rattle.df_base.specs.declared.refusal.Refusal.{Refusal}
 use Rattle.df_base.specs.declared.refusal.Code.TheVariants as codes
 use Rattle.df_base.specs.declared.refusal.Detail.TheVariants as details
-use Rattle.df_types.specs.Program as types
+use Rattle.df_types.specs.Newtype as types
 use Rattle.df_program.specs.Program as program
 use Rattle.df_tree.specs.declared.file.Parameter.{Parameter}
 use Rattle.df_tree.specs.declared.file.ClauseKind.{ClauseKind}

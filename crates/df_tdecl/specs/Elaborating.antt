@@ -1,7 +1,7 @@
 -- The program of a source file, whether that breaks a rule or not: what private contracts cite.
 use Rattle.std.specs.Prelude.{ℕ, pos, Bool, nat_lt, List, [], ◌∷◌, ◌++◌, map, slice_get, unwrap_or, Some, None}
 use Rattle.std.specs.List.{list_all}
-use Rattle.df_types.specs.Program as types
+use Rattle.df_types.specs.Newtype as types
 use Rattle.df_program.specs.Program as program
 use Rattle.df_program.specs.Stmt as typed
 use Rattle.df_tree.specs.declared.file.Parameter.{Parameter}

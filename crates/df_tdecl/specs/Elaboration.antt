@@ -1,6 +1,6 @@
 -- Elaboration of files: rules on source and program side by side.
 use Rattle.std.specs.Prelude.{◌≡◌, ℕ, Bool, true, false, List, [], ◌∷◌, ◌++◌, length, slice_get, Some, filter}
-use Rattle.df_types.specs.Program as types
+use Rattle.df_types.specs.Newtype as types
 use Rattle.df_program.specs.Program as program
 use Rattle.df_tree.specs.declared.file.Parameter.{Parameter}
 use Rattle.df_tree.specs.declared.file.ClauseKind.{ClauseKind}

@@ -1,5 +1,6 @@
--- All typing rules that a file breaks, each at its node, in the order in which the nodes end in the text, and the
--- newtypes that have no range. The first of them is told.
+-- All typing rules that a file breaks, each at its node, in the order in which the nodes end in the text; of two that
+-- end together the inner one comes first, and then the lower rule. And the newtypes that have no range. The first of
+-- them is told.
 use Rattle.std.specs.Prelude.{ℕ, nat_le, Bool, true, false, List, [], ◌++◌, map, length, unwrap_or, Option, Some, None}
 use Rattle.std.specs.List.{flat_map}
 use Rattle.df_base.specs.declared.refusal.Code.TheVariants as codes
@@ -19,7 +20,7 @@ use Rattle.df_names.specs.Latest.{last_of}
 use Rattle.df_names.specs.Faults.{else_told, results_of}
 use Rattle.df_texpr.specs.Context.{Binding, Context, names_of, local_type}
 use Rattle.df_texpr.specs.Open.{type_in, place_of}
-use Rattle.df_texpr.specs.Faults.{broken, is_truth, expr_faults}
+use Rattle.df_texpr.specs.Faults.{broken, is_truth, expr_faults, earlier_faults, later_faults}
 use Rattle.df_tdecl.specs.Newtypes.{Bounds, bounds_of}
 use Rattle.df_tdecl.specs.Statements.{type_of, context_after}
 
@@ -27,9 +28,11 @@ use Rattle.df_tdecl.specs.Statements.{type_of, context_after}
 abbrev pub condition_faults : Context → Expr → List Refusal
 condition_faults context e = expr_faults context None e ++ else_told (is_truth (type_in context None e)) (broken 7 (place_of e))
 
--- E1: a value is of the type of its place
+-- E1: a value is of the type of its place. Its node is the whole value, and its rule the lowest one: so it comes after
+-- what ends before the whole or lies inside, and before what else a whole breaks whose type is certain all the same.
 abbrev pub value_faults : Context → Ty → Expr → List Refusal
-value_faults context ty e = expr_faults context (Some ty) e ++ else_told (same_type (type_in context (Some ty) e) ty) (broken 1 (place_of e))
+value_faults context ty e =
+    earlier_faults context (Some ty) e ++ (else_told (same_type (type_in context (Some ty) e) ty) (broken 1 (place_of e)) ++ later_faults context (Some ty) e)
 
 abbrev pub operand_faults : Context → PrintOperand → List Refusal
 operand_faults context (Text characters) = []

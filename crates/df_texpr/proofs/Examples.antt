@@ -15,7 +15,7 @@ use Rattle.df_tree.specs.Expr.{Expr, Number, Truth, Name, Parentheses, Unary, Op
 use Rattle.df_texpr.specs.Context.{Context}
 use Rattle.df_texpr.specs.Open.{place_of}
 use Rattle.df_texpr.specs.Elaboration.{IsTyped}
-use Rattle.df_texpr.specs.Faults.{broken, expr_faults}
+use Rattle.df_texpr.specs.Faults.{broken, expr_faults, earlier_faults, later_faults}
 use Rattle.df_texpr.proofs.Types.{not_empty}
 use Rattle.df_texpr.proofs.Sound.{sound}
 use Rattle.df_texpr.proofs.Complete.{complete}
@@ -121,6 +121,31 @@ name_faulty = refl
 -- && true && x
 leading_faulty : expr_faults context None (Leading (more binary.And (at 1) (Truth true (at 4)) (more binary.And (at 9) (x 12) end))) ≡ broken 7 (at 9) ∷ []
 leading_faulty = refl
+
+-- around a fault of the type: x < true < x, x < x > x, true ==> x ==> x, x ==> true, ! x, && x, and x + y
+chain_earlier : earlier_faults context None (triple (x 1) binary.Less 3 (Truth true (at 5)) binary.Less 10 (x 12)) ≡ broken 4 (at 3) ∷ []
+chain_earlier = refl
+
+chain_later : later_faults context None (triple (x 1) binary.Less 3 (Truth true (at 5)) binary.Less 10 (x 12)) ≡ broken 4 (at 10) ∷ []
+chain_later = refl
+
+mixed_earlier : earlier_faults context None (triple (x 1) binary.Less 3 (x 5) binary.Greater 7 (x 9)) ≡ []
+mixed_earlier = refl
+
+implied_earlier : earlier_faults context None (triple (Truth true (at 1)) binary.Implies 6 (x 10) binary.Implies 12 (x 16)) ≡ broken 7 (at 12) ∷ []
+implied_earlier = refl
+
+implied_later : later_faults context None (pair (x 1) binary.Implies 3 (Truth true (at 7))) ≡ broken 7 (at 3) ∷ []
+implied_later = refl
+
+not_later : later_faults context None (Unary unary.Not (at 1) (x 3)) ≡ broken 7 (at 1) ∷ []
+not_later = refl
+
+leading_later : later_faults context None (Leading (more binary.And (at 1) (x 4) end)) ≡ broken 7 (at 1) ∷ []
+leading_later = refl
+
+sum_earlier : earlier_faults context None (pair (x 1) binary.Add 3 (y 5)) ≡ broken 3 (at 3) ∷ []
+sum_earlier = refl
 
 -- a sum stands at its last sign, a chain at its first
 sum_place : place_of sum ≡ at 7

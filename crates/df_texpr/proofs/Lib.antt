@@ -11,4 +11,6 @@ pub mod Turning
 pub mod Told
 pub mod Steps
 pub mod Opening
+pub mod Halves
+pub mod Looking
 mod Examples

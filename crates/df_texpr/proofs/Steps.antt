@@ -99,7 +99,7 @@ regroup [] None true place e = refl
 regroup [] None false place e = refl
 regroup (x ∷ xs) (Some found) holds place e = e
 
-right_first : (context : Context) (left : Ty) (rest : Members) → first_of (told_at (wrong_at left (rows_of context None rest))) ≡ first_of (implication_faults context left rest)
+pub right_first : (context : Context) (left : Ty) (rest : Members) → first_of (told_at (wrong_at left (rows_of context None rest))) ≡ first_of (implication_faults context left rest)
 right_first context left end = refl
 right_first context left (more operator place operand rest) =
     let right = type_in context None operand in

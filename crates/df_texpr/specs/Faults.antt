@@ -19,7 +19,7 @@ use Rattle.df_tree.specs.ExprSpelling.{first_group}
 use Rattle.df_names.specs.Globals.{is_among}
 use Rattle.df_names.specs.Faults.{else_told}
 use Rattle.df_texpr.specs.Context.{Context, names_of}
-use Rattle.df_texpr.specs.Open.{is_literal, is_integer, operand_type, type_in, first_place}
+use Rattle.df_texpr.specs.Open.{is_literal, is_integer, is_sum, operand_type, type_in, first_place}
 use Rattle.df_texpr.specs.Elaboration.{orders, keeps_direction, is_junction, is_of_group}
 
 -- a typing rule is broken at a place
@@ -98,3 +98,75 @@ abbrev mutual
       expr_faults context own operand
       ++ (else_told (is_of_group group operator && takes group operator left right) (broken (rule_of group operator) place)
       ++ member_faults context own group right rest)
+
+-- ---- The faults of an expression in two, around a fault of its type: that is one of its whole by the lowest rule (E1).
+-- Where the type rests on what the whole demands, the demand is told first. But `!`, a chain of comparisons and
+-- the logical operators make a truth of whatever operands: what such a whole breaks itself is told later. What ends before
+-- it or lies inside is told earlier. Parentheses end later than what they hold.
+
+-- a truth, whatever its operands are
+abbrev pub is_always_truth : Expr → Bool
+is_always_truth (Unary unary.Not place operand) = true
+is_always_truth (Operations first rest) = not (is_sum (first_group rest))
+is_always_truth (Leading operations) = true
+is_always_truth e = false
+
+-- operands and operators, but for the last operator
+abbrev pub members_but_last : Context → Option Ty → Option Group → Ty → Members → List Refusal
+members_but_last context own group left end = []
+members_but_last context own group left (more operator place operand rest) =
+    let right = type_in context own operand in
+    expr_faults context own operand
+    ++ (if is_end rest then []
+    else else_told (is_of_group group operator && takes group operator left right) (broken (rule_of group operator) place) ++ members_but_last context own group right rest)
+
+-- the last operator, which is that of the whole
+abbrev pub last_faults : Context → Option Ty → Option Group → Ty → Members → List Refusal
+last_faults context own group left end = []
+last_faults context own group left (more operator place operand rest) =
+    let right = type_in context own operand in
+    if is_end rest then else_told (is_of_group group operator && takes group operator left right) (broken (rule_of group operator) place) else last_faults context own group right rest
+
+-- In a run that holds to the right, the operators after the first, and the first one, which is that of the whole.
+abbrev pub inner_implications : Context → Members → List Refusal
+inner_implications context end = []
+inner_implications context (more operator place operand rest) = implication_faults context (type_in context None operand) rest
+
+abbrev pub outer_implication : Context → Ty → Members → List Refusal
+outer_implication context left end = []
+outer_implication context left (more operator place operand rest) =
+    else_told (is_truth left && (is_truth (type_in context None operand) || not (is_end rest))) (broken 7 place)
+
+abbrev pub earlier_of_run : Context → Option Ty → Option Group → Ty → Members → List Refusal
+earlier_of_run context own (Some groups.Sum) left rest = member_faults context own (Some groups.Sum) left rest
+earlier_of_run context own (Some groups.Implication) left rest = member_faults context None (Some groups.Implication) left rest ++ inner_implications context rest
+earlier_of_run context own group left rest = members_but_last context own group left rest
+
+abbrev pub later_of_run : Context → Option Ty → Option Group → Ty → Members → List Refusal
+later_of_run context own (Some groups.Sum) left rest = []
+later_of_run context own (Some groups.Implication) left rest = outer_implication context left rest
+later_of_run context own group left rest = last_faults context own group left rest ++ whole_faults context group left rest
+
+abbrev pub earlier_faults : Context → Option Ty → Expr → List Refusal
+earlier_faults context expected (Unary unary.Not place operand) = expr_faults context None operand
+earlier_faults context expected (Operations first rest) =
+    let group = first_group rest in
+    let own = operand_type context expected group first rest in
+    expr_faults context own first ++ earlier_of_run context own group (type_in context own first) rest
+earlier_faults context expected (Leading end) = []
+earlier_faults context expected (Leading (more operator place operand rest)) =
+    expr_faults context None operand
+    ++ (if is_end rest then []
+    else else_told (is_junction operator && is_truth (type_in context None operand)) (broken 7 place) ++ members_but_last context None (Some (group_of operator)) types.Bool rest)
+earlier_faults context expected e = expr_faults context expected e
+
+abbrev pub later_faults : Context → Option Ty → Expr → List Refusal
+later_faults context expected (Unary unary.Not place operand) = else_told (is_truth (type_in context None operand)) (broken 7 place)
+later_faults context expected (Operations first rest) =
+    let group = first_group rest in
+    let own = operand_type context expected group first rest in
+    later_of_run context own group (type_in context own first) rest
+later_faults context expected (Leading end) = broken 7 (first_place end) ∷ []
+later_faults context expected (Leading (more operator place operand rest)) =
+    if is_end rest then else_told (is_junction operator && is_truth (type_in context None operand)) (broken 7 place) else last_faults context None (Some (group_of operator)) types.Bool rest
+later_faults context expected e = []

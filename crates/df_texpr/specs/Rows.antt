@@ -73,6 +73,11 @@ abbrev pub wrong_at : Ty → List Row → Option Pos
 wrong_at left [] = None
 wrong_at left (row ∷ rows) = or_place (wrong_at row.typed.ty rows) (if is_truth left && (is_truth row.typed.ty || not (is_last rows)) then None else Some row.place)
 
+-- the operators after the first
+abbrev pub inner_wrong : List Row → Option Pos
+inner_wrong [] = None
+inner_wrong (row ∷ rows) = wrong_at row.typed.ty rows
+
 abbrev pub told_at : Option Pos → List Refusal
 told_at None = []
 told_at (Some place) = broken 7 place ∷ []

@@ -6,7 +6,7 @@ ghost use Rattle.df_tree.specs.Expr as tree;
 ghost use Rattle.df_texpr.specs.Elaboration.{members_of, links_of, turned};
 ghost use Rattle.df_texpr.specs.Faults.{is_truth};
 ghost use Rattle.df_texpr.specs.Elaborating.{run_of};
-ghost use Rattle.df_texpr.specs.Rows.{typed_of, row_of, part_of, wrong_at, whole_told, type_of_group, operation_of, link_of};
+ghost use Rattle.df_texpr.specs.Rows.{typed_of, row_of, part_of, wrong_at, inner_wrong, told_at, whole_told, type_of_group, operation_of, link_of};
 ghost use Rattle.df_names.specs.Telling.{Tells};
 ghost use Rattle.df_texpr.specs.Gives.{Gives};
 
@@ -46,6 +46,19 @@ fn wrong_at(mut left: Ty, parts: &[Part]) -> Option<Pos>
         left = right;
     }
     wrong
+}
+
+/// Looks at the operators after the first, in a run that holds to the right.
+pub(crate) fn inner(parts: &[Part]) -> Result<(), Stop>
+    ensures { Tells result (told_at (inner_wrong (map row_of parts.now))) }
+{
+    match parts {
+        [] => Ok(()),
+        [first, others @ ..] => match wrong_at(first.typed.ty, others) {
+            Some(pos) => Err(broken(7, pos)),
+            None => Ok(()),
+        },
+    }
 }
 
 /// The operations of a run.

@@ -179,18 +179,36 @@ fn shown(alloc: Global, expected: Option<Ty>, e: &Expr) -> Result<Vec<u8>, Fail>
     Ok(out)
 }
 
-/// The code of the first fault, the rule where one is broken, and the column.
-fn told(alloc: Global, e: &Expr) -> Result<(Code, u8, u32), Fail> {
-    let locals = locals(alloc)?;
-    match typed(alloc, &locals, None, e) {
-        Err(Stop::Refused(refusal)) => {
+/// The code of a fault, the rule where one is broken, and the column.
+fn fault(stop: Stop) -> Result<(Code, u8, u32), Fail> {
+    match stop {
+        Stop::Refused(refusal) => {
             let rule = match refusal.detail {
                 Detail::Rule(rule) => rule,
                 _ => 0,
             };
             Ok((refusal.code, rule, refusal.pos.col))
         }
-        _ => Ok(Err("the expression breaks a rule")?),
+        Stop::Memory => Ok(Err("the expression breaks a rule")?),
+    }
+}
+
+/// The first fault.
+fn told(alloc: Global, e: &Expr) -> Result<(Code, u8, u32), Fail> {
+    match typed(alloc, &locals(alloc)?, None, e) {
+        Err(stop) => fault(stop),
+        Ok(_) => Ok(Err("the expression breaks a rule")?),
+    }
+}
+
+/// The rule and the column of the first fault before one of the type, or 0 twice.
+fn told_inside(alloc: Global, e: &Expr) -> Result<(u8, u32), Fail> {
+    match look_inside(alloc, &locals(alloc)?, Some(Ty::Newtype(0)), e) {
+        Err(stop) => {
+            let (_, rule, col) = fault(stop)?;
+            Ok((rule, col))
+        }
+        Ok(()) => Ok((0, 0)),
     }
 }
 
@@ -304,6 +322,43 @@ fn the_first_broken_rule_is_told(rt: HostRuntime) -> Result<(), Fail> {
     assert_eq!(rt; told(alloc, &name(8, 4))?, (Code::Typing, 15, 4));
     let large = number(170141183460469231731687303715884105728, 2);
     assert_eq!(rt; told(alloc, &large)?, (Code::Number, 0, 2));
+    Ok(())
+}
+
+#[test]
+fn a_whole_comes_after_its_parts(rt: HostRuntime) -> Result<(), Fail> {
+    let alloc = rt.alloc();
+    let less = |col, operand| (BinaryOperator::Less, col, operand);
+    let down = (BinaryOperator::Greater, 7, name(X, 9));
+    let mixed = triple(alloc, name(X, 1), less(3, name(X, 5)), down)?;
+    assert!(rt; is_always_truth(&mixed));
+    assert_eq!(rt; told_inside(alloc, &mixed)?, (0, 0));
+    let last = less(10, name(X, 12));
+    let unlike = triple(alloc, name(X, 1), less(3, truth(true, 5)), last)?;
+    assert_eq!(rt; told_inside(alloc, &unlike)?, (4, 3));
+    let late = less(7, truth(true, 9));
+    let unlike = triple(alloc, name(X, 1), less(3, name(X, 5)), late)?;
+    assert_eq!(rt; told_inside(alloc, &unlike)?, (0, 0));
+    let implies = |col, operand| (BinaryOperator::Implies, col, operand);
+    let second = implies(7, name(X, 11));
+    let implied = triple(alloc, name(X, 1), implies(3, truth(true, 5)), second)?;
+    assert_eq!(rt; told_inside(alloc, &implied)?, (7, 7));
+    let denied = Expr::Unary {
+        operator: UnaryOperator::Not,
+        pos: at(1),
+        operand: Box::new(alloc, name(X, 2))?,
+    };
+    assert_eq!(rt; told_inside(alloc, &denied)?, (0, 0));
+    let sum = pair(alloc, name(X, 1), BinaryOperator::Add, 3, name(Y, 5))?;
+    assert!(rt; !is_always_truth(&sum));
+    assert_eq!(rt; told_inside(alloc, &sum)?, (3, 3));
+    let mut operations = Vec::new(alloc);
+    operations.push(Operation {
+        operator: BinaryOperator::And,
+        pos: at(1),
+        operand: denied,
+    })?;
+    assert_eq!(rt; told_inside(alloc, &Expr::Leading { operations })?, (7, 1));
     Ok(())
 }
 

@@ -101,7 +101,7 @@ fn denied(alloc: Global, pos: Pos, operand: Typed) -> Result<Typed, Stop>
 }
 
 /// The group of operands that each have `&&` or `||` before them.
-fn leading_group(operations: &[Operation]) -> Option<Group>
+pub(crate) fn leading_group(operations: &[Operation]) -> Option<Group>
     ensures { result ≡ leading_group (members_of (map operation_of operations.now)) }
 {
     match operations {
@@ -175,7 +175,7 @@ pub(crate) fn expression(
 
 /// The operations after an operand of a type, where a type is expected of theirs.
 #[cycle(typing)]
-fn parts(
+pub(crate) fn parts(
     alloc: Global,
     locals: &Locals,
     own: Option<Ty>,
