@@ -2,7 +2,7 @@
 -- was taken.
 use Rattle.std.proofs.Common.{◌≡◌, ℕ, Bool, true, false, ◌&&◌, not, if◌then◌else◌, List, ◌++◌, length, Option, refl, sym, ap, ◌∙◌, subst}
 use Rattle.df_base.specs.declared.pos.Pos.{Pos}
-use Rattle.df_types.specs.Program.{Newtype}
+use Rattle.df_types.specs.Newtype.{Newtype}
 use Rattle.df_meaning.specs.declared.kind.Kind.{Kind}
 use Rattle.df_meaning.specs.Value.{truth_of}
 use Rattle.df_meaning.specs.Outcome.{State, Outcome, Next, Wrong}

@@ -2,7 +2,7 @@
 use Rattle.std.proofs.Common.{◌≡◌, ℕ, suc, pos, ◌+◌, ◌<◌, Bool, true, false, List, [], ◌∷◌, ◌++◌, map, fold, length, refl, sym, ap, ◌∙◌, subst, arith, append-nil, append_assoc, length-append}
 use Rattle.std.specs.List.{list_all}
 use Rattle.std.proofs.lemmas.List.{map-append}
-use Rattle.df_types.specs.Program.{Newtype}
+use Rattle.df_types.specs.Newtype.{Newtype}
 use Rattle.df_program.specs.declared.expr.Ty.{Ty}
 use Rattle.df_program.specs.Program.{Place, Method}
 use Rattle.df_program.specs.Typing.{is_place_type, is_clause, are_stmts, types_of, is_method}
@@ -21,7 +21,8 @@ use Rattle.df_enc.proofs.Growing.{of_below}
 use Rattle.df_enc.proofs.Assigning.{below_same, below_then}
 use Rattle.df_enc.proofs.Doing.{known_moved}
 use Rattle.df_enc.proofs.Keeping.{four}
-use Rattle.df_owed.specs.Passing.{with_parameter, with_result, entry, frees_from}
+use Rattle.df_owed.specs.Passing.{with_parameter, with_result, entry}
+use Rattle.df_owed.specs.Frees.{frees_from}
 use Rattle.df_owed.specs.Obligation.{values_of}
 use Rattle.df_owed.specs.Laws.{Adds, IsEntered}
 use Rattle.df_owed.proofs.Numbering.{numbering, numbering_numbers, numbering_keeps}

@@ -23,4 +23,5 @@ pub mod Backward
 pub mod Keeping
 pub mod Walks
 pub mod Whole
+pub mod Owing
 pub mod Telling

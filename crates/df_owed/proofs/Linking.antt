@@ -1,12 +1,12 @@
 -- A number that is another where evaluation comes to a path.
 use Rattle.std.proofs.Common.{◌≡◌, ℕ, Bool, true, false, ◌||◌, not, List, [], ◌∷◌, Option, refl, sym, ap, ◌∙◌, subst}
 use Rattle.std.specs.List.{AllByRecursion}
-use Rattle.df_types.specs.Program.{Newtype}
-use Rattle.df_meaning.specs.Value.{truth_of}
+use Rattle.df_types.specs.Newtype.{Newtype}
+use Rattle.df_meaning.specs.Value.{truth_of, same_value}
 use Rattle.df_form.specs.declared.node.Sort.TheVariants as sorts
 use Rattle.df_form.specs.declared.node.Op.TheVariants as ops
 use Rattle.df_form.specs.Sorting.{is_well_sorted}
-use Rattle.df_form.specs.Truth.{Assignment, truth, same_value}
+use Rattle.df_form.specs.Truth.{Assignment, truth}
 use Rattle.df_enc.specs.Passing.{Passed, with_term, again, on_path, assumed, weakened}
 use Rattle.df_enc.specs.State.{is_number, is_truth, is_path}
 use Rattle.df_enc.specs.Laws.{IsInOrder, value_of, AreKnown, path_truth, Continues}

@@ -2,7 +2,7 @@
 use Rattle.std.proofs.Common.{◌≡◌, ◌≢◌, ℕ, inl, inr, Bool, true, false, if◌then◌else◌, List, [], ◌∷◌, ◌++◌, fold, length, refl, sym, ap, ◌∙◌, subst}
 use Rattle.std.specs.List.{AllByRecursion}
 use Rattle.df_base.specs.declared.pos.Pos.{Pos}
-use Rattle.df_types.specs.Program.{Newtype}
+use Rattle.df_types.specs.Newtype.{Newtype}
 use Rattle.df_program.specs.Program.{Clause, Method}
 use Rattle.df_program.specs.Typing.{types_of, is_method}
 use Rattle.df_meaning.specs.declared.kind.Kind.{Kind}
@@ -20,7 +20,8 @@ use Rattle.df_enc.specs.Obligation.{Obligation}
 use Rattle.df_enc.specs.Passing.{Passed}
 use Rattle.df_enc.specs.Laws.{AreKnown, path_truth, Somewhere, Breaks}
 use Rattle.df_enc.proofs.Lists.{all_of}
-use Rattle.df_owed.specs.Passing.{passed_all, entry, passed_precondition, passed_postcondition, passed_method, obligations_of, frees_of}
+use Rattle.df_owed.specs.Passing.{passed_all, entry, passed_precondition, passed_postcondition, passed_method, obligations_of}
+use Rattle.df_owed.specs.Frees.{frees_of}
 use Rattle.df_owed.specs.Obligation.{values_of, IsOwed, AreValid}
 use Rattle.df_owed.specs.Laws.{state_at, IsWrongBy, Does}
 use Rattle.df_owed.proofs.Doing.{all_for, does_then}

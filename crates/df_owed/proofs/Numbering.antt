@@ -1,13 +1,13 @@
 -- An assignment that gives a free number a value.
 use Rattle.std.proofs.Common.{◌≡◌, ℕ, ◌<◌, ℤ, Bool, true, false, nat_eq, List, length, refl, ap, arith}
 use Rattle.std.proofs.lemmas.Bool.Decides.{nat_tests, Decides-int_eq}
-use Rattle.df_meaning.specs.Value.{Value, Truth, Number, Text}
+use Rattle.df_meaning.specs.Value.{Value, Truth, Number, Text, same_value}
 use Rattle.df_form.specs.declared.node.Sort.{Sort}
 use Rattle.df_form.specs.declared.node.Sort.TheVariants as sorts
 use Rattle.df_form.specs.declared.node.Op.{Op}
 use Rattle.df_form.specs.declared.node.Op.TheVariants as ops
 use Rattle.df_form.specs.Node.{Node}
-use Rattle.df_form.specs.Truth.{Assignment, has_sort, same_value}
+use Rattle.df_form.specs.Truth.{Assignment, has_sort}
 use Rattle.df_enc.specs.Laws.{SameBelow}
 use Rattle.df_enc.proofs.Steps.{IsNext}
 

@@ -4,8 +4,8 @@ use Rattle.std.specs.Prelude.{fold}
 use Rattle.std.specs.declared.alloc.AllocError.{AllocError}
 use Rattle.std.specs.List.{list_all}
 use Rattle.std.proofs.lemmas.List.{drop_all, length-map}
-use Rattle.df_types.specs.Program.{Newtype}
-use Rattle.df_types.specs.declared.program.Ty.TheVariants as places
+use Rattle.df_types.specs.Newtype.{Newtype}
+use Rattle.df_types.specs.declared.newtype.Ty.TheVariants as places
 use Rattle.df_program.specs.declared.expr.Ty.{Ty}
 use Rattle.df_program.specs.declared.expr.Ty.TheVariants as types
 use Rattle.df_program.specs.Program.{Place, Clause, Method}
@@ -20,7 +20,8 @@ use Rattle.df_enc.proofs.Growing.{on_then, on_term, on_assumed, on_mentioned, pa
 use Rattle.df_enc.proofs.Coding.{goes_when}
 use Rattle.df_enc.proofs.Keeping.{four, Keeps, keeps_expr}
 use Rattle.df_enc.proofs.Walking.{drop_next}
-use Rattle.df_owed.specs.Passing.{declared, with_number, typed, with_parameter, with_result, entry, passed_precondition, passed_postcondition, passed_all, passed_method, frees_from}
+use Rattle.df_owed.specs.Passing.{declared, with_number, typed, with_parameter, with_result, entry, passed_precondition, passed_postcondition, passed_all, passed_method}
+use Rattle.df_owed.specs.Frees.{frees_from}
 use Rattle.df_owed.specs.State.{IsClause, AreStmts}
 use Rattle.df_owed.specs.Values.{AreClauses}
 use Rattle.df_owed.proofs.Reaching.{Reaches, on_number, valued_number, grows_on, reaches_on, reaches_keeps, reaches_not, reaches_then, reaches_as, reaches_declared}

@@ -2,7 +2,7 @@
 use Rattle.std.specs.Prelude.{◌≡◌, ℕ, true, List, [], ◌++◌, map, length, None}
 use Rattle.std.specs.List.{AllByRecursion}
 use Rattle.df_base.specs.declared.pos.Pos.{Pos}
-use Rattle.df_types.specs.Program.{Newtype}
+use Rattle.df_types.specs.Newtype.{Newtype}
 use Rattle.df_program.specs.declared.expr.Ty.{Ty}
 use Rattle.df_program.specs.Stmt.{Stmts}
 use Rattle.df_program.specs.Typing.{are_stmts}
@@ -18,7 +18,8 @@ use Rattle.df_enc.specs.Obligation.{Obligation, Refutes}
 use Rattle.df_enc.specs.Passing.{Passed}
 use Rattle.df_enc.specs.State.{AreTypes}
 use Rattle.df_enc.specs.Laws.{IsInOrder, value_of, AreKnown, comes, Somewhere, Extends, Breaks}
-use Rattle.df_owed.specs.Passing.{passed_all, frees_of}
+use Rattle.df_owed.specs.Passing.{passed_all}
+use Rattle.df_owed.specs.Frees.{frees_of}
 use Rattle.df_owed.specs.Obligation.{values_of}
 
 -- more nodes, more that is known, more that is owed

@@ -4,3 +4,5 @@ pub mod State
 pub mod Values
 pub mod Ways
 pub mod Laws
+pub mod Frees
+pub mod Demands

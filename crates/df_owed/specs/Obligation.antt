@@ -1,7 +1,7 @@
 -- What the obligations of a method are owed for.
 use Rattle.std.specs.Prelude.{◌≡◌, ℕ, List, map}
 use Rattle.std.specs.List.{AllByRecursion}
-use Rattle.df_types.specs.Program.{Newtype}
+use Rattle.df_types.specs.Newtype.{Newtype}
 use Rattle.df_program.specs.Program.{Method}
 use Rattle.df_meaning.specs.Value.{Value}
 use Rattle.df_runs.specs.Modular.{AreArguments, modular_run, Wrong}

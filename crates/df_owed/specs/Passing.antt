@@ -1,8 +1,8 @@
 -- What passing over statements and methods adds to what is known, and to what is owed: in single-assignment
 -- form, each local is the term of its last value.
-use Rattle.std.specs.Prelude.{ℕ, pos, ◌+◌, ◌==◌, List, [], ◌∷◌, ◌++◌, length, take, slice_set, fold, Option, if◌then◌else◌}
-use Rattle.df_types.specs.declared.program.Ty.TheVariants as places
-use Rattle.df_types.specs.Program.{Newtype}
+use Rattle.std.specs.Prelude.{ℕ, pos, ◌==◌, List, [], ◌∷◌, ◌++◌, length, take, slice_set, fold, Option, if◌then◌else◌}
+use Rattle.df_types.specs.declared.newtype.Ty.TheVariants as places
+use Rattle.df_types.specs.Newtype.{Newtype}
 use Rattle.df_program.specs.declared.expr.Ty.{Ty}
 use Rattle.df_program.specs.declared.expr.Ty.TheVariants as types
 use Rattle.df_program.specs.Stmt.{Operand, Text, Value, Stmt, Block, Var, Assign, If, Assert, Print, Stmts, done, next, Branches, end, more}
@@ -133,11 +133,3 @@ passed_method newtypes m =
 -- the obligations in order
 abbrev pub obligations_of : List Newtype → Method → List Obligation
 obligations_of newtypes m = (passed_method newtypes m).obligations
-
--- the numbers of the parameters' free terms: each has two nodes, for itself and for its type
-abbrev pub frees_from : ℕ → List Place → List ℕ
-frees_from n [] = []
-frees_from n (place ∷ places) = n ∷ frees_from (n + 2) places
-
-abbrev pub frees_of : Method → List ℕ
-frees_of m = frees_from 0 m.parameters

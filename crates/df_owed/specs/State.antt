@@ -1,6 +1,6 @@
 -- What is asked of statements that are passed over: typing over so many locals, all of newtypes.
 use Rattle.std.specs.Prelude.{◌≡◌, ℕ, true, List, map}
-use Rattle.df_types.specs.Program.{Newtype}
+use Rattle.df_types.specs.Newtype.{Newtype}
 use Rattle.df_program.specs.declared.expr.Ty.{Ty}
 use Rattle.df_program.specs.declared.stmt.Stmt as declared
 use Rattle.df_program.specs.declared.stmt.Branch as declared_branch

@@ -1,7 +1,7 @@
 -- Branches one after another: going over them forward gives the ways, and joining them backward the state after all.
 use Rattle.std.specs.Prelude.{◌≡◌, ◌==◌, if◌then◌else◌, ℕ, true, List, [], ◌∷◌, length, Option}
 use Rattle.std.specs.List.{AllByRecursion}
-use Rattle.df_types.specs.Program.{Newtype}
+use Rattle.df_types.specs.Newtype.{Newtype}
 use Rattle.df_program.specs.Expr.{Expr}
 use Rattle.df_program.specs.Stmt.{Stmts, Branch, Branches, end, more}
 use Rattle.df_form.specs.Node.{Node}

@@ -12,6 +12,8 @@ ghost use Rattle.df_enc.specs.Obligation.{obligation_of};
 ghost use Rattle.df_owed.specs.Obligation.{AreValid, IsOwed};
 ghost use Rattle.df_enc.specs.Passing.{begin, mentioned, literal};
 ghost use Rattle.df_enc.specs.State.{IsReady, IsValued};
+ghost use Rattle.df_owed.specs.Demands.{demand_of, demands_of};
+ghost use Rattle.df_owed.specs.Frees.{frees_from, frees_of};
 ghost use Rattle.df_owed.specs.Passing as pure;
 ghost use Rattle.df_owed.specs.State.{passed_in, newtypes_over, IsClause};
 ghost use Rattle.df_owed.specs.Values.{AreClauses};
@@ -173,7 +175,7 @@ impl<'a> Pass<'a> {
 
 /// The numbers of the parameters' free terms: each has two nodes, for itself and for its type.
 fn frees(alloc: Global, places: &Vec<Place>) -> Result<Vec<usize>, AllocError>
-    ensures { IfOk result (λ frees. frees.items ≡ pure.frees_from 0 (map place_of places.now.items)) }
+    ensures { IfOk result (λ frees. frees.items ≡ frees_from 0 (map place_of places.now.items)) }
 {
     let mut frees = Vec::new(alloc);
     let mut number = 0;
@@ -192,7 +194,7 @@ fn passed<'a>(
 ) -> Result<Owed<'a>, AllocError>
     requires { is_method (length newtypes.now) (method_of method.now) ≡ true }
     ensures all { IfOk result (λ owed. map obligation_of owed.all.items ≡ pure.obligations_of (newtypes_of newtypes.now) (method_of method.now)) }
-    ensures parameters { IfOk result (λ owed. owed.parameters.items ≡ pure.frees_of (method_of method.now)) }
+    ensures parameters { IfOk result (λ owed. owed.parameters.items ≡ frees_of (method_of method.now)) }
 {
     let parameters = frees(alloc, &method.parameters)?;
     let mut pass = Pass::new(alloc, newtypes);
@@ -215,6 +217,9 @@ pub fn obligations<'a>(
     ensures safe { IfOk result (λ owed. AreValid (map obligation_of owed.all.items) → IsModularlySafeMethod (newtypes_of newtypes.now) (method_of method.now)) }
     // Where one is refuted the run on the parameters' values is wrong by its kind at its place.
     ensures owed { IfOk result (λ owed. AllByRecursion (IsOwed (newtypes_of newtypes.now) (method_of method.now) owed.parameters.items) (map obligation_of owed.all.items)) }
+    // They are those of the method's demands, each once, and in that order.
+    ensures demands { IfOk result (λ owed. map demand_of (map obligation_of owed.all.items) ≡ demands_of (method_of method.now)) }
+    ensures parameters { IfOk result (λ owed. owed.parameters.items ≡ frees_of (method_of method.now)) }
     // Each is of sums and comparisons of numbers.
     ensures arithmetic { IfOk result (λ owed. AllByRecursion (λ obligation. IsArithmeticSequent obligation.sequent) (map obligation_of owed.all.items)) }
     ensures newtypes { IfOk result (λ owed. AllByRecursion (λ obligation. obligation.sequent.newtypes ≡ newtypes_of newtypes.now) (map obligation_of owed.all.items)) }

@@ -2,7 +2,7 @@
 
 ghost use Rattle.std.specs.Prelude.{◌≡◌, ◌<◌, [], ◌∷◌, length, OnOk};
 ghost use Rattle.df_types.specs.View.{newtypes_of};
-ghost use Rattle.df_types.specs.declared.program.Ty.TheVariants as places;
+ghost use Rattle.df_types.specs.declared.newtype.Ty.TheVariants as places;
 ghost use Rattle.df_program.specs.declared.expr.Ty.TheVariants as types;
 ghost use Rattle.df_enc.specs.Passing.{begin, again, mentioned};
 ghost use Rattle.df_enc.specs.State.{IsReady, IsValued};

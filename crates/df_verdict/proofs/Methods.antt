@@ -2,8 +2,8 @@
 use Rattle.std.proofs.Common.{◌≡◌, ℕ, zero, suc, ◌+◌, ◌<◌, ◌≤◌, Bool, true, List, [], ◌∷◌, ◌++◌, map, length, take, get_or, string_bytes, refl, sym, ap, subst, ◌∙◌, arith, rules}
 use Rattle.std.specs.List.{list_all, AllByRecursion}
 use Rattle.std.proofs.lemmas.List.{take_more, take_all, map-append}
-use Rattle.df_types.specs.Program.{Newtype}
-use Rattle.df_types.specs.declared.program.Newtype as declared_newtype
+use Rattle.df_types.specs.Newtype.{Newtype}
+use Rattle.df_types.specs.declared.newtype.Newtype as declared_newtype
 use Rattle.df_program.specs.declared.program.Place as declared_place
 use Rattle.df_program.specs.declared.program.Method as declared
 use Rattle.df_program.specs.Typing.{is_method, are_methods}
@@ -15,6 +15,8 @@ use Rattle.df_kern.specs.Derivation.{Derives}
 use Rattle.df_runs.specs.Modular.{IsModularlySafeMethod, IsModularlySafe}
 use Rattle.df_enc.specs.declared.obligation.Obligation as declared_obligation
 use Rattle.df_enc.specs.Obligation.{Obligation, obligation_of}
+use Rattle.df_owed.specs.Demands.{demand_of, demands_of}
+use Rattle.df_owed.specs.Frees.{frees_of}
 use Rattle.df_owed.specs.Obligation.{AreValid, IsOwed}
 use Rattle.df_report.specs.declared.outcome.Outcome as declared_outcome
 use Rattle.df_report.specs.View.{failure_of, outcome_of}
@@ -24,15 +26,19 @@ use Rattle.df_verdict.proofs.Judgements.{have_sequents}
 
 -- the outcome of a method
 pub is_judged : (newtypes : List Newtype) (steps : ℕ) (method : Method) (frees : List ℕ) (all : List declared_obligation.Obligation) (outcome : declared_outcome.Outcome)
+    → map demand_of (map obligation_of all) ≡ demands_of method
+    → frees ≡ frees_of method
     → (AreValid (map obligation_of all) → IsModularlySafeMethod newtypes method)
     → AllByRecursion (IsOwed newtypes method frees) (map obligation_of all)
     → AllByRecursion (λ (o : Obligation). o.sequent.newtypes ≡ newtypes) (map obligation_of all)
     → Judges method.parameters frees steps (map obligation_of all) (map failure_of outcome.failures.items)
     → string_bytes outcome.name ≡ method.text
     → IsJudgedMethod newtypes steps method (outcome_of outcome)
-is_judged newtypes steps method frees all outcome safe owed over judges name = record {
+is_judged newtypes steps method frees all outcome demands parameters safe owed over judges name = record {
   frees = frees;
   all = map obligation_of all;
+  demands = demands;
+  parameters = parameters;
   safe = safe;
   owed = owed;
   sequents = have_sequents all;

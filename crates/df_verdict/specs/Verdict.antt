@@ -1,8 +1,8 @@
 -- Verdicts: what proving a program comes to.
-use Rattle.std.specs.Prelude.{◌≡◌, ◌⊎◌, ℕ, ◌≤◌, ℤ, pos, Bool, false, ◌==◌, ◌&&◌, List, [], ◌∷◌, position}
+use Rattle.std.specs.Prelude.{◌≡◌, ◌⊎◌, ℕ, ◌≤◌, ℤ, pos, Bool, false, ◌==◌, ◌&&◌, List, [], ◌∷◌, map, position}
 use Rattle.std.specs.List.{list_all, AllByRecursion}
 use Rattle.std.specs.Option.{option_map_or}
-use Rattle.df_types.specs.Program.{Newtype}
+use Rattle.df_types.specs.Newtype.{Newtype}
 use Rattle.df_program.specs.Program.{Place, Method, Program}
 use Rattle.df_meaning.specs.Kind.{word_of}
 use Rattle.df_runs.specs.Modular.{IsModularlySafeMethod}
@@ -16,6 +16,8 @@ use Rattle.df_form.specs.Sequent.{Sequent, IsSequent}
 use Rattle.df_kern.specs.Derivation.{Derives}
 use Rattle.df_table.specs.TableModel.{number_at}
 use Rattle.df_enc.specs.Obligation.{Obligation}
+use Rattle.df_owed.specs.Demands.{demand_of, demands_of}
+use Rattle.df_owed.specs.Frees.{frees_of}
 use Rattle.df_owed.specs.Obligation.{AreValid, IsOwed}
 use Rattle.df_ground.specs.Lines.{ground_lines, unbound_count}
 use Rattle.df_search.specs.Found.{HasModel, AreSpent, IsTooWide, HasManyRows}
@@ -67,11 +69,14 @@ pub data Judges (places : List Place) (frees : List ℕ) (steps : ℕ) : List Ob
   proved : {o : Obligation} {others : List Obligation} {failures : List Failure} → IsProved o.sequent → Judges places frees steps others failures → Judges places frees steps (o ∷ others) failures
   failed : {o : Obligation} {f : Failure} {others : List Obligation} {failures : List Failure} → IsFailureOf places frees steps o f → Judges places frees steps others failures → Judges places frees steps (o ∷ others) (f ∷ failures)
 
--- The outcome is the method's, by obligations of which a method with none that is refuted has need: where all
--- are valid no modular run is wrong, and where one is refuted a modular run is wrong by it.
+-- The outcome is the method's, by obligations for its demands, each once and in their order. A method with none
+-- that is refuted has need of them: where all are valid no modular run is wrong, and where one is refuted a
+-- modular run is wrong by it.
 pub record IsJudgedMethod (newtypes : List Newtype) (steps : ℕ) (method : Method) (outcome : Outcome) : Type 0 where
   pub frees : List ℕ
   pub all : List Obligation
+  pub demands : map demand_of all ≡ demands_of method
+  pub parameters : frees ≡ frees_of method
   pub safe : AreValid all → IsModularlySafeMethod newtypes method
   pub owed : AllByRecursion (IsOwed newtypes method frees) all
   pub sequents : AllByRecursion (λ (o : Obligation). IsSequent o.sequent) all

@@ -1,6 +1,6 @@
 use Rattle.std.proofs.Common.{◌≡◌, ◌*◌, ◌++◌, map, drop}
 use Rattle.df_program.specs.MethodView.{place_of}
-use Rattle.df_owed.specs.Passing.{frees_from}
+use Rattle.df_owed.specs.Frees.{frees_from}
 use Rattle.df_owed.proofs.method.frees.Given as goal
 
 abbrev pub invariant-loop-place : goal.invariant-loop-place

@@ -1,5 +1,5 @@
 use Rattle.std.proofs.Common.{List, subst}
-use Rattle.df_types.specs.declared.program.Newtype.{Newtype}
+use Rattle.df_types.specs.declared.newtype.Newtype.{Newtype}
 use Rattle.df_program.specs.MethodView.{method_of}
 use Rattle.df_report.specs.View.{outcome_of}
 use Rattle.df_verdict.specs.Verdict.{IsJudgedMethod}

@@ -1,5 +1,5 @@
 use Rattle.std.proofs.Common.{List, ◌∙◌, refl, ap}
-use Rattle.df_types.specs.Program.{Newtype}
+use Rattle.df_types.specs.Newtype.{Newtype}
 use Rattle.df_program.specs.MethodView.{clause_of}
 use Rattle.df_owed.specs.Passing.{passed_postcondition}
 use Rattle.df_owed.specs.State.{passed_in, newtypes_over}
