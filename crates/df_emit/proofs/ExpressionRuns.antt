@@ -7,12 +7,12 @@ use Rattle.std.proofs.lemmas.List.{length-set}
 use Rattle.df_types.specs.declared.interval.Interval.{Interval}
 use Rattle.df_program.specs.declared.expr.Comparison.{Comparison}
 use Rattle.df_program.specs.declared.expr.Comparison.TheVariants as comparisons
-use Rattle.df_meaning.specs.Value.{Value}
+use Rattle.df_meaning.specs.Value.{Value, same_truth}
 use Rattle.df_meaning.specs.Value as values
 use Rattle.df_plain.specs.declared.expr.Operator.{Operator}
 use Rattle.df_plain.specs.declared.expr.Operator.TheVariants as operators
 use Rattle.df_plain.specs.Expr.{Expr, Number, Truth, Local, Negate, Not, Operations, Chain, Members, end, more, Links, last, link}
-use Rattle.df_plain.specs.Evaluation.{within, same_truth, negated, opposite, compared, past, combined, evaluate, evaluate_members, evaluate_links}
+use Rattle.df_plain.specs.Evaluation.{within, negated, opposite, compared, past, combined, evaluate, evaluate_members, evaluate_links}
 use Rattle.df_mach.specs.declared.instruction.UnaryOperator.{UnaryOperator}
 use Rattle.df_mach.specs.declared.instruction.UnaryOperator.TheVariants as unaries
 use Rattle.df_mach.specs.declared.instruction.BinaryOperator.{BinaryOperator}

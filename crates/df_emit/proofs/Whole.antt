@@ -22,12 +22,16 @@ methods_are (m ∷ ms) = ap (λ (x : Method). x ∷ map emit_method ms) (emits_m
 all_made : (ms : List declared.Method) (n : ℕ) (made : List Method) → length ms ≤ n → made ≡ map emit_method (map view.method_of (take n ms)) → made ≡ map method_code (map view.method_of ms)
 all_made ms n made le e = e ∙ ap (λ (l : List declared.Method). map emit_method (map view.method_of l)) (take_all n ms le) ∙ methods_are (map view.method_of ms)
 
+-- what is made is the code of the program
+pub code_is : (ms : List declared.Method) (n : ℕ) (made : List Method) (all : List Shape) → length ms ≤ n → made ≡ map emit_method (map view.method_of (take n ms))
+    → all ≡ shapes.Number ∷ shapes.Truth ∷ shapes.Text ∷ [] → record { methods = made; shapes = all } ≡ plain_code (record { methods = map view.method_of ms })
+code_is ms n made all le e f = λ j. record { methods = all_made ms n made le e j; shapes = f j }
+
 pub does : (ms : List declared.Method) (n : ℕ) (made : List Method) (all : List Shape) → are_methods (map view.method_of ms) ≡ true → length ms ≤ n → made ≡ map emit_method (map view.method_of (take n ms))
     → all ≡ shapes.Number ∷ shapes.Truth ∷ shapes.Text ∷ [] → DoesWhat (record { methods = map view.method_of ms }) (record { methods = made; shapes = all })
 does ms n made all are le e f =
     let p : plain.Plain = record { methods = map view.method_of ms } in
-    let is : plain_code p ≡ record { methods = made; shapes = all } = λ j. record { methods = sym (all_made ms n made le e) j; shapes = sym f j } in
-    subst (λ (c : Code). DoesWhat p c) is (does_what p are)
+    subst (λ (c : Code). DoesWhat p c) (sym (code_is ms n made all le e f)) (does_what p are)
 
 pub names : (ms : List declared.Method) (n : ℕ) (made : List Method) → length ms ≤ n → made ≡ map emit_method (map view.method_of (take n ms))
     → map (λ (m : Method). m.name) made ≡ map (λ (m : plain.Method). m.text) (map view.method_of ms)

@@ -52,6 +52,8 @@ fn emit_one(alloc: Global, method: &Method) -> Result<df_mach::Method, AllocErro
 /// The machine code of a program: it does what the program does.
 pub fn emit(alloc: Global, plain: &Plain) -> Result<Code, AllocError>
     ensures does { IfOk result (λ code. DoesWhat (plain_of plain.now) (code_of code)) }
+    // It is a function of the program.
+    ensures code { IfOk result (λ code. code_of code ≡ pure.plain_code (plain_of plain.now)) }
     // Methods keep their numbers.
     ensures methods { IfOk result (λ code. map (λ (m : state.Method). m.name) (code_of code).methods ≡ map (λ (m : plain_program.Method). m.text) (plain_of plain.now).methods) }
 {

@@ -4,7 +4,7 @@ use Rattle.std.specs.Prelude.{slice_get, slice_index_or, option_and_then, int_le
 use Rattle.std.specs.Option.{option_map_or}
 use Rattle.std.specs.List.{list_all}
 use Rattle.df_base.specs.declared.pos.Pos.{Pos}
-use Rattle.df_types.specs.Program.{Newtype}
+use Rattle.df_types.specs.Newtype.{Newtype}
 use Rattle.df_program.specs.declared.expr.Ty.{Ty}
 use Rattle.df_program.specs.declared.expr.Ty.TheVariants as types
 use Rattle.df_program.specs.declared.expr.Operator.{Operator}
@@ -14,14 +14,13 @@ use Rattle.df_program.specs.declared.expr.Comparison.TheVariants as comparisons
 use Rattle.df_program.specs.Expr.{Expr, Number, Truth, Local, Negate, Not, Operations, Chain, Members, end, more, Links, last, link}
 use Rattle.df_program.specs.Typing.{same_type, is_integer, is_place_type, fits, compares, is_one_run, is_expr, are_members, are_links}
 use Rattle.df_meaning.specs.declared.kind.Kind.TheVariants as kinds
-use Rattle.df_meaning.specs.Value.{Value, number_of, truth_of}
+use Rattle.df_meaning.specs.Value.{Value, number_of, truth_of, same_truth}
 use Rattle.df_meaning.specs.Value as values
-use Rattle.df_meaning.specs.Evaluation.{holds}
+use Rattle.df_meaning.specs.Range.{holds}
 use Rattle.df_meaning.specs.Outcome.{State, Evaluated, Known, Undefined, OutOfDepth, with_value}
-use Rattle.df_runs.specs.Evaluation as source
 use Rattle.df_runs.specs.Evaluation.{is_in, in_range, compare, decided, combined, unless, evaluate, evaluate_members, evaluate_links}
 use Rattle.df_plain.specs.Evaluation as plain
-use Rattle.df_erase.specs.Native.{unless_literal, loose, loose_in_members, loose_in_links}
+use Rattle.df_erase.specs.Native.{unless_literal, if_int, loose, loose_in_members, loose_in_links}
 use Rattle.df_erase.specs.Erasing.{Ranges, range_of, erase_operator, erase_expr, erase_members, erase_links}
 use Rattle.df_erase.proofs.Truths.{both, three, four, same_type_equal}
 use Rattle.df_erase.proofs.Kinded.{is_numeric, integer_numeric, place_numeric}
@@ -100,7 +99,7 @@ literal_alike : (ns : List Newtype) (ty : Ty) (n : ℤ) (place : Pos) (b : Bool)
 literal_alike ns ty n place true is = (refl, number_is_of ty n is)
 literal_alike ns ty n place false is = tt
 
--- ---- an expression of type int has a literal that breaks the rule
+-- ---- an expression of type int breaks the rule, unless it is a literal that is compared
 
 pub append_nil_left : (a b : List Pos) → a ++ b ≡ [] → a ≡ []
 append_nil_left [] b e = refl
@@ -123,10 +122,10 @@ int_is_loose n locals places (Number types.Bool value place) is none = let f : f
 int_is_loose n locals places (Number (types.Newtype k) value place) is none = let f : false ≡ true = is in cc
 int_is_loose n locals places (Truth value) is none = let f : false ≡ true = is in cc
 int_is_loose n locals places (Local local place) is none = no_int n locals local places is
-int_is_loose n locals places (Negate ty place operand) is none = int_is_loose n locals places operand (three (same_type ty types.Int) (is_integer n types.Int) (is_expr n locals types.Int operand) is).2 none
+int_is_loose n locals places (Negate ty place operand) is none = int_is_loose n locals places operand (three (same_type ty types.Int) (is_integer n types.Int) (is_expr n locals types.Int operand) is).2 (append_nil_right (if_int ty place) (loose operand) none)
 int_is_loose n locals places (Not operand) is none = let f : false ≡ true = is in cc
 int_is_loose n locals places (Operations ty first rest) is none =
-    int_is_loose n locals places first (four (same_type ty types.Int) (is_expr n locals types.Int first) (are_members n locals types.Int rest) (is_one_run rest) is).1 (append_nil_left (loose first) (loose_in_members rest) none)
+    int_is_loose n locals places first (four (same_type ty types.Int) (is_expr n locals types.Int first) (are_members n locals types.Int rest) (is_one_run rest) is).1 (append_nil_left (loose first) (loose_in_members ty rest) none)
 int_is_loose n locals places (Chain ty first rest) is none = let f : false ≡ true = is in cc
 
 -- so one without is of another type
@@ -144,10 +143,6 @@ unless_nil (Chain ty first rest) none = none
 
 -- ---- operators
 
-truths_same : (a b : Bool) → plain.same_truth a b ≡ source.same_truth a b
-truths_same true b = refl
-truths_same false b = refl
-
 -- an operator of truths
 abbrev CombinedSame : List Newtype → Ranges → Operator → Ty → Pos → Value → Value → Type 0
 CombinedSame ns r operator ty place v w = Alike ty (combined ns operator ty place v w) (plain.combined (erase_operator r ty operator) v w)
@@ -156,7 +151,7 @@ iff_alike : (r : Ranges) (ns : List Newtype) (ty : Ty) (place : Pos) (v w : Valu
 iff_alike r ns ty place v w e hv hw =
     with_truth (λ (x : Value). CombinedSame ns r operators.Iff ty place x w) v (subst (λ (t : Ty). IsOf t v) e hv) (λ a.
     with_truth (λ (x : Value). CombinedSame ns r operators.Iff ty place (values.Truth a) x) w (subst (λ (t : Ty). IsOf t w) e hw) (λ b.
-    (ap (λ (x : Bool). Some (values.Truth x)) (truths_same a b), subst (λ (t : Ty). IsOf t (values.Truth (source.same_truth a b))) (sym e) tt)))
+    (refl, subst (λ (t : Ty). IsOf t (values.Truth (same_truth a b))) (sym e) tt)))
 
 -- the value of an operator of a run that is not of type int
 combined_alike : (r : Ranges) (ns : List Newtype) → AreRanges r ns → (operator : Operator) (ty : Ty) (place : Pos) (v w : Value) → ty ≢ types.Int → fits (length ns) ty operator ≡ true → IsOf ty v → IsOf ty w
@@ -212,8 +207,8 @@ numbers_compare comparisons.Greater a b = refl
 numbers_compare comparisons.AtLeast a b = refl
 
 truths_compare : (n : ℕ) (c : Comparison) (a b : Bool) → compares n types.Bool c ≡ true → plain.compared c (values.Truth a) (values.Truth b) ≡ Some (compare c (values.Truth a) (values.Truth b))
-truths_compare n comparisons.Equal a b is = ap (λ (x : Bool). Some x) (truths_same a b)
-truths_compare n comparisons.NotEqual a b is = ap (λ (x : Bool). Some (not x)) (truths_same a b)
+truths_compare n comparisons.Equal a b is = refl
+truths_compare n comparisons.NotEqual a b is = refl
 truths_compare n comparisons.Less a b is = absurd (let f : false ≡ true = is in cc)
 truths_compare n comparisons.AtMost a b is = absurd (let f : false ≡ true = is in cc)
 truths_compare n comparisons.Greater a b is = absurd (let f : false ≡ true = is in cc)
@@ -282,19 +277,20 @@ mutual
   expr_alike r ns locals state here a (Local local place) ty is none = local_alike (length ns) ty locals state.locals local (values.Number (pos 0)) here.places here.enough here.numbers is
   expr_alike r ns locals state here a (Negate own place operand) ty is none =
       let are = three (same_type own ty) (is_integer (length ns) ty) (is_expr (length ns) locals ty operand) is in
+      let inner = append_nil_right (if_int own place) (loose operand) none in
       subst (λ (t : Ty). Alike ty (with_value (evaluate a ns state operand) (λ v. in_range ns t place (neg_ℤ (number_of v)))) (option_and_then (plain.negated (range_of r t)) (plain.evaluate state.locals (erase_expr r operand)))) (sym (same_type_equal own ty are.0))
-      (alike_bind ty ty (evaluate a ns state operand) _ _ _ (expr_alike r ns locals state here a operand ty are.2 (unless_nil operand none))
-      (λ v h. negate_alike r ns here.ranges ty place v (not_int (length ns) locals here.places operand ty are.2 none) (integer_numeric (length ns) ty are.1) h))
+      (alike_bind ty ty (evaluate a ns state operand) _ _ _ (expr_alike r ns locals state here a operand ty are.2 (unless_nil operand inner))
+      (λ v h. negate_alike r ns here.ranges ty place v (not_int (length ns) locals here.places operand ty are.2 inner) (integer_numeric (length ns) ty are.1) h))
   expr_alike r ns locals state here a (Not operand) ty is none =
       let are = both (same_type ty types.Bool) (is_expr (length ns) locals types.Bool operand) is in
       subst (λ (t : Ty). Alike t (with_value (evaluate a ns state operand) (λ v. Known (values.Truth (not (truth_of v))))) (option_and_then plain.opposite (plain.evaluate state.locals (erase_expr r operand)))) (sym (same_type_equal ty types.Bool are.0))
       (alike_bind types.Bool types.Bool (evaluate a ns state operand) _ _ _ (expr_alike r ns locals state here a operand types.Bool are.1 (unless_nil operand none)) (λ v h. not_alike v h))
   expr_alike r ns locals state here a (Operations own first rest) ty is none =
       let are = four (same_type own ty) (is_expr (length ns) locals ty first) (are_members (length ns) locals ty rest) (is_one_run rest) is in
-      let front = append_nil_left (loose first) (loose_in_members rest) none in
+      let front = append_nil_left (loose first) (loose_in_members own rest) none in
       subst (λ (t : Ty). Alike ty (with_value (evaluate a ns state first) (λ v. evaluate_members a ns state t v rest)) (option_and_then (λ v. plain.evaluate_members state.locals v (erase_members r t rest)) (plain.evaluate state.locals (erase_expr r first)))) (sym (same_type_equal own ty are.0))
       (alike_bind ty ty (evaluate a ns state first) _ _ _ (expr_alike r ns locals state here a first ty are.1 (unless_nil first front))
-      (λ v h. members_alike r ns locals state here a rest ty v h (not_int (length ns) locals here.places first ty are.1 front) are.2 (append_nil_right (loose first) (loose_in_members rest) none)))
+      (λ v h. members_alike r ns locals state here a own rest ty v h (not_int (length ns) locals here.places first ty are.1 front) are.2 (append_nil_right (loose first) (loose_in_members own rest) none)))
   expr_alike r ns locals state here a (Chain own first rest) ty is none =
       let are = three (same_type ty types.Bool) (is_expr (length ns) locals own first) (are_links (length ns) locals own rest) is in
       let front = append_nil_left (unless_literal first (loose first)) (loose_in_links rest) none in
@@ -302,15 +298,16 @@ mutual
       (alike_bind own types.Bool (evaluate a ns state first) _ _ _ (expr_alike r ns locals state here a first own are.1 front)
       (λ v h. links_alike r ns locals state here a rest own v h are.2 (append_nil_right (unless_literal first (loose first)) (loose_in_links rest) none)))
 
-  members_alike : (r : Ranges) (ns : List Newtype) (locals : List Ty) (state : State) → Here r ns locals state → (a : ℕ) (m : Members) (ty : Ty) (v : Value) → IsOf ty v → ty ≢ types.Int → are_members (length ns) locals ty m ≡ true → loose_in_members m ≡ []
+  members_alike : (r : Ranges) (ns : List Newtype) (locals : List Ty) (state : State) → Here r ns locals state → (a : ℕ) (own : Ty) (m : Members) (ty : Ty) (v : Value) → IsOf ty v → ty ≢ types.Int → are_members (length ns) locals ty m ≡ true → loose_in_members own m ≡ []
       → Alike ty (evaluate_members a ns state ty v m) (plain.evaluate_members state.locals v (erase_members r ty m))
-  members_alike r ns locals state here a end ty v h other is none = (refl, h)
-  members_alike r ns locals state here a (more operator place operand rest) ty v h other is none =
+  members_alike r ns locals state here a own end ty v h other is none = (refl, h)
+  members_alike r ns locals state here a own (more operator place operand rest) ty v h other is none =
       let are = three (fits (length ns) ty operator) (is_expr (length ns) locals ty operand) (are_members (length ns) locals ty rest) is in
+      let after = append_nil_right (if_int own place) (loose operand ++ loose_in_members own rest) none in
       past_alike r (length ns) operator ty v _ _ are.0 h
-      (alike_bind ty ty (evaluate a ns state operand) _ _ _ (expr_alike r ns locals state here a operand ty are.1 (unless_nil operand (append_nil_left (loose operand) (loose_in_members rest) none)))
+      (alike_bind ty ty (evaluate a ns state operand) _ _ _ (expr_alike r ns locals state here a operand ty are.1 (unless_nil operand (append_nil_left (loose operand) (loose_in_members own rest) after)))
       (λ w hw. alike_bind ty ty (combined ns operator ty place v w) _ _ _ (combined_alike r ns here.ranges operator ty place v w other are.0 h hw)
-      (λ u hu. members_alike r ns locals state here a rest ty u hu other are.2 (append_nil_right (loose operand) (loose_in_members rest) none))))
+      (λ u hu. members_alike r ns locals state here a own rest ty u hu other are.2 (append_nil_right (loose operand) (loose_in_members own rest) after))))
 
   links_alike : (r : Ranges) (ns : List Newtype) (locals : List Ty) (state : State) → Here r ns locals state → (a : ℕ) (l : Links) (own : Ty) (v : Value) → IsOf own v → are_links (length ns) locals own l ≡ true → loose_in_links l ≡ []
       → Alike types.Bool (evaluate_links a ns state v l) (plain.evaluate_links state.locals v (erase_links r l))

@@ -5,4 +5,5 @@ pub mod Kinded
 pub mod Alike
 pub mod Executed
 pub mod Runs
+pub mod Whole
 mod Examples

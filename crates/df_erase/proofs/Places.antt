@@ -1,18 +1,19 @@
--- The first literal that breaks the rule is what the code finds.
+-- The first expression that breaks the rule is what the code finds.
 use Rattle.std.proofs.Common.{◌≡◌, zero, suc, Bool, true, false, cond, List, [], ◌∷◌, ◌++◌, Option, Some, None, refl, sym, ap, ◌∙◌, subst, ◌⊎◌, inl, inr, arith}
 use Rattle.std.specs.Prelude.{Contains, fold, if◌then◌else◌}
 use Rattle.std.specs.List.{flat_map, AllByRecursion}
 use Rattle.std.proofs.lemmas.Bool.Decides.{nat_tests}
 use Rattle.df_base.specs.declared.pos.Pos.{Pos}
+use Rattle.df_program.specs.declared.expr.Ty.{Ty}
 use Rattle.df_program.specs.declared.expr.Ty.TheVariants as types
 use Rattle.df_program.specs.Expr.{Expr, Number, Truth, Local, Negate, Not, Operations, Chain, Members, end, more, Links, last, link}
 use Rattle.df_program.specs.Stmt.{Operand, Text, Value, Stmt, Block, Var, Assign, If, Assert, Print, Stmts, done, next, Branches}
 use Rattle.df_program.specs.Stmt as stmt
 use Rattle.df_program.specs.Program.{Method, Program}
 use Rattle.df_program.specs.Assignment.{IsUpTo}
-use Rattle.df_erase.specs.Native.{is_literal, unless_literal, loose, loose_in_members, loose_in_links, loose_in_operand, loose_in, loose_in_all, loose_in_branches, loose_in_method, loose_literals, IsNative, IsFirstLoose}
+use Rattle.df_erase.specs.Native.{is_literal, unless_literal, if_int, loose, loose_in_members, loose_in_links, loose_in_operand, loose_in, loose_in_all, loose_in_branches, loose_in_method, loose_places, IsNative, IsFirstLoose}
 use Rattle.df_erase.specs.Least.{before, earlier, least}
-use Rattle.df_erase.specs.Finding.{found, found_in_members, found_in_links, found_in_operand, found_in, found_in_all, found_in_branches, found_in_method}
+use Rattle.df_erase.specs.Finding.{found_if_int, found, found_in_members, found_in_links, found_in_operand, found_in, found_in_all, found_in_branches, found_in_method}
 
 pub least_append : (best : Option Pos) (a b : List Pos) → least best (a ++ b) ≡ least (least best a) b
 least_append best [] b = refl
@@ -26,22 +27,27 @@ unless false best x places e = e
 then_find : (best x : Option Pos) (a b : List Pos) (rest : Option Pos → Option Pos) → x ≡ least best a → ((y : Option Pos) → rest y ≡ least y b) → rest x ≡ least best (a ++ b)
 then_find best x a b rest e f = f x ∙ ap (λ (y : Option Pos). least y b) e ∙ sym (least_append best a b)
 
+finds_if_int : (ty : Ty) (place : Pos) (best : Option Pos) → found_if_int best ty place ≡ least best (if_int ty place)
+finds_if_int types.Int place best = refl
+finds_if_int types.Bool place best = refl
+finds_if_int (types.Newtype k) place best = refl
+
 mutual
   finds : (e : Expr) (best : Option Pos) → found best e ≡ least best (loose e)
-  finds (Number types.Int value place) best = refl
-  finds (Number types.Bool value place) best = refl
-  finds (Number (types.Newtype k) value place) best = refl
+  finds (Number ty value place) best = finds_if_int ty place best
   finds (Truth value) best = refl
   finds (Local local place) best = refl
-  finds (Negate ty place operand) best = finds operand best
+  finds (Negate ty place operand) best = then_find best _ (if_int ty place) (loose operand) (λ y. found y operand) (finds_if_int ty place best) (finds operand)
   finds (Not operand) best = finds operand best
-  finds (Operations ty first rest) best = then_find best _ (loose first) (loose_in_members rest) (λ y. found_in_members y rest) (finds first best) (finds_members rest)
+  finds (Operations ty first rest) best = then_find best _ (loose first) (loose_in_members ty rest) (λ y. found_in_members ty y rest) (finds first best) (finds_members ty rest)
   finds (Chain ty first rest) best =
       then_find best _ (unless_literal first (loose first)) (loose_in_links rest) (λ y. found_in_links y rest) (unless (is_literal first) best _ (loose first) (finds first best)) (finds_links rest)
 
-  finds_members : (m : Members) (best : Option Pos) → found_in_members best m ≡ least best (loose_in_members m)
-  finds_members end best = refl
-  finds_members (more operator place operand rest) best = then_find best _ (loose operand) (loose_in_members rest) (λ y. found_in_members y rest) (finds operand best) (finds_members rest)
+  finds_members : (ty : Ty) (m : Members) (best : Option Pos) → found_in_members ty best m ≡ least best (loose_in_members ty m)
+  finds_members ty end best = refl
+  finds_members ty (more operator place operand rest) best =
+      then_find best _ (if_int ty place) (loose operand ++ loose_in_members ty rest) (λ y. found_in_members ty (found y operand) rest) (finds_if_int ty place best) (λ y.
+      then_find y _ (loose operand) (loose_in_members ty rest) (λ z. found_in_members ty z rest) (finds operand y) (finds_members ty rest))
 
   finds_links : (l : Links) (best : Option Pos) → found_in_links best l ≡ least best (loose_in_links l)
   finds_links last best = refl
@@ -137,7 +143,7 @@ is_least (x ∷ ps) q p e = next_least x p q ps (before x q) refl (λ y. is_leas
 
 pub first_is_loose : (program : Program) (p : Pos) → fold found_in_method None program.methods ≡ Some p → IsFirstLoose program p
 first_is_loose program p e =
-    let is = by_list (loose_literals program) (sym (finds_methods program.methods None) ∙ e) in
+    let is = by_list (loose_places program) (sym (finds_methods program.methods None) ∙ e) in
     record { there = is.0; least = is.1 }
   where
     by_list : (ps : List Pos) → least None ps ≡ Some p → Contains ps p × AllByRecursion (λ (other : Pos). IsUpTo p other) ps
@@ -162,7 +168,7 @@ some_stays (x ∷ ps) q f = by_cases (before x q) (λ y. some_stays ps y) f
     by_cases false go g = go q g
 
 pub none_is_native : (program : Program) → fold found_in_method None program.methods ≡ None → IsNative program
-none_is_native program e = by_list (loose_literals program) (sym (finds_methods program.methods None) ∙ e)
+none_is_native program e = by_list (loose_places program) (sym (finds_methods program.methods None) ∙ e)
   where
     by_list : (ps : List Pos) → least None ps ≡ None → ps ≡ []
     by_list [] f = refl

@@ -5,10 +5,10 @@ use Rattle.std.specs.List.{list_all, flat_map}
 use Rattle.std.proofs.lemmas.List.{length-append, length-map, take_all}
 use Rattle.std.proofs.lemmas.List.Folds.{list_all-append}
 use Rattle.df_base.specs.declared.pos.Pos.{Pos}
-use Rattle.df_types.specs.Program.{Newtype}
+use Rattle.df_types.specs.Newtype.{Newtype}
 use Rattle.df_types.specs.View.{newtype_of}
 use Rattle.df_types.specs.declared.interval.Interval.{Interval}
-use Rattle.df_types.specs.declared.program.Newtype as declared_newtype
+use Rattle.df_types.specs.declared.newtype.Newtype as declared_newtype
 use Rattle.df_program.specs.declared.expr.Ty.{Ty}
 use Rattle.df_program.specs.declared.expr.Ty.TheVariants as types
 use Rattle.df_program.specs.Program.{Place, Clause, Method, Program}
@@ -200,7 +200,7 @@ ranges_are ns r e = record {
 }
 
 -- all methods are done
-all_erased : (r : Ranges) (ms : List declared_method.Method) (k : ℕ) (made : List plain.Method) → length ms ≤ k → made ≡ map (erase_method r) (map method_of (take k ms)) → made ≡ map (erase_method r) (map method_of ms)
+pub all_erased : (r : Ranges) (ms : List declared_method.Method) (k : ℕ) (made : List plain.Method) → length ms ≤ k → made ≡ map (erase_method r) (map method_of (take k ms)) → made ≡ map (erase_method r) (map method_of ms)
 all_erased r ms k made past e = e ∙ ap (λ (l : List declared_method.Method). map (erase_method r) (map method_of l)) (take_all k ms past)
 
 pub program_kinded : (r : Ranges) (n : ℕ) (ms : List declared_method.Method) (k : ℕ) (made : List plain.Method) → are_methods n (map method_of ms) ≡ true → length ms ≤ k → made ≡ map (erase_method r) (map method_of (take k ms))

@@ -1,6 +1,8 @@
 -- The program without ghosts. Assertions and contracts are dropped, and types become ranges.
-use Rattle.std.specs.Prelude.{List, map, length, Option, Some, None, slice_index_or}
+use Rattle.std.specs.Prelude.{ℤ, pos, ◌≤ℤ◌, int_le, Bool, true, false, T, List, map, length, Option, Some, None, slice_index_or}
+use lib.Signed.{le_z_yes}
 use Rattle.df_types.specs.declared.interval.Interval.{Interval}
+use Rattle.df_types.specs.Newtype.{Newtype}
 use Rattle.df_program.specs.declared.expr.Ty.{Ty}
 use Rattle.df_program.specs.declared.expr.Ty.TheVariants as types
 use Rattle.df_program.specs.declared.expr.Operator as declared_operator
@@ -9,11 +11,13 @@ use Rattle.df_program.specs.Expr as source
 use Rattle.df_program.specs.Expr.{Expr}
 use Rattle.df_program.specs.Stmt as source_stmt
 use Rattle.df_program.specs.Program as source_program
+use Rattle.df_program.specs.Program.{Program}
 use Rattle.df_plain.specs.declared.expr.Operator as plain_operator
 use Rattle.df_plain.specs.declared.expr.Operator.TheVariants as plain_operators
 use Rattle.df_plain.specs.Expr as plain
 use Rattle.df_plain.specs.Stmt as plain_stmt
 use Rattle.df_plain.specs.Plain as plain_program
+use Rattle.df_plain.specs.Plain.{Plain}
 
 -- the intervals of the newtypes, and one that stands for types which have none
 pub record Ranges : Type 0 where
@@ -85,3 +89,24 @@ abbrev mutual
 
 abbrev pub erase_method : Ranges → source_program.Method → plain_program.Method
 erase_method r m = record { text = m.text; parameters = length m.parameters; results = length m.results; body = erase_stmts r m.body }
+
+-- the interval of 0 and no other number
+abbrev pub only_zero : Interval
+only_zero = record { low = pos 0; high = pos 0; is_ordered = le_z_yes tt }
+
+-- the interval between two ends, if they are ordered
+abbrev pub interval_by : (low high : ℤ) (are_ordered : Bool) → (T are_ordered → low ≤ℤ high) → Interval
+interval_by low high true is = record { low = low; high = high; is_ordered = is tt }
+interval_by low high false is = only_zero
+
+-- the interval of a newtype, whose ends are ordered
+abbrev pub interval_of : Newtype → Interval
+interval_of newtype = interval_by newtype.low newtype.high (int_le newtype.low newtype.high) (λ is. le_z_yes is)
+
+-- the intervals of a program's newtypes; no range of another type is asked for
+abbrev pub ranges_in : Program → Ranges
+ranges_in program = record { intervals = map interval_of program.newtypes; other = only_zero }
+
+-- the program without its ghosts: its methods, in their order
+abbrev pub erased : Program → Plain
+erased program = record { methods = map (erase_method (ranges_in program)) program.methods }

@@ -1,6 +1,7 @@
--- The least place of a literal that breaks the rule, as the code looks for it.
+-- The least place of an expression that breaks the rule, as the code looks for it.
 use Rattle.std.specs.Prelude.{cond, Option, fold}
 use Rattle.df_base.specs.declared.pos.Pos.{Pos}
+use Rattle.df_program.specs.declared.expr.Ty.{Ty}
 use Rattle.df_program.specs.declared.expr.Ty.TheVariants as types
 use Rattle.df_program.specs.Expr.{Expr, Number, Truth, Local, Negate, Not, Operations, Chain, Members, end, more, Links, last, link}
 use Rattle.df_program.specs.Stmt.{Operand, Text, Value, Stmt, Block, Var, Assign, If, Assert, Print, Stmts, done, next, Branches}
@@ -9,20 +10,24 @@ use Rattle.df_program.specs.Program.{Method}
 use Rattle.df_erase.specs.Native.{is_literal}
 use Rattle.df_erase.specs.Least.{earlier}
 
+abbrev pub found_if_int : Option Pos → Ty → Pos → Option Pos
+found_if_int best types.Int place = earlier best place
+found_if_int best types.Bool place = best
+found_if_int best (types.Newtype n) place = best
+
 abbrev mutual
   pub found : Option Pos → Expr → Option Pos
-  found best (Number types.Int value place) = earlier best place
-  found best (Number ty value place) = best
+  found best (Number ty value place) = found_if_int best ty place
   found best (Truth value) = best
   found best (Local local place) = best
-  found best (Negate ty place operand) = found best operand
+  found best (Negate ty place operand) = found (found_if_int best ty place) operand
   found best (Not operand) = found best operand
-  found best (Operations ty first rest) = found_in_members (found best first) rest
+  found best (Operations ty first rest) = found_in_members ty (found best first) rest
   found best (Chain ty first rest) = found_in_links (cond (is_literal first) best (found best first)) rest
 
-  pub found_in_members : Option Pos → Members → Option Pos
-  found_in_members best end = best
-  found_in_members best (more operator place operand rest) = found_in_members (found best operand) rest
+  pub found_in_members : Ty → Option Pos → Members → Option Pos
+  found_in_members ty best end = best
+  found_in_members ty best (more operator place operand rest) = found_in_members ty (found (found_if_int best ty place) operand) rest
 
   pub found_in_links : Option Pos → Links → Option Pos
   found_in_links best last = best

@@ -9,6 +9,7 @@ ghost use Rattle.df_plain.specs.Plain as plain_program;
 ghost use Rattle.df_erase.specs.declared.fault.EraseFault.TheVariants as faults;
 ghost use Rattle.df_erase.specs.Native.{IsNative, IsFirstLoose};
 ghost use Rattle.df_erase.specs.Running.{RunsAlike};
+ghost use Rattle.df_erase.specs.Erasing.{erased};
 
 use crate::eraser::Eraser;
 use crate::fault::EraseFault;
@@ -32,9 +33,11 @@ fn intervals_of(alloc: Global, newtypes: &Vec<Newtype>) -> Result<Vec<Interval>,
 }
 
 /// The program without contracts and assertions, with ranges for types. It is refused at the first
-/// literal that breaks the rule.
+/// expression that breaks the rule.
 pub fn erase(alloc: Global, program: &Program) -> Result<Plain, EraseFault>
     ensures runs { IfOk result (λ plain. RunsAlike (program_of program.now) (plain_of plain)) }
+    // It is a function of the program.
+    ensures erased { IfOk result (λ plain. plain_of plain ≡ erased (program_of program.now)) }
     // Methods keep their numbers.
     ensures methods { IfOk result (λ plain. map (λ (m : plain_program.Method). m.text) (plain_of plain).methods ≡ map (λ (m : source_program.Method). m.text) (program_of program.now).methods) }
     ensures native { IfOk result (λ plain. IsNative (program_of program.now)) }

@@ -1,4 +1,4 @@
-//! The first literal that breaks the rule on numbers of type `int` in compiled code.
+//! The first expression that breaks the rule on numbers of type `int` in compiled code.
 
 ghost use Rattle.std.specs.Prelude.{◌≡◌, None, map, cond, fold};
 ghost use Rattle.df_program.specs.Expr.{expr_of, members_of, links_of};
@@ -49,23 +49,33 @@ fn is_literal(e: &Expr) -> bool
     }
 }
 
+/// The best so far, or the place of what is of type `int` if it is earlier.
+fn if_int(best: Option<Pos>, ty: Ty, place: Pos) -> Option<Pos>
+    ensures { result ≡ find.found_if_int best ty place }
+{
+    match ty {
+        Ty::Int => earlier(best, place),
+        Ty::Bool => best,
+        Ty::Newtype(_) => best,
+    }
+}
+
 #[cycle(expr)]
 fn expr(best: Option<Pos>, e: &Expr) -> Option<Pos>
     ensures { result ≡ find.found best (expr_of e.now) }
 {
     match e {
-        Expr::Number { ty, pos, .. } => match ty {
-            Ty::Int => earlier(best, *pos),
-            Ty::Bool => best,
-            Ty::Newtype(_) => best,
-        },
+        Expr::Number { ty, pos, .. } => if_int(best, *ty, *pos),
         Expr::Truth(_) => best,
         Expr::Local { .. } => best,
-        Expr::Negate { operand, .. } => expr(best, operand),
+        Expr::Negate { ty, pos, operand } => {
+            let best = if_int(best, *ty, *pos);
+            expr(best, operand)
+        }
         Expr::Not(operand) => expr(best, operand),
-        Expr::Operations { first, rest, .. } => {
+        Expr::Operations { ty, first, rest } => {
             let best = expr(best, first);
-            members(best, rest)
+            members(best, *ty, rest)
         }
         Expr::Chain { first, rest, .. } => {
             let best = compared(best, first);
@@ -86,12 +96,13 @@ fn compared(best: Option<Pos>, e: &Expr) -> Option<Pos>
 }
 
 #[cycle(expr)]
-fn members(best: Option<Pos>, rest: &Vec<Operation>) -> Option<Pos>
-    ensures { result ≡ find.found_in_members best (members_of (map operation_of rest.now.items)) }
+fn members(best: Option<Pos>, ty: Ty, rest: &Vec<Operation>) -> Option<Pos>
+    ensures { result ≡ find.found_in_members ty best (members_of (map operation_of rest.now.items)) }
 {
     let mut best = best;
     for operation in rest {
-        best = expr(best, &operation.operand);
+        let signed = if_int(best, ty, operation.pos);
+        best = expr(signed, &operation.operand);
     }
     best
 }
@@ -175,7 +186,7 @@ fn in_method(best: Option<Pos>, method: &Method) -> Option<Pos>
     stmts(best, &method.body)
 }
 
-/// Where the first literal stands that breaks the rule.
+/// Where the first expression stands that breaks the rule.
 pub(crate) fn first_loose(program: &Program) -> Option<Pos>
     ensures { result ≡ fold find.found_in_method None (program_of program.now).methods }
 {

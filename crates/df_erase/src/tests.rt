@@ -9,7 +9,7 @@ ghost use Rattle.df_program.specs.Typing.{is_expr, is_stmt, are_stmts, locals_af
 
 use crate::{EraseFault, erase};
 use df_base::Pos;
-use df_program::{Expr, Method, Operand, Program, Stmt, Ty};
+use df_program::{Comparison, Expr, Link, Method, Operand, Program, Stmt, Ty};
 use df_types::Declared;
 use std::alloc::{AllocError, Global};
 use std::test::Fail;
@@ -95,5 +95,41 @@ fn tells_the_least_literal(rt: HostRuntime) -> Result<(), Fail> {
     let body = vec![in alloc; print(alloc, 9, 1)?, print(alloc, 8, 5)?]?;
     let program = program(alloc, body)?;
     assert!(rt; fault(alloc, &program) == Some(EraseFault::NotNative(at(8, 5), 2)));
+    Ok(())
+}
+
+/// Prints `-(7) < 7`, whose numbers are of type `int`.
+fn print_negated(alloc: Global) -> Result<Stmt, AllocError>
+    ensures typed { IfOk result (λ stmt. is_stmt 0 [] (stmt_of stmt) ≡ true) }
+    ensures locals { IfOk result (λ stmt. locals_after [] (stmt_of stmt) ≡ []) }
+{
+    let negated = Expr::Negate {
+        ty: Ty::Int,
+        pos: at(1, 23),
+        operand: Box::new(alloc, number(1, 25))?,
+    };
+    let link = Link {
+        comparison: Comparison::Less,
+        pos: at(1, 28),
+        operand: number(1, 30),
+    };
+    let value = Expr::Chain {
+        ty: Ty::Int,
+        first: Box::new(alloc, negated)?,
+        rest: vec![in alloc; link]?,
+    };
+    let operand = Operand::Value {
+        ty: Ty::Bool,
+        value,
+    };
+    Ok(Stmt::Print(vec![in alloc; operand]?))
+}
+
+#[test]
+fn tells_the_sign_before_a_literal(rt: HostRuntime) -> Result<(), Fail> {
+    let alloc = rt.alloc();
+    let body = vec![in alloc; print_negated(alloc)?]?;
+    let program = program(alloc, body)?;
+    assert!(rt; fault(alloc, &program) == Some(EraseFault::NotNative(at(1, 23), 2)));
     Ok(())
 }

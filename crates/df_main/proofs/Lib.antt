@@ -1,5 +1,6 @@
 mod Printing
 mod Fronts
 mod Telling
+mod Finals
 mod Searching
 mod Sampled

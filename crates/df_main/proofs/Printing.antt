@@ -1,7 +1,7 @@
 -- Main of a safe program ends, and so its code does.
 use Rattle.std.proofs.Common.{◌≡◌, ◌≢◌, ℕ, Bool, true, false, if◌then◌else◌, List, [], ◌∷◌, length, map, take, refl, sym, ap, subst, ◌∙◌}
 use Rattle.df_base.specs.declared.pos.Pos.{Pos}
-use Rattle.df_types.specs.Program.{Newtype}
+use Rattle.df_types.specs.Newtype.{Newtype}
 use Rattle.df_program.specs.Program.{Place, Clause, Method, Program}
 use Rattle.df_meaning.specs.declared.kind.Kind.{Kind}
 use Rattle.df_meaning.specs.Value.{Value, truth_of}
@@ -11,12 +11,10 @@ use Rattle.df_runs.specs.Execution.{execute_all}
 use Rattle.df_runs.specs.Modular.{Run, Ended, Wrong, Dismissed, TooDeep, ensure_value, ensure, require, after_body, begin, modular_run, AreArguments, IsModularlySafe}
 use Rattle.df_runs.specs.Reaching.{RunsReachTheDepth}
 use Rattle.df_runs.specs.Whole.{IsEntry}
-use Rattle.df_plain.specs.Plain.{Plain}
-use Rattle.df_erase.specs.Running.{RunsAlike}
 use Rattle.df_mach.specs.State.{Code}
 use Rattle.df_mach.specs.Run.{start_of}
-use Rattle.df_emit.specs.Correct.{machine_value, Ends, DoesWhat}
-use Rattle.df_main.specs.Run.{IsRunOf, IsEntryAt}
+use Rattle.df_emit.specs.Correct.{machine_value, Ends}
+use Rattle.df_main.specs.Run.{IsCompiled, IsRunOf, IsEntryAt}
 
 -- the run is not dismissed
 abbrev Counts : Run → Type 0
@@ -73,21 +71,21 @@ ends_with_none : (code : Code) (number : ℕ) (places : List Place) (values : Li
 ends_with_none code number places values text none ends =
     subst (λ (ps : List Place). Ends code (start_of code number [] []) (map machine_value (take (length ps) values)) text) none ends
 
-pub main_runs : (program : Program) (plain : Plain) (code : Code) (number : ℕ) → IsModularlySafe program → RunsReachTheDepth → RunsAlike program plain → DoesWhat plain code → IsEntryAt program number
+pub main_runs : (program : Program) (code : Code) (number : ℕ) → IsModularlySafe program → RunsReachTheDepth → IsCompiled program code → IsEntryAt program number
     → (text : List ℕ) × IsRunOf program number code text
-main_runs program plain code number safe reach alike does main =
+main_runs program code number safe reach compiled main =
     let ended = main_ends program main.method safe reach main.entry in
     let state : State = ended.0 in
-    let same = alike.ends number main.method [] 0 state main.there (no_arguments program.newtypes main.method.parameters main.entry.parameters) ended.1 in
+    let same = compiled.alike.ends number main.method [] 0 state main.there (no_arguments program.newtypes main.method.parameters main.entry.parameters) ended.1 in
     let count : length {A = Value} [] ≡ same.erased.parameters = sym (same.parameters ∙ ap length main.entry.parameters) in
-    let ends = does.runs number same.erased [] _ same.there count same.runs in (
+    let ends = compiled.does.runs number same.erased [] _ same.there count same.runs in (
       state.text,
       record {
         method = main.method;
         there = main.there;
         entry = main.entry;
         prints = record { depth = 0; state = state; ends = ended.1; prints = refl };
-        compiled = record { plain = plain; alike = alike; does = does };
+        compiled = compiled;
         ends = ends_with_none code number main.method.results _ state.text main.entry.results ends;
       },
     )

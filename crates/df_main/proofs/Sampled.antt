@@ -1,5 +1,5 @@
 -- The small code for tests never faults, since it ends.
-use Rattle.std.proofs.Common.{◌≡◌, ℕ, ◌+◌, List, [], ◌∷◌, codes, refl, sym, ap, subst, ◌∙◌, arith}
+use Rattle.std.proofs.Common.{◌≡◌, ℕ, ◌+◌, List, [], codes, refl, sym, ap, subst, ◌∙◌, arith}
 use Rattle.std.specs.Fmt.{digits}
 use Rattle.df_mach.specs.Value.{Value}
 use Rattle.df_mach.specs.State.{Code, Heap, State, Final}

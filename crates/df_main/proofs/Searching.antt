@@ -7,7 +7,7 @@ use Rattle.std.proofs.lemmas.List.Sums.{fails_before_first}
 use Rattle.std.proofs.lemmas.Option.{slice_get-map, slice_get_within, get_or_from_slice_get, slice_get-get_or}
 use Rattle.df_base.specs.Names.{same_text}
 use Rattle.df_base.proofs.NamesLemmas.{same_text-equal}
-use Rattle.df_types.specs.Program.{Newtype}
+use Rattle.df_types.specs.Newtype.{Newtype}
 use Rattle.df_program.specs.Program.{Method, Program}
 use Rattle.df_program.specs.MethodView.{method_of}
 use Rattle.df_program.specs.declared.program.Method as declared

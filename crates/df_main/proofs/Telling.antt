@@ -5,16 +5,26 @@ use Rattle.df_program.specs.Program.{Program}
 use Rattle.df_runs.specs.Modular.{IsModularlySafe}
 use Rattle.df_runs.specs.Reaching.{RunsReachTheDepth}
 use Rattle.df_plain.specs.Plain.{Plain}
+use Rattle.df_erase.specs.Erasing.{erased}
 use Rattle.df_erase.specs.Running.{RunsAlike}
+use Rattle.df_emit.specs.Code.{plain_code}
 use Rattle.df_emit.specs.Correct.{DoesWhat}
 use Rattle.df_mach.specs.Value.{Value}
 use Rattle.df_mach.specs.State.{Code, Heap, State, Final}
 use Rattle.df_mach.specs.Step.{Stepped, On, Ended}
 use Rattle.df_mach.specs.Run.{and_then, machine_run, start_of, NeverFaults}
 use Rattle.df_vm.specs.Runs.{Ends, HasRun, HasBegun}
-use Rattle.df_main.specs.Run.{IsRunOf, HasEnded, IsUnended, IsCutOff, IsEntryAt}
+use Rattle.df_main.specs.Run.{IsCompiled, IsRunOf, HasEnded, IsUnended, IsCutOff, IsStopped, IsEntryAt}
 use Rattle.df_main.proofs.Printing.{main_runs}
-use Rattle.df_main.proofs.Fronts.{text_so_far, one_end, front_is_prefix, prefix_of_front}
+use Rattle.df_main.proofs.Fronts.{text_so_far, one_end, prefix_of_front}
+
+-- the code that is emitted for the program without ghosts is the program's
+pub compiled_so : (program : Program) (plain : Plain) (code : Code) → plain ≡ erased program → RunsAlike program plain → DoesWhat plain code → code ≡ plain_code plain → IsCompiled program code
+compiled_so program plain code is alike does emitted = record {
+  is = emitted ∙ ap plain_code is;
+  alike = subst (λ (p : Plain). RunsAlike program p) is alike;
+  does = subst (λ (p : Plain). DoesWhat p code) is does;
+}
 
 -- a machine of this code that stands at the beginning of Main
 pub record Stands (program : Program) (number : ℕ) (code own : Code) (start : State) : Type 0 where
@@ -62,26 +72,36 @@ tells_write program number code own start fuel before now stands has =
 
 pub tells_memory : (program : Program) (number : ℕ) (code own : Code) (start : State) (fuel : ℕ) (before now : Option (List ℕ))
     → Stands program number code own start → (k : ℕ) × (k < fuel) × HasRun own start k before now
-    → IsCutOff program number before now
+    → IsStopped program number fuel before now
 tells_memory program number code own start fuel before now stands has =
     let run = has.2 in
     let front = front_of program number code own start has.0 run.state stands run.runs in
-    record { code = code; whole = stands.text; run = stands.run; puts = front_is_prefix before now run.state.text front.0 stands.text front.1 run.puts }
+    let on = from_start program number code own start has.0 (On run.state) stands run.runs in
+    record {
+      code = code;
+      whole = stands.text;
+      run = stands.run;
+      steps = has.0;
+      few = has.1;
+      text = run.state.text;
+      unended = record { state = run.state; on = on; so_far = refl; more = front.0; is_part = front.1 };
+      puts = run.puts;
+    }
 
 -- no number of steps from the beginning of Main breaks a demand
-pub never_faults : (program : Program) (plain : Plain) (code : Code) (number : ℕ) (heap : Heap) (arguments : List Value)
-    → IsModularlySafe program → RunsReachTheDepth → RunsAlike program plain → DoesWhat plain code → IsEntryAt program number → heap ≡ [] → arguments ≡ []
+pub never_faults : (program : Program) (code : Code) (number : ℕ) (heap : Heap) (arguments : List Value)
+    → IsModularlySafe program → RunsReachTheDepth → IsCompiled program code → IsEntryAt program number → heap ≡ [] → arguments ≡ []
     → NeverFaults code (start_of code number heap arguments)
-never_faults program plain code number heap arguments safe reach alike does main none empty =
-    let runs = main_runs program plain code number safe reach alike does main in
+never_faults program code number heap arguments safe reach compiled main none empty =
+    let runs = main_runs program code number safe reach compiled main in
     subst (λ (h : Heap). NeverFaults code (start_of code number h arguments)) (sym none)
     (subst (λ (vs : List Value). NeverFaults code (start_of code number [] vs)) (sym empty) runs.1.ends.never)
 
-pub stands_at : (program : Program) (plain : Plain) (code own : Code) (number : ℕ) (heap : Heap) (arguments : List Value) (start : State)
-    → IsModularlySafe program → RunsReachTheDepth → RunsAlike program plain → DoesWhat plain code → IsEntryAt program number → heap ≡ [] → arguments ≡ []
+pub stands_at : (program : Program) (code own : Code) (number : ℕ) (heap : Heap) (arguments : List Value) (start : State)
+    → IsModularlySafe program → RunsReachTheDepth → IsCompiled program code → IsEntryAt program number → heap ≡ [] → arguments ≡ []
     → start_of code number heap arguments ≡ On start → own ≡ code → Stands program number code own start
-stands_at program plain code own number heap arguments start safe reach alike does main none empty begins same =
-    let runs = main_runs program plain code number safe reach alike does main in
+stands_at program code own number heap arguments start safe reach compiled main none empty begins same =
+    let runs = main_runs program code number safe reach compiled main in
     record {
       text = runs.0;
       run = runs.1;

@@ -2,9 +2,11 @@
 #![tactic(auto)]
 
 mod entries;
+mod law;
 mod run;
 #[cfg(test)]
 mod tests;
 
 pub use entries::entry;
+pub use law::{an_end_stays, one_answer, one_code, stopped_is_cut_off};
 pub use run::{Ran, run_main};

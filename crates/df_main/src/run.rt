@@ -5,6 +5,7 @@ ghost use Rattle.df_base.specs.Outside.{HasCause};
 ghost use Rattle.df_program.specs.View.{program_of};
 ghost use Rattle.df_plain.specs.View.{plain_of};
 ghost use Rattle.df_runs.specs.Modular.{IsModularlySafe};
+ghost use Rattle.df_erase.specs.Erasing.{erased};
 ghost use Rattle.df_erase.specs.Running.{RunsAlike};
 ghost use Rattle.df_main.specs.Run.{IsEntryAt, RunsMain};
 
@@ -31,7 +32,7 @@ pub enum Ran {
 }
 
 /// Runs Main of a safe program by the machine for at most so many steps, and puts its text. The program
-/// without ghosts does what the program does.
+/// without ghosts is the erased program, and does what the program does.
 pub fn run_main<S: Sink>(
     alloc: Global,
     program: &Program,
@@ -41,6 +42,7 @@ pub fn run_main<S: Sink>(
     sink: &mut S,
 ) -> Ran
     requires safe { IsModularlySafe (program_of program.now) }
+    requires erased { plain_of plain.now ≡ erased (program_of program.now) }
     requires alike { RunsAlike (program_of program.now) (plain_of plain.now) }
     requires entry { IsEntryAt (program_of program.now) number }
     ensures runs { RunsMain result (program_of program.now) number fuel (S.taken sink.old) (S.taken sink.new) }

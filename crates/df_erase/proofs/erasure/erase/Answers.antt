@@ -11,6 +11,7 @@ use Rattle.df_erase.specs.Native.{IsNative, IsFirstLoose}
 use Rattle.df_erase.specs.Running.{RunsAlike}
 use Rattle.df_erase.proofs.Places.{first_is_loose, none_is_native}
 use Rattle.df_erase.proofs.Runs.{program_kinded, program_runs, program_names}
+use Rattle.df_erase.proofs.Whole.{program_erased}
 use Rattle.df_erase.proofs.erasure.erase.Goals as goal
 
 pub returns-in-Some-clause-first : goal.returns-in-Some-clause-first
@@ -36,6 +37,13 @@ returns-clause-runs c =
     let native : IsNative (program_of program) = none_is_native (program_of program) (sym c.first_loose.ensures ∙ c.in_default.is) in
     subst (λ (v : Vec declared.Method Global). RunsAlike (program_of program) (record { methods = map plain_view.method_of v.items })) (sym c.new-2.ensures)
     (program_runs program r c.loop-method.method-index (map plain_view.method_of c.loop-method.methods.items) program.is_well_typed c.in_ok-intervals.ensures native (omega arith) c.loop-method.invariant.erased)
+
+pub returns-clause-erased : goal.returns-clause-erased
+returns-clause-erased c =
+    let program = c.args.program.now in
+    let r : Ranges = record { intervals = c.in_ok-intervals.intervals.items; other = c.in-Some-new.other } in
+    ap (λ (v : Vec declared.Method Global). let p : plain.Plain = record { methods = map plain_view.method_of v.items } in p) c.new-2.ensures
+    ∙ program_erased program r c.loop-method.method-index (map plain_view.method_of c.loop-method.methods.items) c.in_ok-intervals.ensures c.in-Some-new.ensures.ends.0 c.in-Some-new.ensures.ends.1 (omega arith) c.loop-method.invariant.erased
 
 pub returns-clause-methods : goal.returns-clause-methods
 returns-clause-methods c =

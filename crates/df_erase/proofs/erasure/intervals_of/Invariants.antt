@@ -1,5 +1,5 @@
 use Rattle.std.proofs.Common.{◌≡◌, map, take}
-use Rattle.df_types.specs.declared.program.Newtype.{Newtype}
+use Rattle.df_types.specs.declared.newtype.Newtype.{Newtype}
 use Rattle.df_erase.proofs.erasure.intervals_of.Given as goal
 
 abbrev pub invariant-loop-newtype : goal.invariant-loop-newtype
