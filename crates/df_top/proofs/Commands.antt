@@ -7,10 +7,11 @@ use Rattle.df_cmd.specs.Line.{Command, Verify, Run, IsLine}
 use Rattle.df_program.specs.Program.{Program}
 use Rattle.df_top.specs.declared.ending.End.{End}
 use Rattle.df_top.specs.declared.ending.End.TheVariants as ends
-use Rattle.df_top.specs.Answer.{IsSpentText, IsOutText, IsRunReport, ProgramTells, not_native, no_main, SourceTells, refused, lawful, FilesTell, unread, large, loaded, Puts, IsNoLine, IsToldLine, OutPart, ErrPart, usage_line, memory_line, fuel_line, Rose}
+use Rattle.df_top.specs.Answer.{IsSpentText, IsOutText, IsRunReport, ProgramTells, not_native, no_main, SourceTells, refused, lawful, FilesTell, unread, large, loaded, Puts, IsNoLine, PutSoFar, nothing, on_out, on_err, IsOutOfMemory, IsCutOnErr, usage_line, unread_line, memory_line, fuel_line, Rose}
+use Rattle.df_top.specs.Answer as answers
 use Rattle.df_top.specs.Ending.{Streams, Ends, of_files, Answers}
 use Rattle.df_top.specs.Telling.{Tells}
-use Rattle.df_top.proofs.Texts.{nothing_of, all_of_text, part_of_whole}
+use Rattle.df_top.proofs.Texts.{part_of_whole}
 
 later : (before middle now : ℕ) → before ≤ middle → Rose middle now → Rose before now
 later before middle now kept (inl less) = inl (omega arith)
@@ -42,34 +43,19 @@ module _ (words : List (List ℕ)) (command : Command) (held : Option Contents) 
 
     pub unwritten : Given ends.Unwritten → Answers words held before now old new statuses.Unwritten
     unwritten (inl h) = inl (h.0, to_words _ _ h.1.0, h.1.1)
-    unwritten (inr h) = inr (
-      h.0,
-      inl h.1.1,
-      record {
-        middle = new.err;
-        report = inr (to_words _ _ h.1.0);
-        line = memory_line;
-        is_line = inr (inr (inr refl));
-        told = nothing_of new.err new.err memory_line refl;
-      },
-    )
+    unwritten (inr h) = inr (h.0, answers.report (to_words _ _ h.1.0) h.1.1)
 
     -- what is put before memory is refused
-    out_before : Given ends.Memory → OutPart words held old.out new.out
-    out_before (inl h) = inl h.0
-    out_before (inr (inl h)) = inr (to_words _ _ h.0)
-    out_before (inr (inr h)) = inl h.1
-
-    err_before : Given ends.Memory → (new.err ≡ old.err) ⊎ Puts words held IsRunReport (AppendsPrefix old.err new.err)
-    err_before (inl h) = inl h.1
-    err_before (inr (inl h)) = inl h.1
-    err_before (inr (inr h)) = inr (to_words _ _ h.0)
+    so_far : Given ends.Memory → PutSoFar words held old.out new.out old.err new.err
+    so_far (inl h) = nothing h.0 h.1
+    so_far (inr (inl h)) = on_out (to_words _ _ h.0) h.1
+    so_far (inr (inr h)) = on_err (to_words _ _ h.0) h.1
 
     -- what is put before the fuel is spent
-    spent_before : Given ends.FuelSpent → OutPart words held old.out new.out
-    spent_before ((source, there, (program, is, (text, kind, was_put))), same) =
+    spent_so_far : Given ends.FuelSpent → PutSoFar words held old.out new.out old.err new.err
+    spent_so_far ((source, there, (program, is, (text, kind, was_put))), same) =
         let part = spent_part command program old.out new.out text kind was_put in
-        inr (record { command = command; line = words_are; source = source; loaded = there; program = program; lawful = is; text = part.0; is = part.1; was_put = part.2 })
+        on_out (record { command = command; line = words_are; source = source; loaded = there; program = program; lawful = is; text = part.0; is = part.1; was_put = part.2 }) same
 
 -- ---- a line is told after what was put before
 
@@ -77,57 +63,54 @@ module _ (words : List (List ℕ)) (held : Option Contents) (before now : ℕ) (
   abbrev AnswersSo : Status → Type 0
   AnswersSo status = Answers words held before now old (record { out = middle.out; err = err; out_faults = middle.out_faults; err_faults = err_faults }) status
 
+  abbrev CutSo : Type 0
+  CutSo = IsCutOnErr words held before now old.out middle.out old.err err
+
+  abbrev SoFar : Type 0
+  SoFar = PutSoFar words held old.out middle.out old.err middle.err
+
   tells_end : (line : List ℕ) (status result : Status)
-      → OutPart words held old.out middle.out
-      → (middle.err ≡ old.err) ⊎ Puts words held IsRunReport (AppendsPrefix old.err middle.err)
-      → IsToldLine words held before now line
+      → SoFar
+      → (AppendsPrefix middle.err err line → CutSo)
       → Tells status line middle.err err middle.err_faults err_faults result
       → (Appends middle.err err line → AnswersSo status)
       → AnswersSo result
-  tells_end line status result part report is_line told whole = by_cases told
+  tells_end line status result put cut told whole = by_cases told
     where
-      err_part : (text : List ℕ) → IsToldLine words held before now text → AppendsPrefix middle.err err text → ErrPart words held before now old.err err
-      err_part text is_text put = record { middle = middle.err; report = report; line = text; is_line = is_text; told = put }
-
       by_cases : Tells status line middle.err err middle.err_faults err_faults result → AnswersSo result
       by_cases (inl h) = subst AnswersSo (sym h.0) (whole h.1)
       by_cases (inr (inl h)) =
-          let cut : ErrPart words held before now old.err err = ⊎_elim (λ (p : AppendsPrefix middle.err err line). err_part line is_line p) (λ (p : AppendsPrefix middle.err err memory_line). err_part memory_line (inr (inr (inr refl))) p) h.2 in
-          subst AnswersSo (sym h.0) (inr (later old.err_faults middle.err_faults err_faults kept h.1, part, cut))
-      by_cases (inr (inr h)) =
-          let put : AppendsPrefix middle.err err memory_line = ⊎_elim (λ (p : Appends middle.err err memory_line). all_of_text middle.err err memory_line p) (λ (p : err ≡ middle.err). nothing_of middle.err err memory_line p) h.1 in
-          subst AnswersSo (sym h.0) (part, err_part memory_line (inr (inr (inr refl))) put)
+          let why : CutSo = ⊎_elim (λ (p : AppendsPrefix middle.err err line). cut p) (λ (p : AppendsPrefix middle.err err memory_line). answers.memory middle.err put p) h.2 in
+          subst AnswersSo (sym h.0) (inr (later old.err_faults middle.err_faults err_faults kept h.1, why))
+      by_cases (inr (inr h)) = subst AnswersSo (sym h.0) (record { middle = middle.err; so_far = put; told = h.1 })
 
   -- the line on memory
-  memory_told : (result : Status)
-      → OutPart words held old.out middle.out
-      → (middle.err ≡ old.err) ⊎ Puts words held IsRunReport (AppendsPrefix old.err middle.err)
-      → Tells statuses.Memory memory_line middle.err err middle.err_faults err_faults result
-      → AnswersSo result
-  memory_told result part report told =
-      tells_end memory_line statuses.Memory result part report (inr (inr (inr refl))) told
-      (λ put. (part, record { middle = middle.err; report = report; line = memory_line; is_line = inr (inr (inr refl)); told = all_of_text middle.err err memory_line put }))
+  memory_told : (result : Status) → SoFar → Tells statuses.Memory memory_line middle.err err middle.err_faults err_faults result → AnswersSo result
+  memory_told result put told =
+      tells_end memory_line statuses.Memory result put (λ p. answers.memory middle.err put p) told
+      (λ whole. record { middle = middle.err; so_far = put; told = inl whole })
 
   -- before there is a command
   pub nothing_read : (result : Status) → middle.out ≡ old.out → middle.err ≡ old.err → Tells statuses.Memory memory_line middle.err err middle.err_faults err_faults result → AnswersSo result
-  nothing_read result quiet silent told = memory_told result (inl quiet) (inl silent) told
+  nothing_read result quiet silent told = memory_told result (nothing quiet silent) told
 
   -- the line on words that are no command
   pub usage_end : (result : Status) → IsNoLine words → middle.out ≡ old.out → middle.err ≡ old.err → Tells statuses.Usage usage_line middle.err err middle.err_faults err_faults result → AnswersSo result
   usage_end result none quiet silent told =
-      tells_end usage_line statuses.Usage result (inl quiet) (inl silent) (inl (none, refl)) told
+      tells_end usage_line statuses.Usage result (nothing quiet silent) (λ p. answers.usage none quiet (subst (λ (m : Option (List ℕ)). AppendsPrefix m err usage_line) silent p)) told
       (λ put. (none, (quiet, subst (λ (m : Option (List ℕ)). Appends m err usage_line) silent put)))
 
   module _ (command : Command) (words_are : IsLine words command) where
     pub memory_end : (result : Status) → Ends (of_files command held before now) old middle ends.Memory → Tells statuses.Memory memory_line middle.err err middle.err_faults err_faults result → AnswersSo result
-    memory_end result h told =
-        memory_told result (out_before words command held before now old words_are middle h) (err_before words command held before now old words_are middle h) told
+    memory_end result h told = memory_told result (so_far words command held before now old words_are middle h) told
 
     -- the line on fuel
     pub fuel_end : (result : Status) → Ends (of_files command held before now) old middle ends.FuelSpent → Tells statuses.FuelSpent fuel_line middle.err err middle.err_faults err_faults result → AnswersSo result
     fuel_end result h told =
-        tells_end fuel_line statuses.FuelSpent result (spent_before words command held before now old words_are middle h) (inl h.1) (inr (inr (inl refl))) told
-        (λ put. (to_words words command held before now old words_are middle _ _ h.0, subst (λ (m : Option (List ℕ)). Appends m err fuel_line) h.1 put))
+        let puts = to_words words command held before now old words_are middle _ _ h.0 in
+        tells_end fuel_line statuses.FuelSpent result (spent_so_far words command held before now old words_are middle h)
+        (λ p. answers.spent puts (subst (λ (m : Option (List ℕ)). AppendsPrefix m err fuel_line) h.1 p)) told
+        (λ put. (puts, subst (λ (m : Option (List ℕ)). Appends m err fuel_line) h.1 put))
 
     -- a line of the command
     by_status : (line : List ℕ) (status : Status) → FilesTell held before now command status line → middle.out ≡ old.out → Appends old.err err line → AnswersSo status
@@ -142,13 +125,14 @@ module _ (words : List (List ℕ)) (held : Option Contents) (before now : ℕ) (
         by_source command source status line tells (lawful program there told) is put = by_program command source program status line tells told is put
 
         by_files : (command : Command) (status : Status) (line : List ℕ) → FilesTell held before now command status line → IsLine words command → Appends old.err err line → AnswersSo status
-        by_files command status line (unread rose) is put = (line, record { command = command; words_are = is; tells = unread rose }, (quiet, put))
+        by_files command status line (unread rose) is put = (rose, (command, is, (quiet, put)))
         by_files command status line (large long) is put = (line, record { command = command; words_are = is; tells = large long }, (quiet, put))
         by_files command status line (loaded source there told) is put = by_source command source status line (loaded source there told) told is put
 
     pub told_end : (line : List ℕ) (status result : Status) → FilesTell held before now command status line → middle.out ≡ old.out → middle.err ≡ old.err → Tells status line middle.err err middle.err_faults err_faults result → AnswersSo result
     told_end line status result tells quiet silent told =
-        tells_end line status result (inl quiet) (inl silent) (inr (inl (status, record { command = command; words_are = words_are; tells = tells }))) told
+        tells_end line status result (nothing quiet silent)
+        (λ p. answers.cause status line (record { command = command; words_are = words_are; tells = tells }) quiet (subst (λ (m : Option (List ℕ)). AppendsPrefix m err line) silent p)) told
         (λ put. by_status line status tells quiet (subst (λ (m : Option (List ℕ)). Appends m err line) silent put))
 
 -- ---- clause by clause
@@ -160,7 +144,7 @@ module _ (words : List (List ℕ)) (held : Option Contents) (before now : ℕ) (
   no_line statuses.Unproved (inr a) none = absurd (none a.0.command a.0.line)
   no_line statuses.Usage a none = inl refl
   no_line statuses.Refused a none = absurd (none a.1.command a.1.words_are)
-  no_line statuses.Unread a none = absurd (none a.1.command a.1.words_are)
+  no_line statuses.Unread a none = absurd (none a.1.0 a.1.1)
   no_line statuses.Unwritten a none = inr (inl refl)
   no_line statuses.Memory a none = inr (inr refl)
   no_line statuses.FuelSpent a none = absurd (none a.0.command a.0.line)

@@ -9,6 +9,7 @@ use Rattle.df_mach.specs.State.{Code}
 use Rattle.df_main.specs.declared.run.Ran.{Ran}
 use Rattle.df_main.specs.declared.run.Ran.TheVariants as rans
 use Rattle.df_main.specs.Run.{IsRunOf, IsEntryAt, RunsMain}
+use Rattle.df_top.proofs.Texts.{part_of_whole}
 use Rattle.df_top.specs.declared.ending.End.{End}
 use Rattle.df_top.specs.declared.ending.End.TheVariants as ends
 use Rattle.df_top.specs.Answer.{IsReport, IsAccepted, IsRefusedRun, Rose}
@@ -60,7 +61,8 @@ module _ (program : Program) (old new : Streams) where
       inl (rose refl, ((cut.whole, (number, cut.code, accepted budget.steps number cut.code cut.whole ready cut.run), cut.puts), same))
   of_main file budget number fuel rans.Memory ready (inl quiet) rose same = inl (quiet, same)
   of_main file budget number fuel rans.Memory ready (inr cut) rose same =
-      inr (inl ((cut.whole, (number, cut.code, accepted budget.steps number cut.code cut.whole ready cut.run), cut.puts), same))
+      let put = part_of_whole old.out new.out cut.whole cut.text cut.unended.more cut.unended.is_part cut.puts in
+      inr (inl ((cut.whole, (number, cut.code, accepted budget.steps number cut.code cut.whole ready cut.run), put), same))
 
   module _ (command : Command) where
     abbrev EndsSo : End → Type 0

@@ -1,7 +1,7 @@
 -- What each status of a call tells.
 use Rattle.std.specs.Prelude.{◌≡◌, ◌<◌, ◌-◌, ◌^◌, ◌⊎◌, ℕ, Bool, true, false, List, ◌++◌, codes, Option, Some, IfSome, length}
 use Rattle.std.specs.Fmt.{decimal}
-use Rattle.df_base.specs.Outside.{Contents, bytes_of, AppendsPrefix}
+use Rattle.df_base.specs.Outside.{Contents, bytes_of, Appends, AppendsPrefix}
 use Rattle.df_base.specs.declared.pos.Pos.{Pos}
 use Rattle.df_base.specs.declared.refusal.Refusal.{Refusal}
 use Rattle.df_base.specs.declared.status.Status.{Status}
@@ -158,18 +158,23 @@ pub record Puts (words : List (List ℕ)) (held : Option Contents) (is_of : Comm
   pub is : is_of command program text
   pub was_put : put text
 
--- a line that err may be told
-abbrev pub IsToldLine : List (List ℕ) → Option Contents → ℕ → ℕ → List ℕ → Type 0
-IsToldLine words held before now line = (IsNoLine words × (line ≡ usage_line)) ⊎ (((status : Status) × Tells words held before now status line) ⊎ ((line ≡ fuel_line) ⊎ (line ≡ memory_line)))
+-- How much was put when memory was refused: nothing, or a prefix of what the command puts on out, or of the
+-- report that run puts on err.
+pub data PutSoFar (words : List (List ℕ)) (held : Option Contents) (old_out new_out old_err new_err : Option (List ℕ)) : Type 0 where
+  nothing : new_out ≡ old_out → new_err ≡ old_err → PutSoFar words held old_out new_out old_err new_err
+  on_out : Puts words held IsOutText (AppendsPrefix old_out new_out) → new_err ≡ old_err → PutSoFar words held old_out new_out old_err new_err
+  on_err : Puts words held IsRunReport (AppendsPrefix old_err new_err) → new_out ≡ old_out → PutSoFar words held old_out new_out old_err new_err
 
--- nothing is put, or a prefix of what the command puts on out
-abbrev pub OutPart : List (List ℕ) → Option Contents → Option (List ℕ) → Option (List ℕ) → Type 0
-OutPart words held old new = (new ≡ old) ⊎ Puts words held IsOutText (AppendsPrefix old new)
-
--- Nothing is put, or a prefix of the report of run; and then a prefix of a line.
-pub record ErrPart (words : List (List ℕ)) (held : Option Contents) (before now : ℕ) (old new : Option (List ℕ)) : Type 0 where
+-- and then err was told of it, if there was memory for that
+pub record IsOutOfMemory (words : List (List ℕ)) (held : Option Contents) (old_out new_out old_err new_err : Option (List ℕ)) : Type 0 where
   pub middle : Option (List ℕ)
-  pub report : (middle ≡ old) ⊎ Puts words held IsRunReport (AppendsPrefix old middle)
-  pub line : List ℕ
-  pub is_line : IsToldLine words held before now line
-  pub told : AppendsPrefix middle new line
+  pub so_far : PutSoFar words held old_out new_out old_err middle
+  pub told : Appends middle new_err memory_line ⊎ (new_err ≡ middle)
+
+-- What a failed write of err cut off; nothing is put after it.
+pub data IsCutOnErr (words : List (List ℕ)) (held : Option Contents) (before now : ℕ) (old_out new_out old_err new_err : Option (List ℕ)) : Type 0 where
+  report : Puts words held IsRunReport (AppendsPrefix old_err new_err) → new_out ≡ old_out → IsCutOnErr words held before now old_out new_out old_err new_err
+  usage : IsNoLine words → new_out ≡ old_out → AppendsPrefix old_err new_err usage_line → IsCutOnErr words held before now old_out new_out old_err new_err
+  cause : (status : Status) (line : List ℕ) → Tells words held before now status line → new_out ≡ old_out → AppendsPrefix old_err new_err line → IsCutOnErr words held before now old_out new_out old_err new_err
+  spent : Puts words held IsSpentText (Appends old_out new_out) → AppendsPrefix old_err new_err fuel_line → IsCutOnErr words held before now old_out new_out old_err new_err
+  memory : (middle : Option (List ℕ)) → PutSoFar words held old_out new_out old_err middle → AppendsPrefix middle new_err memory_line → IsCutOnErr words held before now old_out new_out old_err new_err

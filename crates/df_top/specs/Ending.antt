@@ -5,12 +5,12 @@ use Rattle.std.specs.declared.alloc.AllocError.{AllocError}
 use Rattle.df_base.specs.Outside.{Contents, Appends, AppendsPrefix}
 use Rattle.df_base.specs.declared.status.Status.{Status}
 use Rattle.df_base.specs.declared.status.Status.TheVariants as statuses
-use Rattle.df_cmd.specs.Line.{Command, file_of}
+use Rattle.df_cmd.specs.Line.{Command, IsLine, file_of}
 use Rattle.df_program.specs.Program.{Program}
 use Rattle.df_front.specs.Source.{IsLawful}
 use Rattle.df_top.specs.declared.ending.End.{End}
 use Rattle.df_top.specs.declared.ending.End.TheVariants as ends
-use Rattle.df_top.specs.Answer.{IsDoneText, IsSpentText, IsVerifyReport, IsRunReport, IsOutText, ProgramTells, SourceTells, FilesTell, Tells, IsLoaded, Puts, OutPart, ErrPart, IsNoLine, usage_line, fuel_line, Rose}
+use Rattle.df_top.specs.Answer.{IsDoneText, IsSpentText, IsVerifyReport, IsRunReport, IsOutText, ProgramTells, SourceTells, FilesTell, Tells, IsLoaded, Puts, IsOutOfMemory, IsCutOnErr, IsNoLine, usage_line, unread_line, fuel_line, Rose}
 
 -- what the two sinks have taken, and their counts of faults
 pub record Streams : Type 0 where
@@ -87,9 +87,9 @@ Answers words held before now old new statuses.Done = Puts words held IsDoneText
 Answers words held before now old new statuses.Unproved = (Puts words held IsVerifyReport (Appends old.out new.out) × (new.err ≡ old.err)) ⊎ (Puts words held IsRunReport (Appends old.err new.err) × (new.out ≡ old.out))
 Answers words held before now old new statuses.Usage = IsNoLine words × Told usage_line old new
 Answers words held before now old new statuses.Refused = TellsFor words held before now old new statuses.Refused
-Answers words held before now old new statuses.Unread = TellsFor words held before now old new statuses.Unread
-Answers words held before now old new statuses.Unwritten = (Rose old.out_faults new.out_faults × Puts words held IsOutText (AppendsPrefix old.out new.out) × (new.err ≡ old.err)) ⊎ (Rose old.err_faults new.err_faults × OutPart words held old.out new.out × ErrPart words held before now old.err new.err)
-Answers words held before now old new statuses.Memory = OutPart words held old.out new.out × ErrPart words held before now old.err new.err
+Answers words held before now old new statuses.Unread = Rose before now × ((command : Command) × IsLine words command × Told (unread_line (file_of command)) old new)
+Answers words held before now old new statuses.Unwritten = (Rose old.out_faults new.out_faults × Puts words held IsOutText (AppendsPrefix old.out new.out) × (new.err ≡ old.err)) ⊎ (Rose old.err_faults new.err_faults × IsCutOnErr words held before now old.out new.out old.err new.err)
+Answers words held before now old new statuses.Memory = IsOutOfMemory words held old.out new.out old.err new.err
 Answers words held before now old new statuses.FuelSpent = Puts words held IsSpentText (Appends old.out new.out) × Appends old.err new.err fuel_line
 Answers words held before now old new statuses.NotCompilable = TellsFor words held before now old new statuses.NotCompilable
 Answers words held before now old new statuses.NoMain = TellsFor words held before now old new statuses.NoMain

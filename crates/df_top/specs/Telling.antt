@@ -14,8 +14,8 @@ abbrev pub IsCut : List ℕ → Option (List ℕ) → Option (List ℕ) → ℕ 
 IsCut line old new before now result = (result ≡ statuses.Unwritten) × Rose before now × (AppendsPrefix old new line ⊎ AppendsPrefix old new memory_line)
 
 -- memory was refused: the line on memory is told, or nothing
-abbrev pub IsOutOfMemory : Option (List ℕ) → Option (List ℕ) → Status → Type 0
-IsOutOfMemory old new result = (result ≡ statuses.Memory) × (Appends old new memory_line ⊎ (new ≡ old))
+abbrev pub IsRefusedMemory : Option (List ℕ) → Option (List ℕ) → Status → Type 0
+IsRefusedMemory old new result = (result ≡ statuses.Memory) × (Appends old new memory_line ⊎ (new ≡ old))
 
 abbrev pub Tells : Status → List ℕ → Option (List ℕ) → Option (List ℕ) → ℕ → ℕ → Status → Type 0
-Tells status line old new before now result = IsToldFor status line old new result ⊎ (IsCut line old new before now result ⊎ IsOutOfMemory old new result)
+Tells status line old new before now result = IsToldFor status line old new result ⊎ (IsCut line old new before now result ⊎ IsRefusedMemory old new result)

@@ -6,14 +6,20 @@ ghost use Rattle.df_base.specs.declared.status.Status.TheVariants as statuses;
 ghost use Rattle.df_cmd.specs.Line as lines;
 ghost use Rattle.df_cmd.specs.Line.{IsLine, file_of, budget_of as budget_in};
 ghost use Rattle.df_cmd.specs.View.{command_of};
-ghost use Rattle.df_top.specs.Answer.{Puts, IsDoneText, IsSpentText, IsVerifyReport, IsRunReport, IsOutText, Tells, IsNoLine, usage_line, fuel_line, OutPart, ErrPart, Rose};
+ghost use Rattle.df_top.specs.Answer.{Puts, IsDoneText, IsSpentText, IsVerifyReport, IsRunReport, IsOutText, Tells, IsNoLine, usage_line, unread_line, fuel_line, IsOutOfMemory, IsCutOnErr, Rose};
+ghost use Rattle.df_top.specs.Complete.{Holds, IsCutShort, IsDue};
 ghost use Rattle.df_top.specs.Ending.{Ends, of_files, Answers};
+ghost use Rattle.df_top.specs.Headline.{Accepts, RunsRight, IsAllRight};
 
 use crate::ending::End;
 use crate::running::{end_source, file, told};
 use crate::telling::{large_text, tell, tell_fuel, tell_memory, tell_usage, unread_text};
 use df_base::{Files, Global, LoadFault, Sink, Status};
-use df_cmd::{Command, LineFault, line};
+use df_cmd::{Command, LineFault, line, one_line};
+use df_front::{one_program, refused_is_unlawful};
+use df_main::an_end_stays;
+use df_runs::safe_methods_are_right;
+use df_verdict::judged_is_safe;
 
 /// A source has at most this many bytes.
 const BYTE_LIMIT: u64 = 4_194_304;
@@ -106,19 +112,33 @@ pub fn top<F: Files, O: Sink, E: Sink>(
     ensures no_line { IsNoLine (map string_bytes words.now) → (result ≡ statuses.Usage) ⊎ ((result ≡ statuses.Unwritten) ⊎ (result ≡ statuses.Memory)) }
     // The source breaks a rule, or is too long; the line tells the first one.
     ensures refused { result ≡ statuses.Refused → (line : List ℕ) × Tells (map string_bytes words.now) (F.holds files.old) (F.fault_count files.old) (F.fault_count files.new) statuses.Refused line × (O.taken out.new ≡ O.taken out.old) × Appends (E.taken err.old) (E.taken err.new) line }
-    ensures unread { result ≡ statuses.Unread → (line : List ℕ) × Tells (map string_bytes words.now) (F.holds files.old) (F.fault_count files.old) (F.fault_count files.new) statuses.Unread line × (O.taken out.new ≡ O.taken out.old) × Appends (E.taken err.old) (E.taken err.new) line }
+    // A load failed.
+    ensures unread { result ≡ statuses.Unread → Rose (F.fault_count files.old) (F.fault_count files.new) × ((command : lines.Command) × IsLine (map string_bytes words.now) command × (O.taken out.new ≡ O.taken out.old) × Appends (E.taken err.old) (E.taken err.new) (unread_line (file_of command))) }
     // All is proved, and the machine has not run Main to its end in so many steps.
     ensures spent { result ≡ statuses.FuelSpent → Puts (map string_bytes words.now) (F.holds files.old) IsSpentText (Appends (O.taken out.old) (O.taken out.new)) × Appends (E.taken err.old) (E.taken err.new) fuel_line }
-    // A literal breaks the rule on what compiles, and the line tells the first one.
+    // An expression breaks the rule on what compiles, and the line tells the first place.
     ensures not_compilable { result ≡ statuses.NotCompilable → (line : List ℕ) × Tells (map string_bytes words.now) (F.holds files.old) (F.fault_count files.old) (F.fault_count files.new) statuses.NotCompilable line × (O.taken out.new ≡ O.taken out.old) × Appends (E.taken err.old) (E.taken err.new) line }
     // The program compiles, and no method is the entry.
     ensures no_main { result ≡ statuses.NoMain → (line : List ℕ) × Tells (map string_bytes words.now) (F.holds files.old) (F.fault_count files.old) (F.fault_count files.new) statuses.NoMain line × (O.taken out.new ≡ O.taken out.old) × Appends (E.taken err.old) (E.taken err.new) line }
     // A put failed on `out`, or on `err`.
-    ensures unwritten { result ≡ statuses.Unwritten → (Rose (O.fault_count out.old) (O.fault_count out.new) × Puts (map string_bytes words.now) (F.holds files.old) IsOutText (AppendsPrefix (O.taken out.old) (O.taken out.new)) × (E.taken err.new ≡ E.taken err.old)) ⊎ (Rose (E.fault_count err.old) (E.fault_count err.new) × OutPart (map string_bytes words.now) (F.holds files.old) (O.taken out.old) (O.taken out.new) × ErrPart (map string_bytes words.now) (F.holds files.old) (F.fault_count files.old) (F.fault_count files.new) (E.taken err.old) (E.taken err.new)) }
-    ensures memory { result ≡ statuses.Memory → OutPart (map string_bytes words.now) (F.holds files.old) (O.taken out.old) (O.taken out.new) × ErrPart (map string_bytes words.now) (F.holds files.old) (F.fault_count files.old) (F.fault_count files.new) (E.taken err.old) (E.taken err.new) }
+    ensures unwritten { result ≡ statuses.Unwritten → (Rose (O.fault_count out.old) (O.fault_count out.new) × Puts (map string_bytes words.now) (F.holds files.old) IsOutText (AppendsPrefix (O.taken out.old) (O.taken out.new)) × (E.taken err.new ≡ E.taken err.old)) ⊎ (Rose (E.fault_count err.old) (E.fault_count err.new) × IsCutOnErr (map string_bytes words.now) (F.holds files.old) (F.fault_count files.old) (F.fault_count files.new) (O.taken out.old) (O.taken out.new) (E.taken err.old) (E.taken err.new)) }
+    ensures memory { result ≡ statuses.Memory → IsOutOfMemory (map string_bytes words.now) (F.holds files.old) (O.taken out.old) (O.taken out.new) (E.taken err.old) (E.taken err.new) }
+    // The headline: where `run` accepts, the emitted erased code of the source's Main never faults, ends, and
+    // prints the text of a run of the program that satisfies every assertion and contract.
+    ensures headline { (file : List ℕ) (budget : lines.Budget) (fuel : ℕ) → IsLine (map string_bytes words.now) (lines.Run file budget fuel) → Accepts result (O.taken out.old) (O.taken out.new) → RunsRight (F.holds files.old) file (O.taken out.old) (O.taken out.new) }
+    // Where `verify` tells of no failure, every method of the source is right.
+    ensures right { (file : List ℕ) (budget : lines.Budget) → IsLine (map string_bytes words.now) (lines.Verify file budget) → result ≡ statuses.Done → IsAllRight (F.holds files.old) file }
+    // Completeness: but for counted faults and want of memory the status is the one that is due.
+    ensures complete { (command : lines.Command) (source : List ℕ) → IsLine (map string_bytes words.now) command → Holds (F.holds files.old) (file_of command) source → IsCutShort result ⊎ IsDue command source result (O.taken out.old) (O.taken out.new) }
     ensures others { result ≢ statuses.BadLog }
     ensures held { F.holds files.new ≡ F.holds files.old }
     ensures counts { (F.fault_count files.old ≤ F.fault_count files.new) × (O.fault_count out.old ≤ O.fault_count out.new) × (E.fault_count err.old ≤ E.fault_count err.new) }
 {
+    judged_is_safe();
+    safe_methods_are_right();
+    one_line();
+    one_program();
+    an_end_stays();
+    refused_is_unlawful();
     answer(alloc, words, files, out, err)
 }

@@ -2,6 +2,8 @@
 #![tactic(auto)]
 
 mod command;
+#[cfg(test)]
+mod devices;
 mod ending;
 mod proving;
 mod putting;

@@ -5,6 +5,7 @@ ghost use Rattle.df_cmd.specs.Line.{Run, file_of, budget_of as budget_in};
 ghost use Rattle.df_cmd.specs.View.{command_of};
 ghost use Rattle.df_program.specs.View.{program_of};
 ghost use Rattle.df_plain.specs.View.{plain_of};
+ghost use Rattle.df_erase.specs.Erasing.{erased};
 ghost use Rattle.df_erase.specs.Native.{IsNative};
 ghost use Rattle.df_erase.specs.Running.{RunsAlike};
 ghost use Rattle.df_main.specs.Run.{IsEntryAt};
@@ -72,6 +73,7 @@ fn prove_and_run<O: Sink, E: Sink>(
 ) -> End
     requires run { command_of command.now ≡ Run (file_of (command_of command.now)) (budget_in (command_of command.now)) fuel }
     requires steps { 1 ≤ (budget_in (command_of command.now)).steps }
+    requires erased { plain_of plain.now ≡ erased (program_of program.now) }
     requires alike { RunsAlike (program_of program.now) (plain_of plain.now) }
     requires native { IsNative (program_of program.now) }
     requires entry { IsEntryAt (program_of program.now) number }

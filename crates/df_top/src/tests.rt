@@ -5,7 +5,7 @@ use std::test::Fail;
 const RANGE: &[u8] = b"newtype i32 = x: int | -0x8000_0000 <= x < 0x8000_0000\n";
 
 /// The words of a command.
-fn words(alloc: Global, texts: &[&str]) -> Result<Vec<String>, Fail> {
+pub(crate) fn words(alloc: Global, texts: &[&str]) -> Result<Vec<String>, Fail> {
     let mut words = Vec::new(alloc);
     for text in texts {
         words.push(String::from_str(alloc, text)?)?;
@@ -180,23 +180,6 @@ fn stops_where_it_cannot_tell(rt: HostRuntime) -> Result<(), Fail> {
 }
 
 #[test]
-fn stops_at_a_failed_load(rt: HostRuntime) -> Result<(), Fail> {
-    let alloc = rt.alloc();
-    let mut files = MemFiles::new(alloc);
-    files.add("p.dfy", RANGE)?;
-    files.fail_at(0)?;
-    let words = words(alloc, &["run", "p.dfy"])?;
-    let mut out = MemSink::new(alloc);
-    let mut err = SureSink::new(alloc);
-    assert_eq!(rt;
-        top(alloc, &words, &mut files, &mut out, &mut err),
-        Status::Unread
-    );
-    assert_eq!(rt; err.taken(), b"p.dfy: cannot read\n".as_slice());
-    Ok(())
-}
-
-#[test]
 fn stops_at_a_failed_write(rt: HostRuntime) -> Result<(), Fail> {
     let alloc = rt.alloc();
     let source = with_body(alloc, b"var x: i32 := 41; print x + 1, \"\"; print \"ab\";")?;
@@ -244,31 +227,5 @@ fn keeps_the_limits(rt: HostRuntime) -> Result<(), Fail> {
     let status = call(alloc, &["verify", "p.dfy"], &source, &mut out, &mut err)?;
     assert_eq!(rt; status, Status::Refused);
     assert_eq!(rt; err.taken(), b"p.dfy:1:1: S14 limit\n".as_slice());
-    Ok(())
-}
-
-#[test]
-fn stops_at_a_failed_report(rt: HostRuntime) -> Result<(), Fail> {
-    let alloc = rt.alloc();
-    let source = with_body(alloc, b" var x: i32 := 2147483647; print x + 1; ")?;
-    let table: [(u64, usize, Status, &[u8]); 3] = [
-        (0, 4, Status::Unwritten, b"Main"),
-        (1, 0, Status::Unwritten, b"Main: unproved\n"),
-        (
-            9,
-            0,
-            Status::Unproved,
-            b"Main: unproved\n  2:51 range: model\n0 verified, 1 unproved\n",
-        ),
-    ];
-    for (call_number, takes, status, told) in table {
-        let mut out = MemSink::new(alloc);
-        let mut err = MemSink::new(alloc);
-        err.fail_at(call_number, takes)?;
-        let ended = call(alloc, &["run", "p.dfy"], &source, &mut out, &mut err)?;
-        assert_eq!(rt; ended, status, "at {call_number}");
-        assert_eq!(rt; err.taken(), told, "at {call_number}");
-        assert_eq!(rt; out.taken().len(), 0);
-    }
     Ok(())
 }
