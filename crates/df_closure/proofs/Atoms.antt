@@ -1,7 +1,7 @@
 -- Rows have coefficients for atoms alone.
 use Rattle.std.proofs.Common.{◌≡◌, ℕ, zero, suc, ◌<◌, ◌≤◌, ◌⊎◌, inl, inr, ℤ, pos, negsuc, ◌+ℤ◌, ◌*ℤ◌, int_le, Bool, true, false, ◌&&◌, cond, nat_eq, nat_lt, List, [], ◌∷◌, ◌++◌, length, Option, Some, None, slice_get, refl, sym, ap, ◌∙◌, arith, subst, true≢false, ltb-true}
 use Rattle.std.proofs.lemmas.Bool.Decides.{nat_tests}
-use Rattle.std.specs.Option.{is_none, option_and_then, option_map}
+use Rattle.std.specs.Option.{is_none, option_map}
 use Rattle.std.specs.List.{list_all, AllByRecursion}
 use Rattle.df_form.specs.declared.log.Lit.{Lit}
 use Rattle.df_form.specs.declared.node.Sort.{Sort}
@@ -10,10 +10,11 @@ use Rattle.df_form.specs.declared.node.Op.{Op}
 use Rattle.df_form.specs.declared.node.Op.TheVariants as ops
 use Rattle.df_form.specs.Node.{Node}
 use Rattle.df_form.specs.Sorting.{sort_at}
-use Rattle.df_linear.specs.Row.{Row, fits, constant_row, with_coefficient, with_more, with_constant, without, literal_number, with_product, expanded_parts, expanded_at, expanded_below, difference}
+use Rattle.df_linear.specs.Row.{Row, constant_row, with_more, without, literal_number, with_product, expanded_parts, expanded_at, expanded_below, expanded_difference, difference}
 use Rattle.df_linear.specs.Linear.{one_row, two_rows, comparison_rows, rows_by_sort, rows_of_parts, rows_of_node, rows_of}
 use Rattle.df_linear.specs.Value.{row_value, rows_hold}
-use Rattle.df_form.proofs.Lists.{then_some, map_some, test_some, some_is, both, get_below}
+use Rattle.df_linear.proofs.Rows.{narrow_row_is}
+use Rattle.df_form.proofs.Lists.{then_some, map_some, some_is, both, get_below}
 use Rattle.df_form.proofs.Values.{AreSorted, parts_below}
 use Rattle.df_kern.proofs.SoundConnectives.{all_appended}
 use Rattle.df_kern.proofs.SoundIntegers.{same_sums, zero_times}
@@ -32,92 +33,79 @@ equal : (n : ℕ) → nat_eq n n ≡ true
 equal n = grind (arith, nat_tests)
 
 -- steps that leave the coefficient of a node as it is
-more_elsewhere : (n k : ℕ) (c : ℤ) (row new : Row) → with_more k c row ≡ Some new → k < n → new.coefficient n ≡ row.coefficient n
-more_elsewhere n k c row new e less =
-    let sum = row.coefficient k +ℤ c in
-    let tested = test_some (fits sum) (Some (record { coefficient = with_coefficient row.coefficient k sum; constant = row.constant })) new e in
-    ap (λ (r : Row). r.coefficient n) (sym (some_is _ new tested.1)) ∙ ap (λ t. cond t sum (row.coefficient n)) (unequal n k less)
-
-constant_elsewhere : (n : ℕ) (c : ℤ) (row new : Row) → with_constant c row ≡ Some new → new.coefficient n ≡ row.coefficient n
-constant_elsewhere n c row new e =
-    let sum = row.constant +ℤ c in
-    let tested = test_some (fits sum) (Some (record { coefficient = row.coefficient; constant = sum })) new e in
-    ap (λ (r : Row). r.coefficient n) (sym (some_is _ new tested.1))
+pub more_elsewhere : (n k : ℕ) (c : ℤ) (row : Row) → k < n → (with_more k c row).coefficient n ≡ row.coefficient n
+more_elsewhere n k c row less = ap (λ t. cond t (row.coefficient k +ℤ c) (row.coefficient n)) (unequal n k less)
 
 abbrev AreBelow : ℕ → List ℕ → Type 0
 AreBelow m parts = list_all (λ part. nat_lt part m) parts ≡ true
 
 module _ (nodes : List Node) (sorted : AreSorted nodes) where
-  product_elsewhere : (n b : ℕ) (c : ℤ) (o : Option ℤ) (row taken new : Row) → with_product c b o row taken ≡ Some new → b < n → is_none o ≡ false → new.coefficient n ≡ taken.coefficient n
-  product_elsewhere n b c None row taken new e less other = absurd (true≢false other)
-  product_elsewhere n b c (Some k) row taken new e less other = more_elsewhere n b (c *ℤ k) taken new (test_some (fits (c *ℤ k)) (with_more b (c *ℤ k) taken) new e).1 less
+  product_elsewhere : (n b : ℕ) (c : ℤ) (o : Option ℤ) (row taken : Row) → b < n → is_none o ≡ false → (with_product c b o row taken).coefficient n ≡ taken.coefficient n
+  product_elsewhere n b c None row taken less other = absurd (true≢false other)
+  product_elsewhere n b c (Some k) row taken less other = more_elsewhere n b (c *ℤ k) taken less
 
-  parts_elsewhere : (n m : ℕ) (c : ℤ) (op : Op) (parts : List ℕ) (row taken new : Row) → expanded_parts nodes c op parts row taken ≡ Some new → AreBelow m parts → m ≤ n → is_atom nodes op parts ≡ false → new.coefficient n ≡ taken.coefficient n
-  parts_elsewhere n m c (ops.Number k) parts row taken new e below le other = constant_elsewhere n (c *ℤ k) taken new (test_some (fits (c *ℤ k)) (with_constant (c *ℤ k) taken) new e).1
-  parts_elsewhere n m c ops.Plus (a ∷ b ∷ []) row taken new e below le other =
-      let found = then_some (with_more b c) (with_more a c taken) new e in
+  parts_elsewhere : (n m : ℕ) (c : ℤ) (op : Op) (parts : List ℕ) (row taken : Row) → AreBelow m parts → m ≤ n → is_atom nodes op parts ≡ false → (expanded_parts nodes c op parts row taken).coefficient n ≡ taken.coefficient n
+  parts_elsewhere n m c (ops.Number k) parts row taken below le other = refl
+  parts_elsewhere n m c ops.Plus (a ∷ b ∷ []) row taken below le other =
       let less = two_below m a b below in
-      more_elsewhere n b c found.0 new found.2 (omega (arith, less.1)) ∙ more_elsewhere n a c taken found.0 found.1 (omega (arith, less.0))
-  parts_elsewhere n m c ops.Times (a ∷ b ∷ []) row taken new e below le other = let less = two_below m a b below in product_elsewhere n b c (literal_number (slice_get nodes a)) row taken new e (omega (arith, less.1)) other
-  parts_elsewhere n m c op parts row taken new e below le other = absurd (true≢false other)
+      more_elsewhere n b c (with_more a c taken) (omega (arith, less.1)) ∙ more_elsewhere n a c taken (omega (arith, less.0))
+  parts_elsewhere n m c ops.Times (a ∷ b ∷ []) row taken below le other = let less = two_below m a b below in product_elsewhere n b c (literal_number (slice_get nodes a)) row taken (omega (arith, less.1)) other
+  parts_elsewhere n m c op parts row taken below le other = absurd (true≢false other)
 
-  product_kept : (b : ℕ) (c : ℤ) (o : Option ℤ) (row taken new : Row) → with_product c b o row taken ≡ Some new → is_none o ≡ true → row ≡ new
-  product_kept b c None row taken new e atom = some_is row new e
-  product_kept b c (Some k) row taken new e atom = absurd (true≢false (sym atom))
+  product_kept : (b : ℕ) (c : ℤ) (o : Option ℤ) (row taken : Row) → is_none o ≡ true → with_product c b o row taken ≡ row
+  product_kept b c None row taken atom = refl
+  product_kept b c (Some k) row taken atom = absurd (true≢false (sym atom))
 
-  atom_kept : (c : ℤ) (op : Op) (parts : List ℕ) (row taken new : Row) → expanded_parts nodes c op parts row taken ≡ Some new → is_atom nodes op parts ≡ true → row ≡ new
-  atom_kept c (ops.Number k) parts row taken new e atom = absurd (true≢false (sym atom))
-  atom_kept c ops.Plus (a ∷ b ∷ []) row taken new e atom = absurd (true≢false (sym atom))
-  atom_kept c ops.Times (a ∷ b ∷ []) row taken new e atom = product_kept b c (literal_number (slice_get nodes a)) row taken new e atom
-  atom_kept c op parts row taken new e atom = some_is row new e
+  atom_kept : (c : ℤ) (op : Op) (parts : List ℕ) (row taken : Row) → is_atom nodes op parts ≡ true → expanded_parts nodes c op parts row taken ≡ row
+  atom_kept c (ops.Number k) parts row taken atom = absurd (true≢false (sym atom))
+  atom_kept c ops.Plus (a ∷ b ∷ []) row taken atom = absurd (true≢false (sym atom))
+  atom_kept c ops.Times (a ∷ b ∷ []) row taken atom = product_kept b c (literal_number (slice_get nodes a)) row taken atom
+  atom_kept c op parts row taken atom = refl
 
-  at_elsewhere : (n m : ℕ) (o : Option Node) (row new : Row) → slice_get nodes m ≡ o → expanded_at nodes m o row ≡ Some new → m < n → new.coefficient n ≡ row.coefficient n
-  at_elsewhere n m None row new at e less = ap (λ (r : Row). r.coefficient n) (sym (some_is row new e))
-  at_elsewhere n m (Some node) row new at e less = by (is_atom nodes node.op node.parts) refl
+  at_elsewhere : (n m : ℕ) (o : Option Node) (row : Row) → slice_get nodes m ≡ o → m < n → (expanded_at nodes m o row).coefficient n ≡ row.coefficient n
+  at_elsewhere n m None row at less = refl
+  at_elsewhere n m (Some node) row at less = by (is_atom nodes node.op node.parts) refl
     where
-      by : (b : Bool) → is_atom nodes node.op node.parts ≡ b → new.coefficient n ≡ row.coefficient n
-      by true atom = ap (λ (r : Row). r.coefficient n) (sym (atom_kept (row.coefficient m) node.op node.parts row (without m row) new e atom))
+      by : (b : Bool) → is_atom nodes node.op node.parts ≡ b → (expanded_at nodes m (Some node) row).coefficient n ≡ row.coefficient n
+      by true atom = ap (λ (r : Row). r.coefficient n) (atom_kept (row.coefficient m) node.op node.parts row (without m row) atom)
       by false other =
-          parts_elsewhere n m (row.coefficient m) node.op node.parts row (without m row) new e (parts_below nodes m node sorted at) (omega (arith, less)) other
+          parts_elsewhere n m (row.coefficient m) node.op node.parts row (without m row) (parts_below nodes m node sorted at) (omega (arith, less)) other
           ∙ ap (λ t. cond t (pos 0) (row.coefficient n)) (unequal n m less)
 
   -- the node stands for others
   abbrev IsOther : ℕ → Type 0
   IsOther n = (node : Node) × (slice_get nodes n ≡ Some node) × (is_atom nodes node.op node.parts ≡ false)
 
-  at_clears : (n : ℕ) (row new : Row) → expanded_at nodes n (slice_get nodes n) row ≡ Some new → IsOther n → new.coefficient n ≡ pos 0
-  at_clears n row new e other =
+  at_clears : (n : ℕ) (row : Row) → IsOther n → (expanded_at nodes n (slice_get nodes n) row).coefficient n ≡ pos 0
+  at_clears n row other =
       let node = other.0 in
-      parts_elsewhere n n (row.coefficient n) node.op node.parts row (without n row) new (ap (λ o. expanded_at nodes n o row) (sym other.1) ∙ e) (parts_below nodes n node sorted other.1) (omega arith) other.2
+      ap (λ o. (expanded_at nodes n o row).coefficient n) other.1
+      ∙ parts_elsewhere n n (row.coefficient n) node.op node.parts row (without n row) (parts_below nodes n node sorted other.1) (omega arith) other.2
       ∙ ap (λ t. cond t (pos 0) (row.coefficient n)) (equal n)
 
-  below_elsewhere : (k : ℕ) (row new : Row) → expanded_below nodes k row ≡ Some new → (n : ℕ) → k ≤ n → new.coefficient n ≡ row.coefficient n
-  below_elsewhere zero row new e n le = ap (λ (r : Row). r.coefficient n) (sym (some_is row new e))
-  below_elsewhere (suc k) row new e n le =
-      let found = then_some (expanded_below nodes k) (expanded_at nodes k (slice_get nodes k) row) new e in
-      below_elsewhere k found.0 new found.2 n (omega arith) ∙ at_elsewhere n k (slice_get nodes k) row found.0 refl found.1 (omega arith)
+  pub below_elsewhere : (k : ℕ) (row : Row) (n : ℕ) → k ≤ n → (expanded_below nodes k row).coefficient n ≡ row.coefficient n
+  below_elsewhere zero row n le = refl
+  below_elsewhere (suc k) row n le = below_elsewhere k (expanded_at nodes k (slice_get nodes k) row) n (omega arith) ∙ at_elsewhere n k (slice_get nodes k) row refl (omega arith)
 
-  below_clears : (k : ℕ) (row new : Row) → expanded_below nodes k row ≡ Some new → (n : ℕ) → n < k → IsOther n → new.coefficient n ≡ pos 0
-  below_clears zero row new e n less other = absurd (omega arith)
-  below_clears (suc k) row new e n less other =
-      let found = then_some (expanded_below nodes k) (expanded_at nodes k (slice_get nodes k) row) new e in
-      next found.0 found.1 found.2 (split n k less) (below_clears k found.0 new found.2 n)
+  below_clears : (k : ℕ) (row : Row) (n : ℕ) → n < k → IsOther n → (expanded_below nodes k row).coefficient n ≡ pos 0
+  below_clears zero row n less other = absurd (omega arith)
+  below_clears (suc k) row n less other = next (split n k less) (below_clears k (expanded_at nodes k (slice_get nodes k) row) n)
     where
       split : (n k : ℕ) → n < suc k → (n < k) ⊎ (k ≡ n)
       split n k less = grind arith
 
-      next : (mid : Row) → expanded_at nodes k (slice_get nodes k) row ≡ Some mid → expanded_below nodes k mid ≡ Some new → (n < k) ⊎ (k ≡ n) → (n < k → IsOther n → new.coefficient n ≡ pos 0) → new.coefficient n ≡ pos 0
-      next mid at then (inl below) go = go below other
-      next mid at then (inr same) go = below_elsewhere k mid new then n (omega arith) ∙ at_clears n row mid (ap (λ m. expanded_at nodes m (slice_get nodes m) row) (sym same) ∙ at) other
+      next : (n < k) ⊎ (k ≡ n) → (n < k → IsOther n → (expanded_below nodes (suc k) row).coefficient n ≡ pos 0) → (expanded_below nodes (suc k) row).coefficient n ≡ pos 0
+      next (inl below) go = go below other
+      next (inr same) go = below_elsewhere k (expanded_at nodes k (slice_get nodes k) row) n (omega arith) ∙ ap (λ m. (expanded_at nodes m (slice_get nodes m) row).coefficient n) same ∙ at_clears n row other
 
   -- no node but an atom has a coefficient
   abbrev IsClear : Row → Type 0
   IsClear row = (n : ℕ) → n < length nodes → IsOther n → row.coefficient n ≡ pos 0
 
   difference_clear : (a b : ℕ) (k : ℤ) (row : Row) → difference nodes (length nodes) a b k ≡ Some row → IsClear row
-  difference_clear a b k row e =
-      let outer = then_some (expanded_below nodes (length nodes)) (option_and_then (with_more a (negsuc 0)) (with_more b (pos 1) (constant_row k))) row e in
-      below_clears (length nodes) outer.0 row outer.2
+  difference_clear a b k row e n less other =
+      ap (λ (r : Row). r.coefficient n) (narrow_row_is (length nodes) (expanded_difference nodes (length nodes) a b k) row e).0
+      ∙ below_clears (length nodes) (with_more a (negsuc 0) (with_more b (pos 1) (constant_row k))) n less other
 
   one_clear : (o : Option Row) (rows : List Row) → ((row : Row) → o ≡ Some row → IsClear row) → one_row o ≡ Some rows → AllByRecursion IsClear rows
   one_clear o rows clear e =

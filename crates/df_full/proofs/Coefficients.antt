@@ -1,7 +1,7 @@
 -- Rows have coefficients for atoms that are numbers, and for nothing else.
 use Rattle.std.proofs.Common.{◌≡◌, ℕ, zero, suc, ◌<◌, ◌≤◌, ◌⊎◌, inl, inr, ℤ, pos, negsuc, ◌+ℤ◌, ◌*ℤ◌, Bool, true, false, ◌&&◌, cond, nat_eq, nat_lt, List, [], ◌∷◌, ◌++◌, map, length, Option, Some, None, slice_get, refl, sym, ap, ◌∙◌, arith, subst}
 use Rattle.std.proofs.lemmas.Bool.Decides.{nat_tests}
-use Rattle.std.specs.Option.{is_none, option_and_then, option_map}
+use Rattle.std.specs.Option.{is_none, option_map}
 use Rattle.std.specs.List.{list_all, AllByRecursion}
 use Rattle.df_form.specs.declared.log.Lit.{Lit}
 use Rattle.df_form.specs.declared.node.Sort.{Sort}
@@ -10,9 +10,10 @@ use Rattle.df_form.specs.declared.node.Op.{Op}
 use Rattle.df_form.specs.declared.node.Op.TheVariants as ops
 use Rattle.df_form.specs.Node.{Node, same_sort}
 use Rattle.df_form.specs.Sorting.{sort_at, takes}
-use Rattle.df_linear.specs.Row.{Row, fits, constant_row, with_coefficient, with_more, with_constant, without, literal_number, with_product, expanded_parts, expanded_at, expanded_below, difference}
+use Rattle.df_linear.specs.Row.{Row, constant_row, with_more, without, literal_number, with_product, expanded_parts, expanded_at, expanded_below, expanded_difference, difference}
 use Rattle.df_linear.specs.Linear.{one_row, two_rows, comparison_rows, rows_by_sort, rows_of_parts, rows_of_node, rows_of}
-use Rattle.df_form.proofs.Lists.{then_some, map_some, test_some, some_is, both, get_within}
+use Rattle.df_linear.proofs.Rows.{narrow_row_is}
+use Rattle.df_form.proofs.Lists.{then_some, map_some, some_is, both, get_within}
 use Rattle.df_form.proofs.Values.{AreSorted, parts_below, parts_taken}
 use Rattle.df_form.proofs.Making.{IsNumber}
 use Rattle.df_form.proofs.Same.{same_sort_equal}
@@ -27,21 +28,12 @@ other_number : (m n : ℕ) → nat_eq m n ≡ false → m ≡ n → ⊥
 other_number m n e same = grind (arith, nat_tests)
 
 -- the row after a step
-after_more : (n : ℕ) (c : ℤ) (row new : Row) → with_more n c row ≡ Some new → (m : ℕ) → (m ≡ n) ⊎ (new.coefficient m ≡ row.coefficient m)
-after_more n c row new e m = by (nat_eq m n) refl
+after_more : (n : ℕ) (c : ℤ) (row : Row) (m : ℕ) → (m ≡ n) ⊎ ((with_more n c row).coefficient m ≡ row.coefficient m)
+after_more n c row m = by (nat_eq m n) refl
   where
-    by : (b : Bool) → nat_eq m n ≡ b → (m ≡ n) ⊎ (new.coefficient m ≡ row.coefficient m)
+    by : (b : Bool) → nat_eq m n ≡ b → (m ≡ n) ⊎ ((with_more n c row).coefficient m ≡ row.coefficient m)
     by true same = inl (same_number m n same)
-    by false other =
-        let z = row.coefficient n +ℤ c in
-        let tested = test_some (fits z) (Some (record { coefficient = with_coefficient row.coefficient n z; constant = row.constant })) new e in
-        inr (ap (λ (r : Row). r.coefficient m) (sym (some_is _ new tested.1)) ∙ ap (λ t. cond t z (row.coefficient m)) other)
-
-after_constant : (m : ℕ) (c : ℤ) (row new : Row) → with_constant c row ≡ Some new → new.coefficient m ≡ row.coefficient m
-after_constant m c row new e =
-    let sum = row.constant +ℤ c in
-    let tested = test_some (fits sum) (Some (record { coefficient = row.coefficient; constant = sum })) new e in
-    ap (λ (r : Row). r.coefficient m) (sym (some_is _ new tested.1))
+    by false other = inr (ap (λ t. cond t (row.coefficient n +ℤ c) (row.coefficient m)) other)
 
 module _ (nodes : List Node) (sorted : AreSorted nodes) where
   abbrev IsAtomAt : ℕ → Type 0
@@ -56,22 +48,16 @@ module _ (nodes : List Node) (sorted : AreSorted nodes) where
   abbrev Keeps : ℕ → Row → Type 0
   Keeps from row = (n : ℕ) → (row.coefficient n ≡ pos 0) ⊎ MayHave from n
 
-  keeps_same : (from : ℕ) (row new : Row) → row ≡ new → Keeps from row → Keeps from new
-  keeps_same from row new e h = subst (Keeps from) e h
-
   moved : (from n : ℕ) (a b : ℤ) → b ≡ a → (a ≡ pos 0) ⊎ MayHave from n → (b ≡ pos 0) ⊎ MayHave from n
   moved from n a b e (inl zero_there) = inl (e ∙ zero_there)
   moved from n a b e (inr may) = inr may
 
-  keeps_more : (from n : ℕ) (c : ℤ) (row new : Row) → MayHave from n → with_more n c row ≡ Some new → Keeps from row → Keeps from new
-  keeps_more from n c row new may e h m = by (after_more n c row new e m)
+  keeps_more : (from n : ℕ) (c : ℤ) (row : Row) → MayHave from n → Keeps from row → Keeps from (with_more n c row)
+  keeps_more from n c row may h m = by (after_more n c row m)
     where
-      by : (m ≡ n) ⊎ (new.coefficient m ≡ row.coefficient m) → (new.coefficient m ≡ pos 0) ⊎ MayHave from m
+      by : (m ≡ n) ⊎ ((with_more n c row).coefficient m ≡ row.coefficient m) → ((with_more n c row).coefficient m ≡ pos 0) ⊎ MayHave from m
       by (inl same) = inr (subst (MayHave from) (sym same) may)
-      by (inr other) = moved from m (row.coefficient m) (new.coefficient m) other (h m)
-
-  keeps_constant : (from : ℕ) (c : ℤ) (row new : Row) → with_constant c row ≡ Some new → Keeps from row → Keeps from new
-  keeps_constant from c row new e h m = moved from m (row.coefficient m) (new.coefficient m) (after_constant m c row new e) (h m)
+      by (inr other) = moved from m (row.coefficient m) ((with_more n c row).coefficient m) other (h m)
 
   later : (k n : ℕ) → (n ≡ k → IsAtomAt n) → MayHave (suc k) n → MayHave k n
   later k n here may = record { number = may.number; atom = λ le. by (split k n le) }
@@ -111,48 +97,43 @@ module _ (nodes : List Node) (sorted : AreSorted nodes) where
         part_may k b less.1 (record { below = omega (arith, less.1); sort = same_sort_equal (sort_at nodes b) sorts.Number alike.1 }),
       )
 
-  keeps_product : (k b : ℕ) (c : ℤ) (o : Option ℤ) (row new : Row) → (is_none o ≡ true → IsAtomAt k) → MayHave k b → with_product c b o row (without k row) ≡ Some new → Keeps (suc k) row → Keeps k new
-  keeps_product k b c None row new atom may e h = keeps_same k row new (some_is row new e) (keeps_atom k row (atom refl) h)
-  keeps_product k b c (Some z) row new atom may e h =
-      keeps_more k b (c *ℤ z) (without k row) new may (test_some (fits (c *ℤ z)) (with_more b (c *ℤ z) (without k row)) new e).1 (keeps_without k row h)
+  keeps_product : (k b : ℕ) (c : ℤ) (o : Option ℤ) (row : Row) → (is_none o ≡ true → IsAtomAt k) → MayHave k b → Keeps (suc k) row → Keeps k (with_product c b o row (without k row))
+  keeps_product k b c None row atom may h = keeps_atom k row (atom refl) h
+  keeps_product k b c (Some z) row atom may h = keeps_more k b (c *ℤ z) (without k row) may (keeps_without k row h)
 
-  keeps_parts : (k : ℕ) (c : ℤ) (op : Op) (parts : List ℕ) (row new : Row) → k < length nodes → (is_atom nodes op parts ≡ true → IsAtomAt k) → list_all (λ part. nat_lt part k) parts ≡ true → takes op (map (sort_at nodes) parts) ≡ true
-      → expanded_parts nodes c op parts row (without k row) ≡ Some new → Keeps (suc k) row → Keeps k new
-  keeps_parts k c (ops.Number z) parts row new within atom below taken e h = keeps_constant k (c *ℤ z) (without k row) new (test_some (fits (c *ℤ z)) (with_constant (c *ℤ z) (without k row)) new e).1 (keeps_without k row h)
-  keeps_parts k c ops.Plus (a ∷ b ∷ []) row new within atom below taken e h =
+  keeps_parts : (k : ℕ) (c : ℤ) (op : Op) (parts : List ℕ) (row : Row) → k < length nodes → (is_atom nodes op parts ≡ true → IsAtomAt k) → list_all (λ part. nat_lt part k) parts ≡ true → takes op (map (sort_at nodes) parts) ≡ true → Keeps (suc k) row
+      → Keeps k (expanded_parts nodes c op parts row (without k row))
+  keeps_parts k c (ops.Number z) parts row within atom below taken h = keeps_without k row h
+  keeps_parts k c ops.Plus (a ∷ b ∷ []) row within atom below taken h =
       let may = two_numbers k a b within below taken in
-      let found = then_some (with_more b c) (with_more a c (without k row)) new e in
-      keeps_more k b c found.0 new may.1 found.2 (keeps_more k a c (without k row) found.0 may.0 found.1 (keeps_without k row h))
-  keeps_parts k c ops.Times (a ∷ b ∷ []) row new within atom below taken e h =
+      keeps_more k b c (with_more a c (without k row)) may.1 (keeps_more k a c (without k row) may.0 (keeps_without k row h))
+  keeps_parts k c ops.Times (a ∷ b ∷ []) row within atom below taken h =
       let may = two_numbers k a b within below taken in
-      keeps_product k b c (literal_number (slice_get nodes a)) row new atom may.1 e h
-  keeps_parts k c op parts row new within atom below taken e h = keeps_same k row new (some_is row new e) (keeps_atom k row (atom refl) h)
+      keeps_product k b c (literal_number (slice_get nodes a)) row atom may.1 h
+  keeps_parts k c op parts row within atom below taken h = keeps_atom k row (atom refl) h
 
-  keeps_at : (k : ℕ) (o : Option Node) (row new : Row) → slice_get nodes k ≡ o → expanded_at nodes k o row ≡ Some new → Keeps (suc k) row → Keeps k new
-  keeps_at k None row new at e h = keeps_same k row new (some_is row new e) (keeps_atom k row none h)
+  keeps_at : (k : ℕ) (o : Option Node) (row : Row) → slice_get nodes k ≡ o → Keeps (suc k) row → Keeps k (expanded_at nodes k o row)
+  keeps_at k None row at h = keeps_atom k row none h
     where
       none : IsAtomAt k
       none node there = absurd (let both : Some node ≡ None = sym there ∙ at in cc)
-  keeps_at k (Some node) row new at e h =
-      keeps_parts k (row.coefficient k) node.op node.parts row new (get_within nodes k node at) is (parts_below nodes k node sorted at) (parts_taken nodes k node sorted at) e h
+  keeps_at k (Some node) row at h = keeps_parts k (row.coefficient k) node.op node.parts row (get_within nodes k node at) is (parts_below nodes k node sorted at) (parts_taken nodes k node sorted at) h
     where
       is : is_atom nodes node.op node.parts ≡ true → IsAtomAt k
       is atom other there = subst (λ (x : Node). is_atom nodes x.op x.parts ≡ true) (some_is node other (sym at ∙ there)) atom
 
-  keeps_below : (k : ℕ) (row new : Row) → expanded_below nodes k row ≡ Some new → Keeps k row → Keeps 0 new
-  keeps_below zero row new e h = keeps_same 0 row new (some_is row new e) h
-  keeps_below (suc k) row new e h =
-      let found = then_some (expanded_below nodes k) (expanded_at nodes k (slice_get nodes k) row) new e in
-      keeps_below k found.0 new found.2 (keeps_at k (slice_get nodes k) row found.0 refl found.1 h)
+  keeps_below : (k : ℕ) (row : Row) → Keeps k row → Keeps 0 (expanded_below nodes k row)
+  keeps_below zero row h = h
+  keeps_below (suc k) row h = keeps_below k (expanded_at nodes k (slice_get nodes k) row) (keeps_at k (slice_get nodes k) row refl h)
 
   difference_keeps : (a b : ℕ) (k : ℤ) (row : Row) → IsNumber nodes a → IsNumber nodes b → difference nodes (length nodes) a b k ≡ Some row → Keeps 0 row
   difference_keeps a b k row is_a is_b e =
-      let outer = then_some (expanded_below nodes (length nodes)) (option_and_then (with_more a (negsuc 0)) (with_more b (pos 1) (constant_row k))) row e in
-      let inner = then_some (with_more a (negsuc 0)) (with_more b (pos 1) (constant_row k)) outer.0 outer.1 in
       let count = length nodes in
+      let first = with_more b (pos 1) (constant_row k) in
       let begun : Keeps count (constant_row k) = λ n. inl refl in
-      let one = keeps_more count b (pos 1) (constant_row k) inner.0 (part_may count b is_b.below is_b) inner.1 begun in
-      keeps_below count outer.0 row outer.2 (keeps_more count a (negsuc 0) inner.0 outer.0 (part_may count a is_a.below is_a) inner.2 one)
+      let one = keeps_more count b (pos 1) (constant_row k) (part_may count b is_b.below is_b) begun in
+      let two = keeps_more count a (negsuc 0) first (part_may count a is_a.below is_a) one in
+      subst (Keeps 0) (sym (narrow_row_is count (expanded_difference nodes count a b k) row e).0) (keeps_below count (with_more a (negsuc 0) first) two)
 
   one_keeps : (o : Option Row) (rows : List Row) → ((row : Row) → o ≡ Some row → Keeps 0 row) → one_row o ≡ Some rows → AllByRecursion (Keeps 0) rows
   one_keeps o rows keeps e =

@@ -1,6 +1,5 @@
 -- More nodes leave rows as they are.
-use Rattle.std.proofs.Common.{◌≡◌, ℕ, zero, suc, ◌<◌, ◌≤◌, ℤ, pos, negsuc, ◌+ℤ◌, Bool, true, false, ◌&&◌, cond, nat_eq, nat_lt, List, [], ◌∷◌, ◌++◌, take, length, Option, Some, None, slice_get, refl, sym, ap, ◌∙◌, arith, subst, ltb-true}
-use Rattle.std.proofs.lemmas.Bool.Decides.{nat_tests}
+use Rattle.std.proofs.Common.{◌≡◌, ℕ, zero, suc, ◌+◌, ◌-◌, ◌<◌, ◌≤◌, ℤ, pos, negsuc, Bool, true, false, ◌&&◌, cond, nat_lt, List, [], ◌∷◌, ◌++◌, take, length, Option, Some, None, slice_get, refl, sym, ap, ◌∙◌, arith, subst, ltb-true}
 use Rattle.std.proofs.lemmas.List.{take-append-le}
 use Rattle.std.specs.Option.{option_and_then, option_map}
 use Rattle.std.specs.List.{list_all}
@@ -12,12 +11,13 @@ use Rattle.df_form.specs.declared.node.Op.TheVariants as ops
 use Rattle.df_form.specs.Node.{Node, same_sort}
 use Rattle.df_form.specs.Clause.{are_literals}
 use Rattle.df_form.specs.Sorting.{IsTable, sort_at, is_formula, is_well_sorted}
-use Rattle.df_linear.specs.Row.{Row, fits, constant_row, with_coefficient, with_more, literal_number, with_product, without, expanded_parts, expanded_at, expanded_below, difference}
+use Rattle.df_linear.specs.Row.{Row, fits, constant_row, with_more, literal_number, with_product, without, expanded_parts, expanded_at, expanded_below, all_below, narrow_row, difference}
 use Rattle.df_linear.specs.Linear.{one_row, two_rows, comparison_rows, rows_by_sort, rows_of_parts, rows_of_node, rows_of}
-use Rattle.df_linear.proofs.Rows.{skip, narrow_difference}
-use Rattle.df_form.proofs.Lists.{then_some, test_some, some_is, both, get_below, get_within}
+use Rattle.df_linear.proofs.Rows.{skip}
+use Rattle.df_form.proofs.Lists.{both, get_below, get_within}
 use Rattle.df_form.proofs.Values.{Grows, grown_get, grown_sort, grown_length, AreSorted, parts_below}
 use Rattle.df_ground.proofs.Running.{grown_from}
+use Rattle.df_closure.proofs.Atoms.{more_elsewhere, below_elsewhere}
 
 pub two_below : (n a b : ℕ) → list_all (λ part. nat_lt part n) (a ∷ b ∷ []) ≡ true → (a < n) × (b < n)
 two_below n a b e =
@@ -25,14 +25,15 @@ two_below n a b e =
     let second = both (nat_lt b n) true first.1 in
     (ltb-true a n first.0, ltb-true b n second.0)
 
-unequal : (n k : ℕ) → k < n → nat_eq n k ≡ false
-unequal n k less = grind (arith, nat_tests)
+-- a test that passes from a number on says the same of all nodes below a larger one
+passes_by : (test : ℕ → Bool) (k d : ℕ) → ((n : ℕ) → k ≤ n → test n ≡ true) → all_below (d + k) test ≡ all_below k test
+passes_by test k zero each = let e : 0 + k ≡ k = omega arith in ap (λ n. all_below n test) e
+passes_by test k (suc d) each =
+    let e : suc d + k ≡ suc (d + k) = omega arith in
+    ap (λ n. all_below n test) e ∙ ap (λ b. b && all_below (d + k) test) (each (d + k) (omega arith)) ∙ passes_by test k d each
 
-more_elsewhere : (n k : ℕ) (c : ℤ) (row new : Row) → with_more k c row ≡ Some new → k < n → new.coefficient n ≡ row.coefficient n
-more_elsewhere n k c row new e less =
-    let sum = row.coefficient k +ℤ c in
-    let tested = test_some (fits sum) (Some (record { coefficient = with_coefficient row.coefficient k sum; constant = row.constant })) new e in
-    ap (λ (r : Row). r.coefficient n) (sym (some_is _ new tested.1)) ∙ ap (λ t. cond t sum (row.coefficient n)) (unequal n k less)
+passes_later : (test : ℕ → Bool) (k n : ℕ) → k ≤ n → ((m : ℕ) → k ≤ m → test m ≡ true) → all_below n test ≡ all_below k test
+passes_later test k n le each = let e : (n - k) + k ≡ n = omega arith in ap (λ m. all_below m test) (sym e) ∙ passes_by test k (n - k) each
 
 module _ (nodes more : List Node) (g : Grows nodes more) where
   -- the nodes that stand first are sorted
@@ -65,35 +66,35 @@ module _ (nodes more : List Node) (g : Grows nodes more) where
         ∙ same_parts n (row.coefficient n) at.0.op at.0.parts row (without n row) (omega (arith, less)) (parts_below nodes n at.0 sorted at.1)
         ∙ ap (λ (o : Option Node). expanded_at nodes n o row) (sym at.1)
 
-    same_then : (n : ℕ) (o : Option Row) → ((row : Row) → expanded_below more n row ≡ expanded_below nodes n row) → option_and_then (expanded_below more n) o ≡ option_and_then (expanded_below nodes n) o
-    same_then n None same = refl
-    same_then n (Some row) same = same row
-
     same_below : (n : ℕ) → n ≤ length nodes → (row : Row) → expanded_below more n row ≡ expanded_below nodes n row
     same_below zero le row = refl
-    same_below (suc n) le row =
-        ap (option_and_then (expanded_below more n)) (same_at n row (omega arith))
-        ∙ same_then n (expanded_at nodes n (slice_get nodes n) row) (same_below n (omega arith))
+    same_below (suc n) le row = ap (expanded_below more n) (same_at n row (omega arith)) ∙ same_below n (omega arith) (expanded_at nodes n (slice_get nodes n) row)
 
-    started : (a b : ℕ) (k : ℤ) (row : Row) → fits k ≡ true → a < length nodes → b < length nodes → option_and_then (with_more a (negsuc 0)) (with_more b (pos 1) (constant_row k)) ≡ Some row → expanded_below more (length more) row ≡ expanded_below nodes (length nodes) row
-    started a b k row small less_a less_b e =
-        let found = then_some (with_more a (negsuc 0)) (with_more b (pos 1) (constant_row k)) row e in
-        let narrow = narrow_difference a b k (constant_row k) found.0 row refl small found.1 found.2 in
-        skip more row (length nodes) (length more) narrow (grown_length nodes more g)
-        (λ m low high. more_elsewhere m a (negsuc 0) found.0 row found.2 (omega (arith, low, less_a)) ∙ more_elsewhere m b (pos 1) (constant_row k) found.0 found.1 (omega (arith, low, less_b)))
-        ∙ same_below (length nodes) (omega arith) row
+    -- the row has no coefficient of a later node
+    abbrev EndsBefore : Row → Type 0
+    EndsBefore row = (n : ℕ) → length nodes ≤ n → row.coefficient n ≡ pos 0
 
-    same_difference : (a b : ℕ) (k : ℤ) → fits k ≡ true → a < length nodes → b < length nodes → difference more (length more) a b k ≡ difference nodes (length nodes) a b k
-    same_difference a b k small less_a less_b = by (option_and_then (with_more a (negsuc 0)) (with_more b (pos 1) (constant_row k))) refl
-      where
-        by : (o : Option Row) → option_and_then (with_more a (negsuc 0)) (with_more b (pos 1) (constant_row k)) ≡ o → option_and_then (expanded_below more (length more)) o ≡ option_and_then (expanded_below nodes (length nodes)) o
-        by None e = refl
-        by (Some row) e = started a b k row small less_a less_b e
+    same_expanded : (row : Row) → EndsBefore row → expanded_below more (length more) row ≡ expanded_below nodes (length nodes) row
+    same_expanded row ends = skip more row (length nodes) (length more) (grown_length nodes more g) (λ n low high. ends n low) ∙ same_below (length nodes) (omega arith) row
+
+    same_narrow : (row : Row) → EndsBefore row → narrow_row (length more) row ≡ narrow_row (length nodes) row
+    same_narrow row ends =
+        ap (λ b. cond (b && fits row.constant) (Some row) None) (passes_later (λ n. fits (row.coefficient n)) (length nodes) (length more) (grown_length nodes more g) (λ n le. ap fits (ends n le)))
+
+    same_row : (row : Row) → EndsBefore row → narrow_row (length more) (expanded_below more (length more) row) ≡ narrow_row (length nodes) (expanded_below nodes (length nodes) row)
+    same_row row ends =
+        ap (narrow_row (length more)) (same_expanded row ends)
+        ∙ same_narrow (expanded_below nodes (length nodes) row) (λ n le. below_elsewhere nodes sorted (length nodes) row n le ∙ ends n le)
+
+    same_difference : (a b : ℕ) (k : ℤ) → a < length nodes → b < length nodes → difference more (length more) a b k ≡ difference nodes (length nodes) a b k
+    same_difference a b k less_a less_b =
+        same_row (with_more a (negsuc 0) (with_more b (pos 1) (constant_row k)))
+        (λ n le. more_elsewhere n a (negsuc 0) (with_more b (pos 1) (constant_row k)) (omega (arith, le, less_a)) ∙ more_elsewhere n b (pos 1) (constant_row k) (omega (arith, le, less_b)))
 
     same_comparison : (positive : Bool) (op : Op) (a b : ℕ) → a < length nodes → b < length nodes → comparison_rows more positive op a b ≡ comparison_rows nodes positive op a b
-    same_comparison true ops.AtMost a b less_a less_b = ap one_row (same_difference a b (pos 0) refl less_a less_b)
-    same_comparison false ops.AtMost a b less_a less_b = ap one_row (same_difference b a (negsuc 0) refl less_b less_a)
-    same_comparison true ops.Equal a b less_a less_b = (λ i. two_rows (same_difference a b (pos 0) refl less_a less_b i) (same_difference b a (pos 0) refl less_b less_a i))
+    same_comparison true ops.AtMost a b less_a less_b = ap one_row (same_difference a b (pos 0) less_a less_b)
+    same_comparison false ops.AtMost a b less_a less_b = ap one_row (same_difference b a (negsuc 0) less_b less_a)
+    same_comparison true ops.Equal a b less_a less_b = (λ i. two_rows (same_difference a b (pos 0) less_a less_b i) (same_difference b a (pos 0) less_b less_a i))
     same_comparison positive op a b less_a less_b = refl
 
     same_by_sort : (sort : Sort) (positive : Bool) (op : Op) (a b : ℕ) → a < length nodes → b < length nodes → rows_by_sort sort more positive op a b ≡ rows_by_sort sort nodes positive op a b

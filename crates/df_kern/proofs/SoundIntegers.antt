@@ -2,40 +2,11 @@
 use Rattle.std.proofs.Common.{◌≡◌, ℕ, zero, suc, ◌+◌, ◌*◌, ◌-◌, ◌/◌, ◌<◌, ◌≤◌, ℤ, pos, negsuc, ◌+ℤ◌, ◌*ℤ◌, int_le, Bool, true, false, cond, ◌==◌, refl, sym, ap, ◌∙◌, arith, subst, eqb-true, div-lt_iff_lt-mul, le-div_iff_mul-le}
 use Rattle.std.proofs.lemmas.Int.{ints}
 use Rattle.std.proofs.lemmas.Bool.{eqb-false}
-use borrow.Author.Differences.{up, down, sum_is_lem, product_is}
+pub use Rattle.df_integer.proofs.Products.{times_over_sum, sum_times, times_twice, zero_times, times_zero}
 use Rattle.df_linear.specs.Row.{with_coefficient}
 use Rattle.df_linear.specs.Linear.{all_below, quotient}
 use Rattle.df_linear.specs.Value.{sum_below}
 use Rattle.df_form.proofs.Lists.{both}
-
-pub times_over_sum : (a b c : ℤ) → (a +ℤ b) *ℤ c ≡ (a *ℤ c) +ℤ (b *ℤ c)
-times_over_sum a b c = omega (arith, ints, ap (λ (z : ℕ). z * up c) (sum_is_lem a b), ap (λ (z : ℕ). z * down c) (sum_is_lem a b))
-
-pub sum_times : (a b c : ℤ) → a *ℤ (b +ℤ c) ≡ (a *ℤ b) +ℤ (a *ℤ c)
-sum_times a b c = omega (arith, ints, ap (λ (z : ℕ). up a * z) (sum_is_lem b c), ap (λ (z : ℕ). down a * z) (sum_is_lem b c))
-
-pub times_twice : (a b c : ℤ) → (a *ℤ b) *ℤ c ≡ a *ℤ (b *ℤ c)
-times_twice a b c =
-    let left = product_is a b in
-    let right = product_is b c in
-    omega (
-      arith,
-      ints,
-      ap (λ (z : ℕ). z * up c) left.0,
-      ap (λ (z : ℕ). z * up c) left.1,
-      ap (λ (z : ℕ). z * down c) left.0,
-      ap (λ (z : ℕ). z * down c) left.1,
-      ap (λ (z : ℕ). up a * z) right.0,
-      ap (λ (z : ℕ). up a * z) right.1,
-      ap (λ (z : ℕ). down a * z) right.0,
-      ap (λ (z : ℕ). down a * z) right.1,
-    )
-
-pub zero_times : (a : ℤ) → pos 0 *ℤ a ≡ pos 0
-zero_times a = omega (arith, ints)
-
-pub times_zero : (a : ℤ) → a *ℤ pos 0 ≡ pos 0
-times_zero a = omega (arith, ints)
 
 -- at least 0
 abbrev pub IsNatural : ℤ → Type 0

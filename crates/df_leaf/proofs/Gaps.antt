@@ -2,7 +2,7 @@
 use Rattle.std.proofs.Common.{◌≡◌, ◌⊎◌, inl, inr, ℕ, zero, suc, ◌+◌, ◌-◌, ◌<◌, ◌≤◌, ℤ, pos, negsuc, ◌+ℤ◌, ◌-ℤ◌, ◌*ℤ◌, Bool, true, false, cond, nat_eq, List, [], ◌∷◌, ◌++◌, length, Some, None, Option, slice_get, refl, sym, ap, ◌∙◌, subst, arith}
 use Rattle.std.proofs.lemmas.Bool.Decides.{nat_tests}
 use Rattle.std.proofs.lemmas.Int.{ints}
-use Rattle.std.specs.Option.{is_none, option_and_then, option_map}
+use Rattle.std.specs.Option.{is_none, option_map}
 use Rattle.df_form.specs.declared.log.Lit.{Lit}
 use Rattle.df_form.specs.declared.node.Op.{Op}
 use Rattle.df_form.specs.declared.node.Op.TheVariants as ops
@@ -10,13 +10,12 @@ use Rattle.df_form.specs.declared.node.Sort.TheVariants as sorts
 use Rattle.df_form.specs.Node.{Node}
 use Rattle.df_form.specs.Sorting.{sort_at}
 use Rattle.df_form.specs.Clause.{same_literal, is_among, yes, no}
-use Rattle.df_form.proofs.Lists.{then_some, map_some, test_some, some_is, either}
+use Rattle.df_form.proofs.Lists.{then_some, map_some, either}
 use Rattle.df_kern.specs.Bound.{number, at_most}
 use Rattle.df_kern.proofs.SoundClauses.{same_literal_is}
-use Rattle.df_linear.specs.Row.{Row, fits, constant_row, with_more, with_constant, with_coefficient, without, if_fits, literal_number, with_product, expanded_parts, expanded_at, expanded_below, difference}
-use Rattle.df_linear.specs.RowView.{IsNarrow}
+use Rattle.df_linear.specs.Row.{Row, constant_row, with_more, with_coefficient, without, literal_number, with_product, expanded_parts, expanded_at, expanded_below, expanded_difference, difference}
 use Rattle.df_linear.specs.Linear.{quotient, one_row, rows_by_sort, rows_of_node, rows_of}
-use Rattle.df_linear.proofs.Rows.{at_zero, narrow_without, narrow_constant, narrow_difference}
+use Rattle.df_linear.proofs.Rows.{at_zero, narrow_row_is}
 use Rattle.df_closure.specs.Atoms.{is_atom}
 use Rattle.std.proofs.Math.Nat.{div-one, one-dvd}
 use Rattle.std.specs.Int.{◌∣◌}
@@ -56,12 +55,12 @@ literal_rows nodes (m ∷ ms) rows l e among = by (either (same_literal l m) (is
         let found = go rest.0 rest.1 later in
         record { these = found.these; are = found.are; stand = λ r h. subst (Stands r) rest.2 (stands_right r first.0 rest.0 (found.stand r h)) }
 
-atom_stays : (nodes : List Node) (c : ℤ) (op : Op) (parts : List ℕ) (row taken : Row) → is_atom nodes op parts ≡ true → expanded_parts nodes c op parts row taken ≡ Some row
+atom_stays : (nodes : List Node) (c : ℤ) (op : Op) (parts : List ℕ) (row taken : Row) → is_atom nodes op parts ≡ true → expanded_parts nodes c op parts row taken ≡ row
 atom_stays nodes c (ops.Number k) parts row taken e = absurd cc
 atom_stays nodes c ops.Plus (a ∷ b ∷ []) row taken e = absurd cc
 atom_stays nodes c ops.Times (a ∷ b ∷ []) row taken e = by (literal_number (slice_get nodes a)) e
   where
-    by : (o : Option ℤ) → is_none o ≡ true → with_product c b o row taken ≡ Some row
+    by : (o : Option ℤ) → is_none o ≡ true → with_product c b o row taken ≡ row
     by None h = refl
     by (Some k) h = absurd cc
 atom_stays nodes c op parts row taken e = refl
@@ -85,65 +84,56 @@ module _ (nodes : List Node) (term place : ℕ) (bound : ℤ) (term_less : term 
       let e : false ≡ true = atom (number bound) (ap (slice_get nodes) same ∙ at_place) in
       absurd cc
 
-  term_stays : (row : Row) → expanded_at nodes term (slice_get nodes term) row ≡ Some row
+  term_stays : (row : Row) → expanded_at nodes term (slice_get nodes term) row ≡ row
   term_stays row = by (slice_get nodes term) refl
     where
-      by : (o : Option Node) → slice_get nodes term ≡ o → expanded_at nodes term o row ≡ Some row
+      by : (o : Option Node) → slice_get nodes term ≡ o → expanded_at nodes term o row ≡ row
       by None e = refl
       by (Some node) e = atom_stays nodes (row.coefficient term) node.op node.parts row (without term row) (atom node e)
 
-  one_stays : (n : ℕ) (row : Row) → IsNarrow row → ((n ≡ term → ⊥) → row.coefficient n ≡ pos 0) → expanded_at nodes n (slice_get nodes n) row ≡ Some row
-  one_stays n row narrow zero_there = by (nat_eq n term) refl
+  one_stays : (n : ℕ) (row : Row) → ((n ≡ term → ⊥) → row.coefficient n ≡ pos 0) → expanded_at nodes n (slice_get nodes n) row ≡ row
+  one_stays n row zero_there = by (nat_eq n term) refl
     where
-      by : (b : Bool) → nat_eq n term ≡ b → expanded_at nodes n (slice_get nodes n) row ≡ Some row
-      by true e = subst (λ (m : ℕ). expanded_at nodes m (slice_get nodes m) row ≡ Some row) (sym (from_equal n term e)) (term_stays row)
-      by false e = at_zero nodes n row narrow (zero_there (λ same. let no_two : false ≡ true = sym e ∙ ap (nat_eq n) (sym same) ∙ equal_self n in absurd cc))
+      by : (b : Bool) → nat_eq n term ≡ b → expanded_at nodes n (slice_get nodes n) row ≡ row
+      by true e = subst (λ (m : ℕ). expanded_at nodes m (slice_get nodes m) row ≡ row) (sym (from_equal n term e)) (term_stays row)
+      by false e = at_zero nodes n row (zero_there (λ same. let no_two : false ≡ true = sym e ∙ ap (nat_eq n) (sym same) ∙ equal_self n in absurd cc))
 
   -- only the term has a coefficient from a node on
-  stays_to : (more low : ℕ) (row : Row) → IsNarrow row → ((m : ℕ) → low ≤ m → (m ≡ term → ⊥) → row.coefficient m ≡ pos 0) → expanded_below nodes (more + low) row ≡ expanded_below nodes low row
-  stays_to zero low row narrow zeros = ap (λ x. expanded_below nodes x row) (omega arith)
-  stays_to (suc more) low row narrow zeros =
+  stays_to : (more low : ℕ) (row : Row) → ((m : ℕ) → low ≤ m → (m ≡ term → ⊥) → row.coefficient m ≡ pos 0) → expanded_below nodes (more + low) row ≡ expanded_below nodes low row
+  stays_to zero low row zeros = let e : 0 + low ≡ low = omega arith in ap (λ x. expanded_below nodes x row) e
+  stays_to (suc more) low row zeros =
       let e : suc more + low ≡ suc (more + low) = omega arith in
-      ap (λ x. expanded_below nodes x row) e ∙ ap (option_and_then (expanded_below nodes (more + low))) (one_stays (more + low) row narrow (zeros (more + low) (omega arith))) ∙ stays_to more low row narrow zeros
+      ap (λ x. expanded_below nodes x row) e ∙ ap (expanded_below nodes (more + low)) (one_stays (more + low) row (zeros (more + low) (omega arith))) ∙ stays_to more low row zeros
 
   -- the literal number joins the constant
   abbrev joined : Row → Row
   joined row = record { coefficient = with_coefficient row.coefficient place (pos 0); constant = row.constant +ℤ (row.coefficient place *ℤ bound) }
 
-  expands : (row d : Row) → IsNarrow row → ((m : ℕ) → (m ≡ term → ⊥) → (m ≡ place → ⊥) → row.coefficient m ≡ pos 0) → expanded_below nodes (length nodes) row ≡ Some d → d ≡ joined row
-  expands row d narrow zeros e =
+  expands : (row : Row) → ((m : ℕ) → (m ≡ term → ⊥) → (m ≡ place → ⊥) → row.coefficient m ≡ pos 0) → expanded_below nodes (length nodes) row ≡ joined row
+  expands row zeros =
       let more = length nodes - suc place in
       let count : more + suc place ≡ length nodes = omega (arith, place_less) in
-      let down = ap (λ x. expanded_below nodes x row) (sym count) ∙ stays_to more (suc place) row narrow (λ m le other. zeros m other (λ same. absurd (omega (arith, le, same)))) in
-      let found = then_some (expanded_below nodes place) (expanded_at nodes place (slice_get nodes place) row) d (sym down ∙ e) in
-      let c = row.coefficient place *ℤ bound in
-      let at : if_fits c (with_constant c (without place row)) ≡ Some found.0 = sym (ap (λ o. expanded_at nodes place o row) at_place) ∙ found.1 in
-      let step : with_constant c (without place row) ≡ Some found.0 = (test_some (fits c) (with_constant c (without place row)) found.0 at).1 in
-      let is : joined row ≡ found.0 = some_is (joined row) found.0 (test_some (fits (row.constant +ℤ c)) (Some (joined row)) found.0 step).1 in
-      let small = narrow_constant c (without place row) found.0 step (narrow_without place row narrow) in
-      let zeros_now : (m : ℕ) → 0 ≤ m → (m ≡ term → ⊥) → found.0.coefficient m ≡ pos 0 = λ m le other. ap (λ (r : Row). r.coefficient m) (sym is) ∙ now (nat_eq m place) m refl other in
-      let rest : expanded_below nodes place found.0 ≡ Some found.0 = ap (λ x. expanded_below nodes x found.0) (let zero_more : place ≡ place + 0 = omega arith in zero_more) ∙ stays_to place 0 found.0 small zeros_now in
-      sym (some_is found.0 d (sym rest ∙ found.2)) ∙ sym is
+      let down = ap (λ x. expanded_below nodes x row) (sym count) ∙ stays_to more (suc place) row (λ m le other. zeros m other (λ same. absurd (omega (arith, le, same)))) in
+      let at : expanded_at nodes place (slice_get nodes place) row ≡ joined row = ap (λ o. expanded_at nodes place o row) at_place in
+      let start : place ≡ place + 0 = omega arith in
+      let rest = ap (λ x. expanded_below nodes x (joined row)) start ∙ stays_to place 0 (joined row) (λ m le other. now (nat_eq m place) m refl other) in
+      down ∙ ap (expanded_below nodes place) at ∙ rest
     where
       now : (b : Bool) (m : ℕ) → nat_eq m place ≡ b → (m ≡ term → ⊥) → cond (nat_eq m place) (pos 0) (row.coefficient m) ≡ pos 0
       now true m here other = ap (λ t. cond t (pos 0) (row.coefficient m)) here
       now false m here other = ap (λ t. cond t (pos 0) (row.coefficient m)) here ∙ zeros m other (λ same. let no_two : false ≡ true = sym here ∙ ap (nat_eq m) (sym same) ∙ equal_self m in absurd cc)
 
   abbrev lower_begun : Row
-  lower_begun = record { coefficient = with_coefficient (λ n. pos 0) place (pos 0 +ℤ pos 1); constant = pos 0 }
+  lower_begun = with_more place (pos 1) (constant_row (pos 0))
 
   abbrev lower : Row
-  lower = record { coefficient = with_coefficient lower_begun.coefficient term (lower_begun.coefficient term +ℤ negsuc 0); constant = pos 0 }
+  lower = with_more term (negsuc 0) lower_begun
 
   -- where the node is at most the bound
   at_most_is : (d : Row) → difference nodes (length nodes) term place (pos 0) ≡ Some d → d ≡ at_most_row term bound
   at_most_is d e =
-      let outer = then_some (expanded_below nodes (length nodes)) (option_and_then (with_more term (negsuc 0)) (with_more place (pos 1) (constant_row (pos 0)))) d e in
-      let inner = then_some (with_more term (negsuc 0)) (with_more place (pos 1) (constant_row (pos 0))) outer.0 outer.1 in
-      let first : lower_begun ≡ inner.0 = some_is lower_begun inner.0 (test_some (fits (pos 0 +ℤ pos 1)) (Some lower_begun) inner.0 inner.1).1 in
-      let second : lower ≡ outer.0 = some_is lower outer.0 (test_some (fits (lower_begun.coefficient term +ℤ negsuc 0)) (Some lower) outer.0 (subst (λ (r : Row). with_more term (negsuc 0) r ≡ Some outer.0) (sym first) inner.2)).1 in
-      let narrow = narrow_difference term place (pos 0) (constant_row (pos 0)) inner.0 outer.0 refl refl inner.1 inner.2 in
-      expands lower d (subst IsNarrow (sym second) narrow) (λ m a b. ap (λ t. cond t (lower_begun.coefficient term +ℤ negsuc 0) (lower_begun.coefficient m)) (unequal m term a) ∙ ap (λ t. cond t (pos 0 +ℤ pos 1) (pos 0)) (unequal m place b)) (subst (λ (r : Row). expanded_below nodes (length nodes) r ≡ Some d) (sym second) outer.2)
+      (narrow_row_is (length nodes) (expanded_difference nodes (length nodes) term place (pos 0)) d e).0
+      ∙ expands lower (λ m a b. ap (λ t. cond t (lower_begun.coefficient term +ℤ negsuc 0) (lower_begun.coefficient m)) (unequal m term a) ∙ ap (λ t. cond t (pos 0 +ℤ pos 1) (pos 0)) (unequal m place b))
       ∙ (λ i. record { coefficient = λ m. each m i; constant = constants i })
     where
       at_term : lower_begun.coefficient term +ℤ negsuc 0 ≡ negsuc 0
@@ -168,20 +158,16 @@ module _ (nodes : List Node) (term place : ℕ) (bound : ℤ) (term_less : term 
           by false false e f = refl
 
   abbrev upper_begun : Row
-  upper_begun = record { coefficient = with_coefficient (λ n. pos 0) term (pos 0 +ℤ pos 1); constant = negsuc 0 }
+  upper_begun = with_more term (pos 1) (constant_row (negsuc 0))
 
   abbrev upper : Row
-  upper = record { coefficient = with_coefficient upper_begun.coefficient place (upper_begun.coefficient place +ℤ negsuc 0); constant = negsuc 0 }
+  upper = with_more place (negsuc 0) upper_begun
 
   -- where it is at least the next number
   at_least_is : (d : Row) → difference nodes (length nodes) place term (negsuc 0) ≡ Some d → d ≡ at_least_row term (bound +ℤ pos 1)
   at_least_is d e =
-      let outer = then_some (expanded_below nodes (length nodes)) (option_and_then (with_more place (negsuc 0)) (with_more term (pos 1) (constant_row (negsuc 0)))) d e in
-      let inner = then_some (with_more place (negsuc 0)) (with_more term (pos 1) (constant_row (negsuc 0))) outer.0 outer.1 in
-      let first : upper_begun ≡ inner.0 = some_is upper_begun inner.0 (test_some (fits (pos 0 +ℤ pos 1)) (Some upper_begun) inner.0 inner.1).1 in
-      let second : upper ≡ outer.0 = some_is upper outer.0 (test_some (fits (upper_begun.coefficient place +ℤ negsuc 0)) (Some upper) outer.0 (subst (λ (r : Row). with_more place (negsuc 0) r ≡ Some outer.0) (sym first) inner.2)).1 in
-      let narrow = narrow_difference place term (negsuc 0) (constant_row (negsuc 0)) inner.0 outer.0 refl refl inner.1 inner.2 in
-      expands upper d (subst IsNarrow (sym second) narrow) (λ m a b. ap (λ t. cond t (upper_begun.coefficient place +ℤ negsuc 0) (upper_begun.coefficient m)) (unequal m place b) ∙ ap (λ t. cond t (pos 0 +ℤ pos 1) (pos 0)) (unequal m term a)) (subst (λ (r : Row). expanded_below nodes (length nodes) r ≡ Some d) (sym second) outer.2)
+      (narrow_row_is (length nodes) (expanded_difference nodes (length nodes) place term (negsuc 0)) d e).0
+      ∙ expands upper (λ m a b. ap (λ t. cond t (upper_begun.coefficient place +ℤ negsuc 0) (upper_begun.coefficient m)) (unequal m place b) ∙ ap (λ t. cond t (pos 0 +ℤ pos 1) (pos 0)) (unequal m term a))
       ∙ (λ i. record { coefficient = λ m. each m i; constant = constants i })
     where
       at_place_less : upper.coefficient place ≡ negsuc 0

@@ -37,7 +37,7 @@ fn sparse(alloc: Global, rows: &[df_linear::Row]) -> Result<Vec<Row>, AllocError
     Ok(sparse)
 }
 
-/// The rows of literals; `None` exactly where a number on the way to one is past 128 bits.
+/// The rows of literals; `None` exactly where a number of one is past 128 bits.
 pub(crate) fn rows(
     alloc: Global,
     nodes: &Nodes,

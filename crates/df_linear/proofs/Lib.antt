@@ -3,6 +3,7 @@ pub mod RowEntries
 pub mod RowFold
 pub mod RowSums
 pub mod RowQuotients
+pub mod RowNarrow
 pub mod LinearRows
 pub mod LinearSums
 pub mod LinearWithin

@@ -4,7 +4,7 @@ use Rattle.std.proofs.lemmas.Bool.Decides.{nat_tests}
 use Rattle.std.proofs.lemmas.Option.{cond_some, none-some, same_Some, option_and_then_some}
 use Rattle.std.specs.List.{list_all}
 use Rattle.std.specs.Ordering.{int_eq}
-use Rattle.std.specs.Option.{option_and_then, option_map}
+use Rattle.std.specs.Option.{option_map}
 use Rattle.df_form.specs.declared.log.Lit.{Lit}
 use Rattle.df_form.specs.declared.log.Multiple.{Multiple}
 use Rattle.df_form.specs.Log.{Combination}
@@ -16,13 +16,13 @@ use Rattle.df_form.specs.Node.{Node}
 use Rattle.df_form.specs.Sorting.{IsTable, sort_at, takes}
 use Rattle.df_linear.specs.declared.linear.Comparison.{Comparison}
 use Rattle.df_linear.specs.declared.linear.Comparison.TheVariants as comparisons
-use Rattle.df_linear.specs.declared.row.Term.{Term}
-use Rattle.df_linear.specs.declared.row.Term.TheVariants as terms
-use Rattle.df_linear.specs.Row.{Row, fits, constant_row, with_coefficient, with_more, with_constant, without, literal_number, expanded_at, expanded_below, difference}
+use Rattle.df_linear.specs.declared.expansion.Term.{Term}
+use Rattle.df_linear.specs.declared.expansion.Term.TheVariants as terms
+use Rattle.df_linear.specs.Row.{Row, constant_row, with_coefficient, with_more, with_constant, without, literal_number, expanded_at, expanded_below, expanded_difference, difference}
 use Rattle.df_linear.specs.RowView.{IsWithin, product_term, term_of_parts, term_of, with_term}
 use Rattle.df_linear.specs.Linear.{with_multiple, sum_from, divides, divided, quotient, combined, rows_of_node, rows_of, all_below}
-use Rattle.df_linear.specs.LinearView.{AreWithin, compared_by_sort, compared_parts, comparison_of, rows_of_comparison}
-use Rattle.df_linear.proofs.Rows.{at_term, narrow_if}
+use Rattle.df_linear.specs.LinearView.{AreWithin, IsComparisonBelow, compared_by_sort, compared_parts, comparison_of, rows_of_comparison}
+use Rattle.df_linear.proofs.Rows.{at_term, narrow_row_is}
 use Rattle.df_linear.proofs.RowQuotients.{zero_quotient}
 use Rattle.df_linear.proofs.LinearRows.{node_rows, map_some}
 use Rattle.df_linear.proofs.LinearSums.{and_true, multiple_within}
@@ -69,17 +69,11 @@ module _ (count : ℕ) where
       by true z e = refl
       by false z e = e
 
-  within_more : (n : ℕ) (c : ℤ) (row new : Row) → with_more n c row ≡ Some new → n < count → IsWithin count row → IsWithin count new
-  within_more n c row new e less inside =
-      let z = row.coefficient n +ℤ c in
-      let both = cond_some (fits z) (record { coefficient = with_coefficient row.coefficient n z; constant = row.constant }) new e in
-      subst (IsWithin count) both.1 (within_put row n z less inside)
+  within_more : (n : ℕ) (c : ℤ) (row : Row) → n < count → IsWithin count row → IsWithin count (with_more n c row)
+  within_more n c row less inside = within_put row n (row.coefficient n +ℤ c) less inside
 
-  within_constant : (c : ℤ) (row new : Row) → with_constant c row ≡ Some new → IsWithin count row → IsWithin count new
-  within_constant c row new e inside =
-      let z = row.constant +ℤ c in
-      let both = cond_some (fits z) (record { coefficient = row.coefficient; constant = z }) new e in
-      subst (IsWithin count) both.1 (record { zero_from = inside.zero_from })
+  within_constant : (c : ℤ) (row : Row) → IsWithin count row → IsWithin count (with_constant c row)
+  within_constant c row inside = record { zero_from = inside.zero_from }
 
   abbrev IsTermBelow : Term → Type 0
   IsTermBelow (terms.Literal k) = Unit {0}
@@ -96,28 +90,31 @@ module _ (count : ℕ) where
   term_below nodes ops.Times (a ∷ b ∷ []) e = product_below b (literal_number (slice_get nodes a)) (two_below a b count e).1
   term_below nodes op parts e = tt
 
-  within_term : (term : Term) (c : ℤ) (row taken new : Row) → with_term term c row taken ≡ Some new → IsTermBelow term → IsWithin count row → IsWithin count taken → IsWithin count new
-  within_term (terms.Literal k) c row taken new e below inside out = within_constant (c *ℤ k) taken new (narrow_if (c *ℤ k) (with_constant (c *ℤ k) taken) new e) out
-  within_term (terms.Sum a b) c row taken new e below inside out = option_and_then_some (with_more b c) (with_more a c taken) new e (λ mid at then. within_more b c mid new then below.1 (within_more a c taken mid at below.0 out))
-  within_term (terms.Multiple k b) c row taken new e below inside out = within_more b (c *ℤ k) taken new (narrow_if (c *ℤ k) (with_more b (c *ℤ k) taken) new e) below out
-  within_term terms.Atom c row taken new e below inside out = subst (IsWithin count) (same_Some row new e) inside
+  within_term : (term : Term) (c : ℤ) (row taken : Row) → IsTermBelow term → IsWithin count row → IsWithin count taken → IsWithin count (with_term term c row taken)
+  within_term (terms.Literal k) c row taken below inside out = within_constant (c *ℤ k) taken out
+  within_term (terms.Sum a b) c row taken below inside out = within_more b c (with_more a c taken) below.1 (within_more a c taken below.0 out)
+  within_term (terms.Multiple k b) c row taken below inside out = within_more b (c *ℤ k) taken below out
+  within_term terms.Atom c row taken below inside out = inside
 
   node_below : (nodes : List Node) → ((n : ℕ) (node : Node) → slice_get nodes n ≡ Some node → AreBelow count node.parts) → (n : ℕ) (o : Option Node) → slice_get nodes n ≡ o → IsTermBelow (term_of nodes o)
   node_below nodes below n None at = tt
   node_below nodes below n (Some node) at = term_below nodes node.op node.parts (below n node at)
 
-  within_at : (nodes : List Node) → ((n : ℕ) (node : Node) → slice_get nodes n ≡ Some node → AreBelow count node.parts) → (n : ℕ) (row new : Row) → expanded_at nodes n (slice_get nodes n) row ≡ Some new → IsWithin count row → IsWithin count new
-  within_at nodes below n row new e inside = within_term (term_of nodes (slice_get nodes n)) (row.coefficient n) row (without n row) new (sym (at_term nodes n (slice_get nodes n) row) ∙ e) (node_below nodes below n (slice_get nodes n) refl) inside (within_without row n inside)
+  within_at : (nodes : List Node) → ((n : ℕ) (node : Node) → slice_get nodes n ≡ Some node → AreBelow count node.parts) → (n : ℕ) (row : Row) → IsWithin count row → IsWithin count (expanded_at nodes n (slice_get nodes n) row)
+  within_at nodes below n row inside = subst (IsWithin count) (sym (at_term nodes n (slice_get nodes n) row)) (within_term (term_of nodes (slice_get nodes n)) (row.coefficient n) row (without n row) (node_below nodes below n (slice_get nodes n) refl) inside (within_without row n inside))
 
-  within_below : (nodes : List Node) → ((n : ℕ) (node : Node) → slice_get nodes n ≡ Some node → AreBelow count node.parts) → (n : ℕ) (row new : Row) → expanded_below nodes n row ≡ Some new → IsWithin count row → IsWithin count new
-  within_below nodes below zero row new e inside = subst (IsWithin count) (same_Some row new e) inside
-  within_below nodes below (suc n) row new e inside = option_and_then_some (expanded_below nodes n) (expanded_at nodes n (slice_get nodes n) row) new e (λ mid at then. within_below nodes below n mid new then (within_at nodes below n row mid at inside))
+  within_below : (nodes : List Node) → ((n : ℕ) (node : Node) → slice_get nodes n ≡ Some node → AreBelow count node.parts) → (n : ℕ) (row : Row) → IsWithin count row → IsWithin count (expanded_below nodes n row)
+  within_below nodes below zero row inside = inside
+  within_below nodes below (suc n) row inside = within_below nodes below n (expanded_at nodes n (slice_get nodes n) row) (within_at nodes below n row inside)
 
   within_start : (k : ℤ) → IsWithin count (constant_row k)
   within_start k = record { zero_from = λ n h. refl }
 
+  within_expanded : (nodes : List Node) → ((n : ℕ) (node : Node) → slice_get nodes n ≡ Some node → AreBelow count node.parts) → (high a b : ℕ) (k : ℤ) → a < count → b < count → IsWithin count (expanded_difference nodes high a b k)
+  within_expanded nodes below high a b k p q = within_below nodes below high (with_more a (negsuc 0) (with_more b (pos 1) (constant_row k))) (within_more a (negsuc 0) (with_more b (pos 1) (constant_row k)) p (within_more b (pos 1) (constant_row k) q (within_start k)))
+
   within_difference : (nodes : List Node) → ((n : ℕ) (node : Node) → slice_get nodes n ≡ Some node → AreBelow count node.parts) → (high a b : ℕ) (k : ℤ) (new : Row) → difference nodes high a b k ≡ Some new → a < count → b < count → IsWithin count new
-  within_difference nodes below high a b k new e p q = option_and_then_some (expanded_below nodes high) (option_and_then (with_more a (negsuc 0)) (with_more b (pos 1) (constant_row k))) new e (λ second two then. option_and_then_some (with_more a (negsuc 0)) (with_more b (pos 1) (constant_row k)) second two (λ first one next. within_below nodes below high second new then (within_more a (negsuc 0) first second next p (within_more b (pos 1) (constant_row k) first one q (within_start k)))))
+  within_difference nodes below high a b k new e p q = subst (IsWithin count) (sym (narrow_row_is high (expanded_difference nodes high a b k) new e).0) (within_expanded nodes below high a b k p q)
 
 -- lists of rows
 within_none : (count : ℕ) → AreWithin count []
@@ -142,13 +139,7 @@ within_push count rows r all inside = within_append count rows (r ∷ []) all (w
 
 -- the rows of literals
 module _ (count : ℕ) (nodes : List Node) (below : (n : ℕ) (node : Node) → slice_get nodes n ≡ Some node → AreBelow count node.parts) where
-  abbrev IsComparisonBelow : Comparison → Type 0
-  IsComparisonBelow (comparisons.AtMost a b) = (a < count) × (b < count)
-  IsComparisonBelow (comparisons.Above a b) = (a < count) × (b < count)
-  IsComparisonBelow (comparisons.Equal a b) = (a < count) × (b < count)
-  IsComparisonBelow comparisons.Other = Unit {0}
-
-  compared_below : (sort : Sort) (positive : Bool) (op : Op) (a b : ℕ) → (a < count) × (b < count) → IsComparisonBelow (compared_by_sort sort positive op a b)
+  compared_below : (sort : Sort) (positive : Bool) (op : Op) (a b : ℕ) → (a < count) × (b < count) → IsComparisonBelow count (compared_by_sort sort positive op a b)
   compared_below sorts.Number true ops.AtMost a b h = h
   compared_below sorts.Number false ops.AtMost a b h = h
   compared_below sorts.Number true ops.Equal a b h = h
@@ -157,20 +148,20 @@ module _ (count : ℕ) (nodes : List Node) (below : (n : ℕ) (node : Node) → 
   compared_below sorts.Number false op a b h = tt
   compared_below sorts.Truth positive op a b h = tt
 
-  compared_parts_below : (positive : Bool) (op : Op) (parts : List ℕ) → AreBelow count parts → IsComparisonBelow (compared_parts nodes positive op parts)
+  compared_parts_below : (positive : Bool) (op : Op) (parts : List ℕ) → AreBelow count parts → IsComparisonBelow count (compared_parts nodes positive op parts)
   compared_parts_below positive op [] e = tt
   compared_parts_below positive op (a ∷ []) e = tt
   compared_parts_below positive op (a ∷ b ∷ []) e = compared_below (sort_at nodes a) positive op a b (two_below a b count e)
   compared_parts_below positive op (a ∷ b ∷ d ∷ others) e = tt
 
-  comparison_below : (positive : Bool) (n : ℕ) (o : Option Node) → slice_get nodes n ≡ o → IsComparisonBelow (comparison_of nodes positive o)
+  comparison_below : (positive : Bool) (n : ℕ) (o : Option Node) → slice_get nodes n ≡ o → IsComparisonBelow count (comparison_of nodes positive o)
   comparison_below positive n None at = tt
   comparison_below positive n (Some node) at = compared_parts_below positive node.op node.parts (below n node at)
 
   one_within : (high a b : ℕ) (k : ℤ) (rows : List Row) → option_map (λ r. r ∷ []) (difference nodes high a b k) ≡ Some rows → a < count → b < count → AreWithin count rows
   one_within high a b k rows e p q = map_some (λ r. r ∷ []) (difference nodes high a b k) rows e (λ r at is. subst (AreWithin count) is (within_one count r (within_difference count nodes below high a b k r at p q)))
 
-  comparison_within : (high : ℕ) (comparison : Comparison) (rows : List Row) → rows_of_comparison nodes high comparison ≡ Some rows → IsComparisonBelow comparison → AreWithin count rows
+  comparison_within : (high : ℕ) (comparison : Comparison) (rows : List Row) → rows_of_comparison nodes high comparison ≡ Some rows → IsComparisonBelow count comparison → AreWithin count rows
   comparison_within high (comparisons.AtMost a b) rows e h = one_within high a b (pos 0) rows e h.0 h.1
   comparison_within high (comparisons.Above a b) rows e h = one_within high b a (negsuc 0) rows e h.1 h.0
   comparison_within high (comparisons.Equal a b) rows e h = option_and_then_some (λ r. option_map (λ s. r ∷ s ∷ []) (difference nodes high b a (pos 0))) (difference nodes high a b (pos 0)) rows e (λ r at then. map_some (λ s. r ∷ s ∷ []) (difference nodes high b a (pos 0)) rows then (λ s next is. subst (AreWithin count) is (within_head count r (s ∷ []) (within_difference count nodes below high a b (pos 0) r at h.0 h.1) (within_one count s (within_difference count nodes below high b a (pos 0) s next h.1 h.0)))))
@@ -182,6 +173,14 @@ module _ (count : ℕ) (nodes : List Node) (below : (n : ℕ) (node : Node) → 
   rows_within : (literals : List Lit) (rows : List Row) → rows_of nodes literals ≡ Some rows → AreWithin count rows
   rows_within [] rows e = subst (AreWithin count) (same_Some [] rows e) (within_none count)
   rows_within (l ∷ others) rows e = option_and_then_some (λ first. option_map (λ more. first ++ more) (rows_of nodes others)) (rows_of_node nodes l.positive (slice_get nodes l.node)) rows e (λ first at then. map_some (λ more. first ++ more) (rows_of nodes others) rows then (λ more next is. subst (AreWithin count) is (within_append count first more (literal_within l.positive l.node first at) (rows_within others more next))))
+
+-- in a table
+module _ (nodes : List Node) (table : IsTable nodes) where
+  pub table_compared : (positive : Bool) (n : ℕ) → IsComparisonBelow (length nodes) (comparison_of nodes positive (slice_get nodes n))
+  table_compared positive n = comparison_below (length nodes) nodes (parts_below nodes table) positive n (slice_get nodes n) refl
+
+  pub table_expanded : (a b : ℕ) (k : ℤ) → a < length nodes → b < length nodes → IsWithin (length nodes) (expanded_difference nodes (length nodes) a b k)
+  table_expanded a b k p q = within_expanded (length nodes) nodes (parts_below nodes table) (length nodes) a b k p q
 
 pub table_within : (nodes : List Node) (literals : List Lit) (rows : List Row) → IsTable nodes → rows_of nodes literals ≡ Some rows → AreWithin (length nodes) rows
 table_within nodes literals rows table e = rows_within (length nodes) nodes (parts_below nodes table) literals rows e

@@ -16,25 +16,27 @@ use Rattle.std.specs.Ordering.{nat_cmp, is_eq}
 use Rattle.std.specs.BTreeMap.{is_at}
 use Rattle.std.specs.Map.{lookup, keys_of}
 use Rattle.df_linear.specs.Row.{with_coefficient}
-use Rattle.df_linear.specs.RowView.{coefficient_at}
+use Rattle.df_linear.specs.declared.row.RowFault.{RowFault}
+use Rattle.df_linear.specs.RowView.{coefficient_at, Fails}
+use Rattle.df_linear.proofs.Rows.{fails_on}
 
 -- The step is given the coefficient so far, and the entry's.
-abbrev pub each : (ℤ → ℤ → Option ℤ) → List (ℕ × ℤ) → (ℕ → ℤ) → Option (ℕ → ℤ)
+abbrev pub each : {X : Type 0} → (ℤ → X → Option ℤ) → List (ℕ × X) → (ℕ → ℤ) → Option (ℕ → ℤ)
 each step [] c = Some c
 each step (e ∷ es) c = option_and_then (λ z. each step es (with_coefficient c e.0 z)) (step (c e.0) e.1)
 
-abbrev pub found : List (ℕ × ℤ) → ℕ → Option ℤ
+abbrev pub found : {X : Type 0} → List (ℕ × X) → ℕ → Option X
 found es n = lookup (is_at (nat_cmp n)) es
 
 -- a coefficient before and after
-abbrev pub Outcome : (ℤ → ℤ → Option ℤ) → Option ℤ → ℤ → ℤ → Type 0
+abbrev pub Outcome : {X : Type 0} → (ℤ → X → Option ℤ) → Option X → ℤ → ℤ → Type 0
 Outcome step None before after = after ≡ before
 Outcome step (Some v) before after = step before v ≡ Some after
 
 -- an entry that the step refuses
-pub record Refused (step : ℤ → ℤ → Option ℤ) (es : List (ℕ × ℤ)) (c : ℕ → ℤ) : Type 0 where
+pub record Refused {X : Type 0} (step : ℤ → X → Option ℤ) (es : List (ℕ × X)) (c : ℕ → ℤ) : Type 0 where
   pub at : ℕ
-  pub value : ℤ
+  pub value : X
   pub stands : found es at ≡ Some value
   pub none : step (c at) value ≡ None
 
@@ -66,13 +68,13 @@ apart_from n k apart = ⊎_elim below above (sides n k apart)
 keys : (n k : ℕ) → (n ≡ k) ⊎ Apart n k
 keys n k = ⊎_elim inl (λ apart. inr (apart_from n k apart)) (cases_eq n k)
 
-here : (k : ℕ) (v : ℤ) (es : List (ℕ × ℤ)) → found ((k, v) ∷ es) k ≡ Some v
+here : {X : Type 0} (k : ℕ) (v : X) (es : List (ℕ × X)) → found ((k, v) ∷ es) k ≡ Some v
 here k v es = ap (λ t. cond t (Some v) (found es k)) (at_self k)
 
-elsewhere : (n k : ℕ) (v : ℤ) (es : List (ℕ × ℤ)) → Apart n k → found ((k, v) ∷ es) n ≡ found es n
+elsewhere : {X : Type 0} (n k : ℕ) (v : X) (es : List (ℕ × X)) → Apart n k → found ((k, v) ∷ es) n ≡ found es n
 elsewhere n k v es apart = ap (λ t. cond t (Some v) (found es n)) apart.1
 
-once : (k : ℕ) (v : ℤ) (es : List (ℕ × ℤ)) → IsStrictlySortedBy nat_cmp (keys_of ((k, v) ∷ es)) → found es k ≡ None
+once : {X : Type 0} (k : ℕ) (v : X) (es : List (ℕ × X)) → IsStrictlySortedBy nat_cmp (keys_of ((k, v) ∷ es)) → found es k ≡ None
 once k v es sorted = lookup-none (is_at (nat_cmp k)) es (none_past_head (eq_by_cmp_equiv nat_cmp_total) k (k, v) es (IsDistinct-from_sorted nat_cmp (keys_of ((k, v) ∷ es)) sorted) (at_self k))
 
 put_here : (c : ℕ → ℤ) (k : ℕ) (z : ℤ) → with_coefficient c k z k ≡ z
@@ -82,25 +84,25 @@ put_elsewhere : (c : ℕ → ℤ) (n k : ℕ) (z : ℤ) → Apart n k → with_c
 put_elsewhere c n k z apart = ap (λ t. cond t z (c n)) apart.0
 
 -- one entry more in front
-first_some : (step : ℤ → ℤ → Option ℤ) (k : ℕ) (v : ℤ) (es : List (ℕ × ℤ)) (c after : ℕ → ℤ) (z : ℤ) → IsStrictlySortedBy nat_cmp (keys_of ((k, v) ∷ es)) → step (c k) v ≡ Some z → ((m : ℕ) → Outcome step (found es m) (with_coefficient c k z m) (after m)) → (n : ℕ) → Outcome step (found ((k, v) ∷ es) n) (c n) (after n)
-first_some step k v es c after z sorted at rest n = ⊎_elim this other (keys n k)
+first_some : {X : Type 0} (step : ℤ → X → Option ℤ) (k : ℕ) (v : X) (es : List (ℕ × X)) (c after : ℕ → ℤ) (z : ℤ) → IsStrictlySortedBy nat_cmp (keys_of ((k, v) ∷ es)) → step (c k) v ≡ Some z → ((m : ℕ) → Outcome step (found es m) (with_coefficient c k z m) (after m)) → (n : ℕ) → Outcome step (found ((k, v) ∷ es) n) (c n) (after n)
+first_some {X = X} step k v es c after z sorted at rest n = ⊎_elim this other (keys n k)
   where
     this : n ≡ k → Outcome step (found ((k, v) ∷ es) n) (c n) (after n)
     this same =
-        let P : Option ℤ → Type 0 = λ o. Outcome step o (with_coefficient c k z k) (after k) in
+        let P : Option X → Type 0 = λ o. Outcome step o (with_coefficient c k z k) (after k) in
         let kept : after k ≡ with_coefficient c k z k = subst P (once k v es sorted) (rest k) in
-        let Q : Option ℤ → Type 0 = λ o. Outcome step o (c k) (after k) in
+        let Q : Option X → Type 0 = λ o. Outcome step o (c k) (after k) in
         let R : ℕ → Type 0 = λ m. Outcome step (found ((k, v) ∷ es) m) (c m) (after m) in
         subst R (sym same) (subst Q (sym (here k v es)) (at ∙ ap Some (sym (kept ∙ put_here c k z))))
 
     other : Apart n k → Outcome step (found ((k, v) ∷ es) n) (c n) (after n)
     other apart =
-        let P : Option ℤ → Type 0 = λ o. Outcome step o (c n) (after n) in
+        let P : Option X → Type 0 = λ o. Outcome step o (c n) (after n) in
         let Q : ℤ → Type 0 = λ b. Outcome step (found es n) b (after n) in
         subst P (sym (elsewhere n k v es apart)) (subst Q (put_elsewhere c n k z apart) (rest n))
 
-first_none : (step : ℤ → ℤ → Option ℤ) (k : ℕ) (v : ℤ) (es : List (ℕ × ℤ)) (c : ℕ → ℤ) (z : ℤ) → IsStrictlySortedBy nat_cmp (keys_of ((k, v) ∷ es)) → Refused step es (with_coefficient c k z) → Refused step ((k, v) ∷ es) c
-first_none step k v es c z sorted r = ⊎_elim this other (keys r.at k)
+first_none : {X : Type 0} (step : ℤ → X → Option ℤ) (k : ℕ) (v : X) (es : List (ℕ × X)) (c : ℕ → ℤ) (z : ℤ) → IsStrictlySortedBy nat_cmp (keys_of ((k, v) ∷ es)) → Refused step es (with_coefficient c k z) → Refused step ((k, v) ∷ es) c
+first_none {X = X} step k v es c z sorted r = ⊎_elim this other (keys r.at k)
   where
     this : r.at ≡ k → Refused step ((k, v) ∷ es) c
     this same = absurd (none-some r.value (sym (once k v es sorted) ∙ ap (found es) (sym same) ∙ r.stands))
@@ -108,7 +110,7 @@ first_none step k v es c z sorted r = ⊎_elim this other (keys r.at k)
     other : Apart r.at k → Refused step ((k, v) ∷ es) c
     other apart = record { at = r.at; value = r.value; stands = elsewhere r.at k v es apart ∙ r.stands; none = ap (λ b. step b r.value) (sym (put_elsewhere c r.at k z apart)) ∙ r.none }
 
-pub each_some : (step : ℤ → ℤ → Option ℤ) (es : List (ℕ × ℤ)) (c after : ℕ → ℤ) → IsStrictlySortedBy nat_cmp (keys_of es) → each step es c ≡ Some after → (n : ℕ) → Outcome step (found es n) (c n) (after n)
+pub each_some : {X : Type 0} (step : ℤ → X → Option ℤ) (es : List (ℕ × X)) (c after : ℕ → ℤ) → IsStrictlySortedBy nat_cmp (keys_of es) → each step es c ≡ Some after → (n : ℕ) → Outcome step (found es n) (c n) (after n)
 each_some step [] c after sorted e n = ap (λ f. f n) (sym (same_Some c after e))
 each_some step ((k, v) ∷ es) c after sorted e n = option_and_then_some (λ z. each step es (with_coefficient c k z)) (step (c k) v) after e (λ z at then. first_some step k v es c after z sorted at (each_some step es (with_coefficient c k z) after (sorted_tail nat_cmp k (keys_of es) sorted) then) n)
 
@@ -116,7 +118,7 @@ none_from : {A B C : Type 0} (f : A → Option B) (o : Option A) → option_and_
 none_from f None e none some = none refl
 none_from f (Some x) e none some = some x refl e
 
-pub each_none : (step : ℤ → ℤ → Option ℤ) (es : List (ℕ × ℤ)) (c : ℕ → ℤ) → IsStrictlySortedBy nat_cmp (keys_of es) → each step es c ≡ None → Refused step es c
+pub each_none : {X : Type 0} (step : ℤ → X → Option ℤ) (es : List (ℕ × X)) (c : ℕ → ℤ) → IsStrictlySortedBy nat_cmp (keys_of es) → each step es c ≡ None → Refused step es c
 each_none step [] c sorted e = absurd (none-some c (sym e))
 each_none step ((k, v) ∷ es) c sorted e =
     none_from (λ z. each step es (with_coefficient c k z)) (step (c k) v) e (λ none. record { at = k; value = v; stands = here k v es; none = none }) (λ z at then. first_none step k v es c z sorted (each_none step es (with_coefficient c k z) (sorted_tail nat_cmp k (keys_of es) sorted) then))
@@ -141,3 +143,20 @@ put_entry old new k w puts = λ i. λ n. at n i
           where
             away : (k ≡ n) ⊎ Apart k n → is_at (nat_cmp k) n ≡ false
             away c = ⊎_elim (λ same. absurd (true≢false (sym (ap (nat_eq n) same ∙ same_self n) ∙ apart.0))) (λ there. there.1) c
+
+-- what is made of each entry, from nothing
+abbrev pub nothing_yet : ℕ → ℤ
+nothing_yet n = pos 0
+
+-- the entries that are left give the rest of what is made
+pub record IsMaking {X : Type 0} (step : ℤ → X → Option ℤ) (all left : List (ℕ × X)) (made : List (ℕ × ℤ)) : Type 0 where
+  pub goes : each step left (coefficient_at made) ≡ each step all nothing_yet
+
+module _ {X : Type 0} (step : ℤ → X → Option ℤ) (all left : List (ℕ × X)) (made : List (ℕ × ℤ)) (k : ℕ) (v : X) (so_far : IsMaking step all ((k, v) ∷ left) made) where
+  pub making_goes : (new : List (ℕ × ℤ)) (w : ℤ) → step (coefficient_at made k) v ≡ Some w → ((q : ℕ) → found new q ≡ cond (is_at (nat_cmp k) q) (Some w) (found made q)) → IsMaking step all left new
+  making_goes new w at puts =
+      let here : each step ((k, v) ∷ left) (coefficient_at made) ≡ each step left (with_coefficient (coefficient_at made) k w) = ap (option_and_then (λ x. each step left (with_coefficient (coefficient_at made) k x))) at in
+      record { goes = ap (each step left) (put_entry made new k w puts) ∙ sym here ∙ so_far.goes }
+
+  pub making_fails : (fault : RowFault) → Fails fault (step (coefficient_at made k) v) → Fails fault (each step all nothing_yet)
+  making_fails fault none = subst (Fails fault) so_far.goes (fails_on fault (λ x. each step left (with_coefficient (coefficient_at made) k x)) (step (coefficient_at made k) v) none)

@@ -1,5 +1,5 @@
 -- A row divided.
-use Rattle.std.proofs.Common.{◌≡◌, ◌⊎◌, ⊎_elim, ℕ, ◌<◌, ◌≤◌, ℤ, pos, negsuc, ◌*ℤ◌, int_le, int_lt, Bool, true, false, ◌&&◌, cond, List, [], ◌∷◌, Option, Some, None, refl, sym, ap, subst, ◌∙◌, arith}
+use Rattle.std.proofs.Common.{◌≡◌, ◌⊎◌, ⊎_elim, ℕ, ◌<◌, ◌≤◌, ℤ, pos, negsuc, ◌*ℤ◌, int_le, int_lt, Bool, true, false, ◌&&◌, cond, List, [], ◌∷◌, Option, Some, None, refl, sym, ap, ◌∙◌, arith}
 use Rattle.std.proofs.Math.Nat.{zero-div}
 use Rattle.std.proofs.lemmas.Int.{ints}
 use Rattle.std.proofs.lemmas.Bool.{true≢false}
@@ -8,7 +8,6 @@ use Rattle.std.specs.List.{list_all}
 use Rattle.std.specs.List.Sorted.{IsStrictlySortedBy}
 use Rattle.std.specs.Option.{option_and_then, is_some, unwrap_or}
 use Rattle.std.specs.Ordering.{nat_cmp, int_eq}
-use Rattle.std.specs.BTreeMap.{is_at}
 use Rattle.std.specs.Int.{int_div_euclid}
 use Rattle.std.specs.Map.{keys_of, values_of}
 use Rattle.df_linear.specs.declared.row.RowFault.{RowFault}
@@ -16,32 +15,12 @@ use Rattle.df_linear.specs.declared.row.RowFault.TheVariants as faults
 use Rattle.df_linear.specs.Row.{Row, with_coefficient}
 use Rattle.df_linear.specs.RowView.{Fails, coefficient_at, IsWithin, exact}
 use Rattle.df_linear.specs.Linear.{all_below, quotient, divided}
-use Rattle.df_linear.proofs.Rows.{fails_on}
-use Rattle.df_linear.proofs.RowFold.{each, each_some, each_none, put_entry, Outcome, found}
+use Rattle.df_linear.proofs.RowFold.{each, each_some, each_none, nothing_yet, Outcome, found}
 use Rattle.df_linear.proofs.RowSums.{all_pass, one_stops}
 
 -- the quotient of an entry in the place of what stood there
 abbrev pub divide_step : ℤ → ℤ → ℤ → Option ℤ
 divide_step divisor before v = exact v divisor
-
-abbrev pub nothing_yet : ℕ → ℤ
-nothing_yet n = pos 0
-
--- the entries that are left give the rest of the quotients
-pub record IsDividing (divisor : ℤ) (all left quotients : List (ℕ × ℤ)) : Type 0 where
-  pub goes : each (divide_step divisor) left (coefficient_at quotients) ≡ each (divide_step divisor) all nothing_yet
-
-module _ (divisor : ℤ) (all : List (ℕ × ℤ)) where
-  pub division_goes : (quotients new : List (ℕ × ℤ)) (k : ℕ) (v w z : ℤ) (left : List (ℕ × ℤ)) → IsDividing divisor all ((k, v) ∷ left) quotients → exact z divisor ≡ Some w → z ≡ v → ((q : ℕ) → found new q ≡ cond (is_at (nat_cmp k) q) (Some w) (found quotients q)) → IsDividing divisor all left new
-  division_goes quotients new k v w z left so_far e is puts =
-      let step : exact v divisor ≡ Some w = ap (λ x. exact x divisor) (sym is) ∙ e in
-      let here : each (divide_step divisor) ((k, v) ∷ left) (coefficient_at quotients) ≡ each (divide_step divisor) left (with_coefficient (coefficient_at quotients) k w) = ap (option_and_then (λ x. each (divide_step divisor) left (with_coefficient (coefficient_at quotients) k x))) step in
-      record { goes = ap (each (divide_step divisor) left) (put_entry quotients new k w puts) ∙ sym here ∙ so_far.goes }
-
-  pub division_fails : (fault : RowFault) (quotients : List (ℕ × ℤ)) (k : ℕ) (v z : ℤ) (left : List (ℕ × ℤ)) → IsDividing divisor all ((k, v) ∷ left) quotients → Fails fault (exact z divisor) → z ≡ v → Fails fault (each (divide_step divisor) all nothing_yet)
-  division_fails fault quotients k v z left so_far none is =
-      let P : ℤ → Type 0 = λ x. Fails fault (exact x divisor) in
-      subst (Fails fault) so_far.goes (fails_on fault (λ x. each (divide_step divisor) left (with_coefficient (coefficient_at quotients) k x)) (exact v divisor) (subst P is none))
 
 -- 0 divided
 pub zero_quotient : (d : ℤ) → int_le (pos 1) d ≡ true → quotient (pos 0) d ≡ pos 0

@@ -9,8 +9,8 @@ use Rattle.std.specs.Ordering.{nat_cmp}
 use Rattle.std.specs.Map.{keys_of}
 use Rattle.df_linear.specs.declared.row.RowFault.{RowFault}
 use Rattle.df_linear.specs.declared.row.RowFault.TheVariants as faults
-use Rattle.df_linear.specs.Row.{Row, fits, if_fits, with_coefficient, with_more, with_constant}
-use Rattle.df_linear.specs.RowView.{Fails, narrow, coefficient_at, IsNarrow, IsWithin}
+use Rattle.df_linear.specs.Row.{Row, fits, with_coefficient}
+use Rattle.df_linear.specs.RowView.{Fails, narrow, if_fits, fitting_more, fitting_constant, coefficient_at, IsNarrow, IsWithin}
 use Rattle.df_linear.specs.Linear.{all_below, sum_of, with_multiple}
 use Rattle.df_linear.proofs.Rows.{passed, fails_on}
 use Rattle.df_linear.proofs.RowFold.{each, each_some, each_none, Outcome, found}
@@ -103,7 +103,7 @@ module _ (factor : ℤ) (all : List (ℕ × ℤ)) (k : ℤ) (start : Row) where
           no true x = refl
           no false x = refl
 
-  pub multiple_some : (count : ℕ) (row : Row) → IsStrictlySortedBy nat_cmp (keys_of all) → IsNarrow start → int_le (pos 0) factor ≡ true → each (add_step factor) all start.coefficient ≡ Some row.coefficient → row.constant ≡ start.constant → with_multiple count start factor (Some other_row) ≡ if_fits (factor *ℤ k) (with_constant (factor *ℤ k) row)
+  pub multiple_some : (count : ℕ) (row : Row) → IsStrictlySortedBy nat_cmp (keys_of all) → IsNarrow start → int_le (pos 0) factor ≡ true → each (add_step factor) all start.coefficient ≡ Some row.coefficient → row.constant ≡ start.constant → with_multiple count start factor (Some other_row) ≡ if_fits (factor *ℤ k) (fitting_constant (factor *ℤ k) row)
   multiple_some count row sorted small sign e same = rw (sign, all_pass count (λ n. fine factor (start.coefficient n) (coefficient_at all n)) passes) (both (fits (factor *ℤ k)) (fits (start.constant +ℤ (factor *ℤ k))) (fits (row.constant +ℤ (factor *ℤ k))) (Some (sum_of start factor other_row)) (Some (record { coefficient = row.coefficient; constant = row.constant +ℤ (factor *ℤ k) })) (ap (λ z. fits (z +ℤ (factor *ℤ k))) (sym same)) (ap Some rows))
     where
       at : (n : ℕ) → (row.coefficient n ≡ start.coefficient n +ℤ (factor *ℤ coefficient_at all n)) × (fine factor (start.coefficient n) (coefficient_at all n) ≡ true)
@@ -140,10 +140,10 @@ module _ (factor : ℤ) (all : List (ℕ × ℤ)) (start row : Row) (k : ℕ) (v
   after_product : (more : ℤ) → narrow z ≡ Some more → (fits (factor *ℤ v) ≡ true) × (more ≡ factor *ℤ v)
   after_product more e = let both = cond_some (fits z) z more e in (ap fits (sym is) ∙ both.0, sym both.1 ∙ is)
 
-  pub sum_goes : (more : ℤ) (new : Row) → narrow z ≡ Some more → passed more ≡ more → with_more k (passed more) row ≡ Some new → IsSumming factor all left start new
+  pub sum_goes : (more : ℤ) (new : Row) → narrow z ≡ Some more → passed more ≡ more → fitting_more k (passed more) row ≡ Some new → IsSumming factor all left start new
   sum_goes more new e same added =
       let product = after_product more e in
-      let w : with_more k (factor *ℤ v) row ≡ Some new = ap (λ x. with_more k x row) (sym (same ∙ product.1)) ∙ added in
+      let w : fitting_more k (factor *ℤ v) row ≡ Some new = ap (λ x. fitting_more k x row) (sym (same ∙ product.1)) ∙ added in
       let sum = row.coefficient k +ℤ (factor *ℤ v) in
       let inner = cond_some (fits sum) (record { coefficient = with_coefficient row.coefficient k sum; constant = row.constant }) new w in
       let step : add_step factor (row.coefficient k) v ≡ Some sum = rw (product.0, inner.0) refl in
@@ -160,11 +160,11 @@ module _ (factor : ℤ) (all : List (ℕ × ℤ)) (start row : Row) (k : ℕ) (v
   product_fails faults.Memory none = tt
   product_fails faults.Refused none = step_fails faults.Refused (unfit (factor *ℤ v) (narrow (row.coefficient k +ℤ (factor *ℤ v))) (ap narrow (sym is) ∙ none))
 
-  pub add_fails : (fault : RowFault) (more : ℤ) → narrow z ≡ Some more → passed more ≡ more → Fails fault (with_more k (passed more) row) → Fails fault (each (add_step factor) all start.coefficient)
+  pub add_fails : (fault : RowFault) (more : ℤ) → narrow z ≡ Some more → passed more ≡ more → Fails fault (fitting_more k (passed more) row) → Fails fault (each (add_step factor) all start.coefficient)
   add_fails faults.Memory more e same none = tt
   add_fails faults.Refused more e same none =
       let product = after_product more e in
-      let w : with_more k (factor *ℤ v) row ≡ None = ap (λ x. with_more k x row) (sym (same ∙ product.1)) ∙ none in
+      let w : fitting_more k (factor *ℤ v) row ≡ None = ap (λ x. fitting_more k x row) (sym (same ∙ product.1)) ∙ none in
       let sum = row.coefficient k +ℤ (factor *ℤ v) in
       let wide : narrow sum ≡ None = unmade (fits sum) (record { coefficient = with_coefficient row.coefficient k sum; constant = row.constant }) sum w in
       step_fails faults.Refused (ap (if_fits (factor *ℤ v)) wide ∙ nothing (fits (factor *ℤ v)))

@@ -1,5 +1,5 @@
 -- Linear arithmetic: rows of literals, and their combinations.
-use Rattle.std.specs.Prelude.{ℕ, zero, suc, ℤ, pos, negsuc, ◌+ℤ◌, ◌*ℤ◌, ◌/◌, int_le, Bool, true, false, ◌&&◌, List, [], ◌∷◌, ◌++◌, map, length, slice_get, Option, None, Some, if◌then◌else◌}
+use Rattle.std.specs.Prelude.{ℕ, ℤ, pos, negsuc, ◌+ℤ◌, ◌*ℤ◌, ◌/◌, int_le, Bool, true, false, ◌&&◌, List, [], ◌∷◌, ◌++◌, map, length, slice_get, Option, None, Some, if◌then◌else◌}
 use Rattle.std.specs.Option.{option_and_then, option_map}
 use Rattle.std.specs.Ordering.{int_eq}
 use Rattle.df_form.specs.declared.node.Sort.{Sort}
@@ -12,6 +12,7 @@ use Rattle.df_form.specs.Log.{Combination}
 use Rattle.df_form.specs.Node.{Node}
 use Rattle.df_form.specs.Sorting.{sort_at}
 use Rattle.df_form.specs.Clause.{Clause, negation, are_literals}
+pub use Rattle.df_linear.specs.Row.{all_below}
 use Rattle.df_linear.specs.Row.{Row, fits, constant_row, difference}
 
 abbrev pub one_row : Option Row → Option (List Row)
@@ -44,11 +45,6 @@ rows_of_node nodes positive (Some node) = rows_of_parts nodes positive node.op n
 abbrev pub rows_of : List Node → List Lit → Option (List Row)
 rows_of nodes [] = Some []
 rows_of nodes (l ∷ others) = option_and_then (λ rows. option_map (λ more. rows ++ more) (rows_of nodes others)) (rows_of_node nodes l.positive (slice_get nodes l.node))
-
--- the test passes for each node below the number
-abbrev pub all_below : ℕ → (ℕ → Bool) → Bool
-all_below zero test = true
-all_below (suc n) test = test n && all_below n test
 
 -- a row, and another one so many times; each number on the way fits
 abbrev pub sum_fits : ℕ → Row → ℤ → Row → Bool

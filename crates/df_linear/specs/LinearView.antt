@@ -1,5 +1,5 @@
 -- What the functions on lines of linear arithmetic answer.
-use Rattle.std.specs.Prelude.{◌≡◌, ℕ, pos, negsuc, Bool, true, false, List, [], ◌∷◌, map, length, slice_get, Option, None, Some, Result, Ok, Err}
+use Rattle.std.specs.Prelude.{◌≡◌, ◌<◌, ℕ, pos, negsuc, Bool, true, false, List, [], ◌∷◌, map, length, slice_get, Option, None, Some, Result, Ok, Err}
 use Rattle.df_form.specs.declared.node.Sort.{Sort}
 use Rattle.df_form.specs.declared.node.Sort.TheVariants as sorts
 use Rattle.df_form.specs.declared.node.Op.{Op}
@@ -41,6 +41,13 @@ rows_of_comparison nodes count (comparisons.AtMost a b) = one_row (difference no
 rows_of_comparison nodes count (comparisons.Above a b) = one_row (difference nodes count b a (negsuc 0))
 rows_of_comparison nodes count (comparisons.Equal a b) = two_rows (difference nodes count a b (pos 0)) (difference nodes count b a (pos 0))
 rows_of_comparison nodes count comparisons.Other = Some []
+
+-- the nodes that are compared stand below the count
+abbrev pub IsComparisonBelow : ℕ → Comparison → Type 0
+IsComparisonBelow count (comparisons.AtMost a b) = (a < count) × (b < count)
+IsComparisonBelow count (comparisons.Above a b) = (a < count) × (b < count)
+IsComparisonBelow count (comparisons.Equal a b) = (a < count) × (b < count)
+IsComparisonBelow count comparisons.Other = Unit {0}
 
 -- only nodes below the count have a coefficient in the rows
 pub record AreWithin (count : ℕ) (rows : List Row) : Type 0 where

@@ -1,6 +1,6 @@
 -- The code's rows, and what the functions on them answer.
-use Rattle.std.specs.Prelude.{◌≡◌, ℕ, ◌≤◌, ◌<◌, ℤ, pos, ◌*ℤ◌, true, List, [], ◌∷◌, slice_get, Option, None, Some, Result, Ok, Err, if◌then◌else◌}
-use Rattle.std.specs.Option.{option_and_then, unwrap_or}
+use Rattle.std.specs.Prelude.{◌≡◌, ℕ, ◌≤◌, ◌<◌, ℤ, pos, ◌+ℤ◌, ◌*ℤ◌, true, List, [], ◌∷◌, slice_get, Option, None, Some, Result, Ok, Err, if◌then◌else◌}
+use Rattle.std.specs.Option.{unwrap_or}
 use Rattle.std.specs.Ordering.{nat_cmp, int_eq}
 use Rattle.std.specs.BTreeMap.{is_at}
 use Rattle.std.specs.Map.{lookup}
@@ -8,12 +8,13 @@ use Rattle.df_form.specs.declared.node.Op.{Op}
 use Rattle.df_form.specs.declared.node.Op.TheVariants as ops
 use Rattle.df_form.specs.Node.{Node}
 use Rattle.df_linear.specs.declared.row.Row as declared
-use Rattle.df_linear.specs.declared.row.Term.{Term}
-use Rattle.df_linear.specs.declared.row.Term.TheVariants as terms
+use Rattle.df_linear.specs.declared.expansion.Term.{Term}
+use Rattle.df_linear.specs.declared.expansion.Term.TheVariants as terms
 use Rattle.df_linear.specs.declared.row.RowFault.{RowFault}
 use Rattle.df_linear.specs.declared.row.RowFault.TheVariants as faults
 use Rattle.df_linear.specs.Linear.{quotient}
-use Rattle.df_linear.specs.Row.{Row, fits, if_fits, literal_number, with_more, with_constant}
+use Rattle.df_linear.specs.Row.{Row, fits, literal_number, with_more, with_constant}
+pub use Rattle.df_integer.specs.Integer.{narrow}
 
 -- the coefficient of a node among entries, which is 0 where it has none
 abbrev pub coefficient_at : List (ℕ × ℤ) → ℕ → ℤ
@@ -33,9 +34,16 @@ abbrev pub Finds : {X Y : Type 0} → (X → Y) → Result X RowFault → Option
 Finds view (Ok x) found = found ≡ Some (view x)
 Finds view (Err fault) found = Fails fault found
 
--- the number, where it has 128 bits
-abbrev pub narrow : ℤ → Option ℤ
-narrow z = if fits z then Some z else None
+-- what is found, where the number has 128 bits
+abbrev pub if_fits : {A : Type 0} → ℤ → Option A → Option A
+if_fits z found = if fits z then found else None
+
+-- so many times the node more, and so many more, where the sum has 128 bits
+abbrev pub fitting_more : ℕ → ℤ → Row → Option Row
+fitting_more n c row = if_fits (row.coefficient n +ℤ c) (Some (with_more n c row))
+
+abbrev pub fitting_constant : ℤ → Row → Option Row
+fitting_constant c row = if_fits (row.constant +ℤ c) (Some (with_constant c row))
 
 -- each number of the row has 128 bits
 pub record IsNarrow (row : Row) : Type 0 where
@@ -71,8 +79,8 @@ term_of nodes None = terms.Atom
 term_of nodes (Some node) = term_of_parts nodes node.op node.parts
 
 -- the row with so many times what a node stands for
-abbrev pub with_term : Term → ℤ → Row → Row → Option Row
-with_term (terms.Literal k) c unchanged row = if_fits (c *ℤ k) (with_constant (c *ℤ k) row)
-with_term (terms.Sum a b) c unchanged row = option_and_then (with_more b c) (with_more a c row)
-with_term (terms.Multiple k b) c unchanged row = if_fits (c *ℤ k) (with_more b (c *ℤ k) row)
-with_term terms.Atom c unchanged row = Some unchanged
+abbrev pub with_term : Term → ℤ → Row → Row → Row
+with_term (terms.Literal k) c unchanged row = with_constant (c *ℤ k) row
+with_term (terms.Sum a b) c unchanged row = with_more b c (with_more a c row)
+with_term (terms.Multiple k b) c unchanged row = with_more b (c *ℤ k) row
+with_term terms.Atom c unchanged row = unchanged

@@ -1,6 +1,7 @@
 //! Linear arithmetic: rows of literals, and combinations that refute them.
 #![tactic(auto)]
 
+mod expansion;
 mod linear;
 mod row;
 

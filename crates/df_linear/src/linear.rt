@@ -1,16 +1,15 @@
 //! Linear arithmetic: clauses whose negation combinations of rows refute.
 
-ghost use Rattle.std.specs.Prelude.{◌≡◌, ℕ, ◌++◌, ◌∷◌, [], map, length, slice_get, IfOk};
+ghost use Rattle.std.specs.Prelude.{◌≡◌, ◌<◌, ℕ, ◌++◌, ◌∷◌, [], map, length, slice_get, IfOk};
 ghost use Rattle.std.specs.Option.{is_some, option_map};
 ghost use Rattle.df_form.specs.Log.{combination_of};
 ghost use Rattle.df_form.specs.Clause.{negation};
 ghost use Rattle.df_linear.specs.Row.{difference};
 ghost use Rattle.df_linear.specs.RowView.{row_of, Finds};
 ghost use Rattle.df_linear.specs.Linear.{rows_of, combined, refutes as refutes_by, linear_line};
-ghost use Rattle.df_linear.specs.LinearView.{comparison_of, rows_of_comparison, AreWithin, Tells, are_refuted};
-ghost use Rattle.df_form.specs.Sorting.{IsTable};
+ghost use Rattle.df_linear.specs.LinearView.{comparison_of, rows_of_comparison, IsComparisonBelow, AreWithin, Tells, are_refuted};
 
-use crate::row::{Row, RowFault};
+use crate::row::{Row, RowFault, are_table};
 use df_form::{Combination, Lit, Nodes, Op, Sort};
 use std::alloc::{AllocError, Global};
 
@@ -51,6 +50,8 @@ fn push_difference(
     k: i128,
     rows: &mut Vec<Row>,
 ) -> Result<(), RowFault>
+    requires a_in { a < length nodes.now }
+    requires b_in { b < length nodes.now }
     ensures { Finds (λ _. map row_of rows.new.items) result (option_map (λ r. map row_of rows.old.items ++ r ∷ []) (difference nodes.now (length nodes.now) a b k)) }
 {
     rows.push(Row::difference(alloc, nodes, a, b, k)?)?;
@@ -64,6 +65,7 @@ fn push_rows(
     comparison: Comparison,
     rows: &mut Vec<Row>,
 ) -> Result<(), RowFault>
+    requires { IsComparisonBelow (length nodes.now) comparison }
     ensures { Finds (λ _. map row_of rows.new.items) result (option_map (λ more. map row_of rows.old.items ++ more) (rows_of_comparison nodes.now (length nodes.now) comparison)) }
 {
     match comparison {
@@ -79,7 +81,7 @@ fn push_rows(
 
 /// The rows of the literals, in order: a <= b is 0 <= b - a, its negation is 0 <= a - b - 1, and an
 /// equality of numbers is both ways of <=. Other literals have none. It is `Refused` exactly where a
-/// number of a row, or one on the way to it, is past 128 bits.
+/// number of a row is past 128 bits.
 pub fn rows_of_literals(
     alloc: Global,
     nodes: &Nodes,
@@ -87,6 +89,7 @@ pub fn rows_of_literals(
 ) -> Result<Vec<Row>, RowFault>
     ensures { Finds (λ rows. map row_of rows.items) result (rows_of nodes.now literals.now) }
 {
+    are_table(nodes);
     let mut rows = Vec::new(alloc);
     for literal in literals {
         let comparison = comparison_at(nodes, literal.positive, literal.node);
@@ -146,13 +149,6 @@ fn refutes(
         rows.push(row)?;
     }
     Ok(is_false)
-}
-
-/// The nodes are a table.
-fn are_table(nodes: &Nodes)
-    ensures { IsTable nodes.now }
-{
-    let _ = nodes.len();
 }
 
 fn is_refuted(
@@ -350,6 +346,55 @@ mod tests {
         assert_eq!(rt; found, Some(RowFault::Refused));
         // a number is no formula
         assert!(rt; !is_linear(alloc, &nodes, &[no(3), no(4), no(0)], &sums)?);
+        Ok(())
+    }
+
+    /// The coefficient of x in the row of a comparison, and the constant.
+    fn row_at(alloc: Global, nodes: &Nodes, node: usize) -> Result<(Option<i128>, i128), Fail> {
+        let literal = Lit {
+            positive: true,
+            node,
+        };
+        let Ok(rows) = rows_of_literals(alloc, nodes, &[literal]) else {
+            return Err(Fail::new("the row is refused"));
+        };
+        let [row] = rows.as_slice() else {
+            return Err(Fail::new("there is not one row"));
+        };
+        Ok((row.coefficients().get(&0).copied(), row.constant()))
+    }
+
+    #[test]
+    fn finds_rows_with_wide_coefficients_on_the_way(rt: HostRuntime) -> Result<(), Fail> {
+        let alloc = rt.alloc();
+        let mut nodes = table(alloc)?;
+        // MAX * (x + x) <= MAX * (2 * x) + x is 0 <= x
+        let most = add(&mut nodes, Op::Number(MAX), Vec::new(alloc))?;
+        let two = add(&mut nodes, Op::Number(2), Vec::new(alloc))?;
+        let double = add(&mut nodes, Op::Times, vec![in alloc; two, 0]?)?;
+        let wide = add(&mut nodes, Op::Times, vec![in alloc; most, 1]?)?;
+        let other = add(&mut nodes, Op::Times, vec![in alloc; most, double]?)?;
+        let more = add(&mut nodes, Op::Plus, vec![in alloc; other, 0]?)?;
+        let above = add(&mut nodes, Op::AtMost, vec![in alloc; wide, more]?)?;
+        assert_eq!(rt; row_at(alloc, &nodes, above)?, (Some(1), 0));
+        Ok(())
+    }
+
+    #[test]
+    fn finds_rows_with_wide_constants_on_the_way(rt: HostRuntime) -> Result<(), Fail> {
+        let alloc = rt.alloc();
+        let mut nodes = table(alloc)?;
+        // MAX + MAX + -MAX <= 1 is 0 <= 1 - MAX
+        let most = add(&mut nodes, Op::Number(MAX), Vec::new(alloc))?;
+        let least = add(&mut nodes, Op::Number(-MAX), Vec::new(alloc))?;
+        let twice = add(&mut nodes, Op::Plus, vec![in alloc; most, most]?)?;
+        let sum = add(&mut nodes, Op::Plus, vec![in alloc; twice, least]?)?;
+        let above = add(&mut nodes, Op::AtMost, vec![in alloc; sum, 2]?)?;
+        assert_eq!(rt; row_at(alloc, &nodes, above)?, (None, 1 - MAX));
+        // the row of 1 < MAX + MAX is past 128 bits
+        let wide = add(&mut nodes, Op::AtMost, vec![in alloc; twice, 2]?)?;
+        let refused = rows_of_literals(alloc, &nodes, &[no(wide)]).err();
+        assert_eq!(rt; refused, Some(RowFault::Refused));
         Ok(())
     }
 }

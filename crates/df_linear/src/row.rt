@@ -1,21 +1,24 @@
 //! Rows of linear arithmetic.
 
-ghost use Rattle.std.specs.Prelude.{◌≡◌, ◌+ℤ◌, ◌*ℤ◌, ◌≤ℤ◌, ℕ, slice_get, length, pos, Some};
-ghost use Rattle.df_linear.specs.Row.{without, with_more, with_constant, constant_row, literal_number, number_of_op, expanded_at, expanded_below, difference as difference_of};
-ghost use Rattle.df_linear.specs.RowView.{row_of, coefficient_at, Finds, narrow, IsNarrow, IsWithin, IsLastBelow, term_of, exact};
+ghost use Rattle.std.specs.Prelude.{◌≡◌, ◌+ℤ◌, ◌*ℤ◌, ◌≤ℤ◌, ◌<◌, ℕ, length, pos, Some};
+ghost use Rattle.df_linear.specs.Row.{constant_row, difference as difference_of};
+ghost use Rattle.df_linear.specs.RowView.{row_of, coefficient_at, fitting_more, fitting_constant, Finds, narrow, IsNarrow, IsWithin, exact};
 ghost use Rattle.df_linear.specs.Linear.{with_multiple, divided as divided_row, is_false as is_false_row};
+ghost use Rattle.df_form.specs.Sorting.{IsTable};
 ghost use Rattle.std.specs.Ordering.{int_eq, nat_cmp};
 ghost use Rattle.std.specs.List.{list_all};
 ghost use Rattle.std.specs.BTreeMap.{values, IsOrdered};
 
-use df_form::{Nodes, Op};
+use crate::expansion::Expansion;
+use df_form::Nodes;
 use std::alloc::{AllocError, AllocFailed, Global};
 use std::collections::BTreeMap;
 
 /// Why there is no row.
 #[derive(Clone, Copy, Debug, PartialEq, Eq)]
 pub enum RowFault {
-    /// A number is past 128 bits, or what was asked for is no row.
+    /// A number of a row is past 128 bits, or one on the way of a combination; or what was asked for is no
+    /// row.
     Refused,
     Memory,
 }
@@ -42,41 +45,11 @@ impl<T: Drop> From<AllocFailed<T>> for RowFault {
     }
 }
 
-/// What a node stands for in a row.
-#[derive(Clone, Copy, Debug, PartialEq, Eq)]
-enum Term {
-    Literal(i128),
-    Sum(usize, usize),
-    /// So many times another node.
-    Multiple(i128, usize),
-    Atom,
-}
-
-/// The number of a literal.
-fn literal(nodes: &Nodes, node: usize) -> Option<i128>
-    ensures { result ≡ literal_number (slice_get nodes.now node) }
+/// The nodes are a table.
+pub(crate) fn are_table(nodes: &Nodes)
+    ensures { IsTable nodes.now }
 {
-    match nodes.get(node)?.op {
-        Op::Number(k) => Some(k),
-        _ => None,
-    }
-}
-
-fn term_at(nodes: &Nodes, node: usize) -> Term
-    ensures { result ≡ term_of nodes.now (slice_get nodes.now node) }
-{
-    let Some(found) = nodes.get(node) else {
-        return Term::Atom;
-    };
-    match (found.op, found.parts.as_slice()) {
-        (Op::Number(k), _) => Term::Literal(k),
-        (Op::Plus, [a, b]) => Term::Sum(*a, *b),
-        (Op::Times, [a, b]) => match literal(nodes, *a) {
-            Some(k) => Term::Multiple(k, *b),
-            None => Term::Atom,
-        },
-        _ => Term::Atom,
-    }
+    let _ = nodes.len();
 }
 
 fn sum(a: i128, b: i128) -> Result<i128, RowFault>
@@ -111,6 +84,15 @@ pub struct Row {
 }
 
 impl Row {
+    pub(crate) fn new(coefficients: BTreeMap<usize, i128>, constant: i128) -> Row
+        ensures { row_of result ≡ record { coefficient = coefficient_at coefficients.entries; constant = constant } }
+    {
+        Row {
+            coefficients,
+            constant,
+        }
+    }
+
     /// 0 <= 0, with another constant.
     pub(crate) fn of_constant(alloc: Global, constant: i128) -> Row
         ensures { row_of result ≡ constant_row constant }
@@ -141,17 +123,9 @@ impl Row {
         self.coefficients.get(&node).copied().unwrap_or(0)
     }
 
-    /// Takes a node out, and tells its coefficient.
-    fn take(&mut self, node: usize) -> i128
-        ensures coefficient { result ≡ (row_of self.old).coefficient node }
-        ensures after { row_of self.new ≡ without node (row_of self.old) }
-    {
-        self.coefficients.remove(&node).unwrap_or(0)
-    }
-
     /// So many times the node more.
     fn add(&mut self, node: usize, coefficient: i128) -> Result<(), RowFault>
-        ensures { Finds (λ _. row_of self.new) result (with_more node coefficient (row_of self.old)) }
+        ensures { Finds (λ _. row_of self.new) result (fitting_more node coefficient (row_of self.old)) }
     {
         let sum = sum(self.coefficient(node), coefficient)?;
         self.coefficients.insert(node, sum)?;
@@ -160,55 +134,9 @@ impl Row {
 
     /// And so many more.
     fn add_constant(&mut self, more: i128) -> Result<(), RowFault>
-        ensures { Finds (λ _. row_of self.new) result (with_constant more (row_of self.old)) }
+        ensures { Finds (λ _. row_of self.new) result (fitting_constant more (row_of self.old)) }
     {
         self.constant = sum(self.constant, more)?;
-        Ok(())
-    }
-
-    /// Puts what a node stands for in its place.
-    fn expand_at(&mut self, nodes: &Nodes, node: usize) -> Result<(), RowFault>
-        ensures { Finds (λ _. row_of self.new) result (expanded_at nodes.now node (slice_get nodes.now node) (row_of self.old)) }
-    {
-        match term_at(nodes, node) {
-            Term::Literal(k) => {
-                let more = product(self.take(node), k)?;
-                self.add_constant(more)
-            }
-            Term::Sum(a, b) => {
-                let coefficient = self.take(node);
-                self.add(a, coefficient)?;
-                self.add(b, coefficient)
-            }
-            Term::Multiple(k, b) => {
-                let more = product(self.take(node), k)?;
-                self.add(b, more)
-            }
-            Term::Atom => Ok(()),
-        }
-    }
-
-    /// The last node below the bound that has an entry.
-    fn last_below(&self, bound: usize) -> Option<usize>
-        ensures { IsLastBelow bound (row_of self.now) result }
-    {
-        match self.coefficients.range(..bound).next_back() {
-            Some((node, _)) => Some(*node),
-            None => None,
-        }
-    }
-
-    /// Makes literals part of the constant, and puts their parts in the place of sums and of literals
-    /// times a node. Parts have lower numbers, so one way down is enough.
-    fn expand(&mut self, nodes: &Nodes) -> Result<(), RowFault>
-        requires { IsNarrow (row_of self.old) }
-        ensures { Finds (λ _. row_of self.new) result (expanded_below nodes.now (length nodes.now) (row_of self.old)) }
-    {
-        let mut bound = nodes.len();
-        while let Some(node) = self.last_below(bound) {
-            self.expand_at(nodes, node)?;
-            bound = node;
-        }
         Ok(())
     }
 
@@ -220,13 +148,13 @@ impl Row {
         b: usize,
         k: i128,
     ) -> Result<Row, RowFault>
+        requires a_in { a < length nodes.now }
+        requires b_in { b < length nodes.now }
         ensures { Finds row_of result (difference_of nodes.now (length nodes.now) a b k) }
     {
-        let mut row = Row::of_constant(alloc, k);
-        row.add(b, 1)?;
-        row.add(a, -1)?;
-        row.expand(nodes)?;
-        Ok(row)
+        are_table(nodes);
+        let sum = Expansion::difference(alloc, nodes, a, b, k)?;
+        sum.narrowed(alloc)
     }
 
     /// Adds another row so many times.

@@ -1,6 +1,9 @@
-use Rattle.std.proofs.Common.{map}
+use Rattle.std.proofs.Common.{sym, subst, map, length}
 use Rattle.std.proofs.lemmas.Result.{err_from_is_err_and}
 use Rattle.df_linear.specs.RowView.{row_of}
+use Rattle.df_linear.specs.declared.linear.Comparison.{Comparison}
+use Rattle.df_linear.specs.LinearView.{IsComparisonBelow}
+use Rattle.df_linear.proofs.LinearWithin.{table_compared}
 use Rattle.df_linear.proofs.LinearRows.{gathers, gathering_fails}
 use Rattle.df_linear.proofs.linear.rows_of_literals.Goals as goal
 
@@ -12,3 +15,9 @@ returns-in_err-push_rows c =
 pub loop-literal-preserved : goal.loop-literal-preserved
 loop-literal-preserved c =
     gathers c.args.nodes.now c.args.literals.now c.loop-literal.literal-index (map row_of c.loop-literal.rows.items) c.comparison_at-comparison.result c.loop-literal-test.true c.loop-literal.invariant c.comparison_at-comparison.ensures (map row_of c.push_rows.new.rows.items) c.in_ok-push_rows.ensures
+
+pub push_rows-requires : goal.push_rows-requires
+push_rows-requires c =
+    let nodes = c.args.nodes.now in
+    let P : Comparison → Type 0 = IsComparisonBelow (length nodes) in
+    subst P (sym c.comparison_at-comparison.ensures) (table_compared nodes c.are_table.ensures _ _)

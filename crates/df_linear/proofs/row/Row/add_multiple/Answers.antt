@@ -1,8 +1,8 @@
 use Rattle.std.proofs.Common.{◌≡◌, sym, ◌∙◌, ap, subst, ℕ, ℤ, ◌*ℤ◌, pos, int_le, true, List, Option, Some, rules, arith}
 use Rattle.std.proofs.lemmas.Int.{to_z-of_z, ints}
 use Rattle.std.proofs.lemmas.Result.{err_from_is_err_and}
-use Rattle.df_linear.specs.Row.{Row, with_constant}
-use Rattle.df_linear.specs.RowView.{row_of, Finds, Fails, narrow}
+use Rattle.df_linear.specs.Row.{Row}
+use Rattle.df_linear.specs.RowView.{row_of, fitting_constant, Finds, Fails, narrow}
 use Rattle.df_linear.specs.Linear.{with_multiple}
 use Rattle.df_linear.proofs.Rows.{passed, if_narrow, constant_same}
 use Rattle.df_linear.proofs.RowSums.{IsSumming, sum_goes, product_fails, add_fails, sum_fails, multiple_some}
@@ -79,7 +79,7 @@ returns c = λ count small within.
     let passes : passed more ≡ more = search (rules, to_z-of_z) in
     let is : f *ℤ passed other.constant ≡ f *ℤ other.constant = search (rules, to_z-of_z) in
     let e = multiple_some f all other.constant start count row sorted small passed_sign (sym so_far.goes) so_far.constant in
-    let step = if_narrow (f *ℤ other.constant) more (λ z. with_constant z row) (ap narrow (sym is) ∙ c.in_ok-more-2.ensures) in
-    let whole : with_multiple count start c.args.factor (Some (row_of other)) ≡ with_constant (passed more) row = ap (λ x. with_multiple count start x (Some (row_of other))) (sym same) ∙ e ∙ step ∙ constant_same more row passes in
+    let step = if_narrow (f *ℤ other.constant) more (λ z. fitting_constant z row) (ap narrow (sym is) ∙ c.in_ok-more-2.ensures) in
+    let whole : with_multiple count start c.args.factor (Some (row_of other)) ≡ fitting_constant (passed more) row = ap (λ x. with_multiple count start x (Some (row_of other))) (sym same) ∙ e ∙ step ∙ constant_same more row passes in
     let Q : Option Row → Type 0 = λ found. Finds (λ _. row_of c.add_constant.new.self) c.add_constant.result found in
     subst Q (sym whole) c.add_constant.ensures
