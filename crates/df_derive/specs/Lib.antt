@@ -1,2 +1,3 @@
 pub use Rattle.df_kern.specs.Derivation
+pub mod Front
 pub mod Runs

@@ -10,6 +10,7 @@ ghost use Rattle.df_form.specs.Log.{step_of, combination_of};
 ghost use Rattle.df_kern.specs.Derivation.{after, is_free};
 ghost use Rattle.df_kern.specs.Propagation.{propagation_line};
 ghost use Rattle.df_linear.specs.Linear.{linear_line};
+ghost use Rattle.df_derive.specs.Front.{IsFront};
 ghost use Rattle.df_derive.specs.Runs.{Runs, state_of};
 
 use crate::derivation::Derivation;
@@ -25,6 +26,7 @@ impl Derivation {
         ensures longer { OnOk result (length self.new.lines.items ≡ suc (length self.old.lines.items)) }
         ensures unchanged { OnErr result (self.new.lines.items ≡ self.old.lines.items) }
         ensures uncounted { OnErr result (self.new.clauses ≡ self.old.clauses) }
+        ensures grows { IsFront self.old.lines.items self.new.lines.items }
     {
         self.lines.push(line)?;
         let number = self.clauses;
@@ -44,6 +46,7 @@ impl Derivation {
         ensures longer { OnOk result (length self.new.lines.items ≡ suc (length self.old.lines.items)) }
         ensures unchanged { OnErr result (self.new.lines.items ≡ self.old.lines.items) }
         ensures uncounted { OnErr result (self.new.clauses ≡ self.old.clauses) }
+        ensures grows { IsFront self.old.lines.items self.new.lines.items }
     {
         self.add(Step::Propagation {
             clauses,
@@ -63,6 +66,7 @@ impl Derivation {
         ensures longer { OnOk result (length self.new.lines.items ≡ suc (length self.old.lines.items)) }
         ensures unchanged { OnErr result (self.new.lines.items ≡ self.old.lines.items) }
         ensures uncounted { OnErr result (self.new.clauses ≡ self.old.clauses) }
+        ensures grows { IsFront self.old.lines.items self.new.lines.items }
     {
         self.add(Step::Linear {
             conclusion,
@@ -81,6 +85,7 @@ impl Derivation {
         ensures lines { OnErr result (self.new.lines.items ≡ self.old.lines.items) }
         ensures longer { length self.old.lines.items ≤ length self.new.lines.items }
         ensures clauses { self.new.clauses ≡ self.old.clauses }
+        ensures grows { IsFront self.old.lines.items self.new.lines.items }
     {
         let before = self.nodes.len();
         let parts = Vec::from_slice(alloc, node.parts.as_slice())?;

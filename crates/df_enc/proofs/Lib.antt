@@ -1,5 +1,6 @@
 pub mod Lists
 pub mod Growing
+pub mod Lasting
 pub mod Coding
 pub mod Keeping
 pub mod Walking

@@ -59,7 +59,7 @@ abbrev pub Somewhere : (Obligation → Type 0) → List Obligation → Type 0
 Somewhere P [] = ⊥
 Somewhere P (o ∷ others) = P o ⊎ Somewhere P others
 
--- the same locals and path, more of the rest
+-- the same locals, and more nodes, more that is known and more that is owed
 pub record Continues (p q : Passed) : Type 0 where
   pub nodes : List Node
   pub known : List ℕ

@@ -1,4 +1,5 @@
 //! What is known and owed so far, and its steps.
+#![tactic(auto, using(crate::proofs::Growing::on_not, crate::proofs::Growing::on_then))]
 
 ghost use Rattle.std.specs.Prelude.{◌≡◌, true, nat_lt, ◌≤◌, [], ◌∷◌, ◌++◌, length, map, Some, OnOk};
 ghost use Rattle.std.specs.List.{list_all};
@@ -9,6 +10,7 @@ ghost use Rattle.df_form.specs.Sorting.{takes, sort_at, sort_of, is_formula};
 ghost use Rattle.df_form.specs.Draft.{last_terms, other_terms};
 ghost use Rattle.df_enc.specs.Passing.{with_term, again, assumed, owed, on_path, negated, named, narrowed, weakened, entered, demanded};
 ghost use Rattle.df_enc.specs.Passing as pure;
+ghost use Rattle.df_enc.specs.Laws.{Continues};
 ghost use Rattle.df_enc.specs.State.{passed_of, newtypes_in, is_of, is_truth, is_number, IsReady, IsValued};
 
 use crate::obligation::Obligation;
@@ -18,7 +20,8 @@ use df_program::Ty;
 use df_types::Newtype;
 use std::alloc::{AllocError, Global};
 
-/// What is known and what is owed so far.
+/// What is known and what is owed so far. After want of memory it holds at least what it held: no node,
+/// nothing that is known, no obligation and no local's term is lost.
 #[derive(Drop)]
 pub struct Encoder<'a> {
     pub(crate) alloc: Global,
@@ -57,6 +60,7 @@ impl<'a> Encoder<'a> {
         ensures passed { OnOk result (passed_of self.new ≡ with_term op (self.old.draft.stack.items ++ more.now) (passed_of self.old)) }
         ensures stack { OnOk result (self.new.draft.stack.items ≡ self.new.term ∷ []) }
         ensures newtypes { newtypes_in self.new ≡ newtypes_in self.old }
+        ensures continues { Continues (passed_of self.old) (passed_of self.new) }
     {
         self.draft.apply_all(op, more)?;
         self.term = self.draft.stack[0];
@@ -70,6 +74,7 @@ impl<'a> Encoder<'a> {
         ensures passed { OnOk result (passed_of self.new ≡ with_term op (last_terms count self.old.draft.stack.items) (passed_of self.old)) }
         ensures stack { OnOk result (self.new.draft.stack.items ≡ other_terms count self.old.draft.stack.items ++ self.new.term ∷ []) }
         ensures newtypes { newtypes_in self.new ≡ newtypes_in self.old }
+        ensures continues { Continues (passed_of self.old) (passed_of self.new) }
     {
         self.draft.apply(op, count)?;
         if let Some(term) = self.draft.stack.last() {
@@ -85,6 +90,7 @@ impl<'a> Encoder<'a> {
         ensures passed { OnOk result (passed_of self.new ≡ assumed (passed_of self.old)) }
         ensures stack { OnOk result (self.new.draft.stack.items ≡ []) }
         ensures newtypes { newtypes_in self.new ≡ newtypes_in self.old }
+        ensures continues { Continues (passed_of self.old) (passed_of self.new) }
     {
         self.draft.assume()
     }
@@ -98,6 +104,7 @@ impl<'a> Encoder<'a> {
         ensures nodes { self.new.draft.nodes ≡ self.old.draft.nodes }
         ensures term { self.new.term ≡ self.old.term }
         ensures newtypes { newtypes_in self.new ≡ newtypes_in self.old }
+        ensures continues { Continues (passed_of self.old) (passed_of self.new) }
     {
         let sequent = self.draft.sequent(self.alloc)?;
         self.obligations.push(Obligation { pos, kind, sequent })?;
@@ -114,6 +121,7 @@ impl<'a> Encoder<'a> {
         ensures stack { OnOk result (self.new.draft.stack.items ≡ self.new.term ∷ []) }
         ensures valued { OnOk result (IsValued types.Bool (passed_of self.new)) }
         ensures newtypes { newtypes_in self.new ≡ newtypes_in self.old }
+        ensures continues { Continues (passed_of self.old) (passed_of self.new) }
     {
         self.apply(Op::Not, &[])
     }
@@ -126,6 +134,7 @@ impl<'a> Encoder<'a> {
         ensures stack { OnOk result (self.new.draft.stack.items ≡ []) }
         ensures valued { OnOk result (IsValued types.Bool (passed_of self.new)) }
         ensures newtypes { newtypes_in self.new ≡ newtypes_in self.old }
+        ensures continues { Continues (passed_of self.old) (passed_of self.new) }
     {
         let number = self.draft.nodes.len();
         self.top(
@@ -150,6 +159,7 @@ impl<'a> Encoder<'a> {
         ensures stack { OnOk result (self.new.draft.stack.items ≡ self.new.term ∷ []) }
         ensures valued { OnOk result (IsValued types.Bool (passed_of self.new)) }
         ensures newtypes { newtypes_in self.new ≡ newtypes_in self.old }
+        ensures continues { Continues (passed_of self.old) (passed_of self.new) }
     {
         match self.path {
             None => Ok(()),
@@ -165,6 +175,7 @@ impl<'a> Encoder<'a> {
         ensures stack { OnOk result (self.new.draft.stack.items ≡ self.new.term ∷ []) }
         ensures valued { OnOk result (IsValued types.Bool (passed_of self.new)) }
         ensures newtypes { newtypes_in self.new ≡ newtypes_in self.old }
+        ensures continues { Continues (passed_of self.old) (passed_of self.new) }
     {
         match self.path {
             None => Ok(()),
@@ -180,6 +191,7 @@ impl<'a> Encoder<'a> {
         ensures passed { OnOk result (passed_of self.new ≡ pure.weakened_by (Some path) (passed_of self.old)) }
         ensures stack { OnOk result (self.new.draft.stack.items ≡ self.new.term ∷ []) }
         ensures newtypes { newtypes_in self.new ≡ newtypes_in self.old }
+        ensures continues { Continues (passed_of self.old) (passed_of self.new) }
     {
         self.draft.again(path)?;
         self.top(Op::Not, 1)?;
@@ -194,6 +206,7 @@ impl<'a> Encoder<'a> {
         ensures stack { OnOk result (self.new.draft.stack.items ≡ []) }
         ensures valued { OnOk result (IsValued types.Bool (passed_of self.new)) }
         ensures newtypes { newtypes_in self.new ≡ newtypes_in self.old }
+        ensures continues { Continues (passed_of self.old) (passed_of self.new) }
     {
         self.narrow()?;
         self.name()?;
@@ -209,6 +222,7 @@ impl<'a> Encoder<'a> {
         ensures stack { OnOk result (self.new.draft.stack.items ≡ []) }
         ensures valued { OnOk result (IsValued types.Bool (passed_of self.new)) }
         ensures newtypes { newtypes_in self.new ≡ newtypes_in self.old }
+        ensures continues { Continues (passed_of self.old) (passed_of self.new) }
     {
         self.weaken()?;
         self.owe(pos, kind)?;
@@ -232,6 +246,7 @@ impl<'a> Encoder<'a> {
         ensures stack { OnOk result (self.new.draft.stack.items ≡ []) }
         ensures valued { OnOk result (IsValued types.Int (passed_of self.new)) }
         ensures newtypes { newtypes_in self.new ≡ newtypes_in self.old }
+        ensures continues { Continues (passed_of self.old) (passed_of self.new) }
     {
         let number = self.term;
         self.apply(Op::Equal, &[number])?;
@@ -248,6 +263,7 @@ impl<'a> Encoder<'a> {
         ensures stack { OnOk result (self.new.draft.stack.items ≡ []) }
         ensures valued { OnOk result (IsValued types.Int (passed_of self.new)) }
         ensures newtypes { newtypes_in self.new ≡ newtypes_in self.old }
+        ensures continues { Continues (passed_of self.old) (passed_of self.new) }
     {
         let term = self.term;
         self.apply(Op::Is(newtype(number)), &[])?;
@@ -264,6 +280,7 @@ impl<'a> Encoder<'a> {
         ensures stack { OnOk result (self.new.draft.stack.items ≡ []) }
         ensures valued { OnOk result (IsValued types.Int (passed_of self.new)) }
         ensures newtypes { newtypes_in self.new ≡ newtypes_in self.old }
+        ensures continues { Continues (passed_of self.old) (passed_of self.new) }
     {
         match ty {
             Ty::Newtype(number) => self.range(number, pos),
@@ -280,6 +297,7 @@ impl<'a> Encoder<'a> {
         ensures stack { OnOk result (self.new.draft.stack.items ≡ self.new.term ∷ []) }
         ensures valued { OnOk result (IsValued types.Int (passed_of self.new)) }
         ensures newtypes { newtypes_in self.new ≡ newtypes_in self.old }
+        ensures continues { Continues (passed_of self.old) (passed_of self.new) }
     {
         let number = self.term;
         self.apply(Op::Number(-1), &[])?;
@@ -295,6 +313,7 @@ impl<'a> Encoder<'a> {
         ensures stack { OnOk result (self.new.draft.stack.items ≡ self.new.term ∷ []) }
         ensures valued { OnOk result (IsValued types.Int (passed_of self.new)) }
         ensures newtypes { newtypes_in self.new ≡ newtypes_in self.old }
+        ensures continues { Continues (passed_of self.old) (passed_of self.new) }
     {
         let right = self.term;
         self.apply(Op::Plus, &[left, right])
@@ -309,6 +328,7 @@ impl<'a> Encoder<'a> {
         ensures stack { OnOk result (self.new.draft.stack.items ≡ self.new.term ∷ []) }
         ensures valued { OnOk result (IsValued types.Int (passed_of self.new)) }
         ensures newtypes { newtypes_in self.new ≡ newtypes_in self.old }
+        ensures continues { Continues (passed_of self.old) (passed_of self.new) }
     {
         self.oppose()?;
         self.apply(Op::Plus, &[left])

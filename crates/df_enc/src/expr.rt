@@ -1,9 +1,11 @@
 //! Passing over expressions, in the order in which they are evaluated.
+#![tactic(auto, using(crate::proofs::Growing::on_not, crate::proofs::Growing::on_then))]
 
 ghost use Rattle.std.specs.Prelude.{◌≡◌, true, [], ◌∷◌, length, OnOk, IfOk};
 ghost use Rattle.df_program.specs.declared.expr.Ty.TheVariants as types;
 ghost use Rattle.df_program.specs.Expr.{expr_of};
 ghost use Rattle.df_enc.specs.Chains.{waiting_if, IsTruthIf, entered_if, chain_closed, are_some};
+ghost use Rattle.df_enc.specs.Laws.{Continues};
 ghost use Rattle.df_enc.specs.Passing as pure;
 ghost use Rattle.df_enc.specs.State.{passed_of, newtypes_in, waiting, sort_for, is_of, is_truth, is_number, IsReady, IsValued, IsExpr, AreMembers, AreLinks, members_in, links_in, operation_of, link_of};
 
@@ -21,6 +23,7 @@ impl<'a> Encoder<'a> {
         ensures stack { OnOk result (self.new.draft.stack.items ≡ []) }
         ensures valued { OnOk result (IsValued types.Int (passed_of self.new)) }
         ensures newtypes { newtypes_in self.new ≡ newtypes_in self.old }
+        ensures continues { Continues (passed_of self.old) (passed_of self.new) }
     {
         self.apply(Op::Number(value), &[])?;
         self.number(ty, pos)
@@ -33,6 +36,7 @@ impl<'a> Encoder<'a> {
         ensures stack { OnOk result (self.new.draft.stack.items ≡ self.new.term ∷ []) }
         ensures valued { OnOk result (IsValued types.Bool (passed_of self.new)) }
         ensures newtypes { newtypes_in self.new ≡ newtypes_in self.old }
+        ensures continues { Continues (passed_of self.old) (passed_of self.new) }
     {
         if value {
             self.apply(Op::And, &[])
@@ -48,6 +52,7 @@ impl<'a> Encoder<'a> {
         ensures stack { OnOk result (self.new.draft.stack.items ≡ []) }
         ensures valued { OnOk result (IsValued types.Int (passed_of self.new)) }
         ensures newtypes { newtypes_in self.new ≡ newtypes_in self.old }
+        ensures continues { Continues (passed_of self.old) (passed_of self.new) }
     {
         self.oppose()?;
         self.number(ty, pos)
@@ -60,6 +65,7 @@ impl<'a> Encoder<'a> {
         ensures passed { OnOk result (passed_of self.new ≡ pure.closed_run (members_in rest.now.items) (passed_of self.old)) }
         ensures stack { OnOk result (self.new.draft.stack.items ≡ waiting ty self.new.term) }
         ensures newtypes { newtypes_in self.new ≡ newtypes_in self.old }
+        ensures continues { Continues (passed_of self.old) (passed_of self.new) }
     {
         match rest.as_slice() {
             [] => Ok(()),
@@ -76,6 +82,7 @@ impl<'a> Encoder<'a> {
         ensures stack { OnOk result (self.new.draft.stack.items ≡ []) }
         ensures ready { OnOk result (IsReady (passed_of self.new)) }
         ensures newtypes { newtypes_in self.new ≡ newtypes_in self.old }
+        ensures continues { Continues (passed_of self.old) (passed_of self.new) }
     {
         if is_compared { self.enter() } else { Ok(()) }
     }
@@ -87,6 +94,7 @@ impl<'a> Encoder<'a> {
         ensures passed { OnOk result (passed_of self.new ≡ chain_closed (links_in rest.now.items) (passed_of self.old)) }
         ensures stack { OnOk result (self.new.draft.stack.items ≡ self.new.term ∷ []) }
         ensures newtypes { newtypes_in self.new ≡ newtypes_in self.old }
+        ensures continues { Continues (passed_of self.old) (passed_of self.new) }
     {
         match rest.as_slice() {
             [] => self.truth(true),
@@ -104,6 +112,7 @@ impl<'a> Encoder<'a> {
         ensures passed { OnOk result (passed_of self.new ≡ pure.passed_expr (newtypes_in self.old) (passed_of self.old) (expr_of expr.now)) }
         ensures stack { OnOk result (self.new.draft.stack.items ≡ waiting ty self.new.term) }
         ensures newtypes { newtypes_in self.new ≡ newtypes_in self.old }
+        ensures continues { Continues (passed_of self.old) (passed_of self.new) }
     {
         match expr {
             Expr::Number { ty, value, pos } => self.literal(*ty, *value, *pos),
@@ -147,6 +156,7 @@ impl<'a> Encoder<'a> {
         ensures passed { OnOk result (passed_of self.new ≡ pure.closed_run (members_in rest.now.items) (pure.passed_members (newtypes_in self.old) ty (passed_of self.old) (members_in rest.now.items))) }
         ensures stack { OnOk result (self.new.draft.stack.items ≡ waiting ty self.new.term) }
         ensures newtypes { newtypes_in self.new ≡ newtypes_in self.old }
+        ensures continues { Continues (passed_of self.old) (passed_of self.new) }
     {
         for operation in rest {
             self.operation(ty, operation)?;
@@ -164,6 +174,7 @@ impl<'a> Encoder<'a> {
         ensures stack { OnOk result (self.new.draft.stack.items ≡ waiting ty self.new.term) }
         ensures valued { OnOk result (IsValued ty (passed_of self.new)) }
         ensures newtypes { newtypes_in self.new ≡ newtypes_in self.old }
+        ensures continues { Continues (passed_of self.old) (passed_of self.new) }
     {
         self.begin_operand(ty, operation.operator)?;
         let left = self.term;
@@ -180,6 +191,7 @@ impl<'a> Encoder<'a> {
         ensures passed { OnOk result (passed_of self.new ≡ pure.passed_chain (newtypes_in self.old) ty (passed_of self.old) (links_in rest.now.items)) }
         ensures stack { OnOk result (self.new.draft.stack.items ≡ self.new.term ∷ []) }
         ensures newtypes { newtypes_in self.new ≡ newtypes_in self.old }
+        ensures continues { Continues (passed_of self.old) (passed_of self.new) }
     {
         let mut left = self.term;
         let mut is_compared = false;
@@ -203,6 +215,7 @@ impl<'a> Encoder<'a> {
         ensures stack { OnOk result (self.new.draft.stack.items ≡ self.new.term ∷ []) }
         ensures valued { OnOk result (IsValued types.Bool (passed_of self.new)) }
         ensures newtypes { newtypes_in self.new ≡ newtypes_in self.old }
+        ensures continues { Continues (passed_of self.old) (passed_of self.new) }
     {
         self.expr(ty, &link.operand)?;
         let right = self.term;

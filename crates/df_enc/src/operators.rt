@@ -1,8 +1,10 @@
 //! Comparisons, and what operators do with their operands.
+#![tactic(auto, using(crate::proofs::Growing::on_not, crate::proofs::Growing::on_then))]
 
 ghost use Rattle.std.specs.Prelude.{◌≡◌, true, [], ◌∷◌, OnOk};
 ghost use Rattle.df_program.specs.declared.expr.Ty.TheVariants as types;
 ghost use Rattle.df_program.specs.Typing.{fits, compares};
+ghost use Rattle.df_enc.specs.Laws.{Continues};
 ghost use Rattle.df_enc.specs.Passing as pure;
 ghost use Rattle.df_enc.specs.State.{passed_of, newtypes_in, waiting, sort_for, is_of, is_truth, is_number, IsReady, IsValued};
 ghost use Rattle.std.specs.Prelude.{length};
@@ -23,6 +25,7 @@ impl<'a> Encoder<'a> {
         ensures stack { OnOk result (self.new.draft.stack.items ≡ self.new.term ∷ []) }
         ensures valued { OnOk result (IsValued types.Bool (passed_of self.new)) }
         ensures newtypes { newtypes_in self.new ≡ newtypes_in self.old }
+        ensures continues { Continues (passed_of self.old) (passed_of self.new) }
     {
         self.apply(Op::Iff, &[left])
     }
@@ -35,6 +38,7 @@ impl<'a> Encoder<'a> {
         ensures stack { OnOk result (self.new.draft.stack.items ≡ self.new.term ∷ []) }
         ensures valued { OnOk result (IsValued types.Bool (passed_of self.new)) }
         ensures newtypes { newtypes_in self.new ≡ newtypes_in self.old }
+        ensures continues { Continues (passed_of self.old) (passed_of self.new) }
     {
         self.same(left)?;
         match comparison {
@@ -58,6 +62,7 @@ impl<'a> Encoder<'a> {
         ensures stack { OnOk result (self.new.draft.stack.items ≡ self.new.term ∷ []) }
         ensures valued { OnOk result (IsValued types.Bool (passed_of self.new)) }
         ensures newtypes { newtypes_in self.new ≡ newtypes_in self.old }
+        ensures continues { Continues (passed_of self.old) (passed_of self.new) }
     {
         self.apply(op, &[one, other])
     }
@@ -73,6 +78,7 @@ impl<'a> Encoder<'a> {
         ensures stack { OnOk result (self.new.draft.stack.items ≡ self.new.term ∷ []) }
         ensures valued { OnOk result (IsValued types.Bool (passed_of self.new)) }
         ensures newtypes { newtypes_in self.new ≡ newtypes_in self.old }
+        ensures continues { Continues (passed_of self.old) (passed_of self.new) }
     {
         self.relate(op, one, other)?;
         self.negate()
@@ -86,6 +92,7 @@ impl<'a> Encoder<'a> {
         ensures stack { OnOk result (self.new.draft.stack.items ≡ self.new.term ∷ []) }
         ensures valued { OnOk result (IsValued types.Bool (passed_of self.new)) }
         ensures newtypes { newtypes_in self.new ≡ newtypes_in self.old }
+        ensures continues { Continues (passed_of self.old) (passed_of self.new) }
     {
         let right = self.term;
         match comparison {
@@ -112,6 +119,7 @@ impl<'a> Encoder<'a> {
         ensures stack { OnOk result (self.new.draft.stack.items ≡ self.new.term ∷ []) }
         ensures valued { OnOk result (IsValued types.Bool (passed_of self.new)) }
         ensures newtypes { newtypes_in self.new ≡ newtypes_in self.old }
+        ensures continues { Continues (passed_of self.old) (passed_of self.new) }
     {
         match ty {
             Ty::Bool => self.compare_truths(comparison, left),
@@ -128,6 +136,7 @@ impl<'a> Encoder<'a> {
         ensures stack { OnOk result (self.new.draft.stack.items ≡ []) }
         ensures valued { OnOk result (IsValued ty (passed_of self.new)) }
         ensures newtypes { newtypes_in self.new ≡ newtypes_in self.old }
+        ensures continues { Continues (passed_of self.old) (passed_of self.new) }
     {
         match ty {
             Ty::Bool => self.name(),
@@ -144,6 +153,7 @@ impl<'a> Encoder<'a> {
         ensures stack { OnOk result (self.new.draft.stack.items ≡ []) }
         ensures valued { OnOk result (IsValued types.Bool (passed_of self.new)) }
         ensures newtypes { newtypes_in self.new ≡ newtypes_in self.old }
+        ensures continues { Continues (passed_of self.old) (passed_of self.new) }
     {
         self.negate()?;
         self.enter()
@@ -158,6 +168,7 @@ impl<'a> Encoder<'a> {
         ensures stack { OnOk result (self.new.draft.stack.items ≡ []) }
         ensures valued { OnOk result (IsValued ty (passed_of self.new)) }
         ensures newtypes { newtypes_in self.new ≡ newtypes_in self.old }
+        ensures continues { Continues (passed_of self.old) (passed_of self.new) }
     {
         match operator {
             Operator::Iff => self.name(),
@@ -177,6 +188,7 @@ impl<'a> Encoder<'a> {
         ensures stack { OnOk result (self.new.draft.stack.items ≡ []) }
         ensures valued { OnOk result (IsValued types.Int (passed_of self.new)) }
         ensures newtypes { newtypes_in self.new ≡ newtypes_in self.old }
+        ensures continues { Continues (passed_of self.old) (passed_of self.new) }
     {
         self.plus(left)?;
         self.number(ty, pos)
@@ -190,6 +202,7 @@ impl<'a> Encoder<'a> {
         ensures stack { OnOk result (self.new.draft.stack.items ≡ []) }
         ensures valued { OnOk result (IsValued types.Int (passed_of self.new)) }
         ensures newtypes { newtypes_in self.new ≡ newtypes_in self.old }
+        ensures continues { Continues (passed_of self.old) (passed_of self.new) }
     {
         self.minus(left)?;
         self.number(ty, pos)
@@ -211,6 +224,7 @@ impl<'a> Encoder<'a> {
         ensures stack { OnOk result (self.new.draft.stack.items ≡ waiting ty self.new.term) }
         ensures valued { OnOk result (IsValued ty (passed_of self.new)) }
         ensures newtypes { newtypes_in self.new ≡ newtypes_in self.old }
+        ensures continues { Continues (passed_of self.old) (passed_of self.new) }
     {
         match operator {
             Operator::Iff => self.same(left),
@@ -231,6 +245,7 @@ impl<'a> Encoder<'a> {
         ensures stack { OnOk result (self.new.draft.stack.items ≡ waiting ty self.new.term) }
         ensures valued { OnOk result (IsValued ty (passed_of self.new)) }
         ensures newtypes { newtypes_in self.new ≡ newtypes_in self.old }
+        ensures continues { Continues (passed_of self.old) (passed_of self.new) }
     {
         match operator {
             Operator::Iff => Ok(()),

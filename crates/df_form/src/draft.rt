@@ -28,7 +28,7 @@ pub struct Draft<'a> {
 }
 
 impl<'a> Draft<'a> {
-    ghost use Rattle.std.specs.Prelude.{[], ◌∷◌, ◌<◌, ◌≤◌, OnOk, OnErr, IfOk, map, slice_index};
+    ghost use Rattle.std.specs.Prelude.{[], ◌∷◌, ◌<◌, ◌≤◌, OnOk, OnErr, IfOk, map, take, slice_index};
     ghost use Rattle.df_form.specs.Sorting.{takes, sort_at, sort_of};
     ghost use Rattle.df_form.specs.Made.{made};
     ghost use Rattle.df_form.specs.Draft.{last_terms, other_terms, node_on};
@@ -84,12 +84,32 @@ impl<'a> Draft<'a> {
         Ok(())
     }
 
-    /// Puts terms that stand already on the stack, and the operation on all that is there then.
+    /// Puts terms that stand already on the stack, and the operation on all that is there then. It fails
+    /// for want of memory, and then changes nothing.
     pub fn apply_all(&mut self, op: Op, more: &[Term]) -> Result<(), AllocError>
         requires known { list_all (λ n. nat_lt n (length self.old.nodes)) more.now ≡ true }
         requires takes { takes op (map (sort_at self.old.nodes) (self.old.stack.items ++ more.now)) ≡ true }
         ensures nodes { OnOk result (self.new.nodes ≡ (made self.old.nodes (record { op = op; parts = self.old.stack.items ++ more.now })).nodes) }
         ensures stack { OnOk result (self.new.stack.items ≡ (made self.old.nodes (record { op = op; parts = self.old.stack.items ++ more.now })).number ∷ []) }
+        ensures err { OnErr result ((self.new.nodes ≡ self.old.nodes) × (self.new.stack.items ≡ self.old.stack.items)) }
+        ensures hypotheses { self.new.hypotheses.items ≡ self.old.hypotheses.items }
+        ensures newtypes { self.new.newtypes ≡ self.old.newtypes }
+    {
+        let before = self.stack.len();
+        if let Err(error) = self.stack_all(op, more) {
+            self.stack.truncate(before);
+            return Err(error);
+        }
+        Ok(())
+    }
+
+    /// The same, but after an error some of the terms may be left on the stack.
+    fn stack_all(&mut self, op: Op, more: &[Term]) -> Result<(), AllocError>
+        requires known { list_all (λ n. nat_lt n (length self.old.nodes)) more.now ≡ true }
+        requires takes { takes op (map (sort_at self.old.nodes) (self.old.stack.items ++ more.now)) ≡ true }
+        ensures nodes { OnOk result (self.new.nodes ≡ (made self.old.nodes (record { op = op; parts = self.old.stack.items ++ more.now })).nodes) }
+        ensures stack { OnOk result (self.new.stack.items ≡ (made self.old.nodes (record { op = op; parts = self.old.stack.items ++ more.now })).number ∷ []) }
+        ensures err { OnErr result ((self.new.nodes ≡ self.old.nodes) × (take (length self.old.stack.items) self.new.stack.items ≡ self.old.stack.items)) }
         ensures hypotheses { self.new.hypotheses.items ≡ self.old.hypotheses.items }
         ensures newtypes { self.new.newtypes ≡ self.old.newtypes }
     {

@@ -1,8 +1,9 @@
 //! Trails of decisions.
 
-ghost use Rattle.std.specs.Prelude.{◌≡◌, ◌≤◌, ◌++◌, ◌∷◌, [], List, map, length, IfOk, OnOk};
+ghost use Rattle.std.specs.Prelude.{◌≡◌, ◌≤◌, ◌++◌, ◌∷◌, [], List, map, length, IfOk, OnOk, OnErr};
 ghost use Rattle.df_form.specs.declared.log.Lit.{Lit};
 ghost use Rattle.df_form.specs.Clause.{Clause, negation};
+ghost use Rattle.df_derive.specs.Front.{IsFront};
 ghost use Rattle.df_trail.specs.Trail.{branch_of, decided, turned, JoinsSides, RetreatsFrom, Turns};
 
 use crate::decision::Decision;
@@ -66,20 +67,24 @@ impl Trail {
         Ok(clause)
     }
 
-    /// Decides a literal.
+    /// Decides a literal. It fails for want of memory, and then changes nothing.
     pub fn decide(&mut self, literal: Lit) -> Result<(), AllocError>
-        ensures { OnOk result (self.new.decisions.items ≡ self.old.decisions.items ++ decided literal ∷ []) }
+        ensures decides { OnOk result (self.new.decisions.items ≡ self.old.decisions.items ++ decided literal ∷ []) }
+        ensures err { OnErr result (self.new.decisions.items ≡ self.old.decisions.items) }
     {
-        self.decisions.push(Decision {
+        let decision = Decision {
             literal,
             closed: None,
-        })?;
+        };
+        self.decisions.push(decision)?;
         Ok(())
     }
 
-    /// Turns to the other side of a literal that the clause of this number closes.
+    /// Turns to the other side of a literal that the clause of this number closes. It fails for want of
+    /// memory, and then changes nothing.
     fn turn(&mut self, literal: Lit, closed: usize) -> Result<(), AllocError>
-        ensures { OnOk result (self.new.decisions.items ≡ self.old.decisions.items ++ turned literal closed ∷ []) }
+        ensures turns { OnOk result (self.new.decisions.items ≡ self.old.decisions.items ++ turned literal closed ∷ []) }
+        ensures err { OnErr result (self.new.decisions.items ≡ self.old.decisions.items) }
     {
         self.decisions.push(Decision {
             literal: negated(literal),
@@ -88,7 +93,8 @@ impl Trail {
         Ok(())
     }
 
-    /// Adds that the branch is not, where both sides of a further literal are closed by clauses.
+    /// Adds that the branch is not, where both sides of a further literal are closed by clauses. An error adds
+    /// nothing.
     fn join(
         &self,
         alloc: Global,
@@ -100,6 +106,9 @@ impl Trail {
         ensures number { IfOk result (λ number. number ≡ derivation.old.clauses) }
         ensures nodes { derivation.new.nodes ≡ derivation.old.nodes }
         ensures longer { length derivation.old.lines.items ≤ length derivation.new.lines.items }
+        ensures unchanged { OnErr result (derivation.new.lines.items ≡ derivation.old.lines.items) }
+        ensures uncounted { OnErr result (derivation.new.clauses ≡ derivation.old.clauses) }
+        ensures grows { IsFront derivation.old.lines.items derivation.new.lines.items }
     {
         let conclusion = self.negations(alloc)?;
         derivation.propagate(vec![in alloc; other, closed]?, conclusion)
@@ -107,7 +116,8 @@ impl Trail {
 
     /// Closes the branch by the log's last clause, which has this number and says that the branch is not:
     /// decisions of which both sides are closed are taken back, and the log says so; the last one whose other
-    /// side is open is turned.
+    /// side is open is turned. After want of memory some decisions are taken back, and the log has some of the
+    /// lines for them.
     pub fn retreat(
         &mut self,
         alloc: Global,
@@ -118,6 +128,8 @@ impl Trail {
         ensures turns { IfOk result (Turns self.old self.new) }
         ensures longer { length derivation.old.lines.items ≤ length derivation.new.lines.items }
         ensures nodes { derivation.new.nodes ≡ derivation.old.nodes }
+        ensures grows { IsFront derivation.old.lines.items derivation.new.lines.items }
+        ensures shorter { OnErr result (IsFront self.new.decisions.items self.old.decisions.items) }
     {
         let mut number = closed;
         while let Some(decision) = self.decisions.pop() {

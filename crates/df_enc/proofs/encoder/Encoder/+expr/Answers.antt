@@ -248,6 +248,14 @@ links-loop-link-preserved t c =
       rest = links_next link_of n now c.args.ty l.is_compared l.left c.in_ok-left.left q b r _ xs l.link-index x c.link-item.is c.loop-link-test.true same l.invariant.rest c.in_ok-enter_if.ensures.passed c.in_ok-left.ensures.passed.0 c.in_ok-left.ensures.passed.1;
     }
 
+pub link-expr-requires : goal.link-expr-requires
+link-expr-requires t c =
+    let n = newtypes_in c.args.self.now in
+    let x = seen_link c.args.link.now in
+    let is : link_of c.args.link.now ≡ seen_link c.args.link.now = search (rules, the_lemmas) in
+    let all = subst (λ (l : pure.Link). AreLinks (length n) (length c.args.self.now.locals.items) c.args.ty (one_link l)) is c.requires.typed in
+    (search (rules, the_lemmas), (c.requires.stack, (c.requires.ready, typed_member (length n) (length c.args.self.now.locals.items) c.args.ty x pure.last all)))
+
 pub link-compare-requires-clause-valued : goal.link-compare-requires-clause-valued
 link-compare-requires-clause-valued t c =
     let p = passed_of c.args.self.now in

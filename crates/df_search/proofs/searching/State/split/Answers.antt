@@ -27,4 +27,4 @@ returns-clause-splits c =
     let f : made first (at_most c.args.node c.in_ok-place.place) ≡ record { nodes = second; number = c.in_ok-comparison.comparison } = (λ i. made first (record { op = ops.AtMost; parts = sym c.in_ok-vec.ensures.items i })) ∙ c.in_ok-comparison.ensures.made in
     ok_weaker c.decide.result _ _
     (λ trail_is s searches leaf. splits s c.args.self.now searches c.args.node c.in_ok-place.place c.in_ok-comparison.comparison c.args.bound c.make.new.self c.make-2.new.self c.decide.new.self leaf e c.in_ok-place.ensures.runs f c.in_ok-comparison.ensures.runs trail_is)
-    c.decide.ensures
+    c.decide.ensures.decides

@@ -34,7 +34,7 @@ returns-in_ok-number-in-Unsolvable-clause-turns c =
 
 pub returns-in_ok-decide-in-Open-clause-turns : goal.returns-in_ok-decide-in-Open-clause-turns
 returns-in_ok-decide-in-Open-clause-turns c = λ s searches few.
-    (record { all = searches.all; is = open_decides s searches.all c.args.self.now searches.is c.in-Open.literal (subst (Tells c.args.self.now) c.in-Open.is c.in_ok-numbers.ensures) c.decide.new.self c.in_ok-decide-in-Open.ensures }, few)
+    (record { all = searches.all; is = open_decides s searches.all c.args.self.now searches.is c.in-Open.literal (subst (Tells c.args.self.now) c.in-Open.is c.in_ok-numbers.ensures) c.decide.new.self c.in_ok-decide-in-Open.ensures.decides }, few)
 
 pub returns-in-Modelled-clause-turns : goal.returns-in-Modelled-clause-turns
 returns-in-Modelled-clause-turns c = λ s searches few. modelled s searches.all c.args.self.now searches.is c.in-Modelled.table (subst (Tells c.args.self.now) c.in-Modelled.is c.in_ok-numbers.ensures)

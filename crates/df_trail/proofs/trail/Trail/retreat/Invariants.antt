@@ -1,4 +1,5 @@
 use Rattle.std.proofs.Common.{◌≡◌, ◌≤◌, length}
+use Rattle.df_derive.specs.Front.{IsFront}
 use Rattle.df_trail.proofs.Retreated.{IsRetreating}
 use Rattle.df_trail.proofs.Shorter.{IsShorter}
 use Rattle.df_trail.proofs.trail.Trail.retreat.Given as goal
@@ -9,6 +10,7 @@ invariant-loop-decision l = record {
   nodes : l.derivation.nodes ≡ l.initial.derivation.nodes;
   shorter : IsShorter l.initial.self l.self;
   longer : length l.initial.derivation.lines.items ≤ length l.derivation.lines.items;
+  grows : IsFront l.initial.derivation.lines.items l.derivation.lines.items;
 }
 
 abbrev pub decreases-loop-decision : goal.decreases-loop-decision

@@ -1,5 +1,5 @@
 use Rattle.std.proofs.Common.{◌≡◌, ◌++◌, take}
-use Rattle.df_form.proofs.draft.Draft.apply_all.Given as goal
+use Rattle.df_form.proofs.draft.Draft.stack_all.Given as goal
 
 abbrev pub invariant-loop-term : goal.invariant-loop-term
 invariant-loop-term l = record {
