@@ -13,7 +13,7 @@ use Rattle.df_lin.specs.Levels.{rows_of}
 abbrev pub AreSparse : List kernel.Row → List declared.Row → Type 0
 AreSparse rows sparse = rows_of sparse ≡ map row_of rows
 
--- the rows of literals, or that a number on the way to one is past 128 bits
+-- the rows of literals, or that a number of one is past 128 bits
 abbrev pub TellsRows : List Node → List Lit → Option (Vec declared.Row Global) → Type 0
 TellsRows nodes literals (Some rows) = linear.rows_of nodes literals ≡ Some (rows_of rows.items)
 TellsRows nodes literals None = linear.rows_of nodes literals ≡ None

@@ -12,8 +12,8 @@ use Rattle.df_lin.specs.Elimination.{IsElimination, AreOverflowing}
 use Rattle.df_back.specs.BackSubstitution.{BackSubstitution, IsPastWidth}
 use Rattle.df_model.specs.Valuation.{assignment_of}
 
--- By making a row of known literals, by elimination, by back substitution, or by putting the numbers of back substitution into
--- the nodes, a number past 128 bits comes. Truths that are free are as the second function says.
+-- In a row of a known literal, by elimination, by back substitution, or by putting the numbers of back substitution into the
+-- nodes, a number past 128 bits comes. Truths that are free are as the second function says.
 pub data Overflows (newtypes : List Newtype) (set nodes : List Node) (known : List Lit) : Type 0 where
   at_row : rows_of nodes known ≡ None → Overflows newtypes set nodes known
   at_level : (rows : List Row) → rows_of nodes known ≡ Some rows → AreOverflowing rows → Overflows newtypes set nodes known

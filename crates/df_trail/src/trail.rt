@@ -116,8 +116,8 @@ impl Trail {
 
     /// Closes the branch by the log's last clause, which has this number and says that the branch is not:
     /// decisions of which both sides are closed are taken back, and the log says so; the last one whose other
-    /// side is open is turned. After want of memory some decisions are taken back, and the log has some of the
-    /// lines for them.
+    /// side is open is turned. After want of memory the decisions are a front of what they were, and the log
+    /// begins with the lines that it had.
     pub fn retreat(
         &mut self,
         alloc: Global,
