@@ -1,0 +1,3 @@
+newtype i8 = x: int | -128 <= x < 128
+method M() returns (r: i8) { }
+method N() returns (s: i8) { print s; }

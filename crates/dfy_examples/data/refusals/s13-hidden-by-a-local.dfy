@@ -1,0 +1,2 @@
+newtype i8 = x: int | -128 <= x < 128
+method M(a: i8) returns (r: i8) { if a < 1 { r := 1; } else { var r: i8 := 2; } }

@@ -1,0 +1,2 @@
+newtype i8 = x: int | -128 <= x < 128
+method M(a: i8) returns (r: i8) ensures r > 0 { if a < 0 { r := 1; } else if a < 127 { r := a + 1; } else { r := a; } }

@@ -1,0 +1,3 @@
+newtype i8 = x: int | -128 <= x < 128
+newtype b = x: int | 0 <= x < 2
+method M(a: b) { assert 0 <= a == 0; }

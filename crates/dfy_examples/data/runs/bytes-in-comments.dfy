@@ -1,0 +1,2 @@
+method Main() { /* /* ÿ */ */ print "x"; // þ
+ }

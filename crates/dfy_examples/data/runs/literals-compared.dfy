@@ -1,0 +1,1 @@
+method Main() { assert 1 + 2 == 3; print 1 < 2 == 2, " ", 2 < 1, ""; }

@@ -1,0 +1,2 @@
+newtype i32 = x: int | -0x8000_0000 <= x < 0x8000_0000
+method Main() { var x: i32 := -7; var y: i32 := x - -3; x := -y; { var y: i32 := 9; x := x + y; } if y < x { print y; } else { print x; } print " ", x, " ", -x < y <= x; }

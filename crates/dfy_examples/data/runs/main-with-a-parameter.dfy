@@ -1,0 +1,2 @@
+newtype o = x: int | 0 <= x < 1
+method Main(a: o) { }

@@ -1,0 +1,1 @@
+method Name() { print -1, 2; }

@@ -1,0 +1,1 @@
+method Main() { print 1 < 2 == 2, (1 + 2) < 4; }

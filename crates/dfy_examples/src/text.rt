@@ -1,0 +1,46 @@
+//! Text with escapes.
+
+use anyhow::{Result, bail};
+use std::alloc::Global;
+
+/// The byte that an escape stands for.
+fn escaped(letter: u8) -> Result<u8> {
+    match letter {
+        b'n' => Ok(b'\n'),
+        b'r' => Ok(b'\r'),
+        b't' => Ok(b'\t'),
+        b'0' => Ok(0),
+        b's' => Ok(b' '),
+        b'\\' => Ok(b'\\'),
+        _ => bail!("an escape is \\n, \\r, \\t, \\0, \\s or \\\\"),
+    }
+}
+
+/// The bytes of a text in which `\n`, `\r`, `\t`, `\0`, `\s` and `\\` stand for a line feed, a carriage
+/// return, a tab, the byte 0, a blank and `\`.
+pub fn unescaped(alloc: Global, text: &str) -> Result<Vec<u8>> {
+    let mut bytes = Vec::new(alloc);
+    let mut escape = false;
+    for byte in text.as_bytes() {
+        if escape {
+            bytes.push(escaped(*byte)?)?;
+            escape = false;
+        } else if *byte == b'\\' {
+            escape = true;
+        } else {
+            bytes.push(*byte)?;
+        }
+    }
+    if escape {
+        bail!("nothing stands behind a last \\");
+    }
+    Ok(bytes)
+}
+
+/// Adds a text so many times.
+pub fn push_times(bytes: &mut Vec<u8>, text: &[u8], times: u64) -> Result<()> {
+    for _ in 0..times {
+        bytes.extend_from_slice(text)?;
+    }
+    Ok(())
+}
