@@ -1,0 +1,4 @@
+pub mod Samples
+mod TypingRows
+mod AssignmentRows
+mod NativeRows

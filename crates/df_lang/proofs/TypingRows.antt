@@ -1,0 +1,35 @@
+-- What is well typed, and what is not, by computation.
+use Rattle.std.proofs.Common.{◌≡◌, true, false, refl}
+use Rattle.df_lang.specs.declared.ty.Ty.TheVariants as types
+use Rattle.df_lang.specs.Typing.{is_well_typed}
+use Rattle.df_lang.proofs.Samples.{parities, below, alone, counting, leaving, giving, giving_away, cheating, unmeasured, measured, keep, narrow, taking, twos, bytes}
+
+typed_parities : is_well_typed (parities below) ≡ true
+typed_parities = refl
+
+typed_counting : is_well_typed (alone counting) ≡ true
+typed_counting = refl
+
+typed_leaving : is_well_typed (alone (leaving giving)) ≡ true
+typed_leaving = refl
+
+not_a_result : is_well_typed (alone (leaving giving_away)) ≡ false
+not_a_result = refl
+
+not_well_typed : is_well_typed (alone cheating) ≡ false
+not_well_typed = refl
+
+no_measure : is_well_typed (alone unmeasured) ≡ false
+no_measure = refl
+
+measure_by_clause : is_well_typed (alone measured) ≡ true
+measure_by_clause = refl
+
+typed_two : is_well_typed (twos (taking narrow narrow types.Nat types.Nat)) ≡ true
+typed_two = refl
+
+untyped_two : is_well_typed (twos (taking (keep types.Int) narrow types.Nat types.Nat)) ≡ false
+untyped_two = refl
+
+no_characters : is_well_typed (alone bytes) ≡ false
+no_characters = refl

@@ -1,0 +1,14 @@
+pub mod Interval
+pub mod Newtype
+pub mod Expr
+pub mod ExprView
+pub mod Stmt
+pub mod StmtView
+pub mod Program
+pub mod Measures
+pub mod Typing
+pub mod Assignment
+pub mod Native
+pub mod DeclView
+pub mod View
+pub mod Groups

@@ -1,0 +1,21 @@
+pub mod Outcomes
+pub mod Growing
+pub mod Lifting
+pub mod Executing
+pub mod Cases
+pub mod Types
+pub mod Typing
+pub mod Stating
+pub mod Wholes
+pub mod Same
+pub mod Reading
+pub mod Shallow
+pub mod Kept
+pub mod Changing
+pub mod Modulars
+pub mod Texts
+pub mod Laws
+mod RowStates
+mod CallRows
+mod LoopRows
+mod ValueRows

@@ -1,0 +1,79 @@
+-- Runs of loops, by computation.
+use Rattle.std.proofs.Common.{◌≡◌, pos, negsuc, [], ◌∷◌, None, refl}
+use Rattle.df_lang.specs.Stmt.{Break, Return}
+use Rattle.df_lang.proofs.Samples.{at, alone, counting, bounded, forgetting, standing, leaving, giving, broken, staying, returning, keeping}
+use Rattle.df_meaning.specs.declared.kind.Kind.TheVariants as kinds
+use Rattle.df_mean.specs.Outcome.{Gives, Wrong, TooDeep, Dismissed}
+use Rattle.df_mean.specs.Whole.{whole, run_method}
+use Rattle.df_mean.specs.Modular.{modular_run}
+use Rattle.df_mean.proofs.RowStates.{empty, handing, n, counter, text_then}
+
+counts : run_method (whole (alone counting) 4) (at 1) counting (n (pos 4) ∷ []) empty ≡ Gives (record { values = n (pos 4) ∷ []; store = empty })
+counts = refl
+
+count_is_deep : run_method (whole (alone counting) 3) (at 1) counting (n (pos 4) ∷ []) empty ≡ TooDeep
+count_is_deep = refl
+
+fails_on_entry : run_method (whole (alone counting) 4) (at 1) counting (n (negsuc 0) ∷ []) empty ≡ Wrong (at 7) kinds.Entry
+fails_on_entry = refl
+
+fails_after_a_turn : run_method (whole (alone bounded) 9) (at 1) bounded (n (pos 5) ∷ []) empty ≡ Wrong (at 7) kinds.Turn
+fails_after_a_turn = refl
+
+one_turn : modular_run (alone counting) (0 ∷ 1 ∷ []) 1 1 counting (n (pos 4) ∷ []) (handing (counter (pos 2) ∷ [])) ≡ Dismissed
+one_turn = refl
+
+not_invariant : modular_run (alone counting) (0 ∷ 1 ∷ []) 1 1 counting (n (pos 4) ∷ []) (handing (counter (pos 5) ∷ [])) ≡ Dismissed
+not_invariant = refl
+
+not_of_the_type : modular_run (alone counting) (0 ∷ 1 ∷ []) 1 1 counting (n (pos 4) ∷ []) (handing (counter (pos 500) ∷ [])) ≡ Dismissed
+not_of_the_type = refl
+
+assigned_is_unknown : modular_run (alone forgetting) (0 ∷ 1 ∷ []) 1 1 forgetting (n (pos 4) ∷ []) (handing (counter (pos 9) ∷ [])) ≡ Wrong (at 15) kinds.Assert
+assigned_is_unknown = refl
+
+loop_does_not_decrease : modular_run (alone standing) (0 ∷ 1 ∷ []) 1 1 standing (n (pos 4) ∷ []) (handing (counter (pos 2) ∷ [])) ≡ Wrong (at 14) kinds.Decreases
+loop_does_not_decrease = refl
+
+never_ends : run_method (whole (alone standing) 50) (at 1) standing (n (pos 4) ∷ []) empty ≡ TooDeep
+never_ends = refl
+
+breaks : run_method (whole (alone (leaving (Break (at 16)))) 9) (at 1) (leaving (Break (at 16))) (n (pos 5) ∷ []) empty ≡ Gives (record { values = n (pos 52) ∷ []; store = empty })
+breaks = refl
+
+returns : run_method (whole (alone (leaving (Return (at 16) None))) 9) (at 1) (leaving (Return (at 16) None)) (n (pos 5) ∷ []) empty ≡ Gives (record { values = n (pos 2) ∷ []; store = empty })
+returns = refl
+
+returns_a_value : run_method (whole (alone (leaving giving)) 9) (at 1) (leaving giving) (n (pos 5) ∷ []) empty ≡ Gives (record { values = n (pos 33) ∷ []; store = empty })
+returns_a_value = refl
+
+entry_first : modular_run (alone counting) (0 ∷ 1 ∷ []) 0 1 counting (n (negsuc 0) ∷ []) empty ≡ Wrong (at 7) kinds.Entry
+entry_first = refl
+
+turn_checked : modular_run (alone bounded) (0 ∷ 1 ∷ []) 1 1 bounded (n (pos 5) ∷ []) (handing (counter (pos 2) ∷ [])) ≡ Wrong (at 7) kinds.Turn
+turn_checked = refl
+
+turn_before_decrease : modular_run (alone bounded) (0 ∷ 1 ∷ []) 1 1 bounded (n (pos 5) ∷ []) (handing (counter (pos 1) ∷ [])) ≡ Dismissed
+turn_before_decrease = refl
+
+behind_the_loop : text_then (modular_run (alone counting) (0 ∷ 1 ∷ []) 1 1 counting (n (pos 4) ∷ []) (handing (counter (pos 4) ∷ []))) ≡ Gives []
+behind_the_loop = refl
+
+deeper_loop : modular_run (alone counting) (0 ∷ 1 ∷ []) 0 1 counting (n (pos 4) ∷ []) (handing (counter (pos 4) ∷ [])) ≡ TooDeep
+deeper_loop = refl
+
+state_of_a_break : modular_run (alone broken) (0 ∷ 1 ∷ []) 1 1 broken (n (pos 4) ∷ []) (handing (counter (pos 2) ∷ [])) ≡ Wrong (at 15) kinds.Assert
+state_of_a_break = refl
+
+other_break : text_then (modular_run (alone broken) (0 ∷ 1 ∷ []) 1 1 broken (n (pos 4) ∷ []) (handing (counter (pos 1) ∷ []))) ≡ Gives []
+other_break = refl
+
+stays_known : text_then (modular_run (alone staying) (0 ∷ 1 ∷ []) 1 1 staying (n (pos 4) ∷ []) (handing (counter (pos 2) ∷ []))) ≡ Gives []
+stays_known = refl
+
+owes_at_a_return : modular_run (alone returning) (0 ∷ 1 ∷ []) 1 1 returning (n (pos 4) ∷ []) (handing (counter (pos 2) ∷ [])) ≡ Wrong (at 7) kinds.Ensures
+owes_at_a_return = refl
+
+-- what a `return` in a loop gives reaches nothing behind it
+given_by_a_return : text_then (modular_run (alone keeping) (0 ∷ 1 ∷ []) 1 1 keeping (n (pos 0) ∷ []) (handing (counter (pos 9) ∷ []))) ≡ Gives []
+given_by_a_return = refl

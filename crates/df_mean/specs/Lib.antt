@@ -1,0 +1,15 @@
+pub mod Value
+pub mod Types
+pub mod Outcome
+pub mod State
+pub mod Meaning
+pub mod Evaluation
+pub mod Execution
+pub mod Whole
+pub mod Order
+pub mod Modular
+pub mod Correct
+pub mod Growing
+pub mod Typed
+pub mod Texts
+pub mod Agreement

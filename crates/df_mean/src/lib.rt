@@ -1,0 +1,63 @@
+//! What programs mean: values, states, how evaluation and execution end, whole and modular runs, and what is
+//! correct.
+#![tactic(auto)]
+
+ghost use Rattle.df_mean.specs.Agreement.{StatementsAgree, ParametersStay};
+ghost use Rattle.df_mean.specs.Growing.{ExpressionsGrow, StatementsGrow, WholesGrow, MethodsGrow};
+ghost use Rattle.df_mean.specs.Texts.{StatementsKeepText, MethodsKeepText};
+ghost use Rattle.df_mean.specs.Typed.{ExpressionsAreTyped, LocalsKeepTypes, ResultsAreTyped};
+
+/// What expressions evaluate to over a meaning that says less, they do over one that says more.
+pub fn expressions_grow()
+    ensures { ExpressionsGrow }
+{}
+
+/// And so with what statements do.
+pub fn statements_grow()
+    ensures { StatementsGrow }
+{}
+
+/// More depth keeps what calls and loops do.
+pub fn wholes_grow()
+    ensures { WholesGrow }
+{}
+
+/// More depth keeps what a run of a method comes to, also that it is wrong.
+pub fn methods_grow()
+    ensures { MethodsGrow }
+{}
+
+/// The value of a well-typed expression is of its type.
+pub fn expressions_are_typed()
+    ensures { ExpressionsAreTyped }
+{}
+
+/// A whole run of a well-typed statement leaves the locals values of their types.
+pub fn locals_keep_types()
+    ensures { LocalsKeepTypes }
+{}
+
+/// The results of a method are of their types.
+pub fn results_are_typed()
+    ensures { ResultsAreTyped }
+{}
+
+/// A whole run of a statement keeps in front what was printed before it.
+pub fn statements_keep_text()
+    ensures { StatementsKeepText }
+{}
+
+/// And so does one of a method.
+pub fn methods_keep_text()
+    ensures { MethodsKeepText }
+{}
+
+/// A whole run of a statement leaves the locals that it neither declares nor assigns.
+pub fn statements_agree()
+    ensures { StatementsAgree }
+{}
+
+/// The body of a method leaves its parameters.
+pub fn parameters_stay()
+    ensures { ParametersStay }
+{}
