@@ -1,19 +1,20 @@
 -- The value of a row, one entry after the other.
-use Rattle.std.proofs.Common.{◌≡◌, ◌⊎◌, ⊎_elim, ℕ, suc, ◌+◌, ◌<◌, ◌≤◌, ℤ, pos, ◌+ℤ◌, ◌*ℤ◌, Bool, true, false, List, [], ◌∷◌, Option, Some, None, cond, length, drop, get_or, add-one, refl, sym, ap, subst, ◌∙◌, arith}
+use Rattle.std.proofs.Common.{◌≡◌, ⊎_elim, ℕ, suc, ◌+◌, ◌<◌, ◌≤◌, ℤ, pos, ◌+ℤ◌, ◌*ℤ◌, Bool, true, false, List, [], ◌∷◌, Option, Some, None, cond, length, drop, get_or, add-one, refl, sym, ap, subst, ◌∙◌, arith}
 use Rattle.std.proofs.Math.Seq.{drop-cons}
 use Rattle.std.proofs.lemmas.Int.{ints}
 use Rattle.std.proofs.lemmas.List.{drop_all}
-use Rattle.std.proofs.lemmas.Bool.{true≢false}
-use Rattle.df_linear.specs.Row.{Row, fits}
+use Rattle.std.proofs.lemmas.Bool.{true≢false, cases_lt}
+use Rattle.df_row.specs.Row.{Row, fits}
 use Rattle.std.proofs.lemmas.Option.{none-some, cond_some}
-use Rattle.df_linear.specs.RowView.{narrow, IsWithin}
-use Rattle.df_linear.specs.Value.{sum_below, row_value}
-use Rattle.df_lin.specs.Entries.{coefficient_of, ascends, has_coefficient}
-use Rattle.df_lin.proofs.Ascending.{IsFrom, from_test, none_below}
-use Rattle.df_lin.proofs.Multiples.{first_of, others_of}
+use Rattle.std.proofs.Math.IntN.{zero-*ℤ}
+use Rattle.df_level.proofs.Rows.{first_coefficient, after_first}
+use Rattle.df_row.specs.RowView.{narrow, IsWithin}
+use Rattle.df_row.specs.Value.{sum_below, row_value}
+use Rattle.df_level.specs.Entries.{coefficient_of, ascends, has_coefficient}
+use Rattle.df_level.proofs.Ascending.{IsFrom, from_test, none_below}
 use Rattle.df_back.specs.BackSubstitution.{IsWideSum, at_product, at_sum}
 use Rattle.df_back.specs.Ranges.{TellsValue}
-use Rattle.df_back.proofs.Integers.{zero_times, skip_zeros}
+use Rattle.df_back.proofs.Integers.{skip_zeros}
 
 -- the products of the nodes whose entries are passed, and the constant
 pub record IsAdding (count : ℕ) (numbers : ℕ → ℤ) (row : Row) (left : List (ℕ × ℤ)) (sum : ℤ) : Type 0 where
@@ -34,17 +35,14 @@ module _ (count : ℕ) (numbers : ℕ → ℤ) (row : Row) (within : IsWithin co
       alone z = omega (arith, ints)
 
   no_term : (n : ℕ) → row.coefficient n ≡ pos 0 → term n ≡ pos 0
-  no_term n e = ap (λ z. z *ℤ numbers n) e ∙ zero_times (numbers n)
+  no_term n e = ap (λ z. z *ℤ numbers n) e ∙ zero-*ℤ (numbers n)
 
   module _ (m : ℕ) (c : ℤ) (left : List (ℕ × ℤ)) (sum : ℤ) (so_far : IsAdding count numbers row ((m, c) ∷ left) sum) where
     here : row.coefficient m ≡ c
-    here = sym (so_far.same m so_far.from.0) ∙ first_of m c left
-
-    sides : (m count : ℕ) → (m < count) ⊎ (count ≤ m)
-    sides m count = grind arith
+    here = sym (so_far.same m so_far.from.0) ∙ first_coefficient m c left
 
     pub entry_below : m < count
-    entry_below = ⊎_elim (λ h. h) (λ past. absurd (true≢false (sym so_far.from.1 ∙ ap has_coefficient (sym here ∙ within.zero_from m past)))) (sides m count)
+    entry_below = ⊎_elim (λ h. h) (λ past. absurd (true≢false (sym so_far.from.1 ∙ ap has_coefficient (sym here ∙ within.zero_from m past)))) (cases_lt m count)
 
     before : sum_below m term ≡ sum_below so_far.low term
     before = skip_zeros term so_far.low m so_far.from.0 (λ n at less. no_term n (sym (so_far.same n at) ∙ none_below m ((m, c) ∷ left) n (omega arith, so_far.from.1, so_far.from.2) less))
@@ -60,7 +58,7 @@ module _ (count : ℕ) (numbers : ℕ → ℤ) (row : Row) (within : IsWithin co
       low = suc m;
       inside = let less = entry_below in omega (arith, less);
       from = so_far.from.2;
-      same = λ n h. sym (others_of m c left n (omega (arith, h))) ∙ so_far.same n (let le = so_far.from.0 in omega (arith, h, le));
+      same = λ n h. sym (after_first m c left n (omega (arith, h))) ∙ so_far.same n (let le = so_far.from.0 in omega (arith, h, le));
       is = e ∙ sym with_term;
     }
 

@@ -1,29 +1,31 @@
 -- The last number that a row allows a node.
-use Rattle.std.proofs.Common.{◌≡◌, ◌⊎◌, ⊎_elim, ℕ, zero, suc, ◌+◌, ◌*◌, ◌/◌, ◌<◌, ◌≤◌, ℤ, pos, negsuc, ◌+ℤ◌, ◌-ℤ◌, ◌*ℤ◌, neg_ℤ, ◌<ℤ◌, ◌≤ℤ◌, int_le, Bool, true, false, cond, nat_eq, Option, Some, None, refl, sym, ap, subst, ◌∙◌, arith}
+use Rattle.std.proofs.Common.{◌≡◌, ⊎_elim, ℕ, zero, suc, ◌+◌, ◌*◌, ◌/◌, ◌<◌, ◌≤◌, ℤ, pos, negsuc, ◌+ℤ◌, ◌-ℤ◌, ◌*ℤ◌, neg_ℤ, ◌<ℤ◌, ◌≤ℤ◌, int_le, Bool, true, false, cond, nat_eq, Option, Some, None, refl, sym, ap, subst, ◌∙◌, arith}
 use Rattle.std.proofs.lemmas.Int.{ints}
 use Rattle.std.specs.Int.{int_div_euclid}
 use Rattle.std.specs.Int.RustNames.{unsigned_abs}
-use Rattle.df_linear.specs.Row.{Row, fits}
-use Rattle.df_linear.specs.RowView.{narrow, IsWithin}
-use Rattle.df_linear.specs.Value.{sum_below, row_value, row_holds}
-use Rattle.df_lin.proofs.Ascending.{equal, unequal, from_equal}
+use Rattle.std.proofs.lemmas.Bool.{eq-eqb, eqb-true, ne_eqb, cases_lt}
+use Rattle.std.proofs.Math.IntN.{zero-*ℤ, *ℤ-zero}
+use Rattle.df_row.proofs.Sums.{same_sums}
+use Rattle.df_lemmas.proofs.Integers.{from_le, sum_times}
+use Rattle.df_row.specs.Row.{Row, fits}
+use Rattle.df_row.specs.RowView.{narrow, IsWithin}
+use Rattle.df_row.specs.Value.{sum_below, row_value, row_holds}
 use Rattle.df_back.specs.BackSubstitution.{with_number, IsWideSum, IsLastAllowed, at_rest, at_bound}
 use Rattle.df_back.specs.Ranges.{TellsValue, IsLast, TellsLast, IsRowBound, TellsRowBound}
-use Rattle.df_back.proofs.Integers.{zero_times, times_zero, sum_times, same_sums}
 
 -- the number itself, and the others'
 pub with_own : (numbers : ℕ → ℤ) (n : ℕ) (v : ℤ) → with_number numbers n v n ≡ v
-with_own numbers n v = ap (λ t. cond t v (numbers n)) (equal n n refl)
+with_own numbers n v = ap (λ t. cond t v (numbers n)) (eq-eqb n n refl)
 
 pub with_other : (numbers : ℕ → ℤ) (n : ℕ) (v : ℤ) (m : ℕ) → (m ≡ n → ⊥) → with_number numbers n v m ≡ numbers m
-with_other numbers n v m apart = ap (λ t. cond t v (numbers m)) (unequal m n apart)
+with_other numbers n v m apart = ap (λ t. cond t v (numbers m)) (ne_eqb m n apart)
 
 -- the same number once more
 pub with_same : (numbers : ℕ → ℤ) (n : ℕ) (v : ℤ) → numbers n ≡ v → with_number numbers n v ≡ numbers
 with_same numbers n v e = λ i m. by m (nat_eq m n) refl i
   where
     by : (m : ℕ) (b : Bool) → nat_eq m n ≡ b → with_number numbers n v m ≡ numbers m
-    by m true h = ap (λ t. cond t v (numbers m)) h ∙ sym e ∙ ap numbers (sym (from_equal m n h))
+    by m true h = ap (λ t. cond t v (numbers m)) h ∙ sym e ∙ ap numbers (sym (eqb-true m n h))
     by m false h = ap (λ t. cond t v (numbers m)) h
 
 -- Another number for a node which has 0 adds so many times its coefficient.
@@ -49,13 +51,13 @@ module _ (f : ℕ → ℤ) (numbers : ℕ → ℤ) (n : ℕ) (v : ℤ) where
 
       by : (b : Bool) → nat_eq n k ≡ b → (n < k → numbers n ≡ pos 0 → sum_below k new_term ≡ sum_below k old_term +ℤ (f n *ℤ v)) → new_term k +ℤ sum_below k new_term ≡ (old_term k +ℤ sum_below k old_term) +ℤ (f n *ℤ v)
       by true h rest =
-          let is = from_equal n k h in
+          let is = eqb-true n k h in
           here (new_term k) (old_term k) (f n *ℤ v) (sum_below k new_term) (sum_below k old_term)
           (ap new_term (sym is) ∙ ap (λ z. f n *ℤ z) (with_own numbers n v))
-          (ap old_term (sym is) ∙ ap (λ z. f n *ℤ z) none ∙ times_zero (f n))
+          (ap old_term (sym is) ∙ ap (λ z. f n *ℤ z) none ∙ *ℤ-zero (f n))
           (unchanged_sum k (omega (arith, is)))
       by false h rest =
-          let apart : k ≡ n → ⊥ = λ e. true_not (sym (equal n k (sym e)) ∙ h) in
+          let apart : k ≡ n → ⊥ = λ e. true_not (sym (eq-eqb n k (sym e)) ∙ h) in
           there (new_term k) (old_term k) (sum_below k new_term) (sum_below k old_term) (f n *ℤ v)
           (ap (λ z. f k *ℤ z) (with_other numbers n v k apart)) (rest (below apart) none)
         where
@@ -78,24 +80,15 @@ module _ (count : ℕ) (numbers : ℕ → ℤ) (n : ℕ) (row : Row) (v : ℤ) w
     where
       by : (m : ℕ) (b : Bool) → nat_eq m n ≡ b → new_term row.coefficient numbers n v m ≡ old_term row.coefficient numbers n v m
       by m true e =
-          let zero_there : row.coefficient m ≡ pos 0 = ap row.coefficient (from_equal m n e) ∙ none in
-          ap (λ z. z *ℤ with_number numbers n v m) zero_there ∙ zero_times (with_number numbers n v m) ∙ sym (ap (λ z. z *ℤ numbers m) zero_there ∙ zero_times (numbers m))
+          let zero_there : row.coefficient m ≡ pos 0 = ap row.coefficient (eqb-true m n e) ∙ none in
+          ap (λ z. z *ℤ with_number numbers n v m) zero_there ∙ zero-*ℤ (with_number numbers n v m) ∙ sym (ap (λ z. z *ℤ numbers m) zero_there ∙ zero-*ℤ (numbers m))
       by m false e = ap (λ t. row.coefficient m *ℤ cond t v (numbers m)) e
 
 -- a node that stands in a row is below the count
 pub stands_below : (count : ℕ) (row : Row) (n : ℕ) → IsWithin count row → (row.coefficient n ≡ pos 0 → ⊥) → n < count
-stands_below count row n within some = ⊎_elim (λ h. h) (λ past. absurd (some (within.zero_from n past))) (sides n count)
-  where
-    sides : (n count : ℕ) → (n < count) ⊎ (count ≤ n)
-    sides n count = grind arith
+stands_below count row n within some = ⊎_elim (λ h. h) (λ past. absurd (some (within.zero_from n past))) (cases_lt n count)
 
 -- tests
-pub to_holds : (z : ℤ) → pos 0 ≤ℤ z → int_le (pos 0) z ≡ true
-to_holds z h = grind (arith, ints)
-
-pub from_holds : (z : ℤ) → int_le (pos 0) z ≡ true → pos 0 ≤ℤ z
-from_holds z h = grind (arith, ints)
-
 pub to_fails : (z : ℤ) → z <ℤ pos 0 → int_le (pos 0) z ≡ false
 to_fails z h = grind (arith, ints)
 
@@ -227,7 +220,7 @@ module _ (count : ℕ) (numbers : ℕ → ℤ) (n : ℕ) (row : Row) (less : n <
   rest = row_value count numbers row
 
   holds_by : (v : ℤ) → pos 0 ≤ℤ (rest +ℤ (row.coefficient n *ℤ v)) → row_holds count (with_number numbers n v) row ≡ true
-  holds_by v h = ap (int_le (pos 0)) (value_with count numbers n row v less none) ∙ to_holds (rest +ℤ (row.coefficient n *ℤ v)) h
+  holds_by v h = ap (int_le (pos 0)) (value_with count numbers n row v less none) ∙ from_le (rest +ℤ (row.coefficient n *ℤ v)) h
 
   fails_by : (v : ℤ) → (rest +ℤ (row.coefficient n *ℤ v)) <ℤ pos 0 → row_holds count (with_number numbers n v) row ≡ false
   fails_by v h = ap (int_le (pos 0)) (value_with count numbers n row v less none) ∙ to_fails (rest +ℤ (row.coefficient n *ℤ v)) h

@@ -2,26 +2,28 @@
 use Rattle.std.proofs.Common.{◌≡◌, ◌⊎◌, ⊎_elim, ℕ, suc, ◌*◌, ◌/◌, ◌<◌, ◌≤◌, ℤ, pos, negsuc, ◌+ℤ◌, ◌*ℤ◌, ◌<ℤ◌, ◌≤ℤ◌, int_le, Bool, true, false, List, [], ◌∷◌, length, refl, sym, ap, ◌∙◌, arith}
 use Rattle.std.proofs.Math.Nat.{mul-div_cancel'}
 use Rattle.std.proofs.lemmas.Int.{ints}
-use Rattle.std.proofs.lemmas.Bool.{true≢false}
+use Rattle.std.proofs.lemmas.Bool.{true≢false, cases_lt}
 use Rattle.std.specs.Int.{◌∣◌}
 use Rattle.std.specs.Int.RustNames.{unsigned_abs}
 use Rattle.std.specs.Ordering.{int_eq}
 use Rattle.std.proofs.lemmas.Bool.Decides.{Decides-int_eq}
-use Rattle.df_linear.specs.Row.{Row}
-use Rattle.df_linear.specs.RowView.{IsWithin}
-use Rattle.df_linear.specs.Linear.{quotient}
-use Rattle.df_linear.specs.Value.{sum_below, row_value, row_holds}
-use Rattle.df_lin.specs.Row.{weighted_row}
-use Rattle.df_lin.specs.Exact.{weighted}
-use Rattle.df_lin.specs.Division.{IsDivided, divisor_of}
-use Rattle.df_lin.specs.Levels.{Stands, HasFalse, IsCancelling, IsMade, kept, cancelled, IsNextLevel}
-use Rattle.df_lin.specs.Elimination.{AreFreeFrom, IsVariable, Eliminates, ends, next, last_level}
-use Rattle.df_lin.proofs.Contents.{quotient_zero}
+use Rattle.std.proofs.Math.IntN.{*ℤ-zero}
+use Rattle.df_row.proofs.Sums.{no_sum}
+use Rattle.df_lemmas.proofs.Integers.{from_le}
+use Rattle.df_row.specs.Row.{Row}
+use Rattle.df_row.specs.RowView.{IsWithin}
+use Rattle.df_row.specs.Linear.{quotient}
+use Rattle.df_row.specs.Value.{sum_below, row_value, row_holds}
+use Rattle.df_level.specs.Row.{weighted_row}
+use Rattle.df_level.specs.Exact.{weighted}
+use Rattle.df_level.specs.Division.{IsDivided, divisor_of}
+use Rattle.df_level.specs.Levels.{Stands, HasFalse, IsCancelling, IsMade, kept, cancelled, IsNextLevel}
+use Rattle.df_level.specs.Elimination.{AreFreeFrom, IsVariable, Eliminates, ends, next, last_level}
+use Rattle.df_level.proofs.Contents.{quotient_zero}
 use Rattle.df_back.specs.BackSubstitution as definitions
 use Rattle.df_back.specs.BackSubstitution.{with_number, BackSubstitution}
 use Rattle.df_back.specs.Ranges.{AreInside}
-use Rattle.df_back.proofs.Integers.{times_zero, no_sum}
-use Rattle.df_back.proofs.Bounds.{with_other, value_without, to_holds, stands_below}
+use Rattle.df_back.proofs.Bounds.{with_other, value_without, stands_below}
 
 -- quotients of rows
 pub divided_zero : (row after : Row) (m : ℕ) → IsDivided row after → row.coefficient m ≡ pos 0 → after.coefficient m ≡ pos 0
@@ -30,7 +32,7 @@ divided_zero row after m h none =
     ap (λ (r : Row). r.coefficient m) h.is ∙ ap (λ z. quotient z (pos d)) none ∙ quotient_zero d
 
 pub weighted_zero : (f a g b : ℤ) → a ≡ pos 0 → b ≡ pos 0 → weighted f a g b ≡ pos 0
-weighted_zero f a g b p q = omega (arith, ints, ap (λ z. f *ℤ z) p, ap (λ z. g *ℤ z) q, times_zero f, times_zero g)
+weighted_zero f a g b p q = omega (arith, ints, ap (λ z. f *ℤ z) p ∙ *ℤ-zero f, ap (λ z. g *ℤ z) q ∙ *ℤ-zero g)
 
 -- the sum cancels the node
 cancels : (a b : ℤ) (d : ℕ) → pos 0 <ℤ a → b <ℤ pos 0 → d ∣ unsigned_abs a → d ∣ unsigned_abs b → weighted (pos (unsigned_abs b / d)) a (pos (unsigned_abs a / d)) b ≡ pos 0
@@ -88,9 +90,6 @@ pub same_lengths : {low : ℕ} {rows : List Row} {variables : List ℕ} {levels 
 same_lengths (ends h) = refl
 same_lengths (next v l e) = let same = same_lengths e in omega arith
 
-sides : (m n : ℕ) → (m < n) ⊎ (n ≤ m)
-sides m n = grind arith
-
 three : (m low n : ℕ) → m < suc n → (m < low) ⊎ (((low ≤ m) × (m < n)) ⊎ (m ≡ n))
 three m low n h = grind arith
 
@@ -132,9 +131,9 @@ module _ (count : ℕ) where
 
   last_holds : (low : ℕ) (rows : List Row) → IsChain count low rows [] [] → (row : Row) → Stands row rows → row_holds count (λ n. pos 0) row ≡ true
   last_holds low rows h row there =
-      let zeros : (m : ℕ) → row.coefficient m ≡ pos 0 = λ m. ⊎_elim (λ less. h.free row m there less) (λ le. free_of h.eliminates row m there le) (sides m low) in
+      let zeros : (m : ℕ) → row.coefficient m ≡ pos 0 = λ m. ⊎_elim (λ less. h.free row m there less) (λ le. free_of h.eliminates row m there le) (cases_lt m low) in
       let constant = at_least_zero row.constant (λ below. h.stands (record { row = row; stands = there; is_false = record { zeros = zeros; below = below } })) in
-      to_holds (row_value count (λ n. pos 0) row) (no_sum_left (sum_below count (λ n. row.coefficient n *ℤ pos 0)) row.constant (no_sum count (λ n. row.coefficient n *ℤ pos 0) (λ n less. times_zero (row.coefficient n))) constant)
+      from_le (row_value count (λ n. pos 0) row) (no_sum_left (sum_below count (λ n. row.coefficient n *ℤ pos 0)) row.constant (no_sum count (λ n. row.coefficient n *ℤ pos 0) (λ n less. *ℤ-zero (row.coefficient n))) constant)
 
   pub all_hold : (low : ℕ) (rows : List Row) (variables : List ℕ) (levels : List (List Row)) (numbers : ℕ → ℤ) → BackSubstitution count rows variables levels numbers → IsChain count low rows variables levels → (row : Row) → Stands row rows → row_holds count numbers row ≡ true
   all_hold low rows [] [] numbers definitions.ends h row there = last_holds low rows h row there

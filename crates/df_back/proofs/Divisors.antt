@@ -3,9 +3,10 @@ use Rattle.std.proofs.Common.{◌≡◌, ◌⊎◌, ⊎_elim, ℕ, zero, suc, �
 use Rattle.std.proofs.lemmas.Nat.Gcd.{IsGcd-from_zero, IsGcd-from_mod, dvd-zero, dvd_trans}
 use Rattle.std.specs.Int.{IsGcd, ◌∣◌}
 use Rattle.std.specs.Int.RustNames.{unsigned_abs}
-use Rattle.df_linear.specs.Row.{Row}
-use Rattle.df_linear.specs.RowView.{IsWithin}
-use Rattle.df_lin.specs.Division.{IsContent}
+use Rattle.std.proofs.lemmas.Bool.{cases_lt}
+use Rattle.df_row.specs.Row.{Row}
+use Rattle.df_row.specs.RowView.{IsWithin}
+use Rattle.df_level.specs.Division.{IsContent}
 
 -- of two numbers
 record HasGcd (a b : ℕ) : Type 0 where
@@ -46,7 +47,4 @@ pub record HasContent (row : Row) : Type 0 where
 pub content_of : (count : ℕ) (row : Row) → IsWithin count row → HasContent row
 content_of count row within =
     let found = content_below count row.coefficient in
-    record { divisor = found.divisor; is = record { each = λ n. ⊎_elim (λ less. found.each n less) (λ past. let P : ℤ → Type 0 = λ z. found.divisor ∣ unsigned_abs z in subst P (sym (within.zero_from n past)) (dvd-zero found.divisor)) (sides n count); greatest = λ e h. found.greatest e (λ n less. h n) } }
-  where
-    sides : (n count : ℕ) → (n < count) ⊎ (count ≤ n)
-    sides n count = grind arith
+    record { divisor = found.divisor; is = record { each = λ n. ⊎_elim (λ less. found.each n less) (λ past. let P : ℤ → Type 0 = λ z. found.divisor ∣ unsigned_abs z in subst P (sym (within.zero_from n past)) (dvd-zero found.divisor)) (cases_lt n count); greatest = λ e h. found.greatest e (λ n less. h n) } }

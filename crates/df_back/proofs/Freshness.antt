@@ -4,22 +4,26 @@ use Rattle.std.proofs.Math.Nat.{mul-div_cancel', mul-le-mul_left, one-dvd}
 use Rattle.std.proofs.lemmas.Int.{ints}
 use Rattle.std.specs.Int.{IsGcd, ◌∣◌}
 use Rattle.std.specs.Int.RustNames.{unsigned_abs}
-use Rattle.df_linear.specs.Row.{Row}
-use Rattle.df_linear.specs.RowView.{IsWithin}
-use Rattle.df_linear.specs.Linear.{quotient}
-use Rattle.df_linear.specs.Value.{sum_below, row_value, row_holds}
-use Rattle.df_lin.specs.Row.{weighted_row}
-use Rattle.df_lin.specs.Exact.{weighted}
-use Rattle.df_lin.specs.Division.{IsDivided, divisor_of, quotient_row}
-use Rattle.df_lin.specs.Levels.{Stands, IsCancelling, IsMade, kept, cancelled}
-use Rattle.df_lin.specs.Elimination.{Eliminates}
-use Rattle.df_lin.proofs.Ascending.{equal, from_equal, less_unequal}
-use Rattle.df_lin.proofs.Contents.{divisor_divides, some_divisor}
+use Rattle.std.proofs.lemmas.Bool.{eq-eqb, eqb-true}
+use Rattle.std.proofs.Math.IntN.{zero-*ℤ, *ℤ-zero}
+use Rattle.df_row.proofs.Sums.{no_sum, sum_scaled}
+use Rattle.df_lemmas.proofs.Integers.{to_le, times_over_sum, sum_times}
+use Rattle.df_lemmas.proofs.Numbers.{less_unequal}
+use Rattle.df_row.specs.Row.{Row}
+use Rattle.df_row.specs.RowView.{IsWithin}
+use Rattle.df_row.specs.Linear.{quotient}
+use Rattle.df_row.specs.Value.{sum_below, row_value, row_holds}
+use Rattle.df_level.specs.Row.{weighted_row}
+use Rattle.df_level.specs.Exact.{weighted}
+use Rattle.df_level.specs.Division.{IsDivided, divisor_of, quotient_row}
+use Rattle.df_level.specs.Levels.{Stands, IsCancelling, IsMade, kept, cancelled}
+use Rattle.df_level.specs.Elimination.{Eliminates}
+use Rattle.df_level.proofs.Contents.{divisor_divides, some_divisor}
 use Rattle.df_back.specs.BackSubstitution as definitions
 use Rattle.df_back.specs.BackSubstitution.{with_number, BackSubstitution, IsBetween, IsBoundAbove, IsBoundBelow}
 use Rattle.df_back.specs.BackView.{at_most_row, at_least_row}
-use Rattle.df_back.proofs.Integers.{zero_times, times_over_sum, times_zero, sum_times, no_sum, sum_weighted, sum_scaled, unrounded}
-use Rattle.df_back.proofs.Bounds.{value_with, from_holds, from_fails}
+use Rattle.df_back.proofs.Integers.{sum_weighted, unrounded}
+use Rattle.df_back.proofs.Bounds.{value_with, from_fails}
 use Rattle.df_back.proofs.Divisors.{content_of}
 use Rattle.df_back.proofs.Chains.{IsChain, variable_of, level_of, others_of, chain_on, variable_below, zero_before, all_hold, weighted_zero}
 
@@ -53,7 +57,7 @@ module _ (count : ℕ) (numbers : ℕ → ℤ) where
       let d = divisor_of h.content in
       let some : 1 ≤ d = some_divisor h.content in
       let P : Row → Type 0 = λ r. pos 0 ≤ℤ row_value count numbers r in
-      let low = subst P h.is (from_holds (row_value count numbers after) holds) in
+      let low = subst P h.is (to_le (row_value count numbers after) holds) in
       let scaled = sum_scaled count row.coefficient (λ n. quotient (row.coefficient n) (pos d)) numbers (pos d) (λ n less. divides_back d (row.coefficient n) some (divisor_divides h.content (unsigned_abs (row.coefficient n)) (h.is_content.each n))) in
       let Q : ℤ → Type 0 = λ s. pos 0 ≤ℤ (s +ℤ row.constant) in
       subst Q (sym scaled) (unrounded d (sum_below count (λ n. quotient (row.coefficient n) (pos d) *ℤ numbers n)) row.constant some low)
@@ -93,8 +97,8 @@ module _ (count low n : ℕ) (rows after : List Row) (variables : List ℕ) (lev
   alone c = no_sum count (λ m. cond (nat_eq m n) c (pos 0) *ℤ numbers m) (λ m less. by m (nat_eq m n) refl)
     where
       by : (m : ℕ) (b : Bool) → nat_eq m n ≡ b → cond (nat_eq m n) c (pos 0) *ℤ numbers m ≡ pos 0
-      by m true e = ap (λ z. cond (nat_eq m n) c (pos 0) *ℤ z) (ap numbers (from_equal m n e) ∙ zero_own) ∙ times_zero (cond (nat_eq m n) c (pos 0))
-      by m false e = ap (λ t. cond t c (pos 0) *ℤ numbers m) e ∙ zero_times (numbers m)
+      by m true e = ap (λ z. cond (nat_eq m n) c (pos 0) *ℤ z) (ap numbers (eqb-true m n e) ∙ zero_own) ∙ *ℤ-zero (cond (nat_eq m n) c (pos 0))
+      by m false e = ap (λ t. cond t c (pos 0) *ℤ numbers m) e ∙ zero-*ℤ (numbers m)
 
   at_most_value : (k : ℤ) → row_value count numbers (at_most_row n k) ≡ k
   at_most_value k = next (sum_below count (λ m. cond (nat_eq m n) (negsuc 0) (pos 0) *ℤ numbers m)) k (alone (negsuc 0))
@@ -118,10 +122,10 @@ module _ (count low n : ℕ) (rows after : List Row) (variables : List ℕ) (lev
   by_one n = omega arith
 
   own_at_most : (k : ℤ) → (at_most_row n k).coefficient n ≡ negsuc 0
-  own_at_most k = ap (λ t. cond t (negsuc 0) (pos 0)) (equal n n refl)
+  own_at_most k = ap (λ t. cond t (negsuc 0) (pos 0)) (eq-eqb n n refl)
 
   own_at_least : (k : ℤ) → (at_least_row n k).coefficient n ≡ pos 1
-  own_at_least k = ap (λ t. cond t (pos 1) (pos 0)) (equal n n refl)
+  own_at_least k = ap (λ t. cond t (pos 1) (pos 0)) (eq-eqb n n refl)
 
   positive_abs : (c : ℤ) → pos 0 <ℤ c → pos (unsigned_abs c) ≡ c
   positive_abs (pos c) h = refl
@@ -138,7 +142,7 @@ module _ (count low n : ℕ) (rows after : List Row) (variables : List ℕ) (lev
   below_zero_turned v x y e h less = omega (arith, ints)
 
   turned : (a c k : ℤ) → a +ℤ c ≡ pos 0 → a *ℤ (pos 0 -ℤ k) ≡ c *ℤ k
-  turned a c k e = next (a *ℤ (pos 0 -ℤ k)) (a *ℤ k) (c *ℤ k) (sym (sum_times a (pos 0 -ℤ k) k) ∙ ap (λ z. a *ℤ z) (nothing k) ∙ times_zero a) (sym (times_over_sum a c k) ∙ ap (λ z. z *ℤ k) e ∙ zero_times k)
+  turned a c k e = next (a *ℤ (pos 0 -ℤ k)) (a *ℤ k) (c *ℤ k) (sym (sum_times a (pos 0 -ℤ k) k) ∙ ap (λ z. a *ℤ z) (nothing k) ∙ *ℤ-zero a) (sym (times_over_sum a c k) ∙ ap (λ z. z *ℤ k) e ∙ zero-*ℤ k)
     where
       nothing : (k : ℤ) → (pos 0 -ℤ k) +ℤ k ≡ pos 0
       nothing k = omega (arith, ints)

@@ -1,48 +1,11 @@
 -- Integers and their sums.
-use Rattle.std.proofs.Common.{◌≡◌, ℕ, zero, suc, ◌+◌, ◌*◌, ◌-◌, ◌/◌, ◌<◌, ◌≤◌, ℤ, pos, negsuc, ◌+ℤ◌, ◌*ℤ◌, ◌≤ℤ◌, refl, sym, ap, ◌∙◌, arith, subst}
+use Rattle.std.proofs.Common.{◌≡◌, ℕ, zero, suc, ◌+◌, ◌*◌, ◌-◌, ◌/◌, ◌<◌, ◌≤◌, ℤ, pos, negsuc, ◌+ℤ◌, ◌*ℤ◌, ◌≤ℤ◌, sym, ap, ◌∙◌, arith}
 use Rattle.std.proofs.lemmas.Int.{ints}
-use borrow.Author.Differences.{up, down, sum_is_lem, product_is}
-use Rattle.df_linear.specs.Linear.{quotient}
-use Rattle.df_linear.specs.Value.{sum_below}
-use Rattle.df_lin.specs.Exact.{weighted}
-
-pub times_over_sum : (a b c : ℤ) → (a +ℤ b) *ℤ c ≡ (a *ℤ c) +ℤ (b *ℤ c)
-times_over_sum a b c = omega (arith, ints, ap (λ (z : ℕ). z * up c) (sum_is_lem a b), ap (λ (z : ℕ). z * down c) (sum_is_lem a b))
-
-pub sum_times : (a b c : ℤ) → a *ℤ (b +ℤ c) ≡ (a *ℤ b) +ℤ (a *ℤ c)
-sum_times a b c = omega (arith, ints, ap (λ (z : ℕ). up a * z) (sum_is_lem b c), ap (λ (z : ℕ). down a * z) (sum_is_lem b c))
-
-pub times_twice : (a b c : ℤ) → (a *ℤ b) *ℤ c ≡ a *ℤ (b *ℤ c)
-times_twice a b c =
-    let left = product_is a b in
-    let right = product_is b c in
-    omega (
-      arith,
-      ints,
-      ap (λ (z : ℕ). z * up c) left.0,
-      ap (λ (z : ℕ). z * up c) left.1,
-      ap (λ (z : ℕ). z * down c) left.0,
-      ap (λ (z : ℕ). z * down c) left.1,
-      ap (λ (z : ℕ). up a * z) right.0,
-      ap (λ (z : ℕ). up a * z) right.1,
-      ap (λ (z : ℕ). down a * z) right.0,
-      ap (λ (z : ℕ). down a * z) right.1,
-    )
-
-pub zero_times : (a : ℤ) → pos 0 *ℤ a ≡ pos 0
-zero_times a = omega (arith, ints)
-
-pub times_zero : (a : ℤ) → a *ℤ pos 0 ≡ pos 0
-times_zero a = omega (arith, ints)
-
--- sums below a number
-pub same_sums : (count : ℕ) (f g : ℕ → ℤ) → ((n : ℕ) → n < count → f n ≡ g n) → sum_below count f ≡ sum_below count g
-same_sums zero f g h = refl
-same_sums (suc n) f g h = let first = h n (omega arith) in let rest = same_sums n f g (λ m lt. h m (omega arith)) in cc
-
-pub no_sum : (count : ℕ) (f : ℕ → ℤ) → ((n : ℕ) → n < count → f n ≡ pos 0) → sum_below count f ≡ pos 0
-no_sum zero f h = refl
-no_sum (suc n) f h = let first = h n (omega arith) in let rest = no_sum n f (λ m lt. h m (omega arith)) in omega (arith, ints)
+use Rattle.std.proofs.Math.IntN.{*ℤ-zero}
+use Rattle.df_lemmas.proofs.Integers.{times_over_sum, sum_times, times_twice}
+use Rattle.df_row.specs.Linear.{quotient}
+use Rattle.df_row.specs.Value.{sum_below}
+use Rattle.df_level.specs.Exact.{weighted}
 
 -- zeros from one number on, as many as there are
 skip_by : (f : ℕ → ℤ) (low k : ℕ) → ((n : ℕ) → low ≤ n → n < k + low → f n ≡ pos 0) → sum_below (k + low) f ≡ sum_below low f
@@ -73,17 +36,6 @@ sum_weighted (suc n) f g first second v = next (first n) (second n) (v n) (sum_b
 
     next : (x y w s t u : ℤ) → s ≡ weighted f t g u → (weighted f x g y *ℤ w) +ℤ s ≡ weighted f ((x *ℤ w) +ℤ t) g ((y *ℤ w) +ℤ u)
     next x y w s t u e = regroup (weighted f x g y *ℤ w) (f *ℤ (x *ℤ w)) (g *ℤ (y *ℤ w)) ((f *ℤ x) *ℤ w) ((g *ℤ y) *ℤ w) s (f *ℤ t) (g *ℤ u) (f *ℤ ((x *ℤ w) +ℤ t)) (g *ℤ ((y *ℤ w) +ℤ u)) (times_over_sum (f *ℤ x) (g *ℤ y) w) (times_twice f x w) (times_twice g y w) e (sum_times f (x *ℤ w) t) (sum_times g (y *ℤ w) u)
-
-regroup_scaled : (first second both more s : ℤ) → first ≡ second → both ≡ second +ℤ more → s ≡ more → first +ℤ s ≡ both
-regroup_scaled first second both more s e f g = omega (arith, ints)
-
--- a sum whose coefficients are multiples
-pub sum_scaled : (count : ℕ) (f g v : ℕ → ℤ) (d : ℤ) → ((n : ℕ) → n < count → d *ℤ g n ≡ f n) → sum_below count (λ n. f n *ℤ v n) ≡ d *ℤ sum_below count (λ n. g n *ℤ v n)
-sum_scaled zero f g v d h = omega (arith, ints)
-sum_scaled (suc n) f g v d h = next (f n) (g n) (v n) (sum_below n (λ m. f m *ℤ v m)) (sum_below n (λ m. g m *ℤ v m)) (h n (omega arith)) (sum_scaled n f g v d (λ m lt. h m (omega arith)))
-  where
-    next : (x y w s t : ℤ) → d *ℤ y ≡ x → s ≡ d *ℤ t → (x *ℤ w) +ℤ s ≡ d *ℤ ((y *ℤ w) +ℤ t)
-    next x y w s t e h = subst (λ (x : ℤ). (x *ℤ w) +ℤ s ≡ d *ℤ ((y *ℤ w) +ℤ t)) e (regroup_scaled ((d *ℤ y) *ℤ w) (d *ℤ (y *ℤ w)) (d *ℤ ((y *ℤ w) +ℤ t)) (d *ℤ t) s (times_twice d y w) (sum_times d (y *ℤ w) t) h)
 
 -- a sum that is at least 0 when its constant is divided and rounded down is so before
 floor_times : (k : ℤ) (d : ℕ) → 1 ≤ d → (pos d *ℤ quotient k (pos d)) ≤ℤ k

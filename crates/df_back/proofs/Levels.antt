@@ -1,8 +1,8 @@
 -- The levels by number.
 use Rattle.std.proofs.Common.{◌≡◌, ℕ, zero, suc, ◌-◌, ◌<◌, ◌≤◌, List, [], ◌∷◌, map, length, get_or, ap, ◌∙◌, arith}
-use Rattle.df_linear.specs.Row.{Row}
-use Rattle.df_lin.specs.declared.level.Level.{Level}
-use Rattle.df_lin.specs.Levels.{level_rows}
+use Rattle.df_row.specs.Row.{Row}
+use Rattle.df_level.specs.declared.level.Level.{Level}
+use Rattle.df_level.specs.Levels.{level_rows}
 use Rattle.df_back.specs.Ranges.{level_at}
 
 level_after : (first : List Row) (others : List Level) (i : ℕ) (x : Level) → i < length others → x ≡ get_or others i x → level_rows x ≡ level_at first (map level_rows others) (suc i)

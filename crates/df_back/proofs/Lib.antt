@@ -9,4 +9,3 @@ pub mod Places
 pub mod Divisors
 pub mod Freshness
 pub mod Steps
-pub mod TwoVariables

@@ -2,10 +2,10 @@
 use Rattle.std.proofs.Common.{◌≡◌, ◌⊎◌, ⊎_elim, inl, inr, ℕ, ◌≤◌, ℤ, pos, negsuc, ◌+ℤ◌, ◌<ℤ◌, ◌≤ℤ◌, true, false, List, [], ◌∷◌, ◌++◌, Option, Some, None, sym, ap, subst, ◌∙◌, arith}
 use Rattle.std.proofs.lemmas.Int.{ints}
 use Rattle.std.proofs.lemmas.Bool.{true≢false}
-use Rattle.df_linear.specs.Row.{Row}
-use Rattle.df_linear.specs.Value.{row_holds}
-use Rattle.df_lin.specs.Levels.{Stands}
-use Rattle.df_lin.proofs.Sets.{stands_left, stands_last, stands_cases}
+use Rattle.df_row.specs.Row.{Row}
+use Rattle.df_row.specs.Value.{row_holds}
+use Rattle.df_level.specs.Levels.{Stands}
+use Rattle.df_level.proofs.Sets.{stands_left, stands_last, stands_cases}
 use Rattle.df_back.specs.declared.range.Range.{Range}
 use Rattle.df_back.specs.declared.range.Choice.{Choice}
 use Rattle.df_back.specs.declared.range.Choice.TheVariants as choices

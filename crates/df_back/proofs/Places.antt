@@ -1,7 +1,7 @@
 -- The levels and variables from a place on.
 use Rattle.std.proofs.Common.{◌≡◌, ℕ, zero, suc, ◌<◌, ◌≤◌, ℤ, pos, List, [], ◌∷◌, length, drop, get_or, refl, sym, subst, arith}
 use Rattle.std.proofs.Math.Seq.{drop-cons}
-use Rattle.df_linear.specs.Row.{Row}
+use Rattle.df_row.specs.Row.{Row}
 use Rattle.df_back.specs.BackSubstitution.{with_number, BackSubstitution, IsNearest, IsStrictlyBetween, HaveWideBound, IsBetween, IsPastWidth}
 use Rattle.df_back.specs.BackSubstitution as definitions
 use Rattle.df_back.specs.Ranges.{level_at}

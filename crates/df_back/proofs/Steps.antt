@@ -2,11 +2,11 @@
 use Rattle.std.proofs.Common.{◌≡◌, ℕ, zero, suc, ◌<◌, ◌≤◌, ℤ, pos, true, false, Bool, cond, nat_eq, List, [], length, drop, set, get_or, refl, sym, ap, subst, ◌∙◌, arith}
 use Rattle.std.proofs.Math.ListN.{replicate}
 use Rattle.std.proofs.lemmas.List.{length-replicate, drop_all, get_or-set_same, get_or-set_other, length-set}
-use Rattle.df_linear.specs.Row.{Row}
-use Rattle.df_linear.specs.RowView.{IsWithin}
-use Rattle.df_lin.specs.Levels.{Stands, HasFalse}
-use Rattle.df_lin.specs.Elimination.{Eliminates, last_level}
-use Rattle.df_lin.proofs.Ascending.{equal, from_equal}
+use Rattle.std.proofs.lemmas.Bool.{eq-eqb, eqb-true}
+use Rattle.df_row.specs.Row.{Row}
+use Rattle.df_row.specs.RowView.{IsWithin}
+use Rattle.df_level.specs.Levels.{Stands, HasFalse}
+use Rattle.df_level.specs.Elimination.{Eliminates, last_level}
 use Rattle.df_back.specs.declared.range.Choice.{Choice}
 use Rattle.df_back.specs.BackSubstitution.{with_number, BackSubstitution, IsNearest, IsStrictlyBetween, HaveWideBound, IsBetween, IsPastWidth}
 use Rattle.df_back.specs.BackSubstitution as definitions
@@ -42,8 +42,8 @@ pub numbers_set : (numbers : List ℤ) (n : ℕ) (v : ℤ) → n < length number
 numbers_set numbers n v less = λ i m. by m (nat_eq m n) refl i
   where
     by : (m : ℕ) (b : Bool) → nat_eq m n ≡ b → numbers_of (set numbers n v) m ≡ with_number (numbers_of numbers) n v m
-    by m true e = ap (numbers_of (set numbers n v)) (from_equal m n e) ∙ get_or-set_same numbers n v (pos 0) less ∙ sym (ap (λ t. cond t v (numbers_of numbers m)) e)
-    by m false e = get_or-set_other numbers n m v (pos 0) (λ is. not_both (sym (equal m n is) ∙ e)) ∙ sym (ap (λ t. cond t v (numbers_of numbers m)) e)
+    by m true e = ap (numbers_of (set numbers n v)) (eqb-true m n e) ∙ get_or-set_same numbers n v (pos 0) less ∙ sym (ap (λ t. cond t v (numbers_of numbers m)) e)
+    by m false e = get_or-set_other numbers n m v (pos 0) (λ is. not_both (sym (eq-eqb m n is) ∙ e)) ∙ sym (ap (λ t. cond t v (numbers_of numbers m)) e)
       where
         not_both : true ≡ false → ⊥
         not_both e = cc

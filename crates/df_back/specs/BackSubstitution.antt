@@ -1,9 +1,9 @@
 -- Back substitution: numbers for the variables that were eliminated, from the last one back.
 use Rattle.std.specs.Prelude.{◌≡◌, ℕ, ◌≤◌, ◌==◌, ℤ, pos, ◌+ℤ◌, ◌-ℤ◌, ◌*ℤ◌, ◌<ℤ◌, true, false, List, [], ◌∷◌, if◌then◌else◌}
 use Rattle.std.specs.Int.RustNames.{unsigned_abs}
-use Rattle.df_linear.specs.Row.{Row, fits}
-use Rattle.df_linear.specs.Value.{sum_below, row_holds}
-use Rattle.df_lin.specs.Levels.{Stands}
+use Rattle.df_row.specs.Row.{Row, fits}
+use Rattle.df_row.specs.Value.{sum_below, row_holds}
+use Rattle.df_level.specs.Levels.{Stands}
 
 -- another number for one node
 abbrev pub with_number : (ℕ → ℤ) → ℕ → ℤ → ℕ → ℤ

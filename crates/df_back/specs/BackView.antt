@@ -1,9 +1,9 @@
 -- What back substitution answers.
 use Rattle.std.specs.Prelude.{◌≡◌, ℕ, ◌<◌, ◌==◌, ℤ, pos, negsuc, ◌+ℤ◌, ◌-ℤ◌, true, List, length, if◌then◌else◌}
 use Rattle.std.specs.List.{slice_index_or}
-use Rattle.df_linear.specs.Row.{Row, fits}
-use Rattle.df_linear.specs.Value.{row_holds}
-use Rattle.df_lin.specs.Levels.{Stands}
+use Rattle.df_row.specs.Row.{Row, fits}
+use Rattle.df_row.specs.Value.{row_holds}
+use Rattle.df_level.specs.Levels.{Stands}
 use Rattle.df_back.specs.declared.answer.Back.{Back}
 use Rattle.df_back.specs.declared.answer.Back.TheVariants as answers
 use Rattle.df_back.specs.BackSubstitution.{BackSubstitution, IsBetween, IsPastWidth}

@@ -1,10 +1,10 @@
 -- Ranges of the numbers that rows allow a node.
 use Rattle.std.specs.Prelude.{◌≡◌, ℕ, zero, suc, ◌≤◌, ℤ, pos, ◌+ℤ◌, ◌*ℤ◌, ◌<ℤ◌, ◌≤ℤ◌, true, false, ◌⊎◌, List, [], ◌∷◌, ◌++◌, Option, Some, None}
 use Rattle.std.specs.Int.RustNames.{unsigned_abs}
-use Rattle.df_linear.specs.Row.{Row, fits}
-use Rattle.df_linear.specs.RowView.{IsWithin}
-use Rattle.df_linear.specs.Value.{row_value, row_holds}
-use Rattle.df_lin.specs.Levels.{Stands}
+use Rattle.df_row.specs.Row.{Row, fits}
+use Rattle.df_row.specs.RowView.{IsWithin}
+use Rattle.df_row.specs.Value.{row_value, row_holds}
+use Rattle.df_level.specs.Levels.{Stands}
 use Rattle.df_back.specs.declared.range.Range.{Range}
 use Rattle.df_back.specs.declared.range.Choice.{Choice}
 use Rattle.df_back.specs.declared.range.Choice.TheVariants as choices

@@ -4,8 +4,6 @@
 mod answer;
 mod range;
 mod substitution;
-#[cfg(test)]
-mod tests;
 mod value;
 
 pub use answer::Back;

@@ -1,14 +1,14 @@
 //! Ranges of the numbers that rows allow a node.
 
 ghost use Rattle.std.specs.Prelude.{◌≡◌, ◌<◌, neg_ℤ, pos, length, Some};
-ghost use Rattle.df_linear.specs.RowView.{narrow, IsWithin};
-ghost use Rattle.df_lin.specs.Row.{function_row};
-ghost use Rattle.df_lin.specs.Levels.{rows_of};
+ghost use Rattle.df_row.specs.RowView.{narrow, IsWithin};
+ghost use Rattle.df_level.specs.Row.{function_row};
+ghost use Rattle.df_level.specs.Levels.{rows_of};
 ghost use Rattle.df_back.specs.BackView.{numbers_of};
 ghost use Rattle.df_back.specs.Ranges.{AreInside, IsGreater, IsLesser, TellsChoice, TellsLast, TellsNarrowed, TellsNearest, TellsRange, TellsRowBound};
 
 use crate::value::value;
-use df_lin::Row;
+use df_level::Row;
 
 /// Bounds of a node.
 #[derive(Clone, Copy)]

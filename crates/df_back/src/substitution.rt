@@ -1,16 +1,16 @@
 //! Back substitution.
 
 ghost use Rattle.std.specs.Prelude.{◌≡◌, ◌≤◌, map, length, IfOk};
-ghost use Rattle.df_linear.specs.RowView.{IsWithin};
-ghost use Rattle.df_linear.specs.Row.{Row as FunctionRow};
-ghost use Rattle.df_lin.specs.Levels.{level_rows, HasFalse, Stands};
-ghost use Rattle.df_lin.specs.Elimination.{Eliminates, last_level};
+ghost use Rattle.df_row.specs.RowView.{IsWithin};
+ghost use Rattle.df_row.specs.Row.{Row as FunctionRow};
+ghost use Rattle.df_level.specs.Levels.{level_rows, HasFalse, Stands};
+ghost use Rattle.df_level.specs.Elimination.{Eliminates, last_level};
 ghost use Rattle.df_back.specs.BackView.{TellsBack};
 ghost use Rattle.df_back.specs.Ranges.{level_at};
 
 use crate::answer::Back;
 use crate::range::{Choice, choose};
-use df_lin::Level;
+use df_level::Level;
 use std::alloc::{AllocError, Global};
 
 /// The level from which the variable of the number is eliminated.

@@ -1,12 +1,12 @@
 //! The values of rows.
 
 ghost use Rattle.std.specs.Prelude.{◌≡◌, ◌+ℤ◌, ◌*ℤ◌, length};
-ghost use Rattle.df_linear.specs.RowView.{narrow, IsWithin};
-ghost use Rattle.df_lin.specs.Row.{function_row};
+ghost use Rattle.df_row.specs.RowView.{narrow, IsWithin};
+ghost use Rattle.df_level.specs.Row.{function_row};
 ghost use Rattle.df_back.specs.BackView.{numbers_of};
 ghost use Rattle.df_back.specs.Ranges.{TellsValue};
 
-use df_lin::Row;
+use df_level::Row;
 
 /// The product, where it has 128 bits.
 fn product(a: i128, b: i128) -> Option<i128>

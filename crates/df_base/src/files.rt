@@ -42,6 +42,9 @@ pub trait Files {
     /// The files that it holds, or none where it does not tell.
     ghost holds: { Self → Option Contents };
 
+    /// The name and the bytes of the file that it gave last, or none where it gave none yet.
+    ghost given: { Self → Option (List ℕ × List ℕ) };
+
     /// How many faults it has met.
     ghost fault_count: { Self → ℕ };
 
@@ -57,6 +60,7 @@ pub trait Files {
         requires { allowed self.old name.now }
         // The bytes are the file's, and within the limit.
         ensures loaded { IfOk result (λ bytes. IfSome (holds self.old) (λ files. bytes_of files name.now ≡ Some bytes.items)) }
+        ensures given { IfOk result (λ bytes. given self.new ≡ Some (name.now, bytes.items)) }
         ensures within { IfOk result (λ bytes. vec_len bytes ≤ limit) }
         // It is too large just where no read failed and the file is longer than the limit.
         ensures large { (n : ℕ) → result ≡ Err (Large n) → n ≡ limit + 1 }

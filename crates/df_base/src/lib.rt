@@ -9,8 +9,6 @@ mod pos;
 mod refusal;
 mod sink;
 mod status;
-#[cfg(test)]
-mod tests;
 
 pub use files::{Files, HostFiles, LoadFault, MemFiles, SureFiles};
 pub use memory::Memory;

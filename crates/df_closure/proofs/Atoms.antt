@@ -1,8 +1,15 @@
 -- Rows have coefficients for atoms alone.
-use Rattle.std.proofs.Common.{◌≡◌, ℕ, zero, suc, ◌<◌, ◌≤◌, ◌⊎◌, inl, inr, ℤ, pos, negsuc, ◌+ℤ◌, ◌*ℤ◌, int_le, Bool, true, false, ◌&&◌, cond, nat_eq, nat_lt, List, [], ◌∷◌, ◌++◌, length, Option, Some, None, slice_get, refl, sym, ap, ◌∙◌, arith, subst, true≢false, ltb-true}
-use Rattle.std.proofs.lemmas.Bool.Decides.{nat_tests}
+use Rattle.std.proofs.Common.{◌≡◌, ℕ, zero, suc, ◌<◌, ◌≤◌, ◌⊎◌, inl, inr, ℤ, pos, negsuc, ◌+ℤ◌, ◌*ℤ◌, int_le, Bool, true, false, ◌&&◌, cond, nat_lt, List, [], ◌∷◌, ◌++◌, length, Option, Some, None, slice_get, refl, sym, ap, ◌∙◌, arith, subst, true≢false, ltb-true}
 use Rattle.std.specs.Option.{is_none, option_map}
 use Rattle.std.specs.List.{list_all, AllByRecursion}
+use Rattle.std.proofs.lemmas.Option.{same_Some}
+use Rattle.std.proofs.lemmas.Bool.{and_parts}
+use Rattle.std.proofs.Math.IntN.{zero-*ℤ}
+use Rattle.df_row.proofs.Sums.{same_sums}
+use Rattle.df_lemmas.proofs.Numbers.{more_unequal, equal_self}
+use Rattle.df_lemmas.proofs.Alls.{all_joined}
+use Rattle.df_lemmas.proofs.Lists.{get_below}
+use Rattle.df_lemmas.proofs.Options.{then_some, map_some}
 use Rattle.df_form.specs.declared.log.Lit.{Lit}
 use Rattle.df_form.specs.declared.node.Sort.{Sort}
 use Rattle.df_form.specs.declared.node.Sort.TheVariants as sorts
@@ -10,31 +17,22 @@ use Rattle.df_form.specs.declared.node.Op.{Op}
 use Rattle.df_form.specs.declared.node.Op.TheVariants as ops
 use Rattle.df_form.specs.Node.{Node}
 use Rattle.df_form.specs.Sorting.{sort_at}
-use Rattle.df_linear.specs.Row.{Row, constant_row, with_more, without, literal_number, with_product, expanded_parts, expanded_at, expanded_below, expanded_difference, difference}
-use Rattle.df_linear.specs.Linear.{one_row, two_rows, comparison_rows, rows_by_sort, rows_of_parts, rows_of_node, rows_of}
-use Rattle.df_linear.specs.Value.{row_value, rows_hold}
-use Rattle.df_linear.proofs.Rows.{narrow_row_is}
-use Rattle.df_form.proofs.Lists.{then_some, map_some, some_is, both, get_below}
+use Rattle.df_row.specs.Row.{Row, constant_row, with_more, without, literal_number, with_product, expanded_parts, expanded_at, expanded_below, expanded_difference, difference}
+use Rattle.df_row.specs.Linear.{one_row, two_rows, comparison_rows, rows_by_sort, rows_of_parts, rows_of_node, rows_of}
+use Rattle.df_row.specs.Value.{row_value, rows_hold}
+use Rattle.df_row.proofs.Rows.{narrow_row_is}
 use Rattle.df_form.proofs.Values.{AreSorted, parts_below}
-use Rattle.df_kern.proofs.SoundConnectives.{all_appended}
-use Rattle.df_kern.proofs.SoundIntegers.{same_sums, zero_times}
 use Rattle.df_closure.specs.Atoms.{is_atom, AreAlike}
 
-two_below : (n a b : ℕ) → list_all (λ part. nat_lt part n) (a ∷ b ∷ []) ≡ true → (a < n) × (b < n)
+pub two_below : (n a b : ℕ) → list_all (λ part. nat_lt part n) (a ∷ b ∷ []) ≡ true → (a < n) × (b < n)
 two_below n a b e =
-    let first = both (nat_lt a n) (nat_lt b n && true) e in
-    let second = both (nat_lt b n) true first.1 in
+    let first = and_parts (nat_lt a n) (nat_lt b n && true) e in
+    let second = and_parts (nat_lt b n) true first.1 in
     (ltb-true a n first.0, ltb-true b n second.0)
-
-unequal : (n k : ℕ) → k < n → nat_eq n k ≡ false
-unequal n k less = grind (arith, nat_tests)
-
-equal : (n : ℕ) → nat_eq n n ≡ true
-equal n = grind (arith, nat_tests)
 
 -- steps that leave the coefficient of a node as it is
 pub more_elsewhere : (n k : ℕ) (c : ℤ) (row : Row) → k < n → (with_more k c row).coefficient n ≡ row.coefficient n
-more_elsewhere n k c row less = ap (λ t. cond t (row.coefficient k +ℤ c) (row.coefficient n)) (unequal n k less)
+more_elsewhere n k c row less = ap (λ t. cond t (row.coefficient k +ℤ c) (row.coefficient n)) (more_unequal n k less)
 
 abbrev AreBelow : ℕ → List ℕ → Type 0
 AreBelow m parts = list_all (λ part. nat_lt part m) parts ≡ true
@@ -70,7 +68,7 @@ module _ (nodes : List Node) (sorted : AreSorted nodes) where
       by true atom = ap (λ (r : Row). r.coefficient n) (atom_kept (row.coefficient m) node.op node.parts row (without m row) atom)
       by false other =
           parts_elsewhere n m (row.coefficient m) node.op node.parts row (without m row) (parts_below nodes m node sorted at) (omega (arith, less)) other
-          ∙ ap (λ t. cond t (pos 0) (row.coefficient n)) (unequal n m less)
+          ∙ ap (λ t. cond t (pos 0) (row.coefficient n)) (more_unequal n m less)
 
   -- the node stands for others
   abbrev IsOther : ℕ → Type 0
@@ -81,7 +79,7 @@ module _ (nodes : List Node) (sorted : AreSorted nodes) where
       let node = other.0 in
       ap (λ o. (expanded_at nodes n o row).coefficient n) other.1
       ∙ parts_elsewhere n n (row.coefficient n) node.op node.parts row (without n row) (parts_below nodes n node sorted other.1) (omega arith) other.2
-      ∙ ap (λ t. cond t (pos 0) (row.coefficient n)) (equal n)
+      ∙ ap (λ t. cond t (pos 0) (row.coefficient n)) (equal_self n)
 
   pub below_elsewhere : (k : ℕ) (row : Row) (n : ℕ) → k ≤ n → (expanded_below nodes k row).coefficient n ≡ row.coefficient n
   below_elsewhere zero row n le = refl
@@ -119,7 +117,7 @@ module _ (nodes : List Node) (sorted : AreSorted nodes) where
       subst (AllByRecursion IsClear) other.2 (clear one.0 one.1, (its other.0 other.1, tt))
 
   none_clear : (rows : List Row) → Some [] ≡ Some rows → AllByRecursion IsClear rows
-  none_clear rows e = subst (AllByRecursion IsClear) (some_is [] rows e) tt
+  none_clear rows e = subst (AllByRecursion IsClear) (same_Some [] rows e) tt
 
   op_clear : (positive : Bool) (op : Op) (a b : ℕ) (rows : List Row) → comparison_rows nodes positive op a b ≡ Some rows → AllByRecursion IsClear rows
   op_clear true ops.AtMost a b rows e = one_clear (difference nodes (length nodes) a b (pos 0)) rows (λ row found. difference_clear a b (pos 0) row found) e
@@ -146,14 +144,14 @@ module _ (nodes : List Node) (sorted : AreSorted nodes) where
   literals_clear (l ∷ others) rows e =
       let one = then_some (λ found. option_map (λ more. found ++ more) (rows_of nodes others)) (rows_of_node nodes l.positive (slice_get nodes l.node)) rows e in
       let rest = map_some (λ (more : List Row). one.0 ++ more) (rows_of nodes others) rows one.2 in
-      subst (AllByRecursion IsClear) rest.2 (all_appended IsClear one.0 rest.0 (node_clear l.positive (slice_get nodes l.node) one.0 one.1) (literals_clear others rest.0 rest.1))
+      subst (AllByRecursion IsClear) rest.2 (all_joined IsClear one.0 rest.0 (node_clear l.positive (slice_get nodes l.node) one.0 one.1) (literals_clear others rest.0 rest.1))
 
   module _ (x y : ℕ → ℤ) (alike : AreAlike nodes x y) where
     same_product : (row : Row) → IsClear row → (n : ℕ) → n < length nodes → row.coefficient n *ℤ x n ≡ row.coefficient n *ℤ y n
     same_product row clear n less = let at = get_below nodes n less in by at.0 at.1 (is_atom nodes at.0.op at.0.parts) refl
       where
         cleared : (c a b : ℤ) → c ≡ pos 0 → c *ℤ a ≡ c *ℤ b
-        cleared c a b e = ap (λ z. z *ℤ a) e ∙ zero_times a ∙ sym (zero_times b) ∙ ap (λ z. z *ℤ b) (sym e)
+        cleared c a b e = ap (λ z. z *ℤ a) e ∙ zero-*ℤ a ∙ sym (zero-*ℤ b) ∙ ap (λ z. z *ℤ b) (sym e)
 
         by : (node : Node) → slice_get nodes n ≡ Some node → (b : Bool) → is_atom nodes node.op node.parts ≡ b → row.coefficient n *ℤ x n ≡ row.coefficient n *ℤ y n
         by node at true atom = ap (λ z. row.coefficient n *ℤ z) (alike n node at atom)

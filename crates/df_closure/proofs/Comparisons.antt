@@ -3,6 +3,10 @@ use Rattle.std.proofs.Common.{◌≡◌, ℕ, ◌<◌, ◌⊎◌, inl, inr, ℤ,
 use Rattle.std.specs.Option.{option_map}
 use Rattle.std.proofs.lemmas.Int.{ints}
 use Rattle.std.proofs.lemmas.List.Folds.{list_all-append}
+use Rattle.std.proofs.lemmas.Option.{same_Some}
+use Rattle.std.proofs.lemmas.Bool.{and_from, or_cases, or_left, or_right, and_parts}
+use Rattle.df_form.proofs.Literals.{same_self}
+use Rattle.df_lemmas.proofs.Options.{then_some, map_some}
 use Rattle.df_types.specs.Newtype.{Newtype}
 use Rattle.df_form.specs.declared.log.Lit.{Lit}
 use Rattle.df_form.specs.declared.node.Sort.{Sort}
@@ -14,10 +18,9 @@ use Rattle.df_form.specs.Sorting.{sort_at}
 use Rattle.df_form.specs.Truth.{Assignment, truth}
 use Rattle.df_meaning.specs.Value.{same_truth}
 use Rattle.df_form.specs.Clause.{same_literal, is_among, literal_truth}
-use Rattle.df_linear.specs.Row.{Row, difference}
-use Rattle.df_linear.specs.Value.{row_value, row_holds, rows_hold}
-use Rattle.df_linear.specs.Linear.{one_row, two_rows, comparison_rows, rows_by_sort, rows_of_parts, rows_of_node, rows_of}
-use Rattle.df_form.proofs.Lists.{then_some, map_some, some_is, both, both_true, either, first_true, second_true}
+use Rattle.df_row.specs.Row.{Row, difference}
+use Rattle.df_row.specs.Value.{row_value, row_holds, rows_hold}
+use Rattle.df_row.specs.Linear.{one_row, two_rows, comparison_rows, rows_by_sort, rows_of_parts, rows_of_node, rows_of}
 use Rattle.df_form.proofs.Values.{AreSorted, parts_taken}
 use Rattle.df_form.proofs.Same.{same_sort_equal}
 use Rattle.df_kern.proofs.SoundClauses.{same_literal_is}
@@ -26,7 +29,6 @@ use Rattle.df_kern.proofs.SoundRows.{two_below, difference_value}
 use Rattle.df_kern.proofs.SoundLinear.{numbers_are}
 use Rattle.df_closure.specs.Full.{is_basic, Agrees}
 use Rattle.df_closure.specs.Comparisons.{IsComparison, at_most, equal, numbers_of, ComparisonsHold, FreeFormulasHold}
-use Rattle.df_closure.proofs.Lists.{same_self}
 
 same_bools : (a b : Bool) → (a ≡ true → b ≡ true) → (b ≡ true → a ≡ true) → a ≡ b
 same_bools true b there back = sym (there refl)
@@ -110,11 +112,11 @@ module _ (depth : ℕ) (newtypes : List Newtype) (assignment : Assignment) (node
 
   number_compared : (n a b : ℕ) → slice_get nodes n ≡ Some (record { op = ops.AtMost; parts = a ∷ b ∷ [] }) → sort_at nodes a ≡ sorts.Number
   number_compared n a b at =
-      let parts = both (same_sort (sort_at nodes a) sorts.Number) (same_sort (sort_at nodes b) sorts.Number) (parts_taken nodes n (record { op = ops.AtMost; parts = a ∷ b ∷ [] }) sorted at) in
+      let parts = and_parts (same_sort (sort_at nodes a) sorts.Number) (same_sort (sort_at nodes b) sorts.Number) (parts_taken nodes n (record { op = ops.AtMost; parts = a ∷ b ∷ [] }) sorted at) in
       same_sort_equal (sort_at nodes a) sorts.Number parts.0
 
   none_hold : (rows : List Row) → Some [] ≡ Some rows → Hold rows ≡ true
-  none_hold rows e = ap Hold (sym (some_is [] rows e))
+  none_hold rows e = ap Hold (sym (same_Some [] rows e))
 
   -- a comparison is true where its rows hold
   comparison_true : (l : Lit) (own : List Row) → rows_of_node nodes l.positive (slice_get nodes l.node) ≡ Some own → Hold own ≡ true → IsComparison nodes l → literal_truth IsTrue l ≡ true
@@ -154,8 +156,8 @@ module _ (depth : ℕ) (newtypes : List Newtype) (assignment : Assignment) (node
   comparisons_true (first ∷ others) rows e holds l among compared =
       let one = then_some (λ found. option_map (λ more. found ++ more) (rows_of nodes others)) (rows_of_node nodes first.positive (slice_get nodes first.node)) rows e in
       let rest = map_some (λ (more : List Row). one.0 ++ more) (rows_of nodes others) rows one.2 in
-      let parts = both (Hold one.0) (Hold rest.0) (sym (list_all-append (row_holds (length nodes) v) one.0 rest.0) ∙ ap Hold rest.2 ∙ holds) in
-      next one.0 one.1 parts.0 (either (same_literal l first) (is_among others l) among) (comparisons_true others rest.0 rest.1 parts.1 l)
+      let parts = and_parts (Hold one.0) (Hold rest.0) (sym (list_all-append (row_holds (length nodes) v) one.0 rest.0) ∙ ap Hold rest.2 ∙ holds) in
+      next one.0 one.1 parts.0 (or_cases (same_literal l first) (is_among others l) among) (comparisons_true others rest.0 rest.1 parts.1 l)
     where
       next : (own : List Row) → rows_of_node nodes first.positive (slice_get nodes first.node) ≡ Some own → Hold own ≡ true → (same_literal l first ≡ true) ⊎ (is_among others l ≡ true)
           → (is_among others l ≡ true → IsComparison nodes l → literal_truth IsTrue l ≡ true) → literal_truth IsTrue l ≡ true
@@ -169,9 +171,9 @@ module _ (depth : ℕ) (newtypes : List Newtype) (assignment : Assignment) (node
   rows_true (first ∷ others) rows e are =
       let one = then_some (λ found. option_map (λ more. found ++ more) (rows_of nodes others)) (rows_of_node nodes first.positive (slice_get nodes first.node)) rows e in
       let rest = map_some (λ (more : List Row). one.0 ++ more) (rows_of nodes others) rows one.2 in
-      let own : Hold one.0 ≡ true = node_holds first.node first.positive (slice_get nodes first.node) one.0 refl (λ compared. are first (first_true (same_literal first first) (is_among others first) (same_self first)) compared) one.1 in
-      let later : Hold rest.0 ≡ true = rows_true others rest.0 rest.1 (λ l among compared. are l (second_true (same_literal l first) (is_among others l) among) compared) in
-      ap Hold (sym rest.2) ∙ list_all-append (row_holds (length nodes) v) one.0 rest.0 ∙ both_true (Hold one.0) (Hold rest.0) own later
+      let own : Hold one.0 ≡ true = node_holds first.node first.positive (slice_get nodes first.node) one.0 refl (λ compared. are first (or_left (same_literal first first) (is_among others first) (same_self first)) compared) one.1 in
+      let later : Hold rest.0 ≡ true = rows_true others rest.0 rest.1 (λ l among compared. are l (or_right (same_literal l first) (is_among others l) among) compared) in
+      ap Hold (sym rest.2) ∙ list_all-append (row_holds (length nodes) v) one.0 rest.0 ∙ and_from (Hold one.0) (Hold rest.0) own later
 
   -- a comparison has two parts
   two_parts : (l : Lit) (parts : List ℕ) → slice_get nodes l.node ≡ Some (record { op = ops.AtMost; parts = parts }) → IsComparison nodes l

@@ -2,6 +2,10 @@
 use Rattle.std.proofs.Common.{◌≡◌, ℕ, zero, suc, ◌<◌, ◌⊎◌, inl, inr, int_le, Bool, true, false, not, ◌&&◌, ◌||◌, List, [], ◌∷◌, ◌++◌, map, length, Option, Some, slice_get, nat_lt, refl, sym, ap, ◌∙◌, arith, subst, true≢false, ltb-true}
 use Rattle.std.specs.Option.{option_and_then}
 use Rattle.std.specs.List.{list_all, list_any}
+use Rattle.std.proofs.lemmas.Bool.{and_from, or_cases, or_left, or_right, and_parts}
+use Rattle.std.proofs.lemmas.List.Folds.{list_all-map}
+use Rattle.df_form.proofs.Drafts.{sort_here}
+use Rattle.df_lemmas.proofs.Lists.{get_last, get_below, any_mapped}
 use Rattle.df_types.specs.declared.newtype.Ty.TheVariants as types
 use Rattle.df_types.specs.Newtype.{Newtype}
 use Rattle.df_meaning.specs.Value.{truth_of, same_truth}
@@ -20,9 +24,8 @@ use Rattle.df_kern.specs.Bound.{number, at_most, made_at_least, made_at_most}
 use Rattle.df_kern.specs.Connective.{Added, and_clauses, equal_by_sort, connective_clause}
 use Rattle.df_kern.specs.Schema.{newtype_clause, is_clause}
 use Rattle.df_closure.specs.Full.{IsMet, knows_of, IsFull, IsConsistent, is_basic, Agrees}
-use Rattle.df_form.proofs.Lists.{both, both_true, either, first_true, second_true, get_below, get_last}
 use Rattle.df_form.proofs.Values.{grown_get, AreSorted, parts_below, parts_taken, worth}
-use Rattle.df_form.proofs.Making.{made_stands, IsNumber, grown_number, sort_is}
+use Rattle.df_form.proofs.Making.{made_stands, IsNumber, grown_number}
 use Rattle.df_form.proofs.Same.{same_sort_equal}
 use Rattle.df_kern.proofs.SoundNodes.{at_most_sorted, at_least_stands, at_most_stands}
 use Rattle.df_kern.proofs.SoundClauses.{same_literal_is}
@@ -31,7 +34,7 @@ use Rattle.df_kern.proofs.SoundBounds.{at_least_truth, up_to_truth, of_newtype}
 
 passes_among : (test : Lit → Bool) (literals : List Lit) (l : Lit) → list_all test literals ≡ true → is_among literals l ≡ true → test l ≡ true
 passes_among test [] l all e = absurd (true≢false (sym e))
-passes_among test (first ∷ others) l all e = next (both (test first) (list_all test others) all) (either (same_literal l first) (is_among others l) e) (passes_among test others l)
+passes_among test (first ∷ others) l all e = next (and_parts (test first) (list_all test others) all) (or_cases (same_literal l first) (is_among others l) e) (passes_among test others l)
   where
     next : (test first ≡ true) × (list_all test others ≡ true) → (same_literal l first ≡ true) ⊎ (is_among others l ≡ true) → (list_all test others ≡ true → is_among others l ≡ true → test l ≡ true) → test l ≡ true
     next parts (inl here) go = subst (λ (m : Lit). test m ≡ true) (sym (same_literal_is l first here)) parts.0
@@ -68,14 +71,6 @@ and_false true b (inl e) = absurd (true≢false (sym e))
 and_false true b (inr e) = e
 and_false false b e = refl
 
-all_of_mapped : {A B : Type 0} (test : B → Bool) (f : A → B) (xs : List A) → list_all test (map f xs) ≡ list_all (λ x. test (f x)) xs
-all_of_mapped test f [] = refl
-all_of_mapped test f (x ∷ xs) = ap (λ b. test (f x) && b) (all_of_mapped test f xs)
-
-any_of_mapped : {A B : Type 0} (test : B → Bool) (f : A → B) (xs : List A) → list_any test (map f xs) ≡ list_any (λ x. test (f x)) xs
-any_of_mapped test f [] = refl
-any_of_mapped test f (x ∷ xs) = ap (λ b. test (f x) || b) (any_of_mapped test f xs)
-
 module _ (depth : ℕ) (newtypes : List Newtype) (assignment : Assignment) (nodes : List Node) (known : List Lit) (sorted : AreSorted nodes) (arithmetic : IsOfNumbers newtypes nodes) (full : IsFull newtypes nodes known)
     (consistent : IsConsistent known) (agrees : Agrees depth newtypes assignment nodes known) where
   abbrev IsTrue : ℕ → Bool
@@ -93,18 +88,18 @@ module _ (depth : ℕ) (newtypes : List Newtype) (assignment : Assignment) (node
   AreTrueBelow n = (b : Bool) (m : ℕ) → m < n → Knows b m → same_truth b (IsTrue m) ≡ true
 
   known_of : (b : Bool) (n : ℕ) → Knows b n → knows_of known n ≡ true
-  known_of true n e = first_true (is_among known (yes n)) (is_among known (no n)) e
-  known_of false n e = second_true (is_among known (yes n)) (is_among known (no n)) e
+  known_of true n e = or_left (is_among known (yes n)) (is_among known (no n)) e
+  known_of false n e = or_right (is_among known (yes n)) (is_among known (no n)) e
 
   one_left : (l : Lit) → Known (l ∷ []) → is_among known l ≡ true
-  one_left l e = next (either (is_among known l) false e)
+  one_left l e = next (or_cases (is_among known l) false e)
     where
       next : (is_among known l ≡ true) ⊎ (false ≡ true) → is_among known l ≡ true
       next (inl here) = here
       next (inr none) = absurd (true≢false (sym none))
 
   two_left : (l m : Lit) → Known (l ∷ m ∷ []) → (is_among known l ≡ true) ⊎ (is_among known m ≡ true)
-  two_left l m e = next (either (is_among known l) (list_any (is_among known) (m ∷ [])) e)
+  two_left l m e = next (or_cases (is_among known l) (list_any (is_among known) (m ∷ [])) e)
     where
       next : (is_among known l ≡ true) ⊎ (Known (m ∷ [])) → (is_among known l ≡ true) ⊎ (is_among known m ≡ true)
       next (inl here) = inl here
@@ -112,7 +107,7 @@ module _ (depth : ℕ) (newtypes : List Newtype) (assignment : Assignment) (node
 
   -- a clause of a known node begins with its negation, which is not known
   rest_true : (l : Lit) (others : Clause) → is_among known l ≡ true → Known (negation l ∷ others) → Known others
-  rest_true l others is e = next (either (is_among known (negation l)) (list_any (is_among known) others) e)
+  rest_true l others is e = next (or_cases (is_among known (negation l)) (list_any (is_among known) others) e)
     where
       next : (is_among known (negation l) ≡ true) ⊎ Known others → Known others
       next (inl here) = absurd (consistent l is here)
@@ -135,12 +130,12 @@ module _ (depth : ℕ) (newtypes : List Newtype) (assignment : Assignment) (node
   not_holds : (n p : ℕ) → slice_get nodes n ≡ Some (record { op = ops.Not; parts = p ∷ [] }) → AreTrueBelow n → (b : Bool) → Knows b n → same_truth b (IsTrue n) ≡ true
   not_holds n p there below true is =
       let node : Node = record { op = ops.Not; parts = p ∷ [] } in
-      let lt = ltb-true p n (both (nat_lt p n) true (parts_below nodes n node sorted there)).0 in
+      let lt = ltb-true p n (and_parts (nat_lt p n) true (parts_below nodes n node sorted there)).0 in
       let clause = met n node there true 0 (record { nodes = nodes; clause = no n ∷ no p ∷ [] }) is refl in
       node_truth depth newtypes assignment nodes n node sorted there ∙ below false p lt (one_left (no p) (rest_yes n (no p ∷ []) is clause.one))
   not_holds n p there below false is =
       let node : Node = record { op = ops.Not; parts = p ∷ [] } in
-      let lt = ltb-true p n (both (nat_lt p n) true (parts_below nodes n node sorted there)).0 in
+      let lt = ltb-true p n (and_parts (nat_lt p n) true (parts_below nodes n node sorted there)).0 in
       let clause = met n node there false 1 (record { nodes = nodes; clause = yes n ∷ yes p ∷ [] }) is refl in
       let part : IsTrue p ≡ true = below true p lt (one_left (yes p) (rest_no n (yes p ∷ []) is clause.one)) in
       ap not (node_truth depth newtypes assignment nodes n node sorted there ∙ ap not part)
@@ -149,8 +144,8 @@ module _ (depth : ℕ) (newtypes : List Newtype) (assignment : Assignment) (node
   two_below : (n p q : ℕ) (node : Node) → slice_get nodes n ≡ Some node → node.parts ≡ p ∷ q ∷ [] → (p < n) × (q < n)
   two_below n p q node there e =
       let all = subst (λ (parts : List ℕ). list_all (λ part. nat_lt part n) parts ≡ true) e (parts_below nodes n node sorted there) in
-      let first = both (nat_lt p n) (nat_lt q n && true) all in
-      (ltb-true p n first.0, ltb-true q n (both (nat_lt q n) true first.1).0)
+      let first = and_parts (nat_lt p n) (nat_lt q n && true) all in
+      (ltb-true p n first.0, ltb-true q n (and_parts (nat_lt q n) true first.1).0)
 
   -- what two literals of parts say
   two_true : (n p q : ℕ) (b c : Bool) → AreTrueBelow n → p < n → q < n → Known (record { positive = b; node = p } ∷ record { positive = c; node = q } ∷ []) → (same_truth b (IsTrue p) ≡ true) ⊎ (same_truth c (IsTrue q) ≡ true)
@@ -196,15 +191,15 @@ module _ (depth : ℕ) (newtypes : List Newtype) (assignment : Assignment) (node
       → ((k : ℕ) (clause : Clause) → slice_get (map (λ p. no n ∷ yes p ∷ []) parts ++ more) k ≡ Some clause → Known clause) → list_all IsTrue parts ≡ true
   all_true n below is [] more lt at = refl
   all_true n below is (p ∷ others) more lt at =
-      let first = both (nat_lt p n) (list_all (λ part. nat_lt part n) others) lt in
-      both_true (IsTrue p) (list_all IsTrue others) (below true p (ltb-true p n first.0) (one_left (yes p) (rest_yes n (yes p ∷ []) is (at 0 (no n ∷ yes p ∷ []) refl))))
+      let first = and_parts (nat_lt p n) (list_all (λ part. nat_lt part n) others) lt in
+      and_from (IsTrue p) (list_all IsTrue others) (below true p (ltb-true p n first.0) (one_left (yes p) (rest_yes n (yes p ∷ []) is (at 0 (no n ∷ yes p ∷ []) refl))))
       (all_true n below is others more first.1 (λ k clause e. at (suc k) clause e))
 
   none_true : (n : ℕ) → AreTrueBelow n → Knows false n → (parts : List ℕ) → list_all (λ part. nat_lt part n) parts ≡ true
       → ((k : ℕ) (clause : Clause) → slice_get (map (λ p. yes n ∷ no p ∷ []) parts) k ≡ Some clause → Known clause) → not (list_any IsTrue parts) ≡ true
   none_true n below is [] lt at = refl
   none_true n below is (p ∷ others) lt at =
-      let first = both (nat_lt p n) (list_all (λ part. nat_lt part n) others) lt in
+      let first = and_parts (nat_lt p n) (list_all (λ part. nat_lt part n) others) lt in
       neither_true (IsTrue p) (list_any IsTrue others) (below false p (ltb-true p n first.0) (one_left (no p) (rest_no n (no p ∷ []) is (at 0 (yes n ∷ no p ∷ []) refl))))
       (none_true n below is others first.1 (λ k clause e. at (suc k) clause e))
     where
@@ -215,8 +210,8 @@ module _ (depth : ℕ) (newtypes : List Newtype) (assignment : Assignment) (node
   one_false : (n : ℕ) → AreTrueBelow n → (parts : List ℕ) → list_all (λ part. nat_lt part n) parts ≡ true → Known (map no parts) → not (list_all IsTrue parts) ≡ true
   one_false n below [] lt e = absurd (true≢false (sym e))
   one_false n below (p ∷ others) lt e =
-      let first = both (nat_lt p n) (list_all (λ part. nat_lt part n) others) lt in
-      and_false (IsTrue p) (list_all IsTrue others) (next first.0 (either (is_among known (no p)) (list_any (is_among known) (map no others)) e) (one_false n below others first.1))
+      let first = and_parts (nat_lt p n) (list_all (λ part. nat_lt part n) others) lt in
+      and_false (IsTrue p) (list_all IsTrue others) (next first.0 (or_cases (is_among known (no p)) (list_any (is_among known) (map no others)) e) (one_false n below others first.1))
     where
       next : nat_lt p n ≡ true → Knows false p ⊎ Known (map no others) → (Known (map no others) → not (list_all IsTrue others) ≡ true) → (not (IsTrue p) ≡ true) ⊎ (not (list_all IsTrue others) ≡ true)
       next lt (inl here) go = inl (below false p (ltb-true p n lt) here)
@@ -225,36 +220,36 @@ module _ (depth : ℕ) (newtypes : List Newtype) (assignment : Assignment) (node
   one_true : (n : ℕ) → AreTrueBelow n → (parts : List ℕ) → list_all (λ part. nat_lt part n) parts ≡ true → Known (map yes parts) → list_any IsTrue parts ≡ true
   one_true n below [] lt e = absurd (true≢false (sym e))
   one_true n below (p ∷ others) lt e =
-      let first = both (nat_lt p n) (list_all (λ part. nat_lt part n) others) lt in
-      next first.0 (either (is_among known (yes p)) (list_any (is_among known) (map yes others)) e) (one_true n below others first.1)
+      let first = and_parts (nat_lt p n) (list_all (λ part. nat_lt part n) others) lt in
+      next first.0 (or_cases (is_among known (yes p)) (list_any (is_among known) (map yes others)) e) (one_true n below others first.1)
     where
       next : nat_lt p n ≡ true → Knows true p ⊎ Known (map yes others) → (Known (map yes others) → list_any IsTrue others ≡ true) → (IsTrue p || list_any IsTrue others) ≡ true
-      next lt (inl here) go = first_true (IsTrue p) (list_any IsTrue others) (below true p (ltb-true p n lt) here)
-      next lt (inr rest) go = second_true (IsTrue p) (list_any IsTrue others) (go rest)
+      next lt (inl here) go = or_left (IsTrue p) (list_any IsTrue others) (below true p (ltb-true p n lt) here)
+      next lt (inr rest) go = or_right (IsTrue p) (list_any IsTrue others) (go rest)
 
   and_holds : (n : ℕ) (parts : List ℕ) → slice_get nodes n ≡ Some (record { op = ops.And; parts = parts }) → AreTrueBelow n → (b : Bool) → Knows b n → same_truth b (IsTrue n) ≡ true
   and_holds n parts there below true is =
       let node : Node = record { op = ops.And; parts = parts } in
       let chosen_is = λ (k : ℕ) (clause : Clause) (e : slice_get (and_clauses n parts) k ≡ Some clause). (met n node there true k (record { nodes = nodes; clause = clause }) is (rw e refl)).one in
-      node_truth depth newtypes assignment nodes n node sorted there ∙ all_of_mapped truth_of (worth depth newtypes assignment nodes) parts
+      node_truth depth newtypes assignment nodes n node sorted there ∙ list_all-map truth_of (worth depth newtypes assignment nodes) parts
       ∙ all_true n below is parts ((yes n ∷ map no parts) ∷ []) (parts_below nodes n node sorted there) chosen_is
   and_holds n parts there below false is =
       let node : Node = record { op = ops.And; parts = parts } in
       let last = get_last (map (λ p. no n ∷ yes p ∷ []) parts) (yes n ∷ map no parts) in
       let clause = met n node there false (length (map (λ p. no n ∷ yes p ∷ []) parts)) (record { nodes = nodes; clause = yes n ∷ map no parts }) is (rw last refl) in
-      ap not (node_truth depth newtypes assignment nodes n node sorted there ∙ all_of_mapped truth_of (worth depth newtypes assignment nodes) parts)
+      ap not (node_truth depth newtypes assignment nodes n node sorted there ∙ list_all-map truth_of (worth depth newtypes assignment nodes) parts)
       ∙ one_false n below parts (parts_below nodes n node sorted there) (rest_no n (map no parts) is clause.one)
 
   or_holds : (n : ℕ) (parts : List ℕ) → slice_get nodes n ≡ Some (record { op = ops.Or; parts = parts }) → AreTrueBelow n → (b : Bool) → Knows b n → same_truth b (IsTrue n) ≡ true
   or_holds n parts there below true is =
       let node : Node = record { op = ops.Or; parts = parts } in
       let clause = met n node there true 0 (record { nodes = nodes; clause = no n ∷ map yes parts }) is refl in
-      node_truth depth newtypes assignment nodes n node sorted there ∙ any_of_mapped truth_of (worth depth newtypes assignment nodes) parts
+      node_truth depth newtypes assignment nodes n node sorted there ∙ any_mapped truth_of (worth depth newtypes assignment nodes) parts
       ∙ one_true n below parts (parts_below nodes n node sorted there) (rest_yes n (map yes parts) is clause.one)
   or_holds n parts there below false is =
       let node : Node = record { op = ops.Or; parts = parts } in
       let chosen_is = λ (k : ℕ) (clause : Clause) (e : slice_get (map (λ p. yes n ∷ no p ∷ []) parts) k ≡ Some clause). (met n node there false (suc k) (record { nodes = nodes; clause = clause }) is (rw e refl)).one in
-      ap not (node_truth depth newtypes assignment nodes n node sorted there ∙ any_of_mapped truth_of (worth depth newtypes assignment nodes) parts)
+      ap not (node_truth depth newtypes assignment nodes n node sorted there ∙ any_mapped truth_of (worth depth newtypes assignment nodes) parts)
       ∙ none_true n below is parts (parts_below nodes n node sorted there) chosen_is
 
   basic_true : (b : Bool) (m : ℕ) (node : Node) → Knows b m → slice_get nodes m ≡ Some node → is_basic node.op ≡ true → same_truth b (IsTrue m) ≡ true
@@ -273,7 +268,7 @@ module _ (depth : ℕ) (newtypes : List Newtype) (assignment : Assignment) (node
       let one : IsTrue up.number ≡ true = basic_true true up.number (at_most p q) (one_left (yes up.number) (rest_yes n (yes up.number ∷ []) is first.one)) up_there refl in
       let other : IsTrue down.number ≡ true = basic_true true down.number (at_most q p) (one_left (yes down.number) (rest_yes n (yes down.number ∷ []) is second.one)) down_there refl in
       equal_truth depth newtypes assignment nodes n p q sorted there is_p is_q
-      ∙ both_true _ _ (sym (at_most_truth depth newtypes assignment nodes up.number p q sorted up_there) ∙ one) (sym (at_most_truth depth newtypes assignment nodes down.number q p sorted down_there) ∙ other)
+      ∙ and_from _ _ (sym (at_most_truth depth newtypes assignment nodes up.number p q sorted up_there) ∙ one) (sym (at_most_truth depth newtypes assignment nodes down.number q p sorted down_there) ∙ other)
   equal_holds n p q there is_p is_q false is =
       let node : Node = record { op = ops.Equal; parts = p ∷ q ∷ [] } in
       let up = made nodes (at_most p q) in
@@ -315,7 +310,7 @@ module _ (depth : ℕ) (newtypes : List Newtype) (assignment : Assignment) (node
       let one : IsTrue low.number ≡ true = basic_true true low.number (at_most low_stands.literal x) (one_left (yes low.number) (rest_yes n (yes low.number ∷ []) is first.one)) low_there refl in
       let other : IsTrue high.number ≡ true = basic_true true high.number (at_most x high_stands.literal) (one_left (yes high.number) (rest_yes n (yes high.number ∷ []) is second.one)) high_there refl in
       of_newtype depth newtypes assignment nodes n x t newtype sorted there found
-      ∙ both_true _ _ (sym (at_least_truth depth newtypes assignment nodes low_stands.literal low.number x newtype.low sorted low_literal low_there) ∙ one)
+      ∙ and_from _ _ (sym (at_least_truth depth newtypes assignment nodes low_stands.literal low.number x newtype.low sorted low_literal low_there) ∙ one)
       (sym (up_to_truth depth newtypes assignment nodes high_stands.literal high.number x newtype.high sorted high_literal high_there) ∙ other)
   is_holds n x t newtype there found is_x false is =
       let low = made_at_least nodes newtype.low x in
@@ -342,14 +337,14 @@ module _ (depth : ℕ) (newtypes : List Newtype) (assignment : Assignment) (node
 
   one_number : (n x : ℕ) (op : Op) → slice_get nodes n ≡ Some (record { op = op; parts = x ∷ [] }) → same_sort (sort_at nodes x) sorts.Number ≡ true → IsNumber nodes x
   one_number n x op there sort =
-      let below = both (nat_lt x (length nodes)) true (each_below depth newtypes assignment nodes n (record { op = op; parts = x ∷ [] }) sorted there) in
+      let below = and_parts (nat_lt x (length nodes)) true (each_below depth newtypes assignment nodes n (record { op = op; parts = x ∷ [] }) sorted there) in
       record { below = ltb-true x (length nodes) below.0; sort = same_sort_equal (sort_at nodes x) sorts.Number sort }
 
   two_numbers : (n p q : ℕ) → slice_get nodes n ≡ Some (record { op = ops.Equal; parts = p ∷ q ∷ [] }) → IsNumber nodes p × IsNumber nodes q
   two_numbers n p q there =
       let node : Node = record { op = ops.Equal; parts = p ∷ q ∷ [] } in
-      let first = both (nat_lt p (length nodes)) (nat_lt q (length nodes) && true) (each_below depth newtypes assignment nodes n node sorted there) in
-      let second = both (nat_lt q (length nodes)) true first.1 in
+      let first = and_parts (nat_lt p (length nodes)) (nat_lt q (length nodes) && true) (each_below depth newtypes assignment nodes n node sorted there) in
+      let second = and_parts (nat_lt q (length nodes)) true first.1 in
       let alike = same_sort_equal (sort_at nodes p) (sort_at nodes q) (taken n node there) in
       let sort = arithmetic.equalities n p q there in
       (record { below = ltb-true p (length nodes) first.0; sort = sort }, record { below = ltb-true q (length nodes) second.0; sort = sym alike ∙ sort })
@@ -388,9 +383,9 @@ module _ (depth : ℕ) (newtypes : List Newtype) (assignment : Assignment) (node
     node_holds : (n : ℕ) → AreTrueBelow n → (b : Bool) → Knows b n → same_truth b (IsTrue n) ≡ true
     node_holds n below b is =
         let formula = passes_among (λ (l : Lit). is_formula nodes l.node) known (record { positive = b; node = n }) literals is in
-        let parts = both (nat_lt n (length nodes)) (same_sort (sort_at nodes n) sorts.Truth) formula in
+        let parts = and_parts (nat_lt n (length nodes)) (same_sort (sort_at nodes n) sorts.Truth) formula in
         let at = get_below nodes n (ltb-true n (length nodes) parts.0) in
-        op_holds n at.0.op at.0.parts at.1 (ap (λ (s : Sort). same_sort s sorts.Truth) (sym (sort_is nodes n at.0 at.1)) ∙ parts.1) below b is
+        op_holds n at.0.op at.0.parts at.1 (ap (λ (s : Sort). same_sort s sorts.Truth) (sym (sort_here nodes n at.0 at.1)) ∙ parts.1) below b is
 
     all_hold : (n : ℕ) → AreTrueBelow n
     all_hold zero b m less is = absurd (omega arith)

@@ -4,3 +4,9 @@ pub mod FullLists
 pub mod Lines
 pub mod Comparisons
 pub mod Atoms
+pub mod LaterRows
+pub mod Coefficients
+pub mod KeptNodes
+pub mod GroundRuns
+pub mod SameClauses
+pub mod FilledLists

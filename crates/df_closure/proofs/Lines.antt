@@ -1,6 +1,7 @@
 -- What closed lists say as lines of a log.
-use Rattle.std.proofs.Common.{◌≡◌, ℕ, Bool, true, false, not, List, [], ◌∷◌, ◌++◌, map, Option, Some, None, slice_get, if◌then◌else◌, refl, sym, ap, ◌∙◌, subst, true≢false}
+use Rattle.std.proofs.Common.{◌≡◌, ℕ, Bool, true, List, [], ◌∷◌, ◌++◌, map, Option, Some, None, slice_get, if◌then◌else◌, refl, sym, ap, ◌∙◌, subst, true≢false}
 use Rattle.std.specs.Option.{option_and_then, option_map}
+use Rattle.df_form.proofs.Literals.{all_negated_twice}
 use Rattle.df_form.specs.declared.log.Lit.{Lit}
 use Rattle.df_form.specs.Node.{Node}
 use Rattle.df_form.specs.Clause.{Clause, negation, are_literals}
@@ -9,17 +10,6 @@ use Rattle.df_kern.specs.Learning.{learned, learned_from, refutes}
 use Rattle.df_closure.specs.Lines.{AreIn}
 use Rattle.df_closure.specs.Closure.{GroundClause, Taught, nothing, more, after, IsClosed, IsRefuted}
 use Rattle.df_kern.proofs.Learning.{found, ends, found_by_learning}
-
-pub negated_twice : (literals : List Lit) → map negation (map negation literals) ≡ literals
-negated_twice [] = refl
-negated_twice (l ∷ others) = λ i. once l i ∷ negated_twice others i
-  where
-    not_not : (b : Bool) → not (not b) ≡ b
-    not_not true = refl
-    not_not false = refl
-
-    once : (l : Lit) → negation (negation l) ≡ l
-    once l = λ i. record { positive = not_not l.positive i; node = l.node }
 
 -- what is taught is what the kernel learns
 pub taught_is_learned : (clauses : List GroundClause) (log : List Clause) → AreIn clauses log → (known : List Lit) (numbers : List ℕ) (literals : List Lit) → Taught clauses known numbers literals
@@ -35,7 +25,7 @@ line_is : (nodes : List Node) (log : List Clause) (list : List Lit) (numbers : L
     → propagation_line nodes log numbers (map negation list) ≡ Some (map negation list)
 line_is nodes log list numbers formulas e =
     ap (λ (b : Bool). if b then option_and_then (propagation_of (map negation list)) (clauses_at log numbers) else None) formulas
-    ∙ by (clauses_at log numbers) (subst (λ (known : List Lit). found known (clauses_at log numbers) ≡ true) (sym (negated_twice list)) e)
+    ∙ by (clauses_at log numbers) (subst (λ (known : List Lit). found known (clauses_at log numbers) ≡ true) (sym (all_negated_twice list)) e)
   where
     by : (named : Option (List Clause)) → found (map negation (map negation list)) named ≡ true → option_and_then (propagation_of (map negation list)) named ≡ Some (map negation list)
     by None e = absurd (true≢false (sym e))

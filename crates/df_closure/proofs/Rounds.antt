@@ -1,5 +1,6 @@
 -- One way through the clauses.
 use Rattle.std.proofs.Common.{◌≡◌, ℕ, zero, suc, map, get_or, ◌+◌, ◌<◌, ◌≤◌, ◌⊎◌, inl, inr, Bool, true, false, ◌||◌, cond, List, [], ◌∷◌, ◌++◌, length, Option, Some, None, slice_get, refl, sym, ap, ◌∙◌, subst, arith, true≢false}
+use Rattle.std.proofs.lemmas.Option.{same_Some, slice_get_within}
 use Rattle.df_form.specs.declared.log.Lit.{Lit}
 use Rattle.df_form.specs.Clause.{same_literal, is_among}
 use Rattle.df_kern.specs.Propagation.{left, only, is_empty}
@@ -9,7 +10,6 @@ use Rattle.df_closure.specs.declared.closing.Teaching.TheVariants as teachings
 use Rattle.df_closure.specs.declared.closing.Closing.{Closing}
 use Rattle.df_closure.specs.Closure.{GroundClause, counts_for, Refutes, Taught, nothing, after, IsClosed}
 use Rattle.df_closure.specs.Closing.{teaching_left, teaching, unknown, IsClosing, IsSettled}
-use Rattle.df_form.proofs.Lists.{some_is, get_within}
 use Rattle.df_closure.proofs.Lists.{after_more, taught_more, taught_is_of, fewer}
 
 -- the clause of an index
@@ -53,7 +53,7 @@ quiet known clause e = record {
     first : (counts empty : Bool) (one : Option Lit) (l : Lit) → teachings.Nothing ≡ cond counts (cond empty teachings.Refuted (teaching_left known one)) teachings.Nothing → counts ≡ true → one ≡ Some l → is_among known l ≡ true
     first true true one l e c o = absurd cc
     first true false None l e c o = absurd cc
-    first true false (Some m) l e c o = subst (λ (q : Lit). is_among known q ≡ true) (some_is m l o) (among m (is_among known m) e)
+    first true false (Some m) l e c o = subst (λ (q : Lit). is_among known q ≡ true) (same_Some m l o) (among m (is_among known m) e)
     first false empty one l e c o = absurd (true≢false (sym c))
 
     second : (counts empty : Bool) (rest : Teaching) → teachings.Nothing ≡ cond counts (cond empty teachings.Refuted rest) teachings.Nothing → counts ≡ true → empty ≡ true → ⊥
@@ -115,7 +115,7 @@ module _ (clauses : List GroundClause) (begin closing : Closing) (i : ℕ) (clau
         → ((n : ℕ) (clause : GroundClause) → n < i → slice_get clauses n ≡ Some clause → IsQuiet (after list closing.learned.items) clause) → IsQuiet (after list closing.learned.items) c
     still_quiet list set n c (inl less) there before = before n c less there
     still_quiet list set n c (inr here) there before =
-        let same = some_is clause c (sym at ∙ sym (ap (λ (m : ℕ). slice_get clauses m) here) ∙ there) in
+        let same = same_Some clause c (sym at ∙ sym (ap (λ (m : ℕ). slice_get clauses m) here) ∙ there) in
         subst (IsQuiet (after list closing.learned.items)) same (quiet (after list closing.learned.items) clause (nothing (after list closing.learned.items) set))
 
     pub goes_quiet : RoundSoFar clauses begin (i + 1) grown closing
@@ -172,8 +172,8 @@ settles clauses begin closing count grown whole not_grown so_far list is =
     let all = so_far.so_far list is in (
       all.closing_is,
       record {
-        settled = λ n l teaches. (all.quiet_so_far not_grown n teaches.clause (below n (get_within clauses n teaches.clause teaches.there)) teaches.there).settled l teaches.counts teaches.left;
-        stands = λ n refutes. (all.quiet_so_far not_grown n refutes.clause (below n (get_within clauses n refutes.clause refutes.there)) refutes.there).stands refutes.counts refutes.left;
+        settled = λ n l teaches. (all.quiet_so_far not_grown n teaches.clause (below n (slice_get_within clauses n teaches.clause teaches.there)) teaches.there).settled l teaches.counts teaches.left;
+        stands = λ n refutes. (all.quiet_so_far not_grown n refutes.clause (below n (slice_get_within clauses n refutes.clause refutes.there)) refutes.there).stands refutes.counts refutes.left;
       },
     )
   where

@@ -4,7 +4,7 @@ use Rattle.std.specs.Option.{is_none}
 use Rattle.df_form.specs.declared.node.Op.{Op}
 use Rattle.df_form.specs.declared.node.Op.TheVariants as ops
 use Rattle.df_form.specs.Node.{Node}
-use Rattle.df_linear.specs.Row.{literal_number}
+use Rattle.df_row.specs.Row.{literal_number}
 
 -- The operation on these parts is an atom: no literal, no sum, and no literal times a node.
 abbrev pub is_atom : List Node → Op → List ℕ → Bool

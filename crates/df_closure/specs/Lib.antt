@@ -5,3 +5,4 @@ pub mod Full
 pub mod Lines
 pub mod Comparisons
 pub mod Atoms
+pub mod Filled

@@ -1,23 +1,20 @@
 -- The numbers of words.
-use Rattle.std.proofs.Common.{◌≡◌, ℕ, ◌<◌, ◌^◌, Bool, true, false, ◌&&◌, nat_le, cond, List, Option, Some, None, refl, sym, ap, ◌∙◌, subst, arith, true≢false, leb-true}
+use Rattle.std.proofs.Common.{◌≡◌, ℕ, ◌<◌, ◌^◌, Bool, true, false, ◌&&◌, nat_le, cond, List, Option, Some, None, refl, sym, ap, ◌∙◌, subst, arith, leb-true}
 use Rattle.std.specs.Cmp.Lexicographic.{bytes_decides}
 use Rattle.std.specs.Fmt.{decimal}
 use Rattle.std.specs.Str.Parse.{digits_value}
 use Rattle.std.proofs.lemmas.Fmt.{decimal_is_IsNumeral}
+use Rattle.std.proofs.lemmas.Bool.{and_parts}
 use Rattle.df_base.specs.Names.{same_text}
 use Rattle.df_cmd.specs.declared.setting.Setting.{Setting}
 use Rattle.df_cmd.specs.declared.setting.Setting.TheVariants as settings
 use Rattle.df_cmd.specs.Reading.{takes_number, IsNumberIn, number_in}
 
-pub both : (a b : Bool) → (a && b) ≡ true → (a ≡ true) × (b ≡ true)
-both true b e = (refl, e)
-both false b e = absurd (true≢false (sym e))
-
 -- a number that an option takes is small
 small : (option : Setting) (n : ℕ) → takes_number option n ≡ true → n < 2 ^ 64
-small settings.Steps n e = let less = leb-true n 10000000 (both (nat_le 1 n) (nat_le n 10000000) e).1 in omega (arith, less)
-small settings.Rounds n e = let less = leb-true n 8 (both (nat_le 0 n) (nat_le n 8) e).1 in omega (arith, less)
-small settings.Fuel n e = let less = leb-true n 9223372036854775807 (both (nat_le 0 n) (nat_le n 9223372036854775807) e).1 in omega (arith, less)
+small settings.Steps n e = let less = leb-true n 10000000 (and_parts (nat_le 1 n) (nat_le n 10000000) e).1 in omega (arith, less)
+small settings.Rounds n e = let less = leb-true n 8 (and_parts (nat_le 0 n) (nat_le n 8) e).1 in omega (arith, less)
+small settings.Fuel n e = let less = leb-true n 9223372036854775807 (and_parts (nat_le 0 n) (nat_le n 9223372036854775807) e).1 in omega (arith, less)
 
 pub number_of_decimal : (option : Setting) (n : ℕ) → takes_number option n ≡ true → number_in option (decimal n) ≡ Some n
 number_of_decimal option n takes =

@@ -56,6 +56,7 @@ pub data Argument : Type 0 where
   Joined : Setting → ℕ → Argument
   Apart : Setting → ℕ → Argument
 
+-- an argument as words: an option with its number in one word, or in two
 abbrev pub argument_words : Argument → List (List ℕ)
 argument_words (File name) = name ∷ []
 argument_words (Joined option n) = (option_word option ++ codes "=" ++ decimal n) ∷ []
@@ -67,6 +68,7 @@ is_plain [] = true
 is_plain (c ∷ []) = true
 is_plain (c ∷ d ∷ others) = not (c == 45)
 
+-- the number of an option lies within its limits
 abbrev pub is_argument : Argument → Bool
 is_argument (File name) = is_plain name
 is_argument (Joined option n) = nat_le (least option) n && nat_le n (greatest option)
@@ -77,19 +79,23 @@ pub data Ending : Type 0 where
   Nothing : Ending
   Files : List (List ℕ) → Ending
 
+-- an end as words
 abbrev pub ending_words : Ending → List (List ℕ)
 ending_words Nothing = []
 ending_words (Files names) = codes "--" ∷ names
 
+-- the files behind the options
 abbrev pub files_after : Ending → List (List ℕ)
 files_after Nothing = []
 files_after (Files names) = names
 
+-- the file that an argument is, if it is one
 abbrev pub files_in : Argument → List (List ℕ)
 files_in (File name) = name ∷ []
 files_in (Joined option n) = []
 files_in (Apart option n) = []
 
+-- the number, where it is given to this option
 abbrev pub number_for : Setting → Setting → ℕ → List ℕ
 number_for settings.Steps settings.Steps n = n ∷ []
 number_for settings.Rounds settings.Rounds n = n ∷ []
@@ -102,7 +108,7 @@ numbers_in option (File name) = []
 numbers_in option (Joined other n) = number_for option other n
 numbers_in option (Apart other n) = number_for option other n
 
--- an option is given at most once
+-- The option has this number, where the words give it these: none, and then it has its default, or one.
 pub data IsSet (option : Setting) : List ℕ → ℕ → Type 0 where
   left_out : IsSet option [] (default option)
   given : {n : ℕ} → IsSet option (n ∷ []) n

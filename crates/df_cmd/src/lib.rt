@@ -5,8 +5,6 @@ mod choosing;
 mod command;
 mod reading;
 mod setting;
-#[cfg(test)]
-mod tests;
 
 pub use choosing::{line, one_line};
 pub use command::{Budget, Command, LineFault};

@@ -1,14 +1,14 @@
 -- Levels, one more at a time.
 use Rattle.std.proofs.Common.{◌≡◌, inl, inr, ℕ, zero, suc, ◌+◌, ◌-◌, ◌<◌, List, [], ◌∷◌, ◌++◌, map, length, slice_get, Some, Err, refl, sym, ap, subst, ◌∙◌, arith, append_assoc}
-use Rattle.std.proofs.lemmas.List.{map-append}
+use Rattle.std.proofs.lemmas.List.{map-append, append-nil}
 use Rattle.std.proofs.lemmas.Option.{none-some, same_Some}
-use Rattle.df_linear.specs.Row.{Row}
-use Rattle.df_lin.specs.declared.level.Level.{Level}
-use Rattle.df_lin.specs.declared.fault.RowFault.{RowFault}
-use Rattle.df_lin.specs.declared.fault.RowFault.TheVariants as faults
-use Rattle.df_lin.specs.Levels.{GivesFirst, HasFalse, IsFirstLevel, IsNextLevel, level_rows, AreWays}
-use Rattle.df_lin.specs.Elimination.{AreFreeFrom, IsVariable, Eliminates, ends, next, Reaches, here, further, last_level, at_first, at_level}
-use Rattle.df_elim.specs.Elimination.{most_rows, AreChained, HaveFalse, AreFew, IsRefutation, IsWhole, IsPassed, GivesElimination, GivesMore, Grows}
+use Rattle.df_row.specs.Row.{Row}
+use Rattle.df_level.specs.declared.level.Level.{Level}
+use Rattle.df_level.specs.declared.fault.LevelFault.{LevelFault}
+use Rattle.df_level.specs.declared.fault.LevelFault.TheVariants as faults
+use Rattle.df_level.specs.Levels.{GivesFirst, HasFalse, row_limit, IsWholeFirst, IsWholeNext, level_rows, AreWays, AreChained}
+use Rattle.df_level.specs.Elimination.{AreFreeFrom, IsVariable, Eliminates, ends, next, Reaches, here, further, Passes, at_once, passing, last_level, IsOpenLevel, at_first, at_level, many_at_first, many_at_level}
+use Rattle.df_elim.specs.Elimination.{HaveFalse, AreFew, IsRefutation, IsWhole, GivesElimination, GivesMore, Grows}
 use Rattle.df_elim.specs.declared.elimination.Levels.{Levels}
 
 -- the rows of the last of some levels
@@ -17,11 +17,11 @@ end_rows first others = last_level (level_rows first) (map level_rows others)
 
 -- Levels so far: what is eliminated from here on goes on from them.
 pub record AreSoFar (rows : List Row) (first : Level) (variables : List ℕ) (others : List Level) (low : ℕ) : Type 0 where
-  pub is_first : IsFirstLevel rows (level_rows first)
-  pub reaches : Reaches 0 (level_rows first) low (end_rows first others)
+  pub is_first : IsWholeFirst rows (level_rows first)
+  pub passes : Passes 0 (level_rows first) low (end_rows first others)
   pub goes : (more : List ℕ) (levels : List (List Row)) → Eliminates low (end_rows first others) more levels → Eliminates 0 (level_rows first) (variables ++ more) (map level_rows others ++ levels)
   pub chained : AreChained rows (first ∷ others)
-  pub few : length (end_rows first others) < most_rows → AreFew (first ∷ others)
+  pub few : AreFew (first ∷ others)
 
 last_more : (first level : List Row) (levels : List (List Row)) → last_level first (levels ++ level ∷ []) ≡ level
 last_more first level [] = refl
@@ -30,25 +30,25 @@ last_more first level (l ∷ levels) = last_more l level levels
 end_more : (first level : Level) (others : List Level) → end_rows first (others ++ level ∷ []) ≡ level_rows level
 end_more first level others = ap (last_level (level_rows first)) (map-append level_rows others (level ∷ [])) ∙ last_more (level_rows first) (level_rows level) (map level_rows others)
 
-reaches_more : (low n from : ℕ) (rows level after : List Row) → Reaches low rows from level → IsVariable from n level → IsNextLevel n level after → Reaches low rows (suc n) after
-reaches_more low n from rows level after here v x = further v x here
-reaches_more low n from rows level after (further {n = m} {after = second} w y rest) v x = further w y (reaches_more (suc m) n from second level after rest v x)
+passes_more : (low n from : ℕ) (rows level after : List Row) → Passes low rows from level → IsVariable from n level → IsWholeNext n level after → Passes low rows (suc n) after
+passes_more low n from rows level after at_once v x = passing v x at_once
+passes_more low n from rows level after (passing {n = m} {after = second} w y rest) v x = passing w y (passes_more (suc m) n from second level after rest v x)
+
+reaches : (low from : ℕ) (rows level : List Row) → Passes low rows from level → Reaches low rows from level
+reaches low from rows level at_once = here
+reaches low from rows level (passing {n = m} {after = second} w y rest) = further w y.is_next (reaches (suc m) from second level rest)
 
 chained_more : (rows : List Row) (first level : Level) (others : List Level) → AreChained rows (first ∷ others) → AreWays (end_rows first others) level → AreChained rows (first ∷ others ++ level ∷ [])
 chained_more rows first level [] h w = (h.0, (w, tt))
 chained_more rows first level (o ∷ others) h w = (h.0, chained_more (level_rows first) o level others h.1 w)
 
-few_more : (levels : List Level) (level : Level) → AreFew levels → length (level_rows level) < most_rows → AreFew (levels ++ level ∷ [])
+few_more : (levels : List Level) (level : Level) → AreFew levels → length (level_rows level) < row_limit → AreFew (levels ++ level ∷ [])
 few_more [] level h less = (less, tt)
 few_more (l ∷ levels) level h less = (h.0, few_more levels level h.1 less)
 
 last_false : (first : Level) (others : List Level) → HasFalse (end_rows first others) → HaveFalse (first ∷ others)
 last_false first [] h = inl h
 last_false first (o ∷ others) h = inr (last_false o others h)
-
-with_none : {A : Type 0} (xs : List A) → xs ++ [] ≡ xs
-with_none [] = refl
-with_none (x ∷ xs) = ap (λ l. x ∷ l) (with_none xs)
 
 -- the last of some levels
 last_at : (i : ℕ) (first : Level) (others : List Level) (x : Level) → i + 1 ≡ length others → slice_get others i ≡ Some x → level_rows x ≡ end_rows first others
@@ -63,33 +63,34 @@ last_is first [] x is = absurd (none-some x is)
 last_is first (o ∷ others) x is = last_at (length (o ∷ others) - 1) first (o ∷ others) x (omega arith) is
 
 -- one level more, or none
-pub has_grown : (n : ℕ) (old new : Levels) (last : List Row) (level : Level) → last ≡ end_rows old.first old.others.items → IsNextLevel n last (level_rows level) → AreWays last level → new.first ≡ old.first → new.variables.items ≡ old.variables.items ++ n ∷ [] → new.others.items ≡ old.others.items ++ level ∷ [] → Grows n old new
+pub has_grown : (n : ℕ) (old new : Levels) (last : List Row) (level : Level) → last ≡ end_rows old.first old.others.items → IsWholeNext n last (level_rows level) → AreWays last level → new.first ≡ old.first → new.variables.items ≡ old.variables.items ++ n ∷ [] → new.others.items ≡ old.others.items ++ level ∷ [] → Grows n old new
 has_grown n old new last level e is ways first variables others =
-    let P : List Row → Type 0 = λ l. IsNextLevel n l (level_rows level) in
+    let P : List Row → Type 0 = λ l. IsWholeNext n l (level_rows level) in
     let Q : List Row → Type 0 = λ l. AreWays l level in
     record { level = level; is_next = subst P e is; ways = subst Q e ways; first = first; variables = variables; others = others }
 
-pub first_stops : (rows : List Row) (fault : RowFault) → GivesFirst rows (Err fault) → GivesElimination rows (Err fault)
+pub first_stops : (rows : List Row) (fault : LevelFault) → GivesFirst rows (Err fault) → GivesElimination rows (Err fault)
 first_stops rows faults.Wide h = at_first h
+first_stops rows faults.Many h = many_at_first h
 first_stops rows faults.Memory h = tt
 
-at_first_level : (rows : List Row) (first : Level) → IsFirstLevel rows (level_rows first) → AreWays rows first → AreSoFar rows first [] [] 0
-at_first_level rows first is ways = record { is_first = is; reaches = here; goes = λ more levels h. h; chained = (ways, tt); few = λ less. (less, tt) }
+at_first_level : (rows : List Row) (first : Level) → IsWholeFirst rows (level_rows first) → AreWays rows first → AreSoFar rows first [] [] 0
+at_first_level rows first is ways = record { is_first = is; passes = at_once; goes = λ more levels h. h; chained = (ways, tt); few = (is.few, tt) }
 
-pub begins : (rows : List Row) (first : Level) (variables : List ℕ) (others : List Level) → variables ≡ [] → others ≡ [] → IsFirstLevel rows (level_rows first) → AreWays rows first → AreSoFar rows first variables others 0
+pub begins : (rows : List Row) (first : Level) (variables : List ℕ) (others : List Level) → variables ≡ [] → others ≡ [] → IsWholeFirst rows (level_rows first) → AreWays rows first → AreSoFar rows first variables others 0
 begins rows first variables others none no_others is ways =
     let P : List ℕ → Type 0 = λ l. AreSoFar rows first l others 0 in
     let Q : List Level → Type 0 = λ l. AreSoFar rows first [] l 0 in
     subst P (sym none) (subst Q (sym no_others) (at_first_level rows first is ways))
 
 module _ (rows : List Row) (first : Level) (variables : List ℕ) (others : List Level) (low : ℕ) (h : AreSoFar rows first variables others low) where
-  grows : (n : ℕ) (level : Level) → IsPassed (end_rows first others) → IsVariable low n (end_rows first others) → IsNextLevel n (end_rows first others) (level_rows level) → AreWays (end_rows first others) level → AreSoFar rows first (variables ++ n ∷ []) (others ++ level ∷ []) (suc n)
-  grows n level passed v x ways = record { is_first = h.is_first; reaches = reaches; goes = goes; chained = chained_more rows first level others h.chained ways; few = few }
+  grows : (n : ℕ) (level : Level) → IsVariable low n (end_rows first others) → IsWholeNext n (end_rows first others) (level_rows level) → AreWays (end_rows first others) level → AreSoFar rows first (variables ++ n ∷ []) (others ++ level ∷ []) (suc n)
+  grows n level v x ways = record { is_first = h.is_first; passes = passes; goes = goes; chained = chained_more rows first level others h.chained ways; few = few_more (first ∷ others) level h.few x.few }
     where
-      reaches : Reaches 0 (level_rows first) (suc n) (end_rows first (others ++ level ∷ []))
-      reaches =
-          let P : List Row → Type 0 = λ l. Reaches 0 (level_rows first) (suc n) l in
-          subst P (sym (end_more first level others)) (reaches_more 0 n low (level_rows first) (end_rows first others) (level_rows level) h.reaches v x)
+      passes : Passes 0 (level_rows first) (suc n) (end_rows first (others ++ level ∷ []))
+      passes =
+          let P : List Row → Type 0 = λ l. Passes 0 (level_rows first) (suc n) l in
+          subst P (sym (end_more first level others)) (passes_more 0 n low (level_rows first) (end_rows first others) (level_rows level) h.passes v x)
 
       goes : (more : List ℕ) (levels : List (List Row)) → Eliminates (suc n) (end_rows first (others ++ level ∷ [])) more levels → Eliminates 0 (level_rows first) ((variables ++ n ∷ []) ++ more) (map level_rows (others ++ level ∷ []) ++ levels)
       goes more levels e =
@@ -97,12 +98,7 @@ module _ (rows : List Row) (first : Level) (variables : List ℕ) (others : List
           let Q : List ℕ → Type 0 = λ l. Eliminates 0 (level_rows first) l (map level_rows others ++ level_rows level ∷ levels) in
           let R : List (List Row) → Type 0 = λ l. Eliminates 0 (level_rows first) ((variables ++ n ∷ []) ++ more) l in
           let joined : map level_rows (others ++ level ∷ []) ++ levels ≡ map level_rows others ++ level_rows level ∷ levels = ap (λ l. l ++ levels) (map-append level_rows others (level ∷ [])) ∙ append_assoc (map level_rows others) (level_rows level ∷ []) levels in
-          subst R (sym joined) (subst Q (sym (append_assoc variables (n ∷ []) more)) (h.goes (n ∷ more) (level_rows level ∷ levels) (next v x (subst P (end_more first level others) e))))
-
-      few : length (end_rows first (others ++ level ∷ [])) < most_rows → AreFew (first ∷ others ++ level ∷ [])
-      few less =
-          let P : List Row → Type 0 = λ l. length l < most_rows in
-          few_more (first ∷ others) level (h.few passed.few) (subst P (end_more first level others) less)
+          subst R (sym joined) (subst Q (sym (append_assoc variables (n ∷ []) more)) (h.goes (n ∷ more) (level_rows level ∷ levels) (next v x.is_next (subst P (end_more first level others) e))))
 
 -- from the rows of the last level
 module _ (rows : List Row) (levels : Levels) (low : ℕ) (last : List Row) (e : last ≡ end_rows levels.first levels.others.items) (h : AreSoFar rows levels.first levels.variables.items levels.others.items low) where
@@ -110,27 +106,32 @@ module _ (rows : List Row) (levels : Levels) (low : ℕ) (last : List Row) (e : 
   is_refuted found false is =
       let P : List Level → Type 0 = λ l. IsRefutation rows l in
       let there = subst HasFalse e false in
-      subst P (sym is) (record { refuted = record { first = level_rows levels.first; is_first = h.is_first; from = low; level = end_rows levels.first levels.others.items; reaches = h.reaches; has_false = there }; chained = h.chained; has_false = last_false levels.first levels.others.items there })
+      subst P (sym is) (record { refuted = record { first = level_rows levels.first; is_first = h.is_first.is_first; from = low; level = end_rows levels.first levels.others.items; reaches = reaches 0 low (level_rows levels.first) (end_rows levels.first levels.others.items) h.passes; has_false = there }; whole = record { first = level_rows levels.first; is_first = h.is_first; from = low; level = end_rows levels.first levels.others.items; passes = h.passes; has_false = there }; chained = h.chained; has_false = last_false levels.first levels.others.items there; few = h.few })
 
-  pub is_whole : IsPassed last → AreFreeFrom low last → IsWhole rows levels
-  is_whole passed free =
+  pub is_whole : (HasFalse last → ⊥) → AreFreeFrom low last → IsWhole rows levels
+  is_whole stands free =
       let P : List ℕ → Type 0 = λ l. Eliminates 0 (level_rows levels.first) l (map level_rows levels.others.items) in
       let Q : List (List Row) → Type 0 = λ l. Eliminates 0 (level_rows levels.first) (levels.variables.items ++ []) l in
       let R : List Row → Type 0 = λ l. AreFreeFrom low l in
-      let end = subst IsPassed e passed in
-      let eliminates = subst P (with_none levels.variables.items) (subst Q (with_none (map level_rows levels.others.items)) (h.goes [] [] (ends (subst R e free)))) in
-      record { elimination = record { is_first = h.is_first; eliminates = eliminates; stands = end.stands }; chained = h.chained; few = h.few end.few }
+      let S : List Row → Type 0 = λ l. HasFalse l → ⊥ in
+      let eliminates = subst P (append-nil levels.variables.items) (subst Q (append-nil (map level_rows levels.others.items)) (h.goes [] [] (ends (subst R e free)))) in
+      record { elimination = record { is_first = h.is_first.is_first; eliminates = eliminates; stands = subst S e stands }; chained = h.chained; few = h.few }
 
-  pub goes_on : (n : ℕ) (new : Levels) → IsPassed last → IsVariable low n last → Grows n levels new → AreSoFar rows new.first new.variables.items new.others.items (suc n)
-  goes_on n new passed v g =
+  pub goes_on : (n : ℕ) (new : Levels) → IsVariable low n last → Grows n levels new → AreSoFar rows new.first new.variables.items new.others.items (suc n)
+  goes_on n new v g =
       let P : List Row → Type 0 = λ l. IsVariable low n l in
       let Q : Level → Type 0 = λ l. AreSoFar rows l new.variables.items new.others.items (suc n) in
       let R : List ℕ → Type 0 = λ l. AreSoFar rows levels.first l new.others.items (suc n) in
       let S : List Level → Type 0 = λ l. AreSoFar rows levels.first (levels.variables.items ++ n ∷ []) l (suc n) in
-      subst Q (sym g.first) (subst R (sym g.variables) (subst S (sym g.others) (grows rows levels.first levels.variables.items levels.others.items low h n g.level (subst IsPassed e passed) (subst P e v) g.is_next g.ways)))
+      subst Q (sym g.first) (subst R (sym g.variables) (subst S (sym g.others) (grows rows levels.first levels.variables.items levels.others.items low h n g.level (subst P e v) g.is_next g.ways)))
 
-  pub stops : (n : ℕ) (new : Levels) (fault : RowFault) → IsPassed last → IsVariable low n last → GivesMore n levels new (Err fault) → GivesElimination rows (Err fault)
-  stops n new faults.Wide passed v o =
+  open_level : (n : ℕ) → (HasFalse last → ⊥) → IsVariable low n last → IsOpenLevel rows n (end_rows levels.first levels.others.items)
+  open_level n stands v =
       let P : List Row → Type 0 = λ l. IsVariable low n l in
-      at_level (level_rows levels.first) (end_rows levels.first levels.others.items) low n h.is_first h.reaches (subst IsPassed e passed).stands (subst P e v) o
-  stops n new faults.Memory passed v o = tt
+      let S : List Row → Type 0 = λ l. HasFalse l → ⊥ in
+      record { first = level_rows levels.first; is_first = h.is_first; from = low; passes = h.passes; stands = subst S e stands; variable = subst P e v }
+
+  pub stops : (n : ℕ) (new : Levels) (fault : LevelFault) → (HasFalse last → ⊥) → IsVariable low n last → GivesMore n levels new (Err fault) → GivesElimination rows (Err fault)
+  stops n new faults.Wide stands v o = at_level n (end_rows levels.first levels.others.items) (open_level n stands v) o
+  stops n new faults.Many stands v o = many_at_level n (end_rows levels.first levels.others.items) (open_level n stands v) o
+  stops n new faults.Memory stands v o = tt

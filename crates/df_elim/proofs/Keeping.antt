@@ -1,8 +1,8 @@
 -- More rows have more levels, and a false row stays in all that come later.
 use Rattle.std.proofs.Common.{◌≡◌, ◌⊎◌, inl, inr, ℕ, suc, ◌≤◌, ◌<◌, pos, List, subst, arith}
-use Rattle.df_linear.specs.Row.{Row}
-use Rattle.df_lin.specs.Levels.{Stands, HasFalse, IsMade, kept, cancelled, IsFirstLevel, IsNextLevel}
-use Rattle.df_lin.specs.Elimination.{IsVariable, Eliminates, ends, next, Reaches, here, further, last_level, AreRefuted, IsElimination}
+use Rattle.df_row.specs.Row.{Row}
+use Rattle.df_level.specs.Levels.{Stands, HasFalse, IsMade, kept, cancelled, IsFirstLevel, IsNextLevel}
+use Rattle.df_level.specs.Elimination.{IsVariable, Eliminates, ends, next, Reaches, here, further, last_level, AreRefuted, IsElimination}
 use Rattle.df_elim.specs.Elimination.{AreAmong}
 
 made_of_more : (n : ℕ) (rows more : List Row) → AreAmong rows more → (r : Row) → IsMade n rows rows r → IsMade n more more r

@@ -3,20 +3,19 @@ use Rattle.std.proofs.Common.{◌≡◌, inl, inr, ℕ, zero, suc, ◌+◌, ◌*
 use Rattle.std.proofs.Math.Nat.{div-add-mod', dvd-mod_iff}
 use Rattle.std.proofs.lemmas.Nat.Gcd.{dvd-zero, dvd_of_mod-eq-zero}
 use Rattle.std.proofs.lemmas.Int.{ints}
-use Rattle.std.proofs.lemmas.Bool.{true≢false}
+use Rattle.std.proofs.lemmas.Bool.{true≢false, and_parts}
 use Rattle.std.proofs.lemmas.Bool.Decides.{Decides-int_eq}
-use borrow.Author.Differences.{up, down, sum_is_lem, product_is}
 use Rattle.std.specs.Int.{◌∣◌}
 use Rattle.std.specs.Int.RustNames.{unsigned_abs}
 use Rattle.std.specs.Ordering.{int_eq}
-use Rattle.df_linear.specs.Row.{Row}
-use Rattle.df_linear.specs.Linear.{all_below, quotient}
-use Rattle.df_linear.specs.Value.{sum_below, row_value, row_holds, rows_hold}
-use Rattle.df_lin.specs.Division.{IsContent, divisor_of, quotient_row}
-use Rattle.df_lin.specs.Levels.{Stands, IsFirstLevel}
-use Rattle.df_lin.proofs.Ascending.{both}
-use Rattle.df_lin.proofs.Contents.{divisor_divides, some_divisor}
-use Rattle.df_lin.proofs.Lines.{all_divided}
+use Rattle.df_lemmas.proofs.Integers.{times_twice, to_le, from_le, sum_times}
+use Rattle.df_row.specs.Row.{Row}
+use Rattle.df_row.specs.Linear.{all_below, quotient}
+use Rattle.df_row.specs.Value.{sum_below, row_value, row_holds, rows_hold}
+use Rattle.df_level.specs.Division.{IsContent, divisor_of, quotient_row}
+use Rattle.df_level.specs.Levels.{Stands, IsFirstLevel}
+use Rattle.df_level.proofs.Contents.{divisor_divides, some_divisor}
+use Rattle.df_level.proofs.Lines.{all_divided}
 
 -- Numbers without a greatest common divisor refute themselves: each remainder would be a lesser one.
 module _ (f : ℕ → ℤ) (none : (d : ℕ) → IsContent f d → ⊥) where
@@ -45,8 +44,8 @@ module _ (f : ℕ → ℤ) (none : (d : ℕ) → IsContent f d → ⊥) where
 exact : (d : ℕ) (row : Row) → 0 < d → ((n : ℕ) → d ∣ unsigned_abs (row.coefficient n)) → (n : ℕ) → pos d *ℤ quotient (row.coefficient n) (pos d) ≡ row.coefficient n
 exact d row some h n =
     let test : ℕ → Bool = λ i. int_eq (pos d *ℤ quotient (row.coefficient i) (pos d)) (row.coefficient i) in
-    let parts = both (int_le (pos 1) (pos d)) (all_below (suc n) test) (all_divided (suc n) d row some h) in
-    (Decides-int_eq (pos d *ℤ quotient (row.coefficient n) (pos d)) (row.coefficient n)).0 (both (test n) (all_below n test) parts.1).0
+    let parts = and_parts (int_le (pos 1) (pos d)) (all_below (suc n) test) (all_divided (suc n) d row some h) in
+    (Decides-int_eq (pos d *ℤ quotient (row.coefficient n) (pos d)) (row.coefficient n)).0 (and_parts (test n) (all_below n test) parts.1).0
 
 times_at_most : (d k n : ℕ) → k * d ≤ n → (pos d *ℤ pos k) ≤ℤ pos n
 times_at_most d k n h = omega (arith, ints)
@@ -60,34 +59,14 @@ at_most d (negsuc n) some = let all = div-add-mod' n d in times_below d (n / d) 
 
 -- the value of a row divided
 each_times : (d q x a : ℤ) → d *ℤ q ≡ a → a *ℤ x ≡ d *ℤ (q *ℤ x)
-each_times d q x a e = ap (λ z. z *ℤ x) (sym e) ∙ twice d q x
-  where
-    twice : (a b c : ℤ) → (a *ℤ b) *ℤ c ≡ a *ℤ (b *ℤ c)
-    twice a b c =
-        let left = product_is a b in
-        let right = product_is b c in
-        omega (
-          arith,
-          ints,
-          ap (λ (z : ℕ). z * up c) left.0,
-          ap (λ (z : ℕ). z * up c) left.1,
-          ap (λ (z : ℕ). z * down c) left.0,
-          ap (λ (z : ℕ). z * down c) left.1,
-          ap (λ (z : ℕ). up a * z) right.0,
-          ap (λ (z : ℕ). up a * z) right.1,
-          ap (λ (z : ℕ). down a * z) right.0,
-          ap (λ (z : ℕ). down a * z) right.1,
-        )
-
-times_sum : (a b c : ℤ) → a *ℤ (b +ℤ c) ≡ (a *ℤ b) +ℤ (a *ℤ c)
-times_sum a b c = omega (arith, ints, ap (λ (z : ℕ). up a * z) (sum_is_lem b c), ap (λ (z : ℕ). down a * z) (sum_is_lem b c))
+each_times d q x a e = ap (λ z. z *ℤ x) (sym e) ∙ times_twice d q x
 
 none_times : (d : ℤ) → pos 0 ≡ d *ℤ pos 0
 none_times d = omega (arith, ints)
 
-sum_times : (count : ℕ) (d : ℤ) (f g : ℕ → ℤ) → ((n : ℕ) → f n ≡ d *ℤ g n) → sum_below count f ≡ d *ℤ sum_below count g
-sum_times zero d f g h = none_times d
-sum_times (suc n) d f g h = ap (λ z. z +ℤ sum_below n f) (h n) ∙ ap (λ z. (d *ℤ g n) +ℤ z) (sum_times n d f g h) ∙ sym (times_sum d (g n) (sum_below n g))
+scaled_sums : (count : ℕ) (d : ℤ) (f g : ℕ → ℤ) → ((n : ℕ) → f n ≡ d *ℤ g n) → sum_below count f ≡ d *ℤ sum_below count g
+scaled_sums zero d f g h = none_times d
+scaled_sums (suc n) d f g h = ap (λ z. z +ℤ sum_below n f) (h n) ∙ ap (λ z. (d *ℤ g n) +ℤ z) (scaled_sums n d f g h) ∙ sym (sum_times d (g n) (sum_below n g))
 
 times_some : (d : ℕ) (z : ℤ) → pos 0 ≤ℤ z → pos 0 ≤ℤ (pos d *ℤ z)
 times_some d (pos n) h = omega (arith, ints)
@@ -95,21 +74,15 @@ times_some d (negsuc n) h = absurd (omega (arith, ints))
 
 at_least : (d : ℕ) (s t c q : ℤ) → s ≡ pos d *ℤ t → (pos d *ℤ q) ≤ℤ c → pos 0 ≤ℤ (t +ℤ q) → pos 0 ≤ℤ (s +ℤ c)
 at_least d s t c q e h some =
-    add_up s (pos d *ℤ t) (pos d *ℤ q) c (pos d *ℤ (t +ℤ q)) e (times_sum (pos d) t q) h (times_some d (t +ℤ q) some)
+    add_up s (pos d *ℤ t) (pos d *ℤ q) c (pos d *ℤ (t +ℤ q)) e (sum_times (pos d) t q) h (times_some d (t +ℤ q) some)
   where
     add_up : (s a b c all : ℤ) → s ≡ a → all ≡ a +ℤ b → b ≤ℤ c → pos 0 ≤ℤ all → pos 0 ≤ℤ (s +ℤ c)
     add_up s a b c all e f h some = omega (arith, ints)
 
-to_le : (z : ℤ) → int_le (pos 0) z ≡ true → pos 0 ≤ℤ z
-to_le z e = grind (arith, ints)
-
-from_le : (z : ℤ) → pos 0 ≤ℤ z → int_le (pos 0) z ≡ true
-from_le z h = grind (arith, ints)
-
 module _ (count : ℕ) (numbers : ℕ → ℤ) where
   holds_from_quotient : (row : Row) (d : ℕ) → 0 < d → ((n : ℕ) → d ∣ unsigned_abs (row.coefficient n)) → row_holds count numbers (quotient_row d row) ≡ true → row_holds count numbers row ≡ true
   holds_from_quotient row d some h holds =
-      let sums = sum_times count (pos d) (λ n. row.coefficient n *ℤ numbers n) (λ n. quotient (row.coefficient n) (pos d) *ℤ numbers n) (λ n. each_times (pos d) (quotient (row.coefficient n) (pos d)) (numbers n) (row.coefficient n) (exact d row some h n)) in
+      let sums = scaled_sums count (pos d) (λ n. row.coefficient n *ℤ numbers n) (λ n. quotient (row.coefficient n) (pos d) *ℤ numbers n) (λ n. each_times (pos d) (quotient (row.coefficient n) (pos d)) (numbers n) (row.coefficient n) (exact d row some h n)) in
       from_le (row_value count numbers row) (at_least d (sum_below count (λ n. row.coefficient n *ℤ numbers n)) (sum_below count (λ n. quotient (row.coefficient n) (pos d) *ℤ numbers n)) row.constant (quotient row.constant (pos d)) sums (at_most d row.constant some) (to_le (row_value count numbers (quotient_row d row)) holds))
 
   holds_from_content : (row : Row) (content : ℕ) → IsContent row.coefficient content → row_holds count numbers (quotient_row (divisor_of content) row) ≡ true → row_holds count numbers row ≡ true
@@ -131,8 +104,8 @@ module _ (count : ℕ) (numbers : ℕ → ℤ) where
   -- of lists
   each_holds : (rows : List Row) → rows_hold count numbers rows ≡ true → (r : Row) → Stands r rows → row_holds count numbers r ≡ true
   each_holds [] e r there = absurd there
-  each_holds (row ∷ rows) e r (inl is) = ap (row_holds count numbers) is ∙ (both (row_holds count numbers row) (rows_hold count numbers rows) e).0
-  each_holds (row ∷ rows) e r (inr there) = each_holds rows (both (row_holds count numbers row) (rows_hold count numbers rows) e).1 r there
+  each_holds (row ∷ rows) e r (inl is) = ap (row_holds count numbers) is ∙ (and_parts (row_holds count numbers row) (rows_hold count numbers rows) e).0
+  each_holds (row ∷ rows) e r (inr there) = each_holds rows (and_parts (row_holds count numbers row) (rows_hold count numbers rows) e).1 r there
 
   all_hold : (rows : List Row) → ((r : Row) → Stands r rows → row_holds count numbers r ≡ true) → rows_hold count numbers rows ≡ true
   all_hold [] h = refl

@@ -4,13 +4,14 @@ use Rattle.std.specs.Bool.{Decides}
 use Rattle.std.proofs.Math.Seq.{drop-cons}
 use Rattle.std.proofs.lemmas.List.{drop_all}
 use Rattle.std.proofs.lemmas.Bool.{true≢false}
-use Rattle.df_linear.specs.Row.{Row}
-use Rattle.df_lin.specs.Entries.{coefficient_of, has_coefficient, ascends}
-use Rattle.df_lin.specs.Levels.{Stands}
-use Rattle.df_lin.specs.Elimination.{AreFree, AreFreeFrom, IsVariable}
-use Rattle.df_lin.proofs.Ascending.{IsFrom, from_test, less_unequal, none_below}
-use Rattle.df_lin.proofs.Multiples.{first_of, others_of}
-use Rattle.df_lin.proofs.Sets.{stands_left, stands_last, stands_cases}
+use Rattle.df_level.proofs.Rows.{first_coefficient, after_first}
+use Rattle.df_lemmas.proofs.Numbers.{less_unequal}
+use Rattle.df_row.specs.Row.{Row}
+use Rattle.df_level.specs.Entries.{coefficient_of, has_coefficient, ascends}
+use Rattle.df_level.specs.Levels.{Stands}
+use Rattle.df_level.specs.Elimination.{AreFree, AreFreeFrom, IsVariable}
+use Rattle.df_level.proofs.Ascending.{IsFrom, from_test, none_below}
+use Rattle.df_level.proofs.Sets.{stands_left, stands_last, stands_cases}
 use Rattle.df_elim.specs.Elimination.{lesser_of, TellsVariable}
 
 -- From the low node on, the coefficients are those of the entries that are left.
@@ -23,14 +24,14 @@ pub passing_begins : (low : ℕ) (all : List (ℕ × ℤ)) → ascends 0 all ≡
 passing_begins low all e = record { begin = 0; from = from_test 0 all e; same = λ n le. refl }
 
 passing_goes : (low m : ℕ) (c : ℤ) (all es : List (ℕ × ℤ)) → IsPassing low all ((m, c) ∷ es) → m < low → IsPassing low all es
-passing_goes low m c all es h less = record { begin = suc m; from = h.from.2; same = λ n le. sym (others_of m c es n (omega arith)) ∙ h.same n le }
+passing_goes low m c all es h less = record { begin = suc m; from = h.from.2; same = λ n le. sym (after_first m c es n (omega arith)) ∙ h.same n le }
 
 module _ (low m : ℕ) (c : ℤ) (all es : List (ℕ × ℤ)) (h : IsPassing low all ((m, c) ∷ es)) (le : low ≤ m) where
   free_before : (n : ℕ) → low ≤ n → n < m → coefficient_of all n ≡ pos 0
   free_before n from less = sym (h.same n from) ∙ ap (λ t. cond t c (coefficient_of es n)) (less_unequal n m less) ∙ none_below (suc m) es n h.from.2 (omega arith)
 
   some_there : coefficient_of all m ≡ pos 0 → ⊥
-  some_there e = true≢false (sym h.from.1 ∙ ap has_coefficient (sym (first_of m c es) ∙ h.same m le ∙ e))
+  some_there e = true≢false (sym h.from.1 ∙ ap has_coefficient (sym (first_coefficient m c es) ∙ h.same m le ∙ e))
 
 -- by the place of the entry
 module _ (low i : ℕ) (all : List (ℕ × ℤ)) (h : IsPassing low all (drop i all)) where

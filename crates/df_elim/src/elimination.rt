@@ -1,15 +1,12 @@
 //! Variables eliminated from rows, level after level.
 
 ghost use Rattle.std.specs.Prelude.{◌≡◌, ◌∷◌, IfOk};
-ghost use Rattle.df_lin.specs.Levels.{rows_of, level_rows, IsFirstLevel, AreWays};
+ghost use Rattle.df_level.specs.Levels.{rows_of, level_rows, IsFirstLevel, AreWays};
 ghost use Rattle.df_elim.specs.Elimination.{low_after, last_rows, GivesElimination, GivesMore, TellsElimination, TellsNext};
 
 use crate::variable::next_variable;
-use df_lin::{Level, Row, RowFault};
+use df_level::{Level, LevelFault, ROW_LIMIT, Row};
 use std::alloc::{AllocError, Global};
-
-/// No level has so many rows.
-const MOST_ROWS: usize = 50_000;
 
 /// Levels of rows, each with a variable eliminated from the one before it.
 #[derive(Drop)]
@@ -30,7 +27,7 @@ pub enum Elimination {
     Open(Levels),
     /// A number on the way is past 128 bits.
     Wide,
-    /// A level has so many rows, or more.
+    /// A level comes to so many rows.
     Many(u64),
 }
 
@@ -38,7 +35,6 @@ pub enum Elimination {
 #[derive(Clone, Copy)]
 enum Next {
     Refuted,
-    Many,
     Variable(usize),
     End,
 }
@@ -50,11 +46,7 @@ fn next_after(level: &Level, last: Option<usize>) -> Next
     if level.has_false() {
         return Next::Refuted;
     }
-    let rows = level.rows();
-    if rows.len() >= MOST_ROWS {
-        return Next::Many;
-    }
-    match next_variable(rows, last) {
+    match next_variable(level.rows(), last) {
         Some(node) => Next::Variable(node),
         None => Next::End,
     }
@@ -72,7 +64,7 @@ impl Levels {
     }
 
     /// Eliminates the node from the last level.
-    fn eliminate(&mut self, alloc: Global, node: usize) -> Result<(), RowFault>
+    fn eliminate(&mut self, alloc: Global, node: usize) -> Result<(), LevelFault>
         ensures { GivesMore node self.old self.new result }
     {
         let level = self.last().next(alloc, node)?;
@@ -91,8 +83,8 @@ impl Levels {
     }
 }
 
-/// Eliminates the variables, where no number on the way is too wide.
-fn elimination_of(alloc: Global, rows: &[Row]) -> Result<Elimination, RowFault>
+/// Eliminates the variables, where no number on the way is too wide and no level comes to the limit of rows.
+fn elimination_of(alloc: Global, rows: &[Row]) -> Result<Elimination, LevelFault>
     ensures { GivesElimination (rows_of rows.now) result }
 {
     let first = Level::first(alloc, rows)?;
@@ -105,7 +97,6 @@ fn elimination_of(alloc: Global, rows: &[Row]) -> Result<Elimination, RowFault>
     loop {
         match next_after(levels.last(), last) {
             Next::Refuted => return Ok(Elimination::Refuted(levels.into_all()?)),
-            Next::Many => return Ok(Elimination::Many(MOST_ROWS as u64)),
             Next::End => return Ok(Elimination::Open(levels)),
             Next::Variable(node) => {
                 levels.eliminate(alloc, node)?;
@@ -116,13 +107,15 @@ fn elimination_of(alloc: Global, rows: &[Row]) -> Result<Elimination, RowFault>
 }
 
 /// Eliminates the variables of the rows in order of nodes, until a level has a row 0 <= c for a c
-/// below 0, or has 50000 rows, or no variable is left.
+/// below 0, or no variable is left. It gives up as soon as a level that grows has the limit of rows, or a
+/// number on the way to its next row is past 128 bits, whatever other rows the level has.
 pub fn eliminate(alloc: Global, rows: &[Row]) -> Result<Elimination, AllocError>
     ensures { IfOk result (λ answer. TellsElimination (rows_of rows.now) answer) }
 {
     match elimination_of(alloc, rows) {
         Ok(answer) => Ok(answer),
-        Err(RowFault::Wide) => Ok(Elimination::Wide),
-        Err(RowFault::Memory) => Err(AllocError),
+        Err(LevelFault::Wide) => Ok(Elimination::Wide),
+        Err(LevelFault::Many) => Ok(Elimination::Many(ROW_LIMIT as u64)),
+        Err(LevelFault::Memory) => Err(AllocError),
     }
 }

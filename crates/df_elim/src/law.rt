@@ -1,10 +1,10 @@
 //! Laws of levels.
 
 ghost use Rattle.std.specs.Prelude.{◌≡◌, ℕ, ℤ, true, List};
-ghost use Rattle.df_linear.specs.Row as pure;
-ghost use Rattle.df_linear.specs.Value.{row_holds, rows_hold};
-ghost use Rattle.df_lin.specs.Levels.{Stands, IsFirstLevel};
-ghost use Rattle.df_lin.specs.Elimination.{AreRefuted, IsElimination};
+ghost use Rattle.df_row.specs.Row as pure;
+ghost use Rattle.df_row.specs.Value.{row_holds, rows_hold};
+ghost use Rattle.df_level.specs.Levels.{Stands, IsFirstLevel};
+ghost use Rattle.df_level.specs.Elimination.{AreRefuted, IsElimination};
 ghost use Rattle.df_elim.specs.Elimination.{AreAmong};
 
 /// Rows that are refuted are refuted among others too.

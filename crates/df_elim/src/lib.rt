@@ -7,6 +7,3 @@ mod variable;
 
 pub use elimination::{Elimination, Levels, eliminate};
 pub use law::{first_levels_tell, refuted_rows_stay_refuted, rows_hold_where_first_levels_do};
-
-#[cfg(test)]
-mod tests;

@@ -2,11 +2,11 @@
 
 ghost use Rattle.std.specs.Prelude.{◌≡◌, ◌≤◌, [], ◌∷◌};
 ghost use Rattle.std.specs.Bool.{Decides};
-ghost use Rattle.df_lin.specs.Row.{function_row};
-ghost use Rattle.df_lin.specs.Levels.{rows_of};
+ghost use Rattle.df_level.specs.Row.{function_row};
+ghost use Rattle.df_level.specs.Levels.{rows_of};
 ghost use Rattle.df_elim.specs.Elimination.{lesser_of, low_after, TellsVariable};
 
-use df_lin::Row;
+use df_level::Row;
 
 /// Whether the node comes after the last one, where there is one.
 fn is_after(node: usize, last: Option<usize>) -> bool

@@ -6,10 +6,9 @@ use Rattle.std.proofs.Math.Seq.{set-append_seam}
 use Rattle.std.proofs.lemmas.List.{append-nil, map-append}
 use Rattle.df_plain.specs.declared.expr.Operator.{Operator}
 use Rattle.df_plain.specs.Expr.{Expr, Number, Truth, Local, Negate, Not, Operations, Chain, Members, end, more, Links, last, link}
-use Rattle.df_plain.specs.Stmt.{Operand, Stmt, Block, Var, Assign, If, Print, Stmts, done, next, Branches}
+use Rattle.df_plain.specs.Stmt.{Operand, Stmt, Block, Var, Assign, If, Print, Stmts, done, next, Branches, locals_after}
 use Rattle.df_plain.specs.Stmt as stmt
 use Rattle.df_plain.specs.Plain as plain
-use Rattle.df_plain.specs.Kinds.{locals_after}
 use Rattle.df_mach.specs.declared.instruction.Instruction.{Instruction}
 use Rattle.df_mach.specs.declared.instruction.Instruction.TheVariants as i
 use Rattle.df_mach.specs.State.{Method}

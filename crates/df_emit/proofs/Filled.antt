@@ -6,9 +6,8 @@ use Rattle.df_program.specs.declared.expr.Comparison.TheVariants as comparisons
 use Rattle.df_plain.specs.declared.expr.Operator.{Operator}
 use Rattle.df_plain.specs.declared.expr.Operator.TheVariants as operators
 use Rattle.df_plain.specs.Expr.{Expr, Number, Truth, Local, Negate, Not, Operations, Chain, Members, end, more, Links, last, link}
-use Rattle.df_plain.specs.Stmt.{Operand, Stmt, Block, Var, Assign, If, Print, Stmts, done, next, Branches}
+use Rattle.df_plain.specs.Stmt.{Operand, Stmt, Block, Var, Assign, If, Print, Stmts, done, next, Branches, locals_after}
 use Rattle.df_plain.specs.Stmt as stmt
-use Rattle.df_plain.specs.Kinds.{locals_after}
 use Rattle.df_mach.specs.declared.instruction.Instruction.{Instruction}
 use Rattle.df_mach.specs.declared.instruction.Instruction.TheVariants as i
 use Rattle.df_emit.specs.Code.{hole, front, combine, compare, keep, expr_code, members_code, links_code, text_code, operand_code, operands_code, stmt_code, stmts_code, branches_code}

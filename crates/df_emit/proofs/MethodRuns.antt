@@ -20,7 +20,8 @@ use Rattle.df_mach.specs.Step.{Effect, Goes, Returns, Stepped, On, Ended, Fault,
 use Rattle.df_mach.specs.Run.{and_then, machine_run, begun, beginning, start_of, NeverFaults}
 use Rattle.df_mach.proofs.Runs.{run_add, ends_for_good}
 use Rattle.df_emit.specs.Code.{gets, give, stmts_code, most_in_all, body_code, method_code, plain_code}
-use Rattle.df_emit.specs.Correct.{machine_value, Ends, DoesWhat}
+use Rattle.df_emit.specs.Ending.{Ends}
+use Rattle.df_emit.specs.Correct.{machine_value, DoesWhat}
 use Rattle.df_emit.proofs.Emitted.{stmts_most}
 use Rattle.df_emit.proofs.Reach.{HasAt, has_front, has_back, has_moved, has_all, World, instructions, frame, at, Leads, leads_on, leads_silent, next_is, Covers, Arrives, Carries}
 use Rattle.df_emit.proofs.StatementRuns.{After, state, stmts_run}

@@ -9,9 +9,9 @@ use Rattle.std.proofs.lemmas.List.{append-nil, length-set, length-map, length-ta
 use Rattle.df_meaning.specs.Value.{Value, text_of}
 use Rattle.df_meaning.specs.Value as values
 use Rattle.df_plain.specs.Expr.{Expr}
-use Rattle.df_plain.specs.Stmt.{Operand, Stmt, Block, Var, Assign, If, Print, Stmts, done, next, Branches}
+use Rattle.df_plain.specs.Stmt.{Operand, Stmt, Block, Var, Assign, If, Print, Stmts, done, next, Branches, locals_after}
 use Rattle.df_plain.specs.Stmt as stmt
-use Rattle.df_plain.specs.Kinds.{is_expr, is_operand, locals_after, is_stmt, are_stmts, are_branches}
+use Rattle.df_plain.specs.Kinds.{is_expr, is_operand, is_stmt, are_stmts, are_branches}
 use Rattle.df_plain.specs.Evaluation.{evaluate}
 use Rattle.df_plain.specs.Execution.{State, declare, assign, printed, cut, number_text, truth_text, operand_text, print_all, chosen, leave, execute, execute_all, execute_branches}
 use Rattle.df_mach.specs.declared.instruction.Instruction.{Instruction}

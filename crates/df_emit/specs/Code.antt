@@ -6,10 +6,9 @@ use Rattle.df_program.specs.declared.expr.Comparison.TheVariants as comparisons
 use Rattle.df_plain.specs.declared.expr.Operator.{Operator}
 use Rattle.df_plain.specs.declared.expr.Operator.TheVariants as operators
 use Rattle.df_plain.specs.Expr.{Expr, Number, Truth, Local, Negate, Not, Operations, Chain, Members, end, more, Links, last, link}
-use Rattle.df_plain.specs.Stmt.{Operand, Stmt, Block, Var, Assign, If, Print, Stmts, done, next, Branches}
+use Rattle.df_plain.specs.Stmt.{Operand, Stmt, Block, Var, Assign, If, Print, Stmts, done, next, Branches, locals_after}
 use Rattle.df_plain.specs.Stmt as stmt
 use Rattle.df_plain.specs.Plain as plain
-use Rattle.df_plain.specs.Kinds.{locals_after}
 use Rattle.df_mach.specs.declared.instruction.Range.{Range}
 use Rattle.df_mach.specs.declared.instruction.UnaryOperator.TheVariants as unary
 use Rattle.df_mach.specs.declared.instruction.BinaryOperator.TheVariants as binary
@@ -21,11 +20,11 @@ use Rattle.df_mach.specs.State.{Method, Code}
 abbrev pub range_of : Interval → Range
 range_of range = record { low = range.low; high = range.high }
 
--- stands for a jump out of a run until its place is known; nothing in a run returns
+-- stands for a jump out of a row until its target is known, and is only measured; nothing in a row returns
 abbrev pub hole : Instruction
 hole = i.Return 0
 
--- Pops a truth, and leaves the run with a truth by the exit if it is true. The first stands at the place.
+-- Pops a truth, and jumps out of the row with a truth by the exit if it is true. The first stands at the place.
 abbrev pub decide : ℕ → Bool → Instruction → List Instruction
 decide place truth exit = i.Unless (place + 3) ∷ i.Truth truth ∷ exit ∷ []
 
@@ -155,6 +154,7 @@ abbrev pub gets : ℕ → ℕ → List Instruction
 gets first zero = []
 gets first (suc count) = i.Get first ∷ gets (suc first) count
 
+-- returns so many
 abbrev pub give : ℕ → List Instruction
 give count = i.Return count ∷ []
 

@@ -5,22 +5,14 @@ use Rattle.df_plain.specs.Plain.{Method, Plain}
 use Rattle.df_plain.specs.Run.{Ended, plain_run}
 use Rattle.df_mach.specs.Value as mach
 use Rattle.df_mach.specs.State.{Code}
-use Rattle.df_mach.specs.Step as step
-use Rattle.df_mach.specs.Step.{Stepped}
-use Rattle.df_mach.specs.Run.{and_then, machine_run, start_of, NeverFaults}
+use Rattle.df_mach.specs.Run.{start_of}
+use Rattle.df_emit.specs.Ending.{Ends}
 
 -- the machine's value: a text is a sequence of characters
 abbrev pub machine_value : Value → mach.Value
 machine_value (Truth b) = mach.Truth b
 machine_value (Number n) = mach.Number n
 machine_value (Text characters) = mach.Sequence (mach.held (map mach.Char characters))
-
--- no number of steps from the start breaks a demand, and after some the machine ends with these results, no
--- objects, and this text
-pub record Ends (code : Code) (start : Stepped) (results : List mach.Value) (text : List ℕ) : Type 0 where
-  pub never : NeverFaults code start
-  pub steps : ℕ
-  pub ends : and_then start (machine_run code steps) ≡ step.Ended (record { results = results; heap = []; text = text })
 
 -- each run of a method that comes to an end ends so on the machine, from the method's beginning
 pub record DoesWhat (plain : Plain) (code : Code) : Type 0 where

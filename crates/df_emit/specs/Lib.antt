@@ -1,4 +1,5 @@
 pub mod Code
 pub mod Emitting
 pub mod Drafts
+pub mod Ending
 pub mod Correct

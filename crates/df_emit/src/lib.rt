@@ -5,7 +5,5 @@ mod emission;
 mod emitter;
 mod expressions;
 mod instructions;
-#[cfg(test)]
-mod tests;
 
 pub use emission::emit;

@@ -7,8 +7,6 @@ mod expr;
 mod law;
 mod obligation;
 mod operators;
-#[cfg(test)]
-mod tests;
 
 pub use encoder::Encoder;
 pub use law::{expressions_are_passed, expressions_stay_arithmetic};

@@ -4,7 +4,7 @@ use Rattle.std.specs.Prelude.{slice_get, slice_index_or, option_and_then, int_le
 use Rattle.std.specs.Option.{option_map_or}
 use Rattle.std.specs.List.{list_all}
 use Rattle.df_base.specs.declared.pos.Pos.{Pos}
-use Rattle.df_types.specs.Newtype.{Newtype}
+use Rattle.df_types.specs.Newtype.{Newtype, holds}
 use Rattle.df_program.specs.declared.expr.Ty.{Ty}
 use Rattle.df_program.specs.declared.expr.Ty.TheVariants as types
 use Rattle.df_program.specs.declared.expr.Operator.{Operator}
@@ -16,7 +16,6 @@ use Rattle.df_program.specs.Typing.{same_type, is_integer, is_place_type, fits, 
 use Rattle.df_meaning.specs.declared.kind.Kind.TheVariants as kinds
 use Rattle.df_meaning.specs.Value.{Value, number_of, truth_of, same_truth}
 use Rattle.df_meaning.specs.Value as values
-use Rattle.df_meaning.specs.Range.{holds}
 use Rattle.df_meaning.specs.Outcome.{State, Evaluated, Known, Undefined, OutOfDepth, with_value}
 use Rattle.df_runs.specs.Evaluation.{is_in, in_range, compare, decided, combined, unless, evaluate, evaluate_members, evaluate_links}
 use Rattle.df_plain.specs.Evaluation as plain

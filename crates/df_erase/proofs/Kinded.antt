@@ -169,7 +169,7 @@ left_fits (Some s) = texts_fit s
 
 abbrev left_after : ℕ → Option plain.Stmt → ℕ
 left_after count None = count
-left_after count (Some s) = kinds.locals_after count s
+left_after count (Some s) = plain.locals_after count s
 
 kept_fits : (o : Option plain.Stmt) (others : plain.Stmts) → all_texts_fit (kept o others) ≡ true → (left_fits o ≡ true) × (all_texts_fit others ≡ true)
 kept_fits None others e = (refl, e)

@@ -90,7 +90,7 @@ abbrev mutual
 abbrev pub erase_method : Ranges → source_program.Method → plain_program.Method
 erase_method r m = record { text = m.text; parameters = length m.parameters; results = length m.results; body = erase_stmts r m.body }
 
--- the interval of 0 and no other number
+-- the interval of 0 and no other number; the last field of an interval only proves that its ends are in order
 abbrev pub only_zero : Interval
 only_zero = record { low = pos 0; high = pos 0; is_ordered = le_z_yes tt }
 

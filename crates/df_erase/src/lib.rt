@@ -5,8 +5,6 @@ mod eraser;
 mod erasure;
 mod fault;
 mod native;
-#[cfg(test)]
-mod tests;
 
 pub use erasure::erase;
 pub use fault::EraseFault;

@@ -1,7 +1,9 @@
 -- Nodes that are made stay arithmetic where each is.
 use Rattle.std.proofs.Common.{◌≡◌, ℕ, ◌⊎◌, inl, inr, Bool, true, false, List, [], ◌∷◌, ◌++◌, ◌&&◌, nat_lt, ◌<◌, length, get_or, Option, Some, None, slice_get, refl, sym, ap, ◌∙◌, subst, arith, ltb-true, true≢false}
-use Rattle.std.proofs.lemmas.Option.{slice_get-get_or}
+use Rattle.std.proofs.lemmas.Option.{slice_get-get_or, slice_get_within}
 use Rattle.std.proofs.lemmas.List.Quantifiers.{position-Some}
+use Rattle.std.proofs.lemmas.Bool.{and_parts}
+use Rattle.df_lemmas.proofs.Lists.{get_last, get_pushed}
 use Rattle.df_types.specs.declared.newtype.Ty.TheVariants as types
 use Rattle.df_types.specs.Newtype.{Newtype}
 use Rattle.df_form.specs.declared.node.Op.{Op}
@@ -10,7 +12,6 @@ use Rattle.df_form.specs.Node.{Node, same_node, number_of}
 use Rattle.df_form.specs.Made.{made, made_where}
 use Rattle.df_form.specs.Arithmetic.{IsLiteral, IsArithmetic}
 use Rattle.df_form.proofs.Same.{same_node_equal}
-use Rattle.df_form.proofs.Lists.{both, get_last, get_pushed, get_within}
 use Rattle.df_form.proofs.Values.{Grows, grows_by, grown_get, AreSorted, parts_below}
 use Rattle.df_form.proofs.Making.{IsNumber, grown_number}
 
@@ -110,8 +111,8 @@ module _ (newtypes : List Newtype) where
 
   first_below : (nodes : List Node) (n a b : ℕ) (op : Op) → AreSorted nodes → slice_get nodes n ≡ Some (record { op = op; parts = a ∷ b ∷ [] }) → a < length nodes
   first_below nodes n a b op sorted e =
-      let below = ltb-true a n (both (nat_lt a n) (nat_lt b n && true) (parts_below nodes n (record { op = op; parts = a ∷ b ∷ [] }) sorted e)).0 in
-      let within = get_within nodes n (record { op = op; parts = a ∷ b ∷ [] }) e in
+      let below = ltb-true a n (and_parts (nat_lt a n) (nat_lt b n && true) (parts_below nodes n (record { op = op; parts = a ∷ b ∷ [] }) sorted e)).0 in
+      let within = slice_get_within nodes n (record { op = op; parts = a ∷ b ∷ [] }) e in
       omega arith
 
   pub all_fit : (nodes : List Node) → AreSorted nodes → IsArithmetic newtypes nodes → AreArithmetic newtypes nodes

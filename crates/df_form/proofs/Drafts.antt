@@ -3,20 +3,20 @@ use Rattle.std.proofs.Common.{◌≡◌, ◌⊎◌, inl, inr, ℕ, suc, ◌-◌,
 use Rattle.std.specs.declared.alloc.AllocError.{AllocError}
 use Rattle.std.specs.List.{list_all}
 use Rattle.std.specs.Option.{option_map_or}
-use Rattle.std.proofs.lemmas.Bool.{ltb-true}
-use Rattle.std.proofs.lemmas.Bool.Decides.{nat_tests}
+use Rattle.std.proofs.lemmas.Bool.{ltb-true, lt-ltb, and_parts, and_from}
 use Rattle.std.proofs.lemmas.List.{map-append, length-take-le, take-append-drop, take_all}
 use Rattle.std.proofs.lemmas.List.Folds.{list_all-append}
 use Rattle.std.proofs.lemmas.Option.{slice_get_within, slice_get_cases}
+use Rattle.df_lemmas.proofs.Lists.{get_grown, get_last}
 use Rattle.df_form.specs.declared.node.Op.{Op}
 use Rattle.df_form.specs.declared.node.Sort.TheVariants as sorts
 use Rattle.df_form.specs.Node.{Node, same_sort, number_of}
 use Rattle.df_form.specs.Sorting.{IsTable, is_formula, is_well_sorted, sort_of, sort_at, takes}
 use Rattle.df_form.specs.Made.{Made, made}
 use Rattle.df_form.specs.Sequent.{Walk, ends, again}
-use Rattle.df_form.proofs.Same.{and_true, both_true}
-use Rattle.df_form.proofs.Tables.{get-seam, number_of_some, made_old, made_new, get-left, table_next}
+use Rattle.df_form.proofs.Tables.{number_of_some, made_old, made_new, table_next}
 use Rattle.df_form.proofs.Walks.{walk-known, walk-new, walk-append}
+pub use Rattle.std.proofs.lemmas.Bool.{lt-ltb as less_test}
 
 -- the numbers are those of nodes
 abbrev pub are_known : List Node → List ℕ → Bool
@@ -25,23 +25,20 @@ are_known nodes ns = list_all (λ n. nat_lt n (length nodes)) ns
 pub all_imply : (p q : ℕ → Bool) → ((n : ℕ) → p n ≡ true → q n ≡ true) → (ns : List ℕ) → list_all p ns ≡ true → list_all q ns ≡ true
 all_imply p q imply [] all = refl
 all_imply p q imply (n ∷ ns) all =
-    let both = and_true (p n) (list_all p ns) all in
-    both_true (q n) (list_all q ns) (imply n both.0) (all_imply p q imply ns both.1)
-
-pub less_test : (a b : ℕ) → a < b → nat_lt a b ≡ true
-less_test a b less = grind (arith, nat_tests)
+    let both = and_parts (p n) (list_all p ns) all in
+    and_from (q n) (list_all q ns) (imply n both.0) (all_imply p q imply ns both.1)
 
 -- more nodes
 pub known-more : (nodes more : List Node) (n : ℕ) → nat_lt n (length nodes) ≡ true → nat_lt n (length (nodes ++ more)) ≡ true
 known-more nodes more n known =
     let less = ltb-true n (length nodes) known in
-    less_test n (length (nodes ++ more)) (omega (arith, length-append nodes more))
+    lt-ltb n (length (nodes ++ more)) (omega (arith, length-append nodes more))
 
 get-same : (nodes more : List Node) (n : ℕ) → n < length nodes → slice_get (nodes ++ more) n ≡ slice_get nodes n
 get-same nodes more n less = by (slice_get_cases nodes n).1
   where
     by : ((x : Node) × (n < length nodes) × (slice_get nodes n ≡ Some x) × (get_or nodes n x ≡ x)) ⊎ ((length nodes ≤ n) × (slice_get nodes n ≡ None)) → slice_get (nodes ++ more) n ≡ slice_get nodes n
-    by (inl there) = get-left nodes more n there.0 there.2 ∙ sym there.2
+    by (inl there) = get_grown nodes more n there.0 there.2 ∙ sym there.2
     by (inr past) = let far = past.0 in absurd (omega arith)
 
 pub sort-more : (nodes more : List Node) (n : ℕ) → n < length nodes → sort_at (nodes ++ more) n ≡ sort_at nodes n
@@ -49,14 +46,14 @@ sort-more nodes more n less = ap (λ (o : Option Node). option_map_or (λ node. 
 
 formula-more : (nodes more : List Node) (n : ℕ) → is_formula nodes n ≡ true → is_formula (nodes ++ more) n ≡ true
 formula-more nodes more n formula =
-    let both = and_true (nat_lt n (length nodes)) (same_sort (sort_at nodes n) sorts.Truth) formula in
+    let both = and_parts (nat_lt n (length nodes)) (same_sort (sort_at nodes n) sorts.Truth) formula in
     let sort = sort-more nodes more n (ltb-true n (length nodes) both.0) in
-    both_true (nat_lt n (length (nodes ++ more))) (same_sort (sort_at (nodes ++ more) n) sorts.Truth) (known-more nodes more n both.0) (ap (λ s. same_sort s sorts.Truth) sort ∙ both.1)
+    and_from (nat_lt n (length (nodes ++ more))) (same_sort (sort_at (nodes ++ more) n) sorts.Truth) (known-more nodes more n both.0) (ap (λ s. same_sort s sorts.Truth) sort ∙ both.1)
 
 sorts-more : (nodes more : List Node) (ns : List ℕ) → are_known nodes ns ≡ true → map (sort_at (nodes ++ more)) ns ≡ map (sort_at nodes) ns
 sorts-more nodes more [] known = refl
 sorts-more nodes more (n ∷ ns) known =
-    let both = and_true (nat_lt n (length nodes)) (are_known nodes ns) known in
+    let both = and_parts (nat_lt n (length nodes)) (are_known nodes ns) known in
     let head = sort-more nodes more n (ltb-true n (length nodes) both.0) in
     let tail = sorts-more nodes more ns both.1 in
     λ i. head i ∷ tail i
@@ -86,13 +83,13 @@ pub record IsApplied (nodes : List Node) (node : Node) (hypotheses front : List 
 
 pub one_more : (nodes : List Node) (ns : List ℕ) (n : ℕ) → are_known nodes ns ≡ true → n < length nodes → are_known nodes (ns ++ n ∷ []) ≡ true
 one_more nodes ns n known less =
-    let last : are_known nodes (n ∷ []) ≡ true = both_true (nat_lt n (length nodes)) true (less_test n (length nodes) less) refl in
-    list_all-append (λ k. nat_lt k (length nodes)) ns (n ∷ []) ∙ both_true (are_known nodes ns) (are_known nodes (n ∷ [])) known last
+    let last : are_known nodes (n ∷ []) ≡ true = and_from (nat_lt n (length nodes)) true (lt-ltb n (length nodes) less) refl in
+    list_all-append (λ k. nat_lt k (length nodes)) ns (n ∷ []) ∙ and_from (are_known nodes ns) (are_known nodes (n ∷ [])) known last
 
 applied_known : (nodes : List Node) (node : Node) (hypotheses front : List ℕ) (n : ℕ) → IsReady nodes node hypotheses front → slice_get nodes n ≡ Some node → IsApplied nodes node hypotheses front (record { nodes = nodes; number = n })
 applied_known nodes node hypotheses front n ready at =
     let less = slice_get_within nodes n node at in
-    let before = (and_true (list_all (λ part. nat_lt part (length (take n nodes))) node.parts) (takes node.op (map (sort_at (take n nodes)) node.parts)) (ready.table.sorted n node at)).0 in
+    let before = (and_parts (list_all (λ part. nat_lt part (length (take n nodes))) node.parts) (takes node.op (map (sort_at (take n nodes)) node.parts)) (ready.table.sorted n node at)).0 in
     let below : list_all (λ part. nat_lt part n) node.parts ≡ true = ap (λ k. list_all (λ part. nat_lt part k) node.parts) (sym (length-take-le n nodes (omega (arith, less)))) ∙ before in
     record {
       table = ready.table;
@@ -113,7 +110,7 @@ applied_new nodes node hypotheses front ready new =
       table = table_next nodes node ready.table ready.sorted new;
       formulas = all_imply (is_formula nodes) (is_formula whole) (formula-more nodes (node ∷ [])) hypotheses ready.formulas;
       known = one_more whole front (length nodes) (all_imply (λ n. nat_lt n (length nodes)) (λ n. nat_lt n (length whole)) (known-more nodes (node ∷ [])) front ready.known) (omega (arith, long));
-      sort = sort_here whole (length nodes) node (get-seam nodes node);
+      sort = sort_here whole (length nodes) node (get_last nodes node);
       sorts = sorts-more nodes (node ∷ []) front ready.known;
       walked = λ walk.
           let joined = subst (λ ns. Walk nodes 0 ns (length nodes)) (sym (append_assoc hypotheses front node.parts)) walk in
@@ -133,12 +130,12 @@ known_parts : (nodes : List Node) (stack : List ℕ) (k : ℕ) → are_known nod
 known_parts nodes stack k known =
     let split = list_all-append (λ n. nat_lt n (length nodes)) (take k stack) (drop k stack) in
     let whole = ap (are_known nodes) (take-append-drop k stack) in
-    and_true (are_known nodes (take k stack)) (are_known nodes (drop k stack)) (sym split ∙ whole ∙ known)
+    and_parts (are_known nodes (take k stack)) (are_known nodes (drop k stack)) (sym split ∙ whole ∙ known)
 
 pub sorted_parts : (nodes : List Node) (op : Op) (stack parts : List ℕ) (k : ℕ) → are_known nodes stack ≡ true → parts ≡ drop k stack → takes op (map (sort_at nodes) (drop k stack)) ≡ true → is_well_sorted nodes (record { op = op; parts = parts }) ≡ true
 sorted_parts nodes op stack parts k known is taken =
     let below = (known_parts nodes stack k known).1 in
-    ap (λ ns. is_well_sorted nodes (record { op = op; parts = ns })) is ∙ both_true (are_known nodes (drop k stack)) (takes op (map (sort_at nodes) (drop k stack))) below taken
+    ap (λ ns. is_well_sorted nodes (record { op = op; parts = ns })) is ∙ and_from (are_known nodes (drop k stack)) (takes op (map (sort_at nodes) (drop k stack))) below taken
 
 pub ready : (nodes : List Node) (op : Op) (hypotheses stack : List ℕ) (k : ℕ) → IsTable nodes → list_all (is_formula nodes) hypotheses ≡ true → are_known nodes stack ≡ true → takes op (map (sort_at nodes) (drop k stack)) ≡ true → IsReady nodes (record { op = op; parts = drop k stack }) hypotheses (take k stack)
 ready nodes op hypotheses stack k table formulas known taken = record {

@@ -1,6 +1,7 @@
 -- The definitions, computed on a small sequent.
-use Rattle.std.proofs.Common.{◌≡◌, ℕ, zero, suc, ◌<◌, ℤ, pos, ◌+ℤ◌, int_le, ◌≤ℤ◌, true, false, true≢false, List, [], ◌∷◌, take, slice_get, None, Some, refl, sym, arith}
+use Rattle.std.proofs.Common.{◌≡◌, ℕ, zero, suc, ◌<◌, ℤ, pos, ◌+ℤ◌, int_le, ◌≤ℤ◌, true, false, true≢false, List, [], ◌∷◌, take, slice_get, Some, refl, sym, arith}
 use Rattle.std.proofs.lemmas.Int.{ints}
+use Rattle.std.proofs.lemmas.Option.{none-some}
 use Rattle.df_types.specs.Newtype.{Newtype}
 use Rattle.df_meaning.specs.Value.{Value, Number, Truth, number_of}
 use Rattle.df_form.specs.declared.node.Sort.{Sort}
@@ -124,9 +125,6 @@ swap (suc (suc n)) = suc (suc n)
 moved : {a b : Node} → Some a ≡ Some b → Some (renamed swap a) ≡ Some (renamed swap b)
 moved h = cc
 
-none_some : {a : Node} → None ≡ Some a → ⊥
-none_some h = cc
-
 renames : (n : ℕ) (a : Node) → slice_get (nodes_to (pos 4)) n ≡ Some a → slice_get swapped_nodes (swap n) ≡ Some (renamed swap a)
 renames zero a at = moved at
 renames (suc zero) a at = moved at
@@ -135,7 +133,7 @@ renames (suc (suc (suc zero))) a at = moved at
 renames (suc (suc (suc (suc zero)))) a at = moved at
 renames (suc (suc (suc (suc (suc zero))))) a at = moved at
 renames (suc (suc (suc (suc (suc (suc zero)))))) a at = moved at
-renames (suc (suc (suc (suc (suc (suc (suc n))))))) a at = absurd (none_some at)
+renames (suc (suc (suc (suc (suc (suc (suc n))))))) a at = absurd (none-some _ at)
 
 pub is_renaming : (newtypes : List Newtype) → IsRenaming swap (at_most newtypes (pos 4)) (swapped newtypes)
 is_renaming newtypes = record { nodes = renames; hypotheses = refl; goal = refl }

@@ -3,15 +3,16 @@ use Rattle.std.proofs.Common.{◌≤◌, Bor, take, IfSome, length-append, ◌�
 use Rattle.std.specs.List.{list_any, IsDistinct as apart}
 use Rattle.std.proofs.lemmas.List.{length-map, map-append, take-append-le}
 use Rattle.std.proofs.lemmas.Map.Keys.{apart_from_distinct}
-use Rattle.std.proofs.lemmas.Option.{slice_get-map, slice_get_within, get_or_from_slice_get}
+use Rattle.std.proofs.lemmas.Option.{slice_get-map, slice_get_within, get_or_from_slice_get, same_Some, none-some}
 use Rattle.std.specs.Option.{option_copied, option_map, option_to_list}
 use Rattle.std.proofs.Math.Seq.{take-append_seam}
+use Rattle.df_lemmas.proofs.Lists.{get_last}
 use Rattle.df_form.specs.Sorting.{IsTable, is_well_sorted}
 use Rattle.df_form.specs.declared.node.Node as declared
 use Rattle.df_form.specs.Node.{Node, node_of}
 use Rattle.df_form.specs.Made.{made}
 use Rattle.df_form.specs.contracts.node.NodePartialEq.TheImpl as key
-use Rattle.df_form.proofs.Tables.{IsDistinct, number_of_at, number_of_new, made_old, made_new, get-seam, table-append, table-take}
+use Rattle.df_form.proofs.Tables.{IsDistinct, number_of_at, number_of_new, made_old, made_new, table-append, table-take}
 
 -- the test of keys is equality of nodes
 abbrev pub eq : declared.Node → declared.Node → Bool
@@ -31,19 +32,13 @@ not_before keys d i j a b at_i at_j same less =
     let apart_here : eq a b ≡ false = (λ k. eq (sym x k) (sym y k)) ∙ e in
     absurd (true≢false (sym (equal_back a b same) ∙ apart_here))
 
-some_equal : {x y : Node} → Some x ≡ Some y → x ≡ y
-some_equal h = cc
-
-none_is_some : {x : Node} → None ≡ Some x → ⊥
-none_is_some h = cc
-
 -- the key of a node
 keyed : (keys : List declared.Node) (n : ℕ) (node : Node) → slice_get (map node_of keys) n ≡ Some node → (a : declared.Node) × (slice_get keys n ≡ Some a) × (node_of a ≡ node)
 keyed keys n node at = by (slice_get keys n) refl
   where
     by : (r : Option declared.Node) → slice_get keys n ≡ r → (a : declared.Node) × (slice_get keys n ≡ Some a) × (node_of a ≡ node)
-    by None e = absurd (none_is_some (sym (slice_get-map node_of keys n ∙ ap (option_map node_of) e) ∙ at))
-    by (Some a) e = (a, e, some_equal (sym (slice_get-map node_of keys n ∙ ap (option_map node_of) e) ∙ at))
+    by None e = absurd (none-some _ (sym (slice_get-map node_of keys n ∙ ap (option_map node_of) e) ∙ at))
+    by (Some a) e = (a, e, same_Some _ _ (sym (slice_get-map node_of keys n ∙ ap (option_map node_of) e) ∙ at))
 
 -- keys that are apart are distinct nodes
 pub distinct-keys : (keys : List declared.Node) → apart eq keys → IsDistinct (map node_of keys)
@@ -71,7 +66,7 @@ made-keys keys after node n distinct is at = by (list_any (eq node) keys) refl
         let apart_here : IsDistinct (map node_of keys ++ node_of node ∷ []) = subst IsDistinct whole distinct in
         let new = number_of_new (map node_of keys) (node_of node) apart_here in
         let here : slice_get (map node_of keys ++ node_of node ∷ []) n ≡ Some (node_of node) = ap (λ l. slice_get l n) (sym whole) ∙ at in
-        let last : n ≡ length (map node_of keys) = apart_here n (length (map node_of keys)) (node_of node) here (get-seam (map node_of keys) (node_of node)) in
+        let last : n ≡ length (map node_of keys) = apart_here n (length (map node_of keys)) (node_of node) here (get_last (map node_of keys) (node_of node)) in
         made_new (map node_of keys) (node_of node) new ∙ (λ i. record { nodes = sym whole i; number = sym last i })
 
 -- the nodes, once a key is among the keys

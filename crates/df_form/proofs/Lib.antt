@@ -1,7 +1,6 @@
 pub mod Same
 pub mod Tables
 pub mod Keys
-pub mod Sorts
 pub mod Walks
 pub mod Drafts
 pub mod Examples
@@ -10,3 +9,4 @@ pub mod Lists
 pub mod Values
 pub mod Making
 pub mod Arithmetic
+pub mod Literals

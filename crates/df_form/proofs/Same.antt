@@ -1,9 +1,11 @@
 -- The tests of operations and nodes tell whether they are equal.
-use Rattle.std.proofs.Common.{◌≡◌, ℕ, Bool, true, false, ◌&&◌, nat_eq, refl, ap, arith}
+use Rattle.std.proofs.Common.{◌≡◌, true, ◌&&◌, nat_eq, refl, ap, arith}
 use Rattle.std.proofs.lemmas.Bool.Decides.{Decides-int_eq}
 use Rattle.std.proofs.lemmas.Slice.Eq.{bytes_eq-Decides}
 use Rattle.std.proofs.lemmas.Grind.{common_steps}
 use Rattle.std.specs.Cmp.Lexicographic.{pointwise}
+use Rattle.std.proofs.lemmas.Bool.{and_parts, eqb-true, and_from}
+use Rattle.df_lemmas.proofs.Numbers.{equal_self}
 use Rattle.df_form.specs.declared.node.Op.{Op}
 use Rattle.df_form.specs.declared.node.Op.TheVariants as ops
 use Rattle.df_types.specs.declared.newtype.Ty.{Ty}
@@ -12,10 +14,8 @@ use Rattle.df_form.specs.declared.node.Sort.{Sort}
 use Rattle.df_form.specs.declared.node.Sort.TheVariants as sorts
 use Rattle.df_form.specs.declared.node.Free.{Free}
 use Rattle.df_form.specs.Node.{Node, same_sort, same_type, same_op, same_node}
-
-pub and_true : (a b : Bool) → (a && b) ≡ true → (a ≡ true) × (b ≡ true)
-and_true true b e = (refl, e)
-and_true false b e = cc
+pub use Rattle.std.proofs.lemmas.Bool.{and_from as both_true}
+pub use Rattle.std.proofs.lemmas.Bool.{and_parts as and_true}
 
 pub same_sort_equal : (a b : Sort) → same_sort a b ≡ true → a ≡ b
 same_sort_equal sorts.Number sorts.Number e = refl
@@ -33,19 +33,10 @@ same_type_equal (types.Newtype a) (types.Newtype b) e = grind (arith, common_ste
 same_type-refl : (a : Ty) → same_type a a ≡ true
 same_type-refl (types.Newtype a) = grind (arith, common_steps)
 
-nat_equal : (a b : ℕ) → nat_eq a b ≡ true → a ≡ b
-nat_equal a b e = grind (arith, common_steps)
-
-nat_eq-refl : (a : ℕ) → nat_eq a a ≡ true
-nat_eq-refl a = grind (arith, common_steps)
-
-pub both_true : (a b : Bool) → a ≡ true → b ≡ true → (a && b) ≡ true
-both_true a b p q = rw (p, q) refl
-
 same_free_equal : (a b : Free) → (nat_eq a.number b.number && same_sort a.sort b.sort) ≡ true → a ≡ b
 same_free_equal a b e =
-    let both = and_true (nat_eq a.number b.number) (same_sort a.sort b.sort) e in
-    let n : a.number ≡ b.number = nat_equal a.number b.number both.0 in
+    let both = and_parts (nat_eq a.number b.number) (same_sort a.sort b.sort) e in
+    let n : a.number ≡ b.number = eqb-true a.number b.number both.0 in
     let s : a.sort ≡ b.sort = same_sort_equal a.sort b.sort both.1 in
     λ i. record { number = n i; sort = s i }
 
@@ -66,16 +57,16 @@ same_op_equal a b e = cc
 
 pub same_op-refl : (a : Op) → same_op a a ≡ true
 same_op-refl (ops.Number a) = (Decides-int_eq a a).1 refl
-same_op-refl (ops.Free a) = both_true (nat_eq a.number a.number) (same_sort a.sort a.sort) (nat_eq-refl a.number) (same_sort-refl a.sort)
+same_op-refl (ops.Free a) = and_from (nat_eq a.number a.number) (same_sort a.sort a.sort) (equal_self a.number) (same_sort-refl a.sort)
 same_op-refl (ops.Is a) = same_type-refl a
 same_op-refl op = refl
 
 pub same_node_equal : (a b : Node) → same_node a b ≡ true → a ≡ b
 same_node_equal a b e =
-    let both = and_true (same_op a.op b.op) (pointwise nat_eq a.parts b.parts) e in
+    let both = and_parts (same_op a.op b.op) (pointwise nat_eq a.parts b.parts) e in
     let o : a.op ≡ b.op = same_op_equal a.op b.op both.0 in
     let p : a.parts ≡ b.parts = (bytes_eq-Decides a.parts b.parts).0 both.1 in
     λ i. record { op = o i; parts = p i }
 
 pub same_node-refl : (a : Node) → same_node a a ≡ true
-same_node-refl a = both_true (same_op a.op a.op) (pointwise nat_eq a.parts a.parts) (same_op-refl a.op) ((bytes_eq-Decides a.parts a.parts).1 refl)
+same_node-refl a = and_from (same_op a.op a.op) (pointwise nat_eq a.parts a.parts) (same_op-refl a.op) ((bytes_eq-Decides a.parts a.parts).1 refl)

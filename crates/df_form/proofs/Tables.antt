@@ -6,7 +6,9 @@ use Rattle.std.proofs.lemmas.List.Sums.{prefix_len_passes}
 use Rattle.std.proofs.lemmas.Bool.Decides.{nat_tests}
 use Rattle.std.proofs.lemmas.List.Quantifiers.{position-Some}
 use Rattle.std.specs.List.{position_or_len, prefix_len}
-use Rattle.std.proofs.lemmas.Option.{slice_get_within, slice_get-get_or, get_or_from_slice_get, slice_get_cases}
+use Rattle.std.proofs.lemmas.Option.{slice_get_within, slice_get-get_or, get_or_from_slice_get, slice_get_cases, same_Some, none-some}
+use Rattle.std.proofs.lemmas.Bool.{cases_lt}
+use Rattle.df_lemmas.proofs.Lists.{get_grown, get_last}
 use Rattle.df_form.specs.Node.{Node, same_node, number_of}
 use Rattle.df_form.specs.Sorting.{IsTable, is_well_sorted}
 use Rattle.df_form.specs.Made.{Made, made, made_where}
@@ -15,17 +17,6 @@ use Rattle.df_form.proofs.Same.{same_node_equal, same_node-refl}
 -- no node stands twice
 abbrev pub IsDistinct : List Node → Type 0
 IsDistinct nodes = (m n : ℕ) (node : Node) → slice_get nodes m ≡ Some node → slice_get nodes n ≡ Some node → m ≡ n
-
-module _ {X : Type 0} where
-  pub get-left : (xs ys : List X) (n : ℕ) (x : X) → slice_get xs n ≡ Some x → slice_get (xs ++ ys) n ≡ Some x
-  get-left xs ys n x e =
-      let within = slice_get_within xs n x e in
-      let there = slice_get-get_or (xs ++ ys) n x (omega (arith, within, length-append xs ys)) in
-      there ∙ ap Some (get_or_append_left xs ys x n within ∙ get_or_from_slice_get xs n x x e)
-
-  pub get-seam : (xs : List X) (x : X) → slice_get (xs ++ x ∷ []) (length xs) ≡ Some x
-  get-seam [] x = refl
-  get-seam (y ∷ ys) x = get-seam ys x
 
 -- a search finds the node
 pub number_of_some : (nodes : List Node) (node : Node) (n : ℕ) → number_of nodes node ≡ Some n → slice_get nodes n ≡ Some node
@@ -81,7 +72,7 @@ number_of_new nodes node distinct = by (number_of nodes node) refl
     by None e = e
     by (Some m) e =
         let at = number_of_some nodes node m e in
-        let same = distinct m (length nodes) node (get-left nodes (node ∷ []) m node at) (get-seam nodes node) in
+        let same = distinct m (length nodes) node (get_grown nodes (node ∷ []) m node at) (get_last nodes node) in
         let within = slice_get_within nodes m node at in
         absurd (omega (arith, within, same))
 
@@ -92,15 +83,9 @@ get-before nodes node x n less at =
     let there = get_or_append_left nodes (node ∷ []) x n less in
     here ∙ ap Some (sym there ∙ get_or_from_slice_get (nodes ++ node ∷ []) n x x at)
 
-some_equal : {x y : Node} → Some x ≡ Some y → x ≡ y
-some_equal h = cc
-
 sorted-append : (nodes : List Node) (node : Node) → IsTable nodes → is_well_sorted nodes node ≡ true → (n : ℕ) (x : Node) → slice_get (nodes ++ node ∷ []) n ≡ Some x → is_well_sorted (take n (nodes ++ node ∷ [])) x ≡ true
-sorted-append nodes node table sorted n x at = ⊎_elim early late (cases n (length nodes))
+sorted-append nodes node table sorted n x at = ⊎_elim early late (cases_lt n (length nodes))
   where
-    cases : (a b : ℕ) → (a < b) ⊎ (b ≤ a)
-    cases a b = grind arith
-
     early : n < length nodes → is_well_sorted (take n (nodes ++ node ∷ [])) x ≡ true
     early less = ap (λ before. is_well_sorted before x) (take-append-le n nodes (node ∷ []) (omega (arith, less))) ∙ table.sorted n x (get-before nodes node x n less at)
 
@@ -108,7 +93,7 @@ sorted-append nodes node table sorted n x at = ⊎_elim early late (cases n (len
     late past =
         let within = slice_get_within (nodes ++ node ∷ []) n x at in
         let last : n ≡ length nodes = omega (arith, within, past, length-append nodes (node ∷ [])) in
-        let e : x ≡ node = some_equal (sym at ∙ ap (λ k. slice_get (nodes ++ node ∷ []) k) last ∙ get-seam nodes node) in
+        let e : x ≡ node = same_Some _ _ (sym at ∙ ap (λ k. slice_get (nodes ++ node ∷ []) k) last ∙ get_last nodes node) in
         ap (λ k. is_well_sorted (take k (nodes ++ node ∷ [])) x) last ∙ ap (λ before. is_well_sorted before x) (take-append_seam nodes (node ∷ [])) ∙ ap (is_well_sorted nodes) e ∙ sorted
 
 pub table-append : (nodes : List Node) (node : Node) → IsTable nodes → is_well_sorted nodes node ≡ true → IsDistinct (nodes ++ node ∷ []) → IsTable (nodes ++ node ∷ [])
@@ -145,10 +130,7 @@ pub copied-whole : (nodes copy : List Node) → copy ≡ take (length copy) node
 copied-whole nodes copy so_far past = so_far ∙ take_all (length copy) nodes (by (slice_get_cases nodes (length copy)).1)
   where
     by : ((x : Node) × (length copy < length nodes) × (slice_get nodes (length copy) ≡ Some x) × (get_or nodes (length copy) x ≡ x)) ⊎ ((length nodes ≤ length copy) × (slice_get nodes (length copy) ≡ None)) → length nodes ≤ length copy
-    by (inl there) = absurd (none_some (sym past ∙ there.2))
-      where
-        none_some : {x : Node} → None ≡ Some x → ⊥
-        none_some h = cc
+    by (inl there) = absurd (none-some _ (sym past ∙ there.2))
     by (inr there) = there.0
 
 pub copied-none : (nodes copy : List Node) → copy ≡ [] → copy ≡ take (length copy) nodes
@@ -159,11 +141,8 @@ pub distinct-append : (nodes : List Node) (node : Node) → IsDistinct nodes →
 distinct-append nodes node distinct new m n x at_m at_n = by (side m x at_m) (side n x at_n)
   where
     side : (k : ℕ) (y : Node) → slice_get (nodes ++ node ∷ []) k ≡ Some y → (slice_get nodes k ≡ Some y) ⊎ ((k ≡ length nodes) × (y ≡ node))
-    side k y at = ⊎_elim early late (cases k (length nodes))
+    side k y at = ⊎_elim early late (cases_lt k (length nodes))
       where
-        cases : (a b : ℕ) → (a < b) ⊎ (b ≤ a)
-        cases a b = grind arith
-
         early : k < length nodes → (slice_get nodes k ≡ Some y) ⊎ ((k ≡ length nodes) × (y ≡ node))
         early less = inl (get-before nodes node y k less at)
 
@@ -171,7 +150,7 @@ distinct-append nodes node distinct new m n x at_m at_n = by (side m x at_m) (si
         late past =
             let within = slice_get_within (nodes ++ node ∷ []) k y at in
             let last : k ≡ length nodes = omega (arith, within, past, length-append nodes (node ∷ [])) in
-            inr (last, some_equal (sym at ∙ ap (λ j. slice_get (nodes ++ node ∷ []) j) last ∙ get-seam nodes node))
+            inr (last, same_Some _ _ (sym at ∙ ap (λ j. slice_get (nodes ++ node ∷ []) j) last ∙ get_last nodes node))
 
     by : (slice_get nodes m ≡ Some x) ⊎ ((m ≡ length nodes) × (x ≡ node)) → (slice_get nodes n ≡ Some x) ⊎ ((n ≡ length nodes) × (x ≡ node)) → m ≡ n
     by (inl a) (inl b) = distinct m n x a b
@@ -183,8 +162,5 @@ distinct-append nodes node distinct new m n x at_m at_n = by (side m x at_m) (si
 pub table_next : (nodes : List Node) (node : Node) → IsTable nodes → is_well_sorted nodes node ≡ true → number_of nodes node ≡ None → IsTable (nodes ++ node ∷ [])
 table_next nodes node table sorted new = table-append nodes node table sorted (distinct-append nodes node table.distinct new)
 
-none_some : {x : Node} → None ≡ Some x → ⊥
-none_some h = cc
-
 pub table_none : IsTable []
-table_none = record { sorted = λ n node at. absurd (none_some at); distinct = λ m n node at_m at_n. absurd (none_some at_m) }
+table_none = record { sorted = λ n node at. absurd (none-some _ at); distinct = λ m n node at_m at_n. absurd (none-some _ at_m) }

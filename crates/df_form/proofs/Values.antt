@@ -3,6 +3,9 @@ use Rattle.std.proofs.Common.{◌≡◌, ℕ, suc, ◌<◌, ◌≤◌, ◌⊎◌
 use Rattle.std.specs.Option.{option_map_or}
 use Rattle.std.specs.List.{list_all}
 use Rattle.std.proofs.lemmas.List.{get_or_append_left, get_or_at, length-append, length-take-le, take-append-le, take_at, append-nil}
+use Rattle.std.proofs.lemmas.Option.{slice_get_within}
+use Rattle.std.proofs.lemmas.Bool.{and_parts}
+use Rattle.df_lemmas.proofs.Lists.{get_grown, get_below, get_split, get_pushed, map_agree}
 use Rattle.df_types.specs.Newtype.{Newtype}
 use Rattle.df_meaning.specs.Value.{Value}
 use Rattle.df_form.specs.declared.node.Sort.TheVariants as sorts
@@ -10,7 +13,6 @@ use Rattle.df_form.specs.declared.node.Sort.{Sort}
 use Rattle.df_form.specs.Node.{Node}
 use Rattle.df_form.specs.Sorting.{takes, sort_at, sort_of, is_well_sorted}
 use Rattle.df_form.specs.Truth.{Assignment, value_at, apply, values_after, values}
-use Rattle.df_form.proofs.Lists.{both, get_grown, get_below, get_within, get_split, get_pushed, map_agree}
 
 -- nodes that begin with others
 pub record Grows (before now : List Node) : Type 0 where
@@ -51,7 +53,7 @@ one_more_sorted nodes node all one = record { sorted = λ n other e. next n othe
   where
     next : (n : ℕ) (other : Node) → (slice_get nodes n ≡ Some other) ⊎ ((n ≡ length nodes) × (node ≡ other)) → is_well_sorted (take n (nodes ++ node ∷ [])) other ≡ true
     next n other (inl e) =
-        let lt = get_within nodes n other e in
+        let lt = slice_get_within nodes n other e in
         let le : n ≤ length nodes = omega arith in
         let same = take-append-le n nodes (node ∷ []) le in
         subst (λ (front : List Node). is_well_sorted front other ≡ true) (sym same) (all.sorted n other e)
@@ -62,9 +64,9 @@ one_more_sorted nodes node all one = record { sorted = λ n other e. next n othe
 -- what the sorting of a node says of its parts among all nodes
 pub parts_below : (nodes : List Node) (n : ℕ) (node : Node) → AreSorted nodes → slice_get nodes n ≡ Some node → list_all (λ part. nat_lt part n) node.parts ≡ true
 parts_below nodes n node all e =
-    let lt = get_within nodes n node e in
+    let lt = slice_get_within nodes n node e in
     let le : n ≤ length nodes = omega arith in
-    let parts = both (list_all (λ part. nat_lt part (length (take n nodes))) node.parts) (takes node.op (map (sort_at (take n nodes)) node.parts)) (all.sorted n node e) in
+    let parts = and_parts (list_all (λ part. nat_lt part (length (take n nodes))) node.parts) (takes node.op (map (sort_at (take n nodes)) node.parts)) (all.sorted n node e) in
     subst (λ (k : ℕ). list_all (λ part. nat_lt part k) node.parts ≡ true) (length-take-le n nodes le) parts.0
 
 pub front_grows : (nodes : List Node) (n : ℕ) (node : Node) → slice_get nodes n ≡ Some node → Grows (take n nodes) nodes
@@ -72,10 +74,10 @@ front_grows nodes n node e = record { more = node ∷ drop (suc n) nodes; is = g
 
 pub parts_taken : (nodes : List Node) (n : ℕ) (node : Node) → AreSorted nodes → slice_get nodes n ≡ Some node → takes node.op (map (sort_at nodes) node.parts) ≡ true
 parts_taken nodes n node all e =
-    let lt = get_within nodes n node e in
+    let lt = slice_get_within nodes n node e in
     let le : n ≤ length nodes = omega arith in
     let front = take n nodes in
-    let parts = both (list_all (λ part. nat_lt part (length front)) node.parts) (takes node.op (map (sort_at front) node.parts)) (all.sorted n node e) in
+    let parts = and_parts (list_all (λ part. nat_lt part (length front)) node.parts) (takes node.op (map (sort_at front) node.parts)) (all.sorted n node e) in
     let same : map (sort_at nodes) node.parts ≡ map (sort_at front) node.parts = map_agree (λ part. nat_lt part (length front)) (sort_at nodes) (sort_at front) node.parts
     (λ part below. grown_sort front nodes (front_grows nodes n node e) part (ltb-true part (length front) below)) parts.0 in
     subst (λ (found : List Sort). takes node.op found ≡ true) (sym same) parts.1
@@ -109,7 +111,7 @@ module _ (depth : ℕ) (newtypes : List Newtype) (assignment : Assignment) where
 
   pub value_is : (nodes : List Node) (n : ℕ) (node : Node) → AreSorted nodes → slice_get nodes n ≡ Some node → worth nodes n ≡ apply depth newtypes assignment node.op (map (worth nodes) node.parts)
   value_is nodes n node all e =
-      let lt = get_within nodes n node e in
+      let lt = slice_get_within nodes n node e in
       let le : n ≤ length nodes = omega arith in
       let front = take n nodes in
       let long : length front ≡ n = length-take-le n nodes le in

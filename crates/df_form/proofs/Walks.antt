@@ -1,11 +1,11 @@
 -- Walks: they never go down, split and join, and stay where nodes are added.
 use Rattle.std.proofs.Common.{◌≡◌, ◌⊎◌, ⊎_elim, inl, inr, ℕ, suc, ◌<◌, ◌≤◌, true, nat_lt, List, [], ◌∷◌, ◌++◌, length, slice_get, Some, refl, sym, ◌∙◌, subst, arith}
 use Rattle.std.specs.List.{list_all}
-use Rattle.std.proofs.lemmas.Bool.{ltb-true}
+use Rattle.std.proofs.lemmas.Bool.{ltb-true, and_parts}
+use Rattle.std.proofs.lemmas.Option.{same_Some}
+use Rattle.df_lemmas.proofs.Lists.{get_grown, get_last}
 use Rattle.df_form.specs.Node.{Node}
 use Rattle.df_form.specs.Sequent.{Walk, ends, again, first}
-use Rattle.df_form.proofs.Same.{and_true}
-use Rattle.df_form.proofs.Tables.{get-left, get-seam}
 
 -- what is met is met for good
 pub walk_up : (nodes : List Node) (met : ℕ) (ns : List ℕ) (after : ℕ) → Walk nodes met ns after → met ≤ after
@@ -19,9 +19,9 @@ walk_up nodes met ns after (first {n} {others} {node} at parts rest) =
 -- a walk over numbers below a bound ends where it began, or within the bound
 pub walk_within : (nodes : List Node) (bound met : ℕ) (ns : List ℕ) (after : ℕ) → list_all (λ n. nat_lt n bound) ns ≡ true → Walk nodes met ns after → (after ≤ met) ⊎ (after ≤ bound)
 walk_within nodes bound met ns after below ends = inl (omega arith)
-walk_within nodes bound met ns after below (again {n} {others} less rest) = walk_within nodes bound met others after (and_true (nat_lt n bound) (list_all (λ k. nat_lt k bound) others) below).1 rest
+walk_within nodes bound met ns after below (again {n} {others} less rest) = walk_within nodes bound met others after (and_parts (nat_lt n bound) (list_all (λ k. nat_lt k bound) others) below).1 rest
 walk_within nodes bound met ns after below (first {n} {others} {node} at parts rest) =
-    let both = and_true (nat_lt n bound) (list_all (λ k. nat_lt k bound) others) below in
+    let both = and_parts (nat_lt n bound) (list_all (λ k. nat_lt k bound) others) below in
     let here = ltb-true n bound both.0 in
     ⊎_elim (λ (stays : after ≤ suc n). inr (omega arith)) inr (walk_within nodes bound (suc n) others after both.1 rest)
 
@@ -44,7 +44,7 @@ walk-split nodes met (x ∷ xs) ys after (first {node} at parts rest) =
 pub walk-more : (nodes more : List Node) (met : ℕ) (ns : List ℕ) (after : ℕ) → Walk nodes met ns after → Walk (nodes ++ more) met ns after
 walk-more nodes more met ns after ends = ends
 walk-more nodes more met ns after (again {n} {others} less rest) = again less (walk-more nodes more met others after rest)
-walk-more nodes more met ns after (first {n} {others} {node} at parts rest) = first (get-left nodes more n node at) (walk-more nodes more met node.parts n parts) (walk-more nodes more (suc n) others after rest)
+walk-more nodes more met ns after (first {n} {others} {node} at parts rest) = first (get_grown nodes more n node at) (walk-more nodes more met node.parts n parts) (walk-more nodes more (suc n) others after rest)
 
 -- the walk that goes on to a node after its parts: the node stands below the numbers that are met, or is the next
 pub walk-known : (nodes : List Node) (met : ℕ) (ns : List ℕ) (parts : List ℕ) (after n : ℕ) → list_all (λ k. nat_lt k n) parts ≡ true → n < after → Walk nodes met (ns ++ parts) after → Walk nodes met (ns ++ n ∷ []) after
@@ -62,16 +62,13 @@ walk-new nodes met ns node walk =
     let more = node ∷ [] in
     let halves = walk-split nodes met ns node.parts (length nodes) walk in
     let middle = halves.0 in
-    let here : Walk (nodes ++ more) middle (length nodes ∷ []) (suc (length nodes)) = first (get-seam nodes node) (walk-more nodes more middle node.parts (length nodes) halves.2) ends in
+    let here : Walk (nodes ++ more) middle (length nodes ∷ []) (suc (length nodes)) = first (get_last nodes node) (walk-more nodes more middle node.parts (length nodes) halves.2) ends in
     walk-append (nodes ++ more) met ns (length nodes ∷ []) middle (suc (length nodes)) (walk-more nodes more met ns middle halves.1) here
-
-some_node : {x y : Node} → Some x ≡ Some y → x ≡ y
-some_node h = cc
 
 -- before a node that is not met yet come its parts
 pub walk_parts : (nodes : List Node) (met n : ℕ) (others : List ℕ) (after : ℕ) (node : Node) → slice_get nodes n ≡ Some node → met ≤ n → Walk nodes met (n ∷ others) after → Walk nodes met node.parts n
 walk_parts nodes met n others after node at past (again less rest) = absurd (omega arith)
-walk_parts nodes met n others after node at past (first at_too parts rest) = subst (λ (x : Node). Walk nodes met x.parts n) (some_node (sym at_too ∙ at)) parts
+walk_parts nodes met n others after node at past (first at_too parts rest) = subst (λ (x : Node). Walk nodes met x.parts n) (same_Some _ _ (sym at_too ∙ at)) parts
 
 -- there is one number that a walk ends at
 

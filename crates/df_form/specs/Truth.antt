@@ -1,7 +1,6 @@
 -- What nodes mean.
 use Rattle.std.specs.Prelude.{◌≡◌, ℕ, ℤ, pos, ◌+ℤ◌, ◌*ℤ◌, int_le, Bool, true, false, ◌||◌, not, List, [], ◌∷◌, ◌++◌, map, slice_index_or}
 use Rattle.std.specs.List.{list_all, list_any}
-use Rattle.std.specs.Ordering.{int_eq}
 use Rattle.df_types.specs.Newtype.{Newtype}
 use Rattle.df_meaning.specs.Value.{Value, Truth, Number, number_of, truth_of, same_truth, same_value}
 use Rattle.df_meaning.specs.Range.{is_of}

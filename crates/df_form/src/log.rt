@@ -1,5 +1,8 @@
 //! The lines of proof logs. Each adds one clause, numbered from 0, but for the line that makes a node.
 
+ghost use Rattle.std.specs.Prelude.{◌≡◌};
+ghost use Rattle.df_form.specs.Clause.{negation as negation_of};
+
 use crate::node::{Formula, Node, Term};
 
 /// A literal: a formula by the number of its node, or its negation.
@@ -7,6 +10,18 @@ use crate::node::{Formula, Node, Term};
 pub struct Lit {
     pub positive: bool,
     pub node: Formula,
+}
+
+impl Lit {
+    /// The literal that is true where this one is false.
+    pub fn negation(self) -> Lit
+        ensures { result ≡ negation_of self }
+    {
+        Lit {
+            positive: !self.positive,
+            node: self.node,
+        }
+    }
 }
 
 /// A row taken some times.

@@ -99,7 +99,7 @@ impl Nodes {
             .all(|part| is_same(Sort::Truth, self.sort(*part)))
     }
 
-    #[tactic(auto, using(crate::proofs::Sorts::all_mapped))]
+    #[tactic(auto, using(df_lemmas::proofs::Lists::mapped))]
     fn takes(&self, op: Op, parts: &[usize]) -> bool
         ensures { result ≡ takes op (map (sort_at self.now) parts.now) }
     {

@@ -1,6 +1,7 @@
 -- The names of what a source's file declares are below the number of the source's names.
-use Rattle.std.proofs.Common.{◌≡◌, ℕ, ◌<◌, Bool, true, ◌&&◌, nat_lt, List, [], ◌∷◌, ◌++◌, length, Option, Some, None, arith, refl}
+use Rattle.std.proofs.Common.{◌≡◌, ℕ, true, List, [], ◌∷◌, ◌++◌, length, Option, Some, None, arith, refl}
 use Rattle.std.specs.List.{flat_map, list_all}
+use Rattle.std.proofs.lemmas.Bool.{lt-ltb, and_from}
 use Rattle.df_tok.specs.Token.{Token}
 use Rattle.df_tok.specs.Division.{Divides}
 use Rattle.df_tree.specs.declared.file.Parameter.{Parameter}
@@ -10,12 +11,6 @@ use Rattle.df_names.specs.Faults.{results_in}
 use Rattle.df_tdecl.specs.Elaborating.{parameter_names, named_in, are_below, names_below}
 use Rattle.df_front.proofs.Known.{tokens_known, ArePiecesKnown, spelled_known, known_front, known_back}
 
-below : (name count : ℕ) → name < count → nat_lt name count ≡ true
-below name count h = grind arith
-
-both : (a b : Bool) → a ≡ true → b ≡ true → (a && b) ≡ true
-both a b e f = rw (e, f) refl
-
 below_append : (count : ℕ) (front back : List ℕ) → are_below count front ≡ true → are_below count back ≡ true → are_below count (front ++ back) ≡ true
 below_append count [] back e f = f
 below_append count (name ∷ front) back e f = grind (arith, below_append count front back)
@@ -23,12 +18,12 @@ below_append count (name ∷ front) back e f = grind (arith, below_append count 
 more_below : (count : ℕ) (all : List Parameter) → ArePiecesKnown count (flat_map (spell_more spell_parameter) all) → are_below count (parameter_names all) ≡ true
 more_below count [] h = refl
 more_below count (parameter ∷ others) h =
-    both _ _ (below parameter.name.name count h.1.0) (more_below count others (known_back count (spell_more spell_parameter parameter) _ h))
+    and_from _ _ (lt-ltb parameter.name.name count h.1.0) (more_below count others (known_back count (spell_more spell_parameter parameter) _ h))
 
 separated_below : (count : ℕ) (all : List Parameter) → ArePiecesKnown count (separated spell_parameter all) → are_below count (parameter_names all) ≡ true
 separated_below count [] h = refl
 separated_below count (parameter ∷ others) h =
-    both _ _ (below parameter.name.name count h.0) (more_below count others (known_back count (spell_parameter parameter) _ h))
+    and_from _ _ (lt-ltb parameter.name.name count h.0) (more_below count others (known_back count (spell_parameter parameter) _ h))
 
 parameters_below : (count : ℕ) (all : List Parameter) → ArePiecesKnown count (spell_parameters all) → are_below count (parameter_names all) ≡ true
 parameters_below count all h = separated_below count all (known_front count (separated spell_parameter all) _ h.1)
@@ -42,16 +37,16 @@ method_below count method h =
     let after = known_back count (spell_parameters method.parameters) _ h.1.1 in
     let parameters = parameters_below count method.parameters (known_front count (spell_parameters method.parameters) _ h.1.1) in
     let results = results_below count method.results (known_front count (optional spell_results method.results) _ after) in
-    both _ _ (below method.name.name count h.1.0) (below_append count _ _ parameters results)
+    and_from _ _ (lt-ltb method.name.name count h.1.0) (below_append count _ _ parameters results)
 
 declaration_below : (count : ℕ) (declaration : Declaration) → ArePiecesKnown count (spell_declaration declaration) → are_below count (named_in declaration) ≡ true
-declaration_below count (Newtype newtype) h = both _ _ (below newtype.name.name count h.1.0) refl
+declaration_below count (Newtype newtype) h = and_from _ _ (lt-ltb newtype.name.name count h.1.0) refl
 declaration_below count (Method method) h = method_below count method h
 
 declarations_below : (count : ℕ) (all : List Declaration) → ArePiecesKnown count (flat_map spell_declaration all) → list_all (λ (declaration : Declaration). are_below count (named_in declaration)) all ≡ true
 declarations_below count [] h = refl
 declarations_below count (declaration ∷ others) h =
-    both _ _ (declaration_below count declaration (known_front count (spell_declaration declaration) _ h))
+    and_from _ _ (declaration_below count declaration (known_front count (spell_declaration declaration) _ h))
     (declarations_below count others (known_back count (spell_declaration declaration) _ h))
 
 -- the names of what is declared, with parameters and results, have texts

@@ -1,7 +1,8 @@
 -- The names of a source's tokens, and of what they spell, are among the source's names.
-use Rattle.std.proofs.Common.{◌≡◌, ℕ, ◌<◌, ◌≤◌, Bool, true, false, cond, List, [], ◌∷◌, ◌++◌, length, subst, arith, length-append}
+use Rattle.std.proofs.Common.{ℕ, ◌<◌, ◌≤◌, Bool, true, false, cond, List, [], ◌∷◌, ◌++◌, length, subst, arith, length-append}
 use Rattle.std.specs.List.{list_any}
 use Rattle.std.proofs.lemmas.List.Quantifiers.{position-Some}
+use Rattle.df_tdecl.proofs.Spelled.{as_long}
 use Rattle.df_base.specs.Names.{same_text}
 use Rattle.df_base.specs.declared.pos.Pos.{Pos}
 use Rattle.df_tok.specs.declared.token.Kind.{Kind}
@@ -44,30 +45,27 @@ named before text name after h =
     let longer = with_text_longer (list_any (same_text text) before) before text in
     (rw h.0 longer, (position-Some (same_text text) after name [] h.1).0)
 
-same_length : (before after : List (List ℕ)) → after ≡ before → length before ≤ length after
-same_length before after e = rw e (omega arith)
-
 kind_known : (before : List (List ℕ)) (text : List ℕ) (kind : Kind) (after : List (List ℕ)) → HasKind before text kind after → (length before ≤ length after) × IsKnown (length after) kind
 kind_known before text (kinds.Name name) after h = let n = named before text name after h.4 in (n.0, n.1)
 kind_known before text (kinds.Outside name) after h = let n = named before text name after h.1 in (n.0, tt)
-kind_known before text kinds.Wildcard after h = (same_length before after h.1, tt)
-kind_known before text (kinds.Word word) after h = (same_length before after h.1, tt)
-kind_known before text (kinds.Number n) after h = (same_length before after h.3, tt)
-kind_known before text (kinds.Character c) after h = (same_length before after h.1, tt)
-kind_known before text kinds.Text after h = (same_length before after h.1, tt)
-kind_known before text (kinds.Sign sign) after h = (same_length before after h.1, tt)
+kind_known before text kinds.Wildcard after h = (as_long before after h.1, tt)
+kind_known before text (kinds.Word word) after h = (as_long before after h.1, tt)
+kind_known before text (kinds.Number n) after h = (as_long before after h.3, tt)
+kind_known before text (kinds.Character c) after h = (as_long before after h.1, tt)
+kind_known before text kinds.Text after h = (as_long before after h.1, tt)
+kind_known before text (kinds.Sign sign) after h = (as_long before after h.1, tt)
 
 divided_known : (before : List (List ℕ)) (source : List ℕ) (pieces : List Piece) (after : List (List ℕ)) (pos : Pos) → AreDivided before source pieces after → (length before ≤ length after) × AreKnown (length after) (tokens_of pos pieces)
-divided_known before source [] after pos h = (same_length before after h.1, tt)
+divided_known before source [] after pos h = (as_long before after h.1, tt)
 divided_known before source (Blank b ∷ pieces) after pos h =
     let rest = divided_known h.1 h.0 pieces after (after_byte pos b) h.4 in
-    let same = same_length before h.1 h.3.1 in (omega (arith, rest.0), rest.1)
+    let same = as_long before h.1 h.3.1 in (omega (arith, rest.0), rest.1)
 divided_known before source (LineComment text ∷ pieces) after pos h =
     let rest = divided_known h.1 h.0 pieces after (after_bytes pos text) h.4 in
-    let same = same_length before h.1 h.3.2 in (omega (arith, rest.0), rest.1)
+    let same = as_long before h.1 h.3.2 in (omega (arith, rest.0), rest.1)
 divided_known before source (BlockComment text ∷ pieces) after pos h =
     let rest = divided_known h.1 h.0 pieces after (after_bytes pos text) h.4 in
-    let same = same_length before h.1 h.3.1 in (omega (arith, rest.0), rest.1)
+    let same = as_long before h.1 h.3.1 in (omega (arith, rest.0), rest.1)
 divided_known before source (Lexeme kind text ∷ pieces) after pos h =
     let rest = divided_known h.1 h.0 pieces after (after_bytes pos text) h.4 in
     let here = kind_known before text kind h.1 h.3.3 in

@@ -1,6 +1,8 @@
 -- That a source is refused in one way.
-use Rattle.std.proofs.Common.{◌≡◌, ℕ, ◌⊎◌, inl, inr, List, [], ◌∷◌, ◌++◌, slice_get, Option, Some, None, Contains, refl, sym, ap, subst, ◌∙◌, zero, suc, arith}
+use Rattle.std.proofs.Common.{◌≡◌, ℕ, ◌⊎◌, inl, inr, List, [], ◌∷◌, ◌++◌, Option, Some, None, Contains, refl, sym, ap, subst, ◌∙◌, zero, suc, arith}
 use Rattle.std.specs.List.{AllByRecursion}
+use Rattle.df_ghost.proofs.Programs.{name_of_one}
+use Rattle.df_lemmas.proofs.Alls.{same_first, all_there, none_there}
 use Rattle.df_base.specs.declared.pos.Pos.{Pos}
 use Rattle.df_base.specs.declared.refusal.Code.TheVariants as codes
 use Rattle.df_base.specs.declared.refusal.Detail.TheVariants as details
@@ -14,9 +16,9 @@ use Rattle.df_tok.specs.Fault.{IsRefusedAt, IsFault}
 use Rattle.df_tree.specs.ExprSpelling.{IsAt}
 use Rattle.df_tree.specs.File.{File}
 use Rattle.df_tree.specs.FileSpelling.{FilePiece, Plain, Characters, IsFilePiece, StartsWith, spell_file, SpellsFile}
-use Rattle.df_pfile.specs.Refusing.{first_outside, IsRefusalOr, IsRefusal}
-use Rattle.df_program.specs.Program.{Place, Method, Program}
-use Rattle.df_program.specs.Assignment.{Read, IsDefinite, IsNameOf, IsFirstRead, IsFirstLeft, IsFirstUnassigned}
+use Rattle.df_pdecl.specs.Refusing.{first_outside, IsRefusalOr, IsRefusal}
+use Rattle.df_program.specs.Program.{Method, Program}
+use Rattle.df_program.specs.Assignment.{Read, IsDefinite, IsFirstRead, IsFirstLeft, IsFirstUnassigned}
 use Rattle.df_names.specs.Faults.{IsFirst}
 use Rattle.df_names.specs.Faults as names_of
 use Rattle.df_names.specs.Globals.{globals_of}
@@ -26,7 +28,7 @@ use Rattle.df_ghost.specs.Laws.{OneRefusal, DefiniteIsNotRefused}
 use Rattle.df_ghost.specs.Refusals.{TellsFirst}
 use Rattle.df_front.specs.Source.{IsDivided, IsRead, IsElaborated}
 use Rattle.df_front.specs.Refused.{IsRefused, bytes, tokens, meanings, types, values}
-use Rattle.df_front.specs.Line.{detail_text, refusal_line, place_text, rule_text}
+use Rattle.df_front.specs.Line.{detail_text, refusal_line, pos_text, rule_text}
 use Rattle.df_front.specs.Told.{TellTheSame}
 use Rattle.df_front.proofs.Sources.{OneDivision, OneFile, NoDivision, not_first, same_read, same_program}
 use Rattle.df_front.proofs.Uses.{IsThere, IsFilePieceThere, AreFileThere, IsMethodRead, methods_read}
@@ -34,8 +36,8 @@ use Rattle.df_front.proofs.Uses.{IsThere, IsFilePieceThere, AreFileThere, IsMeth
 abbrev pub OneFault : Type 0
 OneFault = (before : List (List ℕ)) (source : List ℕ) (r other : Refusal) → IsFault before source r → IsFault before source other → r ≡ other
 
-abbrev pub OnePlace : Type 0
-OnePlace = (before : List (List ℕ)) (source : List ℕ) (tokens : List Token) (after : List (List ℕ)) (one other : Token) → Divides before source tokens after → Contains tokens one → Contains tokens other → one.pos ≡ other.pos → one ≡ other
+abbrev pub OnePos : Type 0
+OnePos = (before : List (List ℕ)) (source : List ℕ) (tokens : List Token) (after : List (List ℕ)) (one other : Token) → Divides before source tokens after → Contains tokens one → Contains tokens other → one.pos ≡ other.pos → one ≡ other
 
 -- ---- refusals that tell the same
 
@@ -43,7 +45,7 @@ told_alike : (names others : List (List ℕ)) (r other : Refusal) → names ≡ 
 told_alike names others r other same e = record {
   code = ap (λ (x : Refusal). x.code) e;
   detail = ap (λ (x : Refusal). x.detail) e;
-  place = λ not. ap (λ (x : Refusal). x.pos) e;
+  pos = λ not. ap (λ (x : Refusal). x.pos) e;
   line = λ file at. ap (λ (ns : List (List ℕ)). refusal_line file ns r) same ∙ ap (refusal_line file others) e;
 }
 
@@ -52,8 +54,8 @@ told_nameless : (names others : List (List ℕ)) (r other : Refusal) → detail_
 told_nameless names others r other nameless e = record {
   code = ap (λ (x : Refusal). x.code) e;
   detail = ap (λ (x : Refusal). x.detail) e;
-  place = λ not. ap (λ (x : Refusal). x.pos) e;
-  line = λ file at. ap (λ (text : List ℕ). place_text file r.pos ++ rule_text r.code ++ text ++ 10 ∷ []) nameless ∙ ap (refusal_line file others) e;
+  pos = λ not. ap (λ (x : Refusal). x.pos) e;
+  line = λ file at. ap (λ (text : List ℕ). pos_text file r.pos ++ rule_text r.code ++ text ++ 10 ∷ []) nameless ∙ ap (refusal_line file others) e;
 }
 
 told_syntax : (names others : List (List ℕ)) (r other : Refusal) → names ≡ others → r.code ≡ codes.Syntax → other.code ≡ codes.Syntax → r.detail ≡ details.Nothing → other.detail ≡ details.Nothing → TellTheSame names others r other
@@ -63,7 +65,7 @@ told_syntax names others r other same c c' d d' =
     record {
       code = code;
       detail = detail;
-      place = λ not. absurd (not c);
+      pos = λ not. absurd (not c);
       line = λ file at.
           let e : r ≡ other = λ i. record { code = code i; pos = at i; detail = detail i } in
           ap (λ (ns : List (List ℕ)). refusal_line file ns r) same ∙ ap (refusal_line file others) e;
@@ -95,65 +97,38 @@ nameless names others source r (fault.stop small pieces rest known reaches few h
 
 -- a token of the name stands there
 abbrev IsNamedIn : List Token → ℕ → Pos → Type 0
-IsNamedIn all name place = (t : Token) × Contains all t × (t.kind ≡ kinds.Name name) × (t.pos ≡ place)
+IsNamedIn all name pos = (t : Token) × Contains all t × (t.kind ≡ kinds.Name name) × (t.pos ≡ pos)
 
-kind_there : (all : List Token) (kind : Kind) (place : Option Pos) (t : Token) → t.kind ≡ kind → IsAt place t.pos → Contains all t → IsThere (IsNamedIn all) kind place
-kind_there all (kinds.Name name) (Some place) t e at c = (t, c, e, at)
+kind_there : (all : List Token) (kind : Kind) (pos : Option Pos) (t : Token) → t.kind ≡ kind → IsAt pos t.pos → Contains all t → IsThere (IsNamedIn all) kind pos
+kind_there all (kinds.Name name) (Some pos) t e at c = (t, c, e, at)
 kind_there all (kinds.Name name) None t e at c = tt
-kind_there all (kinds.Outside name) place t e at c = tt
-kind_there all kinds.Wildcard place t e at c = tt
-kind_there all (kinds.Word word) place t e at c = tt
-kind_there all (kinds.Number n) place t e at c = tt
-kind_there all (kinds.Character n) place t e at c = tt
-kind_there all kinds.Text place t e at c = tt
-kind_there all (kinds.Sign sign) place t e at c = tt
+kind_there all (kinds.Outside name) pos t e at c = tt
+kind_there all kinds.Wildcard pos t e at c = tt
+kind_there all (kinds.Word word) pos t e at c = tt
+kind_there all (kinds.Number n) pos t e at c = tt
+kind_there all (kinds.Character n) pos t e at c = tt
+kind_there all kinds.Text pos t e at c = tt
+kind_there all (kinds.Sign sign) pos t e at c = tt
 
 piece_there : (all : List Token) (piece : FilePiece) (t : Token) → IsFilePiece piece t → Contains all t → IsFilePieceThere (IsNamedIn all) piece
-piece_there all (Plain piece) t is c = kind_there all piece.kind piece.place t is.0 is.1 c
+piece_there all (Plain piece) t is c = kind_there all piece.kind piece.pos t is.0 is.1 c
 piece_there all (Characters characters) t is c = tt
 
 pieces_there : (all : List Token) (pieces : List FilePiece) (ts rest : List Token) → ((t : Token) → Contains ts t → Contains all t) → StartsWith pieces ts rest → AreFileThere (IsNamedIn all) pieces
-pieces_there all [] ts rest among h = tt
-pieces_there all (piece ∷ pieces) [] rest among h = absurd h
-pieces_there all (piece ∷ pieces) (t ∷ ts) rest among h =
-    (piece_there all piece t h.0 (among t (zero, omega arith, refl)), pieces_there all pieces ts rest (λ u c. among u (suc c.0, let lt = c.1 in omega arith, c.2)) h.1)
-
-head_same : {A : Type 0} (x y : A) (xs ys : List A) → x ∷ xs ≡ y ∷ ys → x ≡ y
-head_same x y xs ys e = cc
-
-tail_same : {A : Type 0} (x y : A) (xs ys : List A) → x ∷ xs ≡ y ∷ ys → xs ≡ ys
-tail_same x y xs ys e = cc
-
--- the first of which something does not hold is one
-same_first : {A : Type 0} (P : A → Type 0) (xs ys others more : List A) (x y : A) → xs ++ x ∷ ys ≡ others ++ y ∷ more → AllByRecursion P xs → AllByRecursion P others → (P x → ⊥) → (P y → ⊥) → x ≡ y
-same_first P [] ys [] more x y e all its here there = head_same x y ys more e
-same_first P [] ys (z ∷ others) more x y e all its here there = absurd (here (subst P (sym (head_same x z ys (others ++ y ∷ more) e)) its.0))
-same_first P (z ∷ xs) ys [] more x y e all its here there = absurd (there (subst P (head_same z y (xs ++ x ∷ ys) more e) all.0))
-same_first P (z ∷ xs) ys (w ∷ others) more x y e all its here there = same_first P xs ys others more x y (tail_same z w (xs ++ x ∷ ys) (others ++ y ∷ more) e) all.1 its.1 here there
-
-among : {A : Type 0} (P : A → Type 0) (xs ys : List A) (x : A) → AllByRecursion P (xs ++ x ∷ ys) → P x
-among P [] ys x all = all.0
-among P (y ∷ xs) ys x all = among P xs ys x all.1
-
-none_there : (r : Read) → Contains [] r → ⊥
-none_there r c = let lt = c.1 in omega arith
-
-name_of_one : (m : Method) (a b name another : ℕ) → a ≡ b → IsNameOf m a name → IsNameOf m b another → name ≡ another
-name_of_one m a b name another e n o =
-    sym n.2 ∙ ap (λ (p : Place). p.name) (same n.0 o.0 (sym n.1 ∙ ap (slice_get (m.parameters ++ m.results)) e ∙ o.1)) ∙ o.2
-  where
-    same : (p q : Place) → Some p ≡ Some q → p ≡ q
-    same p q e = cc
+pieces_there all [] ts rest all_there h = tt
+pieces_there all (piece ∷ pieces) [] rest all_there h = absurd h
+pieces_there all (piece ∷ pieces) (t ∷ ts) rest all_there h =
+    (piece_there all piece t h.0 (all_there t (zero, omega arith, refl)), pieces_there all pieces ts rest (λ u c. all_there u (suc c.0, let lt = c.1 in omega arith, c.2)) h.1)
 
 abbrev Broken : Pos → ℕ → Method → Type 0
-Broken place name m = IsFirstRead m place name ⊎ IsFirstLeft m place name
+Broken pos name m = IsFirstRead m pos name ⊎ IsFirstLeft m pos name
 
 kind_name : (name another : ℕ) → kinds.Name name ≡ kinds.Name another → name ≡ another
 kind_name name another e = cc
 
-module _ (one_fault : OneFault) (one_place : OnePlace) (no_division : NoDivision) (one_division : OneDivision) (one_file : OneFile) (faultless : ElaboratedIsFaultless) (one : OneProgram) (not_refused : DefiniteIsNotRefused) (one_refusal : OneRefusal) where
-  not_broken : (m : Method) (place : Pos) (name : ℕ) → Broken place name m → IsDefinite m → ⊥
-  not_broken m place name broken definite = not_refused (record { newtypes = []; methods = m ∷ [] }) place name (definite, tt) (record {
+module _ (one_fault : OneFault) (one_pos : OnePos) (no_division : NoDivision) (one_division : OneDivision) (one_file : OneFile) (faultless : ElaboratedIsFaultless) (one : OneProgram) (not_refused : DefiniteIsNotRefused) (one_refusal : OneRefusal) where
+  not_broken : (m : Method) (pos : Pos) (name : ℕ) → Broken pos name m → IsDefinite m → ⊥
+  not_broken m pos name broken definite = not_refused (record { newtypes = []; methods = m ∷ [] }) pos name (definite, tt) (record {
     before = [];
     method = m;
     after = [];
@@ -162,10 +137,10 @@ module _ (one_fault : OneFault) (one_place : OnePlace) (no_division : NoDivision
     broken = broken;
   })
 
-  -- at one place a token of one name stands
+  -- at one position a token of one name stands
   one_name : (source : List ℕ) (names : List (List ℕ)) (all : List Token) (name another : ℕ) (p q : Pos) → IsDivided source names all → p ≡ q → IsNamedIn all name p → IsNamedIn all another q → name ≡ another
   one_name source names all name another p q divided e (t, c, kind, at) (u, d, its, there) =
-      let same = one_place [] source all names t u divided.divided c d (at ∙ e ∙ sym there) in
+      let same = one_pos [] source all names t u divided.divided c d (at ∙ e ∙ sym there) in
       kind_name name another (sym kind ∙ ap (λ (x : Token). x.kind) same ∙ its)
 
   broken_once : (source : List ℕ) (names : List (List ℕ)) (all : List Token) (m : Method) (p q : Pos) (name another : ℕ) → IsDivided source names all → IsMethodRead (IsNamedIn all) m → p ≡ q → Broken p name m → Broken q another m → name ≡ another
@@ -189,7 +164,7 @@ module _ (one_fault : OneFault) (one_place : OnePlace) (no_division : NoDivision
   unassigned_once source names program p q name another elaborated e f g =
       let same = same_first IsDefinite f.before f.after g.before g.after f.method g.method (sym f.methods ∙ g.methods) f.definite g.definite (not_broken f.method p name f.broken) (not_broken g.method q another g.broken) in
       let all = elaborated.read.tokens in
-      let is = among (IsMethodRead (IsNamedIn all)) g.before g.after g.method (subst (AllByRecursion (IsMethodRead (IsNamedIn all))) g.methods (methods_there source names program elaborated)) in
+      let is = all_there (IsMethodRead (IsNamedIn all)) g.before g.after g.method (subst (AllByRecursion (IsMethodRead (IsNamedIn all))) g.methods (methods_there source names program elaborated)) in
       broken_once source names all g.method p q name another elaborated.read.divided is e (subst (Broken p name) same f.broken) g.broken
 
   told_values : (source : List ℕ) (names others : List (List ℕ)) (program another : Program) (r other : Refusal) → IsElaborated source names program → IsElaborated source others another → TellsFirst program r → TellsFirst another other → TellTheSame names others r other
@@ -197,11 +172,11 @@ module _ (one_fault : OneFault) (one_place : OnePlace) (no_division : NoDivision
       let same = same_read one_division one_file one source names others elaborated.file its.file elaborated.read its.read in
       let programs = same_program one_division one_file one source names others program another elaborated its in
       let f = subst (λ (x : Program). IsFirstUnassigned x r.pos first.name) programs first.first in
-      let place = one_refusal.places another r.pos other.pos first.name last.name f last.first in
-      let name = unassigned_once source others another r.pos other.pos first.name last.name its place f last.first in
+      let pos = one_refusal.positions another r.pos other.pos first.name last.name f last.first in
+      let name = unassigned_once source others another r.pos other.pos first.name last.name its pos f last.first in
       let code = first.code ∙ sym last.code in
       let detail = first.detail ∙ ap details.Word name ∙ sym last.detail in
-      told_alike names others r other same.0 (λ i. record { code = code i; pos = place i; detail = detail i })
+      told_alike names others r other same.0 (λ i. record { code = code i; pos = pos i; detail = detail i })
 
   -- ---- no two stages refuse a source
 

@@ -6,7 +6,8 @@ use Rattle.df_base.specs.declared.refusal.Stop.TheVariants as stops
 use Rattle.df_program.specs.Program.{Program}
 use Rattle.df_names.specs.Faults.{IsFirst}
 use Rattle.df_names.specs.Telling.{IsTold, Tells}
-use Rattle.df_ghost.specs.Refusals.{IfRefused, TellsFirst}
+use Rattle.df_base.specs.Refusing.{IfRefused}
+use Rattle.df_ghost.specs.Refusals.{TellsFirst}
 
 -- two errors of one result
 same_error : {X : Type 0} (result : Result X Stop) (a b : Stop) → result ≡ Err a → result ≡ Err b → a ≡ b

@@ -1,8 +1,9 @@
 -- Where a result is read without a value, a token of its name stands.
-use Rattle.std.proofs.Common.{◌≡◌, ℕ, zero, suc, Bool, true, false, List, [], ◌∷◌, ◌++◌, map, flat_map, slice_get, Option, Some, None, option_map, if◌then◌else◌, Contains, sym, ap, subst, ◌∙◌, append_assoc, arith}
+use Rattle.std.proofs.Common.{◌≡◌, ℕ, zero, suc, Bool, true, false, List, [], ◌∷◌, ◌++◌, map, flat_map, slice_get, Option, Some, None, option_map, if◌then◌else◌, sym, ap, subst, ◌∙◌, append_assoc}
 use Rattle.std.specs.List.{AllByRecursion}
 use Rattle.std.proofs.lemmas.List.{map-append, append-nil}
-use Rattle.std.proofs.lemmas.Option.{slice_get-map}
+use Rattle.std.proofs.lemmas.Option.{slice_get-map, same_Some}
+use Rattle.df_lemmas.proofs.Alls.{all_front, all_back, all_joined, all_at}
 use Rattle.df_base.specs.declared.pos.Pos.{Pos}
 use Rattle.df_tok.specs.declared.token.Kind.{Kind}
 use Rattle.df_tok.specs.declared.token.Kind.TheVariants as kinds
@@ -30,43 +31,23 @@ use Rattle.df_texpr.specs.Open.{operand_type}
 use Rattle.df_texpr.specs.Elaboration.{Part, members_of, links_of, turned, IsRun, IsTyped, AreParts}
 use Rattle.df_tdecl.specs.Statements.{context_after, IsOperand, AreOperands, IsStatement, AreStatements, AreBranches, IsOtherwise}
 use Rattle.df_tdecl.specs.Faults.{context_of}
-use Rattle.df_tdecl.specs.Elaboration.{ArePlaces, IsMethod, AreDeclarations}
+use Rattle.df_tdecl.specs.Elaboration.{AreParameters, IsMethod, AreDeclarations}
 
 -- ---- lists
-
-front : {X : Type 0} (P : X → Type 0) (a b : List X) → AllByRecursion P (a ++ b) → AllByRecursion P a
-front P [] b h = tt
-front P (x ∷ a) b h = (h.0, front P a b h.1)
-
-back : {X : Type 0} (P : X → Type 0) (a b : List X) → AllByRecursion P (a ++ b) → AllByRecursion P b
-back P [] b h = h
-back P (x ∷ a) b h = back P a b h.1
-
-join : {X : Type 0} (P : X → Type 0) (a b : List X) → AllByRecursion P a → AllByRecursion P b → AllByRecursion P (a ++ b)
-join P [] b p q = q
-join P (x ∷ a) b p q = (p.0, join P a b p.1 q)
-
-one_of : {X : Type 0} (P : X → Type 0) (xs : List X) (x : X) → AllByRecursion P xs → Contains xs x → P x
-one_of P [] x all (k, lt, e) = absurd (omega arith)
-one_of P (y ∷ xs) x all (zero, lt, e) = subst P e all.0
-one_of P (y ∷ xs) x all (suc k, lt, e) = one_of P xs x all.1 (k, omega arith, e)
 
 there_too : (xs extra : List ℕ) (k n : ℕ) → slice_get xs k ≡ Some n → slice_get (xs ++ extra) k ≡ Some n
 there_too [] extra k n e = absurd cc
 there_too (x ∷ xs) extra zero n e = e
 there_too (x ∷ xs) extra (suc k) n e = there_too xs extra k n e
 
-some_is : (a b : ℕ) → Some a ≡ Some b → a ≡ b
-some_is a b e = cc
-
 -- where a token of a name stands
 module _ (IsNamedAt : ℕ → Pos → Type 0) where
   abbrev pub IsThere : Kind → Option Pos → Type 0
-  IsThere (kinds.Name name) (Some place) = IsNamedAt name place
-  IsThere kind place = Unit {0}
+  IsThere (kinds.Name name) (Some pos) = IsNamedAt name pos
+  IsThere kind pos = Unit {0}
 
   abbrev IsPieceThere : Piece → Type 0
-  IsPieceThere piece = IsThere piece.kind piece.place
+  IsPieceThere piece = IsThere piece.kind piece.pos
 
   abbrev pub IsFilePieceThere : FilePiece → Type 0
   IsFilePieceThere (Plain piece) = IsPieceThere piece
@@ -83,13 +64,13 @@ module _ (IsNamedAt : ℕ → Pos → Type 0) where
   plain (piece ∷ pieces) h = (h.0, plain pieces h.1)
 
   expression : (e : Expr) (after : List FilePiece) → AreFileThere (an_expression e ++ after) → AreThere (spell e)
-  expression e after h = plain (spell e) (front IsFilePieceThere (an_expression e) after h)
+  expression e after h = plain (spell e) (all_front IsFilePieceThere (an_expression e) after h)
 
   in_front : (a b : List FilePiece) → AreFileThere (a ++ b) → AreFileThere a
-  in_front a b h = front IsFilePieceThere a b h
+  in_front a b h = all_front IsFilePieceThere a b h
 
   behind : (a b : List FilePiece) → AreFileThere (a ++ b) → AreFileThere b
-  behind a b h = back IsFilePieceThere a b h
+  behind a b h = all_back IsFilePieceThere a b h
 
   -- of a method whose first locals have these names
   module _ (base : List ℕ) where
@@ -101,16 +82,16 @@ module _ (IsNamedAt : ℕ → Pos → Type 0) where
     AreRead rs = AllByRecursion IsRead rs
 
     both_read : (a b : List Read) → AreRead a → AreRead b → AreRead (a ++ b)
-    both_read a b p q = join IsRead a b p q
+    both_read a b p q = all_joined IsRead a b p q
 
     -- they are the first of the locals in scope
     abbrev Extends : Context → Type 0
     Extends context = (others : List ℕ) × (names_of context ≡ base ++ others)
 
-    name_read : (context : Context) (name number : ℕ) (ty : Ty) (place : Pos) → Extends context → Means context name number ty → IsNamedAt name place → IsRead (record { local = number; place = place })
-    name_read context name number ty place (others, e) means named other there =
+    name_read : (context : Context) (name number : ℕ) (ty : Ty) (pos : Pos) → Extends context → Means context name number ty → IsNamedAt name pos → IsRead (record { local = number; place = pos })
+    name_read context name number ty pos (others, e) means named other there =
         let found : slice_get (names_of context) number ≡ Some other = ap (λ (names : List ℕ). slice_get names number) e ∙ there_too base others number other there in
-        subst (λ (n : ℕ). IsNamedAt n place) (some_is name other (sym means.local.there ∙ found)) named
+        subst (λ (n : ℕ). IsNamedAt n pos) (same_Some name other (sym means.local.there ∙ found)) named
 
     -- ---- expressions
 
@@ -127,7 +108,7 @@ module _ (IsNamedAt : ℕ → Pos → Type 0) where
 
     turned_read : (first : typed.Expr) (before : typed.Members) (parts : List Part) → AreRead (reads first) → AreRead (member_reads before) → ArePartsRead parts → AreRead (reads (turned first before parts))
     turned_read first before [] p q h = both_read (reads first) (member_reads before) p q
-    turned_read first before (part ∷ parts) p q h = turned_read part.operand (typed.more operators.Implies part.place first before) parts h.0 (both_read (reads first) (member_reads before) p q) h.1
+    turned_read first before (part ∷ parts) p q h = turned_read part.operand (typed.more operators.Implies part.pos first before) parts h.0 (both_read (reads first) (member_reads before) p q) h.1
 
     same_reads : (e other : typed.Expr) → e ≡ other → AreRead (reads other) → AreRead (reads e)
     same_reads e other same h = subst (λ (x : typed.Expr). AreRead (reads x)) (sym same) h
@@ -148,25 +129,25 @@ module _ (IsNamedAt : ℕ → Pos → Type 0) where
     mutual
       expr_read : (context : Context) → Extends context → (expected : Option Ty) (e : Expr) (ty : Ty) (t : typed.Expr) → IsTyped context expected e ty t → AreThere (spell e) → AreRead (reads t)
       expr_read context x expected (Number literal) ty t h p = same_reads t _ h.2 tt
-      expr_read context x expected (Truth value place) ty t h p = same_reads t _ h.1 tt
+      expr_read context x expected (Truth value pos) ty t h p = same_reads t _ h.1 tt
       expr_read context x expected (Name ident) ty t (number, means, e) p = same_reads t _ e (name_read context ident.name number ty ident.pos x means p.0, tt)
-      expr_read context x expected (Parentheses place inner) ty t h p = expr_read context x expected inner ty t h (front IsPieceThere (spell inner) _ p.1)
-      expr_read context x expected (Unary unary.Negate place operand) ty t (inner, is, integer, e) p = same_reads t _ e (expr_read context x expected operand ty inner is p.1)
-      expr_read context x expected (Unary unary.Not place operand) ty t (inner, is, truth, e) p = same_reads t _ e (expr_read context x None operand types.Bool inner is p.1)
+      expr_read context x expected (Parentheses pos inner) ty t h p = expr_read context x expected inner ty t h (all_front IsPieceThere (spell inner) _ p.1)
+      expr_read context x expected (Unary unary.Negate pos operand) ty t (inner, is, integer, e) p = same_reads t _ e (expr_read context x expected operand ty inner is p.1)
+      expr_read context x expected (Unary unary.Not pos operand) ty t (inner, is, truth, e) p = same_reads t _ e (expr_read context x None operand types.Bool inner is p.1)
       expr_read context x expected (Operations first rest) ty t (of, one, parts, is, are, run) p =
           let own = operand_type context expected (first_group rest) first rest in
-          run_read (first_group rest) rest of one parts ty t run (expr_read context x own first of one is (front IsPieceThere (spell first) _ p))
-          (parts_read context x own (first_group rest) of rest parts are (back IsPieceThere (spell first) _ p))
+          run_read (first_group rest) rest of one parts ty t run (expr_read context x own first of one is (all_front IsPieceThere (spell first) _ p))
+          (parts_read context x own (first_group rest) of rest parts are (all_back IsPieceThere (spell first) _ p))
       expr_read context x expected (Leading end) ty t h p = absurd h
-      expr_read context x expected (Leading (more operator place operand rest)) ty t (one, parts, is, are, junction, truth, e) p =
-          same_reads t _ e (row_read types.Bool one parts (expr_read context x None operand types.Bool one is (front IsPieceThere (spell operand) _ p.1))
-          (parts_read context x None (Some (group_of operator)) types.Bool rest parts are (back IsPieceThere (spell operand) _ p.1)))
+      expr_read context x expected (Leading (more operator pos operand rest)) ty t (one, parts, is, are, junction, truth, e) p =
+          same_reads t _ e (row_read types.Bool one parts (expr_read context x None operand types.Bool one is (all_front IsPieceThere (spell operand) _ p.1))
+          (parts_read context x None (Some (group_of operator)) types.Bool rest parts are (all_back IsPieceThere (spell operand) _ p.1)))
 
       parts_read : (context : Context) → Extends context → (own : Option Ty) (group : Option Group) (of : Ty) (rest : Members) (parts : List Part) → AreParts context own group of rest parts → AreThere (spell_members rest) → ArePartsRead parts
       parts_read context x own group of end parts h p = subst ArePartsRead (sym h) tt
-      parts_read context x own group of (more operator place operand rest) parts (one, others, fits, is, are, e) p =
+      parts_read context x own group of (more operator pos operand rest) parts (one, others, fits, is, are, e) p =
           subst ArePartsRead (sym e)
-          (expr_read context x own operand of one is (front IsPieceThere (spell operand) _ p.1), parts_read context x own group of rest others are (back IsPieceThere (spell operand) _ p.1))
+          (expr_read context x own operand of one is (all_front IsPieceThere (spell operand) _ p.1), parts_read context x own group of rest others are (all_back IsPieceThere (spell operand) _ p.1))
 
     -- ---- statements
 
@@ -207,10 +188,10 @@ module _ (IsNamedAt : ℕ → Pos → Type 0) where
 
       still_extends : (context : Context) (s : Statement) → Extends context → Extends (context_after newtypes context s)
       still_extends context (Var local ty value) x = one_local_more context _ x
-      still_extends context (Nested place statements) x = x
-      still_extends context (Assign place value) x = x
-      still_extends context (If guard place body others last) x = x
-      still_extends context (Assert place condition) x = x
+      still_extends context (Nested pos statements) x = x
+      still_extends context (Assign target value) x = x
+      still_extends context (If guard pos body others last) x = x
+      still_extends context (Assert pos condition) x = x
       still_extends context (Print operands) x = x
 
       abbrev OneRead : List Bool → stmt.Stmt → Type 0
@@ -227,21 +208,21 @@ module _ (IsNamedAt : ℕ → Pos → Type 0) where
 
       mutual
         statement_read : (a : List Bool) (context : Context) → Extends context → (s : Statement) (t : stmt.Stmt) → IsStatement newtypes parameters context s t → AreFileThere (spell_statement s) → OneRead a t
-        statement_read a context x (Nested place body) t (inner, are, e) p = subst (OneRead a) (sym e) (statements_read a context x body inner are (in_front (spell_statements body) _ p.1))
+        statement_read a context x (Nested pos body) t (inner, are, e) p = subst (OneRead a) (sym e) (statements_read a context x body inner are (in_front (spell_statements body) _ p.1))
         statement_read a context x (Var local ty value) t (e, is, same) p =
             subst (OneRead a) (sym same) (missing_read a (reads e) (expr_read context x _ value _ e is (expression value _ (behind (a_type ty) _ p.1.1.1).1)))
-        statement_read a context x (Assign place value) t (number, ty, e, means, le, is, same) p =
+        statement_read a context x (Assign target value) t (number, ty, e, means, le, is, same) p =
             subst (OneRead a) (sym same) (missing_read a (reads e) (expr_read context x (Some ty) value ty e is (expression value _ p.1.1)))
-        statement_read a context x (If guard place body others last) t (condition, first, rest, final, g, b, o, l, same) p =
-            let whole = in_front (an_expression guard ++ braces place (spell_statements body)) _ p.1 in
-            let left = behind (an_expression guard ++ braces place (spell_statements body)) _ p.1 in
+        statement_read a context x (If guard pos body others last) t (condition, first, rest, final, g, b, o, l, same) p =
+            let whole = in_front (an_expression guard ++ braces pos (spell_statements body)) _ p.1 in
+            let left = behind (an_expression guard ++ braces pos (spell_statements body)) _ p.1 in
             let block = behind (an_expression guard) _ whole in
             subst (OneRead a) (sym same)
             (both_read (unassigned_in_branches a (stmt.more condition first rest)) (unassigned_in_all a final)
             (both_read (missing a (reads condition)) _ (missing_read a (reads condition) (expr_read context x None guard types.Bool condition g (expression guard _ whole)))
             (both_read (unassigned_in_all a first) (unassigned_in_branches a rest) (statements_read a context x body first b (in_front (spell_statements body) _ block.1)) (branches_read a context x others rest o (in_front (spell_branches others) _ left))))
             (otherwise_read a context x last final l (behind (spell_branches others) _ left)))
-        statement_read a context x (Assert place condition) t (e, is, same) p =
+        statement_read a context x (Assert pos condition) t (e, is, same) p =
             subst (OneRead a) (sym same) (missing_read a (reads e) (expr_read context x None condition types.Bool e is (expression condition _ p.1)))
         statement_read a context x (Print operands) t (all, are, same) p =
             subst (OneRead a) (sym same) (operands_read a context x operands all are (in_front (separated spell_operand operands) _ p.1))
@@ -255,9 +236,9 @@ module _ (IsNamedAt : ℕ → Pos → Type 0) where
 
         branches_read : (a : List Bool) (context : Context) → Extends context → (all : Branches) (ts : stmt.Branches) → AreBranches newtypes parameters context all ts → AreFileThere (spell_branches all) → BranchesRead a ts
         branches_read a context x tree.end ts h p = subst (BranchesRead a) (sym h) tt
-        branches_read a context x (tree.more guard place body others) ts (condition, first, rest, g, b, o, e) p =
-            let left = behind (an_expression guard ++ braces place (spell_statements body)) _ p.1.1 in
-            let whole = in_front (an_expression guard ++ braces place (spell_statements body)) _ p.1.1 in
+        branches_read a context x (tree.more guard pos body others) ts (condition, first, rest, g, b, o, e) p =
+            let left = behind (an_expression guard ++ braces pos (spell_statements body)) _ p.1.1 in
+            let whole = in_front (an_expression guard ++ braces pos (spell_statements body)) _ p.1.1 in
             let block = behind (an_expression guard) _ whole in
             subst (BranchesRead a) (sym e)
             (both_read (missing a (reads condition)) _ (missing_read a (reads condition) (expr_read context x None guard types.Bool condition g (expression guard _ whole)))
@@ -265,37 +246,37 @@ module _ (IsNamedAt : ℕ → Pos → Type 0) where
 
         otherwise_read : (a : List Bool) (context : Context) → Extends context → (o : Otherwise) (ts : stmt.Stmts) → IsOtherwise newtypes parameters context o ts → AreFileThere (spell_otherwise o) → AllRead a ts
         otherwise_read a context x without ts h p = subst (AllRead a) (sym h) tt
-        otherwise_read a context x (otherwise place body) ts h p = statements_read a context x body ts h (in_front (spell_statements body) _ p.1.1)
+        otherwise_read a context x (otherwise pos body) ts h p = statements_read a context x body ts h (in_front (spell_statements body) _ p.1.1)
 
   -- ---- declarations
 
-  place_names : (names : List (List ℕ)) (newtypes : List ℕ) (all : List Parameter) (places : List program.Place) → ArePlaces names newtypes all places → map (λ (place : program.Place). place.name) places ≡ names_of (context_of newtypes all)
-  place_names names newtypes [] places h = ap (map (λ (place : program.Place). place.name)) h
-  place_names names newtypes (x ∷ xs) places (one, rest, is, are, e) =
-      ap (map (λ (place : program.Place). place.name)) e ∙ ap (λ (n : ℕ). n ∷ map (λ (place : program.Place). place.name) rest) is.name ∙ ap (λ (ns : List ℕ). x.name.name ∷ ns) (place_names names newtypes xs rest are)
+  names_of_parameters : (names : List (List ℕ)) (newtypes : List ℕ) (all : List Parameter) (parameters : List program.Place) → AreParameters names newtypes all parameters → map (λ (parameter : program.Place). parameter.name) parameters ≡ names_of (context_of newtypes all)
+  names_of_parameters names newtypes [] parameters h = ap (map (λ (parameter : program.Place). parameter.name)) h
+  names_of_parameters names newtypes (x ∷ xs) parameters (one, rest, is, are, e) =
+      ap (map (λ (parameter : program.Place). parameter.name)) e ∙ ap (λ (n : ℕ). n ∷ map (λ (parameter : program.Place). parameter.name) rest) is.name ∙ ap (λ (ns : List ℕ). x.name.name ∷ ns) (names_of_parameters names newtypes xs rest are)
 
   -- where a method's first read without a value is, a token of the name stands
   abbrev pub IsMethodRead : program.Method → Type 0
-  IsMethodRead m = (place : Pos) (name : ℕ) → IsFirstRead m place name → IsNamedAt name place
+  IsMethodRead m = (pos : Pos) (name : ℕ) → IsFirstRead m pos name → IsNamedAt name pos
 
   method_read : (names : List (List ℕ)) (newtypes : List ℕ) (x : MethodDeclaration) (m : program.Method) → IsMethod names newtypes x m → AreFileThere (spell_method x) → IsMethodRead m
-  method_read names newtypes x m is p place name r =
+  method_read names newtypes x m is p pos name r =
       let context = context_of newtypes (x.parameters ++ results_of x) in
       let base = names_of context in
       let after = behind (optional spell_results x.results) _ (behind (spell_parameters x.parameters) _ p.1.1) in
       let block = behind (flat_map spell_clause x.clauses) _ after in
       let body = in_front (spell_statements x.body.statements) _ block.1 in
       let all = statements_read base newtypes _ (assigned_at_entry m) context ([], sym (append-nil base)) x.body.statements m.body is.body body in
-      let read = one_of (IsRead base) (unassigned_reads m) r.read all r.there in
-      let parts : map (λ (pl : program.Place). pl.name) (m.parameters ++ m.results) ≡ base =
-      map-append (λ (pl : program.Place). pl.name) m.parameters m.results
-      ∙ ap (λ (ns : List ℕ). ns ++ map (λ (pl : program.Place). pl.name) m.results) (place_names names newtypes x.parameters m.parameters is.parameters)
-      ∙ ap (λ (ns : List ℕ). names_of (context_of newtypes x.parameters) ++ ns) (place_names names newtypes (results_of x) m.results is.results)
+      let read = all_at (IsRead base) (unassigned_reads m) r.read all r.there in
+      let parts : map (λ (parameter : program.Place). parameter.name) (m.parameters ++ m.results) ≡ base =
+      map-append (λ (parameter : program.Place). parameter.name) m.parameters m.results
+      ∙ ap (λ (ns : List ℕ). ns ++ map (λ (parameter : program.Place). parameter.name) m.results) (names_of_parameters names newtypes x.parameters m.parameters is.parameters)
+      ∙ ap (λ (ns : List ℕ). names_of (context_of newtypes x.parameters) ++ ns) (names_of_parameters names newtypes (results_of x) m.results is.results)
       ∙ sym (ap names_of (map-append _ x.parameters (results_of x)) ∙ map-append (λ (b : Binding). b.name) (context_of newtypes x.parameters) (context_of newtypes (results_of x))) in
       let named : slice_get base r.read.local ≡ Some name =
       sym (ap (λ (ns : List ℕ). slice_get ns r.read.local) parts)
-      ∙ slice_get-map (λ (pl : program.Place). pl.name) (m.parameters ++ m.results) r.read.local
-      ∙ ap (option_map (λ (pl : program.Place). pl.name)) r.named.1
+      ∙ slice_get-map (λ (parameter : program.Place). parameter.name) (m.parameters ++ m.results) r.read.local
+      ∙ ap (option_map (λ (parameter : program.Place). parameter.name)) r.named.1
       ∙ ap Some r.named.2 in
       subst (IsNamedAt name) r.at (read name named)
 

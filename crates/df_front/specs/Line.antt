@@ -43,8 +43,8 @@ detail_text names code (details.Rule rule) = letter code ++ decimal rule
 detail_text names code (details.Count count) = []
 
 -- FILE:LINE:COL:
-abbrev pub place_text : List ℕ → Pos → List ℕ
-place_text file pos = file ++ codes ":" ++ decimal pos.line ++ codes ":" ++ decimal pos.col ++ codes ": "
+abbrev pub pos_text : List ℕ → Pos → List ℕ
+pos_text file pos = file ++ codes ":" ++ decimal pos.line ++ codes ":" ++ decimal pos.col ++ codes ": "
 
 abbrev pub refusal_line : List ℕ → List (List ℕ) → Refusal → List ℕ
-refusal_line file names r = place_text file r.pos ++ rule_text r.code ++ detail_text names r.code r.detail ++ codes "\n"
+refusal_line file names r = pos_text file r.pos ++ rule_text r.code ++ detail_text names r.code r.detail ++ codes "\n"

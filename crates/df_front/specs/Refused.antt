@@ -5,7 +5,7 @@ use Rattle.df_tok.specs.Token.{Token}
 use Rattle.df_tok.specs.Fault.{IsFault}
 use Rattle.df_tree.specs.File.{File}
 use Rattle.df_tree.specs.FileSpelling.{SpellsFile}
-use Rattle.df_pfile.specs.Refusing.{IsRefusal}
+use Rattle.df_pdecl.specs.Refusing.{IsRefusal}
 use Rattle.df_program.specs.Program.{Program}
 use Rattle.df_names.specs.Faults.{IsFirst}
 use Rattle.df_names.specs.Faults as names_of
@@ -22,5 +22,5 @@ pub data IsRefused (source : List ℕ) (names : List (List ℕ)) (r : Refusal) :
   meanings : (file : File) → IsRead source names file → IsFirst (names_of.file_faults file) r → IsRefused source names r
   -- typing: the first rule that is broken
   types : (file : File) → IsRead source names file → names_of.file_faults file ≡ [] → IsFirst (typing.file_faults file) r → IsRefused source names r
-  -- definite assignment: the first place where a result has no value
+  -- definite assignment: the first position where a result has no value
   values : (program : Program) → IsElaborated source names program → TellsFirst program r → IsRefused source names r

@@ -15,7 +15,7 @@ byte_limit = 4194304
 abbrev pub token_limit : ℕ
 token_limit = 500000
 
--- within the limits the bytes divide into these tokens, with these names
+-- within the limits the bytes divide into these tokens; the names are the texts of identifiers in order of first use
 pub record IsDivided (source : List ℕ) (names : List (List ℕ)) (tokens : List Token) : Type 0 where
   pub short : length source ≤ byte_limit
   pub divided : Divides [] source tokens names

@@ -9,7 +9,7 @@ ghost use Rattle.df_front.specs.Told.{TellTheSame};
 
 use df_ghost::definite_is_not_refused;
 use df_tdecl::elaborated_is_faultless;
-use df_tok::{no_division, one_division, one_fault, one_place};
+use df_tok::{no_division, one_division, one_fault, one_pos};
 use df_tree::one_file;
 
 /// A source is lawful for at most one program.
@@ -33,12 +33,12 @@ pub fn refused_is_unlawful()
     definite_is_not_refused();
 }
 
-/// A source is refused in one way, but for the place where the syntax is.
+/// A source is refused in one way, but for the position where the syntax is.
 pub fn one_refusal()
     ensures { (source : List ℕ) (names others : List (List ℕ)) (r other : Refusal) → IsRefused source names r → IsRefused source others other → TellTheSame names others r other }
 {
     one_fault();
-    one_place();
+    one_pos();
     no_division();
     one_division();
     one_file();

@@ -4,11 +4,7 @@
 mod law;
 mod line;
 mod reading;
-#[cfg(test)]
-mod refusals;
-#[cfg(test)]
-mod tests;
 
 pub use law::{one_program, one_refusal, refused_is_unlawful};
-pub use line::{place_text, refusal_line};
+pub use line::{pos_text, refusal_line};
 pub use reading::read;

@@ -1,7 +1,7 @@
 //! The line that tells of a refusal.
 
 ghost use Rattle.std.specs.Prelude.{◌≡◌, ◌++◌, IfOk, OnOk};
-ghost use Rattle.df_front.specs.Line.{rule_text, letter, name_text, detail_text, place_text as place_of, refusal_line as line_of};
+ghost use Rattle.df_front.specs.Line.{rule_text, letter, name_text, detail_text, pos_text as pos_of, refusal_line as line_of};
 
 use df_base::{Code, Detail, Name, Names, Pos, Refusal};
 use std::alloc::{AllocError, Global};
@@ -50,14 +50,14 @@ fn text(names: &Names, name: Name) -> &str
     }
 }
 
-/// The place of a file, in front of what is told of it.
-pub fn place_text(alloc: Global, file: &str, pos: Pos) -> Result<Vec<u8>, AllocError>
-    ensures { IfOk result (λ text. text.items ≡ place_of file.now pos) }
+/// The position in a file, in front of what is told of it.
+pub fn pos_text(alloc: Global, file: &str, pos: Pos) -> Result<Vec<u8>, AllocError>
+    ensures { IfOk result (λ text. text.items ≡ pos_of file.now pos) }
 {
     let row = pos.line;
     let col = pos.col;
-    let place = format!(in alloc; "{file}:{row}:{col}: ")?;
-    Ok(place.into_bytes())
+    let text = format!(in alloc; "{file}:{row}:{col}: ")?;
+    Ok(text.into_bytes())
 }
 
 fn push_detail(
@@ -86,7 +86,7 @@ fn push_detail(
     }
 }
 
-/// The line on a refusal of a file: its place, the rule with its word, and the name or the rule of typing.
+/// The line on a refusal of a file: its position, the rule with its word, and the name or the rule of typing.
 pub fn refusal_line(
     alloc: Global,
     file: &str,
@@ -95,7 +95,7 @@ pub fn refusal_line(
 ) -> Result<Vec<u8>, AllocError>
     ensures { IfOk result (λ line. line.items ≡ line_of file.now names.now refusal.now) }
 {
-    let mut line = place_text(alloc, file, refusal.pos)?;
+    let mut line = pos_text(alloc, file, refusal.pos)?;
     line.extend_from_slice(rule(refusal.code).as_bytes())?;
     push_detail(alloc, &mut line, names, refusal.code, refusal.detail)?;
     line.extend_from_slice(b"\n")?;

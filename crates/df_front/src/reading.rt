@@ -10,8 +10,8 @@ ghost use Rattle.df_front.specs.Refused.{IsRefused};
 
 use df_base::{Global, Names, Stop};
 use df_ghost::{Checked, check};
-use df_names::table_of;
-use df_pfile::parse;
+use df_names::table;
+use df_pdecl::parse;
 use df_program::Program;
 use df_tdecl::elaborate;
 use df_tok::tokens;
@@ -34,7 +34,7 @@ fn elaborated(alloc: Global, source: &[u8], names: &mut Names) -> Result<Program
     ensures refused { (r : Refusal) → result ≡ Err (stops.Refused r) → IsRefused source.now names.new r }
 {
     let file = spelled(alloc, source, names)?;
-    let table = table_of(alloc, &file)?;
+    let table = table(alloc, &file)?;
     elaborate(alloc, &file, &table, names)
 }
 

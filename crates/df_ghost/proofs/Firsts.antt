@@ -1,11 +1,12 @@
 -- The first of some reads is one of them, and no later than the others.
 use Rattle.std.proofs.Common.{◌≡◌, ◌≢◌, zero, suc, ◌⊎◌, inl, inr, Bool, true, false, List, [], ◌∷◌, Some, None, if◌then◌else◌, Contains, refl, ap, subst, arith}
 use Rattle.std.specs.List.{AllByRecursion}
+use Rattle.std.proofs.lemmas.Option.{none-some, same_Some}
 use Rattle.df_program.specs.Assignment as pure
 use Rattle.df_program.specs.Assignment.{IsUpTo}
 use Rattle.df_ghost.specs.declared.reads.Read.{Read}
 use Rattle.df_ghost.specs.Reads.{is_before, read_of, least}
-use Rattle.df_ghost.proofs.Places.{up_to_itself, up_to_after, before, not_before}
+use Rattle.df_ghost.proofs.Positions.{up_to_itself, up_to_after, before, not_before}
 
 pub contains_here : {A : Type 0} (x : A) (xs : List A) → Contains (x ∷ xs) x
 contains_here x xs = (zero, omega arith, refl)
@@ -22,12 +23,6 @@ pub record IsLeast (found : pure.Read) (xs : List pure.Read) (r : pure.Read) : T
 abbrev code_read : pure.Read → Read
 code_read r = record { local = r.local; pos = r.place }
 
-pub differ : {A : Type 0} (x : A) → None ≡ Some x → ⊥
-differ x e = cc
-
-same_read : (f r : Read) → Some f ≡ Some r → f ≡ r
-same_read f r e = cc
-
 never_none : (f : Read) (xs : List pure.Read) → least (Some f) xs ≢ None
 never_none f [] e = cc
 never_none f (x ∷ xs) e = by_test (is_before x.place f.pos) (λ g. never_none g xs) e
@@ -41,7 +36,7 @@ none_missing [] e = refl
 none_missing (x ∷ xs) e = absurd (never_none (code_read x) xs e)
 
 least_from : (f : Read) (xs : List pure.Read) (r : Read) → least (Some f) xs ≡ Some r → IsLeast (read_of f) xs (read_of r)
-least_from f [] r e = let same = same_read f r e in record { there = inl (ap read_of same); first = subst (λ (s : Read). IsUpTo s.pos f.pos) same (up_to_itself f.pos); least = tt }
+least_from f [] r e = let same = same_Some f r e in record { there = inl (ap read_of same); first = subst (λ (s : Read). IsUpTo s.pos f.pos) same (up_to_itself f.pos); least = tt }
 least_from f (x ∷ xs) r e = by_test (is_before x.place f.pos) refl (λ g. least_from g xs r) e
   where
     later : IsLeast x xs (read_of r) → IsUpTo x.place f.pos → IsLeast (read_of f) (x ∷ xs) (read_of r)
@@ -69,7 +64,7 @@ pub record IsFirst (xs : List pure.Read) (r : pure.Read) : Type 0 where
   pub least : AllByRecursion (λ (other : pure.Read). IsUpTo r.place other.place) xs
 
 pub first_is : (xs : List pure.Read) (r : Read) → least None xs ≡ Some r → IsFirst xs (read_of r)
-first_is [] r e = absurd (differ r e)
+first_is [] r e = absurd (none-some r e)
 first_is (x ∷ xs) r e =
     let l = least_from (code_read x) xs r e in
     record {

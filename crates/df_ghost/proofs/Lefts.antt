@@ -1,9 +1,9 @@
 -- What is left without a value.
 use Rattle.std.proofs.Common.{◌≡◌, ℕ, zero, suc, ◌+◌, ◌≤◌, Bool, true, false, List, [], ◌∷◌, Some, None, slice_get, refl, subst, arith}
 use Rattle.std.specs.List.{list_all}
+use Rattle.std.proofs.lemmas.Option.{none-some}
 use Rattle.df_program.specs.Assignment.{has_value}
 use Rattle.df_ghost.specs.Left.{left_from}
-use Rattle.df_ghost.proofs.Firsts.{differ}
 
 pub all_valued : (n : ℕ) (xs : List Bool) → left_from n xs ≡ None → (k : ℕ) → has_value xs k ≡ true
 all_valued n [] e k = refl
@@ -21,7 +21,7 @@ pub record IsLeft (xs : List Bool) (j : ℕ) : Type 0 where
   pub least : (other : ℕ) → slice_get xs other ≡ Some false → j ≤ other
 
 left_at : (n : ℕ) (xs : List Bool) (k : ℕ) → left_from n xs ≡ Some k → (j : ℕ) × (k ≡ n + j) × IsLeft xs j
-left_at n [] k e = absurd (differ k e)
+left_at n [] k e = absurd (none-some k e)
 left_at n (true ∷ xs) k e =
     let rest = left_at (suc n) xs k e in
     (suc rest.0, (let is = rest.1 in omega arith), record { missing = rest.2.missing; least = later rest.0 rest.2 })
@@ -38,7 +38,7 @@ pub first_left : (xs : List Bool) (k : ℕ) → left_from 0 xs ≡ Some k → Is
 first_left xs k e = let l = left_at 0 xs k e in let same : l.0 ≡ k = (let is = l.1 in omega arith) in subst (IsLeft xs) same l.2
 
 pub left_has_none : (xs : List Bool) (k : ℕ) → slice_get xs k ≡ Some false → has_value xs k ≡ false
-left_has_none [] k e = absurd (differ false e)
+left_has_none [] k e = absurd (none-some false e)
 left_has_none (x ∷ xs) zero e = same x e
   where
     same : (x : Bool) → Some x ≡ Some false → x ≡ false

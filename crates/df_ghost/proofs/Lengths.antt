@@ -1,22 +1,20 @@
 -- How many locals there are after statements.
-use Rattle.std.proofs.Common.{◌≡◌, ℕ, ◌≤◌, Bool, true, List, [], ◌∷◌, length, take, arith, length-append, length-take}
+use Rattle.std.proofs.Common.{◌≡◌, ◌≤◌, Bool, true, List, [], ◌∷◌, length, take, arith, length-append}
+use Rattle.std.proofs.lemmas.List.{length-take-le}
 use Rattle.df_program.specs.Stmt.{Stmt, Block, Var, Assign, If, Assert, Print, Stmts, done, next, Branches}
 use Rattle.df_program.specs.Stmt as stmt
 use Rattle.df_program.specs.Assignment.{assigned_after, assigned_after_all, assigned_after_branches}
 use Rattle.df_ghost.proofs.Lists.{length-with_value, length-both}
 
-front_length : (n : ℕ) (xs : List Bool) → n ≤ length xs → length (take n xs) ≡ n
-front_length n xs le = omega (arith, length-take n xs)
-
 mutual
   longer : (x : Stmt) (a : List Bool) → length a ≤ length (assigned_after a x)
-  longer (Block stmts) a = omega (arith, front_length (length a) (assigned_after_all a stmts) (all_longer stmts a))
+  longer (Block stmts) a = omega (arith, length-take-le (length a) (assigned_after_all a stmts) (all_longer stmts a))
   longer (Var ty value) a = omega (arith, length-append a (true ∷ []))
   longer (Assign local value) a = omega (arith, length-with_value a local)
   longer (If branches otherwise) a =
-      let o = front_length (length a) (assigned_after_all a otherwise) (all_longer otherwise a) in
+      let o = length-take-le (length a) (assigned_after_all a otherwise) (all_longer otherwise a) in
       omega (arith, branches_length branches a (take (length a) (assigned_after_all a otherwise)) o)
-  longer (Assert place condition) a = omega arith
+  longer (Assert pos condition) a = omega arith
   longer (Print operands) a = omega arith
 
   all_longer : (xs : Stmts) (a : List Bool) → length a ≤ length (assigned_after_all a xs)
@@ -26,9 +24,9 @@ mutual
   pub branches_length : (xs : Branches) (a o : List Bool) → length o ≡ length a → length (assigned_after_branches a xs o) ≡ length a
   branches_length stmt.end a o e = e
   branches_length (stmt.more guard body rest) a o e =
-      let b = front_length (length a) (assigned_after_all a body) (all_longer body a) in
+      let b = length-take-le (length a) (assigned_after_all a body) (all_longer body a) in
       let r = branches_length rest a o e in
       omega (arith, length-both (take (length a) (assigned_after_all a body)) (assigned_after_branches a rest o) (omega (arith, b, r)), r)
 
 pub block_length : (xs : Stmts) (a : List Bool) → length (take (length a) (assigned_after_all a xs)) ≡ length a
-block_length xs a = front_length (length a) (assigned_after_all a xs) (all_longer xs a)
+block_length xs a = length-take-le (length a) (assigned_after_all a xs) (all_longer xs a)

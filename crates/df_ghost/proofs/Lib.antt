@@ -2,9 +2,9 @@ mod Lists
 mod Least
 mod Steps
 mod Lengths
-mod Places
+mod Positions
 mod Firsts
 mod Lefts
 mod Low
 mod Methods
-mod Programs
+pub mod Programs

@@ -66,7 +66,7 @@ mutual
   low_after n (Assign local value) a l = low_assigned n a local l
   low_after n (If branches otherwise) a l =
       low_after_branches n branches a (take (length a) (assigned_after_all a otherwise)) l (low_front n (length a) (assigned_after_all a otherwise) (low_after_all n otherwise a l))
-  low_after n (Assert place condition) a l = l
+  low_after n (Assert pos condition) a l = l
   low_after n (Print operands) a l = l
 
   pub low_after_all : (n : ℕ) (xs : Stmts) (a : List Bool) → IsLow n a → IsLow n (assigned_after_all a xs)
@@ -106,7 +106,7 @@ mutual
   low_in n (Var ty value) a l = low_missing n a (reads value) l
   low_in n (Assign local value) a l = low_missing n a (reads value) l
   low_in n (If branches otherwise) a l = low_append n (unassigned_in_branches a branches) (unassigned_in_all a otherwise) (low_in_branches n branches a l) (low_in_all n otherwise a l)
-  low_in n (Assert place condition) a l = low_missing n a (reads condition) l
+  low_in n (Assert pos condition) a l = low_missing n a (reads condition) l
   low_in n (Print operands) a l = low_operands n a operands l
 
   pub low_in_all : (n : ℕ) (xs : Stmts) (a : List Bool) → IsLow n a → AreLow n (unassigned_in_all a xs)

@@ -14,7 +14,8 @@ use Rattle.df_program.specs.Assignment.{assigned_at_entry, assigned_at_end, unas
 use Rattle.df_ghost.specs.declared.reads.Read.{Read}
 use Rattle.df_ghost.specs.Reads.{least, read_of}
 use Rattle.df_ghost.specs.Left.{left_from}
-use Rattle.df_ghost.specs.Refusals.{IfRefused, TellsOf}
+use Rattle.df_base.specs.Refusing.{IfRefused}
+use Rattle.df_ghost.specs.Refusals.{TellsOf}
 use Rattle.df_ghost.proofs.Firsts.{none_missing, first_is}
 use Rattle.df_ghost.proofs.Lefts.{all_valued, all_of, first_left, left_has_none}
 use Rattle.df_ghost.proofs.Lists.{all_at}
@@ -84,19 +85,19 @@ tells_left m stop assigned first k name is at_end found none left named =
 -- ---- names
 
 pub name_of_parameter : (ps rs : List declared_place.Place) (local : ℕ) (p : declared_place.Place) → local < length ps → p ≡ get_or ps local p
-    → (place : Place) × (slice_get (map place_of ps ++ map place_of rs) local ≡ Some place) × (place.name ≡ p.declared.name)
+    → (parameter : Place) × (slice_get (map place_of ps ++ map place_of rs) local ≡ Some parameter) × (parameter.name ≡ p.declared.name)
 name_of_parameter [] rs local p lt is = absurd (omega arith)
 name_of_parameter (x ∷ ps) rs zero p lt is = (place_of x, refl, ap (λ (q : declared_place.Place). q.declared.name) (sym is))
 name_of_parameter (x ∷ ps) rs (suc local) p lt is = name_of_parameter ps rs local p (omega arith) is
 
 name_among : (rs : List declared_place.Place) (n : ℕ) (p : declared_place.Place) → n < length rs → p ≡ get_or rs n p
-    → (place : Place) × (slice_get (map place_of rs) n ≡ Some place) × (place.name ≡ p.declared.name)
+    → (parameter : Place) × (slice_get (map place_of rs) n ≡ Some parameter) × (parameter.name ≡ p.declared.name)
 name_among [] n p lt is = absurd (omega arith)
 name_among (x ∷ rs) zero p lt is = (place_of x, refl, ap (λ (q : declared_place.Place). q.declared.name) (sym is))
 name_among (x ∷ rs) (suc n) p lt is = name_among rs n p (omega arith) is
 
 pub name_of_result : (ps rs : List declared_place.Place) (local n : ℕ) (p : declared_place.Place) → local ≡ length ps + n → n < length rs → p ≡ get_or rs n p
-    → (place : Place) × (slice_get (map place_of ps ++ map place_of rs) local ≡ Some place) × (place.name ≡ p.declared.name)
-name_of_result [] rs local n p e lt is = let same : n ≡ local = omega arith in subst (λ (k : ℕ). (place : Place) × (slice_get (map place_of rs) k ≡ Some place) × (place.name ≡ p.declared.name)) same (name_among rs n p lt is)
+    → (parameter : Place) × (slice_get (map place_of ps ++ map place_of rs) local ≡ Some parameter) × (parameter.name ≡ p.declared.name)
+name_of_result [] rs local n p e lt is = let same : n ≡ local = omega arith in subst (λ (k : ℕ). (parameter : Place) × (slice_get (map place_of rs) k ≡ Some parameter) × (parameter.name ≡ p.declared.name)) same (name_among rs n p lt is)
 name_of_result (x ∷ ps) rs zero n p e lt is = absurd (omega arith)
 name_of_result (x ∷ ps) rs (suc local) n p e lt is = name_of_result ps rs local n p (omega arith) lt is

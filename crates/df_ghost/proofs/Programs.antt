@@ -1,8 +1,12 @@
 -- The first method that is broken, and laws.
-use Rattle.std.proofs.Common.{◌≡◌, ℕ, zero, suc, ◌+◌, ◌<◌, ◌⊎◌, inl, inr, Bool, true, false, ◌&&◌, List, [], ◌∷◌, ◌++◌, map, length, take, drop, get_or, slice_get, Some, None, Contains, refl, sym, ap, ◌∙◌, subst, arith, add-one}
+use Rattle.std.proofs.Common.{◌≡◌, ℕ, zero, suc, ◌+◌, ◌<◌, ◌⊎◌, inl, inr, Bool, true, false, ◌&&◌, List, [], ◌∷◌, ◌++◌, map, length, take, drop, get_or, slice_get, Some, Contains, sym, ap, ◌∙◌, subst, arith, add-one}
 use Rattle.std.proofs.Math.Seq.{take-suc}
 use Rattle.std.proofs.lemmas.List.{map-append, take-append-drop}
 use Rattle.std.specs.List.{list_all, AllByRecursion}
+use Rattle.std.proofs.lemmas.Option.{none-some, same_Some}
+use Rattle.std.proofs.lemmas.Bool.{and_parts}
+use Rattle.df_lemmas.proofs.Truths.{true_is_not_false}
+use Rattle.df_lemmas.proofs.Alls.{all_there, none_there, same_first}
 use Rattle.df_base.specs.declared.pos.Pos.{Pos}
 use Rattle.df_base.specs.declared.refusal.Stop.{Stop}
 use Rattle.df_base.specs.declared.refusal.Stop.TheVariants as stops
@@ -12,10 +16,11 @@ use Rattle.df_program.specs.MethodView.{method_of}
 use Rattle.df_program.specs.View.{program_of}
 use Rattle.df_program.specs.Program.{Place, Method, Program}
 use Rattle.df_program.specs.Assignment.{Read, has_value, numbers_from, unassigned_reads, assigned_at_end, IsDefinite, IsUpTo, IsNameOf, IsFirstRead, IsFirstLeft, IsFirstUnassigned}
-use Rattle.df_ghost.specs.Refusals.{IfRefused, TellsOf, TellsFirst}
+use Rattle.df_base.specs.Refusing.{IfRefused}
+use Rattle.df_ghost.specs.Refusals.{TellsOf, TellsFirst}
 use Rattle.df_ghost.specs.Laws.{IsReadOnce, OneRefusal, DefiniteIsNotRefused}
 use Rattle.df_ghost.proofs.Lists.{here, all_at}
-use Rattle.df_ghost.proofs.Places.{same_place}
+use Rattle.df_ghost.proofs.Positions.{same_pos}
 use Rattle.df_ghost.proofs.Lefts.{left_has_none}
 
 -- ---- lists of methods
@@ -23,10 +28,6 @@ use Rattle.df_ghost.proofs.Lefts.{left_has_none}
 all_more : {A : Type 0} (P : A → Type 0) (xs : List A) (x : A) → AllByRecursion P xs → P x → AllByRecursion P (xs ++ x ∷ [])
 all_more P [] x all h = (h, tt)
 all_more P (y ∷ xs) x all h = (all.0, all_more P xs x all.1 h)
-
-all_there : {A : Type 0} (P : A → Type 0) (xs ys : List A) (x : A) → AllByRecursion P (xs ++ x ∷ ys) → P x
-all_there P [] ys x all = all.0
-all_there P (y ∷ xs) ys x all = all_there P xs ys x all.1
 
 pub next_definite : (items : List declared_method.Method) (i : ℕ) (x : declared_method.Method) → i < length items → x ≡ get_or items i x
     → AllByRecursion IsDefinite (map method_of (take i items)) → IsDefinite (method_of x) → AllByRecursion IsDefinite (map method_of (take (i + 1) items))
@@ -56,19 +57,9 @@ first_told p items i x stops.Memory same lt is all told = tt
 
 -- ---- what is definite is not broken
 
-none_there : (r : Read) → Contains [] r → ⊥
-none_there r c = let lt = c.1 in omega arith
-
 numbered : (test : ℕ → Bool) (n : ℕ) (ps : List Place) (k : ℕ) (p : Place) → slice_get ps k ≡ Some p → list_all test (numbers_from n ps) ≡ true → test (n + k) ≡ true
-numbered test n [] k p there all = absurd (differ p there)
-  where
-    differ : (p : Place) → None ≡ Some p → ⊥
-    differ p e = cc
-numbered test n (x ∷ ps) zero p there all = let e : n + 0 ≡ n = omega arith in rw e (both (test n) (list_all test (numbers_from (suc n) ps)) all).0
-  where
-    both : (a b : Bool) → (a && b) ≡ true → (a ≡ true) × (b ≡ true)
-    both true b e = (refl, e)
-    both false b e = cc
+numbered test n [] k p there all = absurd (none-some p there)
+numbered test n (x ∷ ps) zero p there all = let e : n + 0 ≡ n = omega arith in rw e (and_parts (test n) (list_all test (numbers_from (suc n) ps)) all).0
 numbered test n (x ∷ ps) (suc k) p there all =
     let e : suc n + k ≡ n + suc k = omega arith in
     rw (← e) (numbered test (suc n) ps k p there (second (test n) (list_all test (numbers_from (suc n) ps)) all))
@@ -77,57 +68,38 @@ numbered test n (x ∷ ps) (suc k) p there all =
     second true b e = e
     second false b e = cc
 
-true_false : (b : Bool) → b ≡ true → b ≡ false → ⊥
-true_false b e f = cc
-
-pub not_broken : (m : Method) (place : Pos) (name : ℕ) → IsFirstRead m place name ⊎ IsFirstLeft m place name → IsDefinite m → ⊥
-not_broken m place name (inl r) d = none_there r.read (subst (λ (rs : List Read). Contains rs r.read) d.reads r.there)
-not_broken m place name (inr l) d =
+pub not_broken : (m : Method) (pos : Pos) (name : ℕ) → IsFirstRead m pos name ⊎ IsFirstLeft m pos name → IsDefinite m → ⊥
+not_broken m pos name (inl r) d = none_there r.read (subst (λ (rs : List Read). Contains rs r.read) d.reads r.there)
+not_broken m pos name (inr l) d =
     let valued = numbered (has_value (assigned_at_end m)) 0 (m.parameters ++ m.results) l.result l.named.0 l.named.1 d.results in
     let e : 0 + l.result ≡ l.result = omega arith in
-    true_false (has_value (assigned_at_end m) l.result) (rw e at valued) (left_has_none (assigned_at_end m) l.result l.missing)
+    true_is_not_false (has_value (assigned_at_end m) l.result) (rw e at valued) (left_has_none (assigned_at_end m) l.result l.missing)
 
 pub not_refused : DefiniteIsNotRefused
-not_refused program place name d f =
-    not_broken f.method place name f.broken (all_there IsDefinite f.before f.after f.method (subst (λ (ms : List Method). AllByRecursion IsDefinite ms) f.methods d))
+not_refused program pos name d f =
+    not_broken f.method pos name f.broken (all_there IsDefinite f.before f.after f.method (subst (λ (ms : List Method). AllByRecursion IsDefinite ms) f.methods d))
 
 -- ---- one refusal
 
-head_same : {A : Type 0} (x y : A) (xs ys : List A) → x ∷ xs ≡ y ∷ ys → x ≡ y
-head_same x y xs ys e = cc
-
-tail_same : {A : Type 0} (x y : A) (xs ys : List A) → x ∷ xs ≡ y ∷ ys → xs ≡ ys
-tail_same x y xs ys e = cc
-
--- the first that is not definite is one
-same_first : {A : Type 0} (P : A → Type 0) (xs ys xs' ys' : List A) (x x' : A) → xs ++ x ∷ ys ≡ xs' ++ x' ∷ ys' → AllByRecursion P xs → AllByRecursion P xs' → (P x → ⊥) → (P x' → ⊥) → x ≡ x'
-same_first P [] ys [] ys' x x' e all all' not_here not_there = head_same x x' ys ys' e
-same_first P [] ys (y' ∷ xs') ys' x x' e all all' not_here not_there = absurd (not_here (subst P (sym (head_same x y' ys (xs' ++ x' ∷ ys') e)) all'.0))
-same_first P (y ∷ xs) ys [] ys' x x' e all all' not_here not_there = absurd (not_there (subst P (head_same y x' (xs ++ x ∷ ys) ys' e) all.0))
-same_first P (y ∷ xs) ys (y' ∷ xs') ys' x x' e all all' not_here not_there = same_first P xs ys xs' ys' x x' (tail_same y y' (xs ++ x ∷ ys) (xs' ++ x' ∷ ys') e) all.1 all'.1 not_here not_there
-
 abbrev Broken : Pos → ℕ → Method → Type 0
-Broken place name m = IsFirstRead m place name ⊎ IsFirstLeft m place name
+Broken pos name m = IsFirstRead m pos name ⊎ IsFirstLeft m pos name
 
-place_once : (m : Method) (p q : Pos) (name another : ℕ) → Broken p name m → Broken q another m → p ≡ q
-place_once m p q name another (inl r) (inl s) =
-    same_place p q
+pos_once : (m : Method) (p q : Pos) (name another : ℕ) → Broken p name m → Broken q another m → p ≡ q
+pos_once m p q name another (inl r) (inl s) =
+    same_pos p q
     (subst (IsUpTo p) s.at (all_at (λ (other : Read). IsUpTo p other.place) (unassigned_reads m) s.read s.there.0 s.there.1 s.there.2 r.least))
     (subst (IsUpTo q) r.at (all_at (λ (other : Read). IsUpTo q other.place) (unassigned_reads m) r.read r.there.0 r.there.1 r.there.2 s.least))
-place_once m p q name another (inl r) (inr k) = absurd (none_there r.read (subst (λ (rs : List Read). Contains rs r.read) k.reads r.there))
-place_once m p q name another (inr l) (inl s) = absurd (none_there s.read (subst (λ (rs : List Read). Contains rs s.read) l.reads s.there))
-place_once m p q name another (inr l) (inr k) = sym l.at ∙ k.at
+pos_once m p q name another (inl r) (inr k) = absurd (none_there r.read (subst (λ (rs : List Read). Contains rs r.read) k.reads r.there))
+pos_once m p q name another (inr l) (inl s) = absurd (none_there s.read (subst (λ (rs : List Read). Contains rs s.read) l.reads s.there))
+pos_once m p q name another (inr l) (inr k) = sym l.at ∙ k.at
 
-name_of_one : (m : Method) (a b name another : ℕ) → a ≡ b → IsNameOf m a name → IsNameOf m b another → name ≡ another
+pub name_of_one : (m : Method) (a b name another : ℕ) → a ≡ b → IsNameOf m a name → IsNameOf m b another → name ≡ another
 name_of_one m a b name another e n o =
-    sym n.2 ∙ ap (λ (p : Place). p.name) (same n.0 o.0 (sym n.1 ∙ ap (slice_get (m.parameters ++ m.results)) e ∙ o.1)) ∙ o.2
-  where
-    same : (p q : Place) → Some p ≡ Some q → p ≡ q
-    same p q e = cc
+    sym n.2 ∙ ap (λ (p : Place). p.name) (same_Some n.0 o.0 (sym n.1 ∙ ap (slice_get (m.parameters ++ m.results)) e ∙ o.1)) ∙ o.2
 
 name_once : (m : Method) (p q : Pos) (name another : ℕ) → IsReadOnce m → Broken p name m → Broken q another m → name ≡ another
 name_once m p q name another o (inl r) (inl s) =
-    name_of_one m r.read.local s.read.local name another (o.once r.read s.read r.there s.there (r.at ∙ place_once m p q name another (inl r) (inl s) ∙ sym s.at)) r.named s.named
+    name_of_one m r.read.local s.read.local name another (o.once r.read s.read r.there s.there (r.at ∙ pos_once m p q name another (inl r) (inl s) ∙ sym s.at)) r.named s.named
 name_once m p q name another o (inl r) (inr k) = absurd (none_there r.read (subst (λ (rs : List Read). Contains rs r.read) k.reads r.there))
 name_once m p q name another o (inr l) (inl s) = absurd (none_there s.read (subst (λ (rs : List Read). Contains rs s.read) l.reads s.there))
 name_once m p q name another o (inr l) (inr k) =
@@ -144,8 +116,8 @@ one_method program p q name another f g =
 
 pub one : OneRefusal
 one = record {
-  places = λ program p q name another f g.
-      place_once g.method p q name another (subst (Broken p name) (one_method program p q name another f g) f.broken) g.broken;
+  positions = λ program p q name another f g.
+      pos_once g.method p q name another (subst (Broken p name) (one_method program p q name another f g) f.broken) g.broken;
   names = λ program p q name another once f g.
       name_once g.method p q name another (all_there IsReadOnce g.before g.after g.method (subst (λ (ms : List Method). AllByRecursion IsReadOnce ms) g.methods once))
       (subst (Broken p name) (one_method program p q name another f g) f.broken) g.broken;

@@ -4,7 +4,7 @@ use Rattle.df_base.specs.declared.pos.Pos.{Pos}
 use Rattle.df_program.specs.Assignment as pure
 use Rattle.df_ghost.specs.declared.reads.Read.{Read}
 
--- the one place is before the other in the text
+-- the one position is before the other in the text
 abbrev pub is_before : Pos → Pos → Bool
 is_before one other = nat_lt one.line other.line || ((one.line == other.line) && nat_lt one.col other.col)
 

@@ -2,7 +2,7 @@
 
 ghost use Rattle.df_ghost.specs.Laws.{OneRefusal, DefiniteIsNotRefused};
 
-/// A program is refused at one place, and for one name unless two locals are read there.
+/// A program is refused at one position, and for one name unless two locals are read there.
 pub fn one_refusal()
     ensures { OneRefusal }
 {}

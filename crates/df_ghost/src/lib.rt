@@ -7,8 +7,6 @@ mod law;
 mod method;
 mod program;
 mod reads;
-#[cfg(test)]
-mod tests;
 
 pub use checked::Checked;
 pub use law::{definite_is_not_refused, one_refusal};

@@ -7,7 +7,8 @@ ghost use Rattle.df_base.specs.declared.refusal.Stop.TheVariants as stops;
 ghost use Rattle.df_program.specs.MethodView.{method_of};
 ghost use Rattle.df_program.specs.Assignment as pure;
 ghost use Rattle.df_ghost.specs.Left.{left_from};
-ghost use Rattle.df_ghost.specs.Refusals.{IfRefused, TellsOf};
+ghost use Rattle.df_base.specs.Refusing.{IfRefused};
+ghost use Rattle.df_ghost.specs.Refusals.{TellsOf};
 
 use crate::flow::Flow;
 use df_base::{Code, Detail, Global, Memory, Name, Pos, Refusal, Stop};

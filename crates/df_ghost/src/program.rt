@@ -3,7 +3,8 @@
 ghost use Rattle.std.specs.Prelude.{◌≡◌, OnOk, IfOk, IfErr};
 ghost use Rattle.df_program.specs.View.{program_of};
 ghost use Rattle.df_program.specs.Assignment.{IsDefinitelyAssigned};
-ghost use Rattle.df_ghost.specs.Refusals.{IfRefused, TellsFirst};
+ghost use Rattle.df_base.specs.Refusing.{IfRefused};
+ghost use Rattle.df_ghost.specs.Refusals.{TellsFirst};
 
 use crate::checked::Checked;
 use crate::method::follow;
@@ -29,12 +30,12 @@ fn follow_all(alloc: Global, program: &Program) -> Result<(), Stop>
 }
 
 /// The program, if each result has a value where it is read and at the end of its method. Else it is
-/// refused at the first place where one has none.
+/// refused at the first position where one has none.
 pub fn check(alloc: Global, program: Program) -> Result<Checked, Rejected>
     ensures same { IfOk result (λ checked. checked.program ≡ program) }
     ensures definite { IfOk result (λ checked. IsDefinitelyAssigned (program_of checked.program)) }
     ensures given_back { IfErr result (λ rejected. rejected.program ≡ program) }
-    // A refusal tells the first place, and the name of what has no value there.
+    // A refusal tells the first position, and the name of what has no value there.
     ensures refused { IfErr result (λ rejected. IfRefused (TellsFirst (program_of program)) rejected.stop) }
 {
     match follow_all(alloc, &program) {

@@ -16,7 +16,7 @@ pub struct Read {
     pub pos: Pos,
 }
 
-/// Whether the one place is before the other in the text.
+/// Whether the one position is before the other in the text.
 fn is_before(one: Pos, other: Pos) -> bool
     ensures { result ≡ pure.is_before one other }
 {

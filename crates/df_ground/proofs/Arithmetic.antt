@@ -1,6 +1,8 @@
 -- The clauses of an arithmetic sequent make comparisons and literals alone.
 use Rattle.std.proofs.Common.{◌≡◌, ℕ, zero, suc, ℤ, true, ◌==◌, List, [], ◌∷◌, Option, Some, slice_get, refl, subst}
 use Rattle.std.specs.Option.{option_map}
+use Rattle.std.proofs.lemmas.Option.{same_Some}
+use Rattle.df_lemmas.proofs.Options.{then_some, map_some, test_some}
 use Rattle.df_types.specs.declared.newtype.Ty.{Ty}
 use Rattle.df_types.specs.declared.newtype.Ty.TheVariants as types
 use Rattle.df_types.specs.Newtype.{Newtype}
@@ -15,7 +17,6 @@ use Rattle.df_form.specs.Arithmetic.{IsArithmetic}
 use Rattle.df_form.specs.Sequent.{Sequent, IsSequent}
 use Rattle.df_form.specs.Clause.{Clause, yes, no}
 use Rattle.df_form.specs.Log.{Step, Hypothesis, Goal, Connective, Schema, Propagation, Linear, Split, Make}
-use Rattle.df_form.proofs.Lists.{then_some, map_some, test_some, some_is}
 use Rattle.df_form.proofs.Arithmetic.{AreArithmetic, is_plain, plain_fits, made_stay, are_arithmetic, all_fit}
 use Rattle.df_kern.specs.Bound.{number, at_most, made_at_least, made_at_most}
 use Rattle.df_kern.specs.Connective.{Added, chosen, of_one, not_clauses, and_clauses, or_clauses, implies_clauses, iff_clauses, equal_clause, equal_by_sort, connective_clause}
@@ -51,11 +52,11 @@ module _ (newtypes : List Newtype) where
   chosen_stay nodes clauses k added h e = only_stay nodes (slice_get clauses k) added h e
 
   equal_stay : (nodes : List Node) (n k a b : ℕ) (added : Added) → AreArithmetic newtypes nodes → equal_clause nodes n a b k ≡ Some added → Stay added
-  equal_stay nodes n zero a b added h is = subst Stay (some_is _ added is) (plain_stay nodes (at_most a b) refl h)
-  equal_stay nodes n (suc zero) a b added h is = subst Stay (some_is _ added is) (plain_stay nodes (at_most b a) refl h)
+  equal_stay nodes n zero a b added h is = subst Stay (same_Some _ added is) (plain_stay nodes (at_most a b) refl h)
+  equal_stay nodes n (suc zero) a b added h is = subst Stay (same_Some _ added is) (plain_stay nodes (at_most b a) refl h)
   equal_stay nodes n (suc (suc zero)) a b added h is =
       let up = made nodes (at_most a b) in
-      subst Stay (some_is _ added is) (plain_stay up.nodes (at_most b a) refl (plain_stay nodes (at_most a b) refl h))
+      subst Stay (same_Some _ added is) (plain_stay up.nodes (at_most b a) refl (plain_stay nodes (at_most a b) refl h))
   equal_stay nodes n (suc (suc (suc k))) a b added h is = absurd cc
 
   sides_stay : (sort : Sort) (nodes : List Node) (n k a b : ℕ) (added : Added) → AreArithmetic newtypes nodes → equal_by_sort sort nodes n a b k ≡ Some added → Stay added
@@ -72,11 +73,11 @@ module _ (newtypes : List Newtype) where
   op_stay nodes n k op parts added h is = absurd cc
 
   newtype_stay : (newtype : Newtype) (nodes : List Node) (n x k : ℕ) (added : Added) → AreArithmetic newtypes nodes → newtype_clause newtype nodes n x k ≡ Some added → Stay added
-  newtype_stay newtype nodes n x zero added h line = subst Stay (some_is _ added line) (low_stay nodes newtype.low x h)
-  newtype_stay newtype nodes n x (suc zero) added h line = subst Stay (some_is _ added line) (high_stay nodes x newtype.high h)
+  newtype_stay newtype nodes n x zero added h line = subst Stay (same_Some _ added line) (low_stay nodes newtype.low x h)
+  newtype_stay newtype nodes n x (suc zero) added h line = subst Stay (same_Some _ added line) (high_stay nodes x newtype.high h)
   newtype_stay newtype nodes n x (suc (suc zero)) added h line =
       let low = made_at_least nodes newtype.low x in
-      subst Stay (some_is _ added line) (high_stay low.nodes x newtype.high (low_stay nodes newtype.low x h))
+      subst Stay (same_Some _ added line) (high_stay low.nodes x newtype.high (low_stay nodes newtype.low x h))
   newtype_stay newtype nodes n x (suc (suc (suc k))) added h line = absurd cc
 
   type_stay : (nodes : List Node) (n x k : ℕ) (ty : Ty) (added : Added) → AreArithmetic newtypes nodes → type_clause newtypes nodes n x ty k ≡ Some added → Stay added

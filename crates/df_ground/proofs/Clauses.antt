@@ -2,11 +2,12 @@
 use Rattle.std.proofs.Common.{◌≡◌, ℕ, List, [], ◌∷◌, map, length, Some, slice_get, refl, sym, ap, ◌∙◌}
 use Rattle.std.specs.Option.{option_map}
 use Rattle.std.specs.List.{range_with_len}
+use Rattle.std.proofs.lemmas.Option.{same_Some, slice_get_within}
+use Rattle.df_lemmas.proofs.Options.{map_some}
 use Rattle.df_form.specs.Node.{Node}
 use Rattle.df_form.specs.Sequent.{Sequent}
 use Rattle.df_form.specs.Clause.{Clause, yes, no}
 use Rattle.df_form.specs.Log.{Hypothesis, Goal}
-use Rattle.df_form.proofs.Lists.{map_some, some_is, get_within}
 use Rattle.df_kern.specs.Connective.{Added}
 use Rattle.df_kern.specs.Derivation.{begin}
 use Rattle.df_ground.specs.declared.set.Ground.{Ground}
@@ -21,7 +22,7 @@ module _ (s : Sequent) where
   hypothesis_line : (i h : ℕ) → slice_get s.hypotheses i ≡ Some h → Among (ground_lines s) (Hypothesis i)
   hypothesis_line i h at =
       let numbers = range_with_len 0 (length s.hypotheses) in
-      in_left (map (λ i. Hypothesis i) numbers) _ (Hypothesis i) (in_mapped (λ i. Hypothesis i) numbers i (below (length s.hypotheses) i (get_within s.hypotheses i h at)))
+      in_left (map (λ i. Hypothesis i) numbers) _ (Hypothesis i) (in_mapped (λ i. Hypothesis i) numbers i (below (length s.hypotheses) i (slice_get_within s.hypotheses i h at)))
 
   goal_line : Among (ground_lines s) Goal
   goal_line = in_right (map (λ i. Hypothesis i) (range_with_len 0 (length s.hypotheses))) _ Goal (0, refl)
@@ -30,10 +31,10 @@ module _ (s : Sequent) where
   hypothesis_adds i h at nodes added e =
       let found = map_some (λ (clause : Clause). record { nodes = nodes; clause = clause }) (option_map (λ h. yes h ∷ []) (slice_get s.hypotheses i)) added e in
       let read = map_some (λ (h : ℕ). yes h ∷ []) (slice_get s.hypotheses i) found.0 found.1 in
-      ap (λ (a : Added). a.clause) (sym found.2) ∙ sym read.2 ∙ ap (λ (k : ℕ). yes k ∷ []) (some_is read.0 h (sym read.1 ∙ at))
+      ap (λ (a : Added). a.clause) (sym found.2) ∙ sym read.2 ∙ ap (λ (k : ℕ). yes k ∷ []) (same_Some read.0 h (sym read.1 ∙ at))
 
   goal_adds : (nodes : List Node) (added : Added) → added_by s nodes Goal ≡ Some added → added.clause ≡ no s.goal ∷ []
-  goal_adds nodes added e = ap (λ (a : Added). a.clause) (sym (some_is (record { nodes = nodes; clause = no s.goal ∷ [] }) added e))
+  goal_adds nodes added e = ap (λ (a : Added). a.clause) (sym (same_Some (record { nodes = nodes; clause = no s.goal ∷ [] }) added e))
 
   module _ (g : Ground) (is : IsGroundOf s g) where
     pub hypothesis_stands : (i h : ℕ) → slice_get s.hypotheses i ≡ Some h → Among (state_of g).clauses (yes h ∷ [])

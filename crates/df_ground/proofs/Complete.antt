@@ -2,7 +2,8 @@
 use Rattle.std.proofs.Common.{◌≡◌, ℕ, zero, suc, ◌+◌, ◌<◌, Bool, true, false, ◌==◌, cond, List, [], ◌∷◌, ◌++◌, map, length, Option, Some, None, slice_get, refl, sym, ap, ◌∙◌, subst, arith, eqb-true}
 use Rattle.std.specs.Option.{option_map, option_map_or, option_and_then}
 use Rattle.std.specs.List.{range_with_len, flat_map}
-use Rattle.std.proofs.lemmas.Option.{slice_get-map}
+use Rattle.std.proofs.lemmas.Option.{slice_get-map, same_Some, slice_get_within}
+use Rattle.df_lemmas.proofs.Lists.{get_grown}
 use Rattle.df_types.specs.declared.newtype.Ty.{Ty}
 use Rattle.df_types.specs.declared.newtype.Ty.TheVariants as types
 use Rattle.df_types.specs.Newtype.{Newtype}
@@ -15,7 +16,6 @@ use Rattle.df_form.specs.Sorting.{sort_at}
 use Rattle.df_form.specs.Sequent.{Sequent}
 use Rattle.df_form.specs.Clause.{Clause}
 use Rattle.df_form.specs.Log.{Step, Hypothesis, Goal, Connective, Schema}
-use Rattle.df_form.proofs.Lists.{get_grown, get_within, some_is}
 use Rattle.df_kern.specs.Connective.{chosen, of_one, not_clauses, and_clauses, or_clauses, implies_clauses, iff_clauses, equal_clause, equal_by_sort, connective_clause, connective_line}
 use Rattle.df_kern.specs.Schema.{newtype_clause, type_clause, is_clause, schema_74, schema_line}
 use Rattle.df_ground.specs.Lines.{sides_count, connective_count, type_count, schema_count, node_lines, lines_at, ground_lines}
@@ -48,7 +48,7 @@ in_flat f ns n x at h = by ns at.0 at.1
   where
     by : (ns : List ℕ) (i : ℕ) → slice_get ns i ≡ Some n → Among (flat_map f ns) x
     by [] i e = absurd cc
-    by (m ∷ ns) zero e = in_left (f m) (flat_map f ns) x (subst (λ (m : ℕ). Among (f m) x) (sym (some_is m n e)) h)
+    by (m ∷ ns) zero e = in_left (f m) (flat_map f ns) x (subst (λ (m : ℕ). Among (f m) x) (sym (same_Some m n e)) h)
     by (m ∷ ns) (suc i) e = in_right (f m) (flat_map f ns) x (by ns i e)
 
 chosen_within : (nodes : List Node) (clauses : List Clause) (k : ℕ) → (chosen nodes clauses k ≡ None → ⊥) → k < length clauses
@@ -127,7 +127,7 @@ at_node s n node step at h =
     let here : Among (own n) step = subst (λ (o : Option Node). Among (option_map_or (node_lines s.newtypes s.nodes n) o []) step) (sym at) h in
     let all = flat_map own (range_with_len 0 (length s.nodes)) in
     in_right (map (λ i. Hypothesis i) (range_with_len 0 (length s.hypotheses))) (Goal ∷ all) step
-    (in_right (Goal ∷ []) all step (in_flat own (range_with_len 0 (length s.nodes)) n step (below (length s.nodes) n (get_within s.nodes n node at)) here))
+    (in_right (Goal ∷ []) all step (in_flat own (range_with_len 0 (length s.nodes)) n step (below (length s.nodes) n (slice_get_within s.nodes n node at)) here))
 
 pub connective_among : (s : Sequent) (n k : ℕ) → (connective_line s.nodes n k ≡ None → ⊥) → Among (ground_lines s) (Connective n k)
 connective_among s n k there = by (slice_get s.nodes n) refl there

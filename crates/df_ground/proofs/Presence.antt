@@ -3,6 +3,10 @@ use Rattle.std.proofs.Common.{◌≡◌, ℕ, zero, suc, ◌+◌, ◌<◌, ◌�
 use Rattle.std.specs.Option.{option_map, option_map_or, option_and_then}
 use Rattle.std.specs.List.{list_all, AllByRecursion, range_with_len, flat_map}
 use Rattle.std.proofs.lemmas.List.{length-map, length-append}
+use Rattle.std.proofs.lemmas.Option.{same_Some, slice_get_within}
+use Rattle.std.proofs.lemmas.Bool.{and_parts}
+use Rattle.df_lemmas.proofs.Alls.{all_joined}
+use Rattle.df_lemmas.proofs.Lists.{get_below}
 use Rattle.df_types.specs.declared.newtype.Ty.{Ty}
 use Rattle.df_types.specs.declared.newtype.Ty.TheVariants as types
 use Rattle.df_types.specs.Newtype.{Newtype}
@@ -15,12 +19,10 @@ use Rattle.df_form.specs.Sorting.{takes, sort_at}
 use Rattle.df_form.specs.Sequent.{Sequent, IsSequent}
 use Rattle.df_form.specs.Clause.{Clause, yes, no}
 use Rattle.df_form.specs.Log.{Step, Hypothesis, Goal, Connective, Schema}
-use Rattle.df_form.proofs.Lists.{both, get_below, get_within, some_is}
 use Rattle.df_form.proofs.Values.{Grows, grown_get, grown_sort, AreSorted, parts_below, parts_taken}
 use Rattle.df_kern.specs.Connective.{chosen, not_clauses, and_clauses, or_clauses, implies_clauses, iff_clauses, equal_clause, equal_by_sort, connective_clause, connective_line}
 use Rattle.df_kern.specs.Schema.{newtype_clause, type_clause, is_clause, schema_74, schema_line}
 use Rattle.df_kern.specs.Derivation.{only_clause}
-use Rattle.df_kern.proofs.SoundConnectives.{all_appended}
 use Rattle.df_ground.specs.Lines.{sides_count, connective_count, type_count, schema_count, node_lines, lines_at, ground_lines}
 use Rattle.df_ground.specs.Adding.{added_by}
 
@@ -80,17 +82,17 @@ op_there before nodes n k ops.Equal (a ∷ b ∷ []) g sorted below less none =
     sides_there (sort_at before a) nodes n a b k less (subst (λ (sort : Sort). equal_by_sort sort nodes n a b k ≡ None) same none)
 op_there before nodes n k ops.Equal (a ∷ b ∷ c ∷ others) g sorted below less none = cc
 
-first_below : (n : ℕ) (parts : List ℕ) (a : ℕ) (others : List ℕ) → list_all (λ part. nat_lt part n) parts ≡ true → parts ≡ a ∷ others → a < n
+pub first_below : (n : ℕ) (parts : List ℕ) (a : ℕ) (others : List ℕ) → list_all (λ part. nat_lt part n) parts ≡ true → parts ≡ a ∷ others → a < n
 first_below n [] a others all e = absurd cc
 first_below n (p ∷ parts) a others all e =
-    let here = ltb-true p n (both (nat_lt p n) (list_all (λ part. nat_lt part n) parts) all).0 in
+    let here = ltb-true p n (and_parts (nat_lt p n) (list_all (λ part. nat_lt part n) parts) all).0 in
     let same : p ≡ a = cc in
     omega (arith, here, same)
 
 connective_there : (before nodes : List Node) (n k : ℕ) (node : Node) → AreSorted before → Grows before nodes → slice_get before n ≡ Some node → k < connective_count before node.op node.parts → connective_line nodes n k ≡ None → ⊥
 connective_there before nodes n k node sorted g at less none =
     let there = grown_get before nodes g n node at in
-    let within = get_within before n node at in
+    let within = slice_get_within before n node at in
     let below = parts_below before n node sorted at in
     let line : connective_line nodes n k ≡ connective_clause nodes n k node.op node.parts = ap (option_and_then (λ (node : Node). connective_clause nodes n k node.op node.parts)) there in
     op_there before nodes n k node.op node.parts g (parts_taken before n node sorted at)
@@ -141,7 +143,7 @@ all_ranged P f a (suc n) all = (all a (omega arith) (omega arith), all_ranged P 
 
 all_flat : (P : Step → Type 0) (f : ℕ → List Step) (ns : List ℕ) → ((n : ℕ) → AllByRecursion P (f n)) → AllByRecursion P (flat_map f ns)
 all_flat P f [] all = tt
-all_flat P f (n ∷ ns) all = all_appended P (f n) (flat_map f ns) (all n) (all_flat P f ns all)
+all_flat P f (n ∷ ns) all = all_joined P (f n) (flat_map f ns) (all n) (all_flat P f ns all)
 
 at_there : (s : Sequent) → AreSorted s.nodes → (n : ℕ) → AllByRecursion (IsThere s) (lines_at s.newtypes s.nodes n)
 at_there s sorted n = by (slice_get s.nodes n) refl
@@ -149,7 +151,7 @@ at_there s sorted n = by (slice_get s.nodes n) refl
     by : (o : Option Node) → slice_get s.nodes n ≡ o → AllByRecursion (IsThere s) (option_map_or (node_lines s.newtypes s.nodes n) o [])
     by None e = tt
     by (Some node) e =
-        all_appended (IsThere s) (map (λ k. Connective n k) (range_with_len 0 (connective_count s.nodes node.op node.parts))) (map (λ k. Schema 74 k (n ∷ [])) (range_with_len 0 (schema_count s.newtypes node.op)))
+        all_joined (IsThere s) (map (λ k. Connective n k) (range_with_len 0 (connective_count s.nodes node.op node.parts))) (map (λ k. Schema 74 k (n ∷ [])) (range_with_len 0 (schema_count s.newtypes node.op)))
         (all_ranged (IsThere s) (λ k. Connective n k) 0 (connective_count s.nodes node.op node.parts) (λ k more less nodes g none. connective_there s.nodes nodes n k node sorted g e (omega (arith, less)) none))
         (all_ranged (IsThere s) (λ k. Schema 74 k (n ∷ [])) 0 (schema_count s.newtypes node.op) (λ k more less nodes g none. schema_there s.newtypes s.nodes nodes n k node sorted g e (omega (arith, less)) none))
 
@@ -164,13 +166,13 @@ goal_there s nodes g none = cc
 
 all_there : (s : Sequent) → IsSequent s → AllByRecursion (IsThere s) (ground_lines s)
 all_there s is =
-    all_appended (IsThere s) (map (λ i. Hypothesis i) (range_with_len 0 (length s.hypotheses))) (Goal ∷ flat_map (lines_at s.newtypes s.nodes) (range_with_len 0 (length s.nodes)))
+    all_joined (IsThere s) (map (λ i. Hypothesis i) (range_with_len 0 (length s.hypotheses))) (Goal ∷ flat_map (lines_at s.newtypes s.nodes) (range_with_len 0 (length s.nodes)))
     (all_ranged (IsThere s) (λ i. Hypothesis i) 0 (length s.hypotheses) (λ i more less. hypothesis_there s i (omega (arith, less))))
     (goal_there s, all_flat (IsThere s) (lines_at s.newtypes s.nodes) (range_with_len 0 (length s.nodes)) (at_there s (record { sorted = is.table.sorted })))
 
 among_all : (P : Step → Type 0) (steps : List Step) (i : ℕ) (step : Step) → AllByRecursion P steps → slice_get steps i ≡ Some step → P step
 among_all P [] i step all at = absurd cc
-among_all P (first ∷ others) zero step all at = subst P (some_is first step at) all.0
+among_all P (first ∷ others) zero step all at = subst P (same_Some first step at) all.0
 among_all P (first ∷ others) (suc i) step all at = among_all P others i step all.1 at
 
 pub line_there : (s : Sequent) → IsSequent s → (i : ℕ) (step : Step) → slice_get (ground_lines s) i ≡ Some step → IsThere s step

@@ -4,7 +4,10 @@ use Rattle.std.specs.Option.{option_map, option_and_then}
 use Rattle.std.specs.List.{list_all}
 use Rattle.std.proofs.Math.Seq.{take-suc, take-append_seam, take-length}
 use Rattle.std.proofs.lemmas.List.{map-append, take-append-drop, take_all}
-use Rattle.std.proofs.lemmas.Option.{slice_get_within, get_or_from_slice_get}
+use Rattle.std.proofs.lemmas.Option.{slice_get_within, get_or_from_slice_get, same_Some}
+use Rattle.std.proofs.lemmas.Bool.{and_from, and_parts}
+use Rattle.df_lemmas.proofs.Lists.{all_weaker}
+use Rattle.df_lemmas.proofs.Options.{then_some, map_some}
 use Rattle.df_meaning.specs.Value.{Value, Truth, Number}
 use Rattle.df_form.specs.declared.log.Lit.{Lit}
 use Rattle.df_form.specs.declared.node.Sort.{Sort}
@@ -15,7 +18,6 @@ use Rattle.df_form.specs.Sequent.{Sequent, IsSequent}
 use Rattle.df_form.specs.Sorting.{IsTable}
 use Rattle.df_form.specs.Clause.{Clause, yes, no, are_literals}
 use Rattle.df_form.specs.Log.{Step, Hypothesis, Goal, Connective, Schema, Propagation, Linear, Split, Make}
-use Rattle.df_form.proofs.Lists.{map_some, then_some, some_is, both, both_true, all_weaker}
 use Rattle.df_form.proofs.Values.{Grows, grows_not, grows_twice, AreSorted}
 use Rattle.df_kern.specs.Connective.{Added}
 use Rattle.df_kern.specs.Derivation.{State, begin, only_clause, with_clause, after, after_all}
@@ -69,7 +71,7 @@ added_after s state (Make node) added e = absurd cc
 
 one_more : (s : Sequent) (state : State) (xs : List Step) (step : Step) (middle next : State) → after_all s state xs ≡ Some middle → after s middle step ≡ Some next → after_all s state (xs ++ step ∷ []) ≡ Some next
 one_more s state [] step middle next e line =
-    let is = some_is state middle e in
+    let is = same_Some state middle e in
     ap (option_and_then (λ last. after_all s last [])) (subst (λ (from : State). after s from step ≡ Some next) (sym is) line)
 one_more s state (x ∷ xs) step middle next e line =
     let found = then_some (λ last. after_all s last xs) (after s state x) middle e in
@@ -91,10 +93,10 @@ has_begun s nodes clauses same none = record {
 }
 
 all_pushed : (test : Clause → Bool) (xs : List Clause) (x : Clause) → list_all test xs ≡ true → test x ≡ true → list_all test (xs ++ x ∷ []) ≡ true
-all_pushed test [] x all e = both_true (test x) true e refl
+all_pushed test [] x all e = and_from (test x) true e refl
 all_pushed test (y ∷ xs) x all e =
-    let parts = both (test y) (list_all test xs) all in
-    both_true (test y) (list_all test (xs ++ x ∷ [])) parts.0 (all_pushed test xs x parts.1 e)
+    let parts = and_parts (test y) (list_all test xs) all in
+    and_from (test y) (list_all test (xs ++ x ∷ [])) parts.0 (all_pushed test xs x parts.1 e)
 
 pub has_more : (s : Sequent) (steps : List Step) (i : ℕ) (step : Step) (nodes more : List Node) (clauses longer : List GroundClause) (literals : Vec Lit Global) (bound : Option ℕ) → IsSequent s → IsTable nodes → HasRun s (take i steps) nodes clauses → slice_get steps i ≡ Some step
     → added_by s nodes step ≡ Some (record { nodes = more; clause = literals.items }) → bound ≡ bound_of s.nodes step → longer ≡ clauses ++ record { literals = literals; bound = bound } ∷ [] → HasRun s (take (i + 1) steps) more longer

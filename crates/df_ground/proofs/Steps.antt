@@ -2,12 +2,15 @@
 use Rattle.std.proofs.Common.{◌≡◌, ℕ, zero, suc, Bool, true, false, List, [], ◌∷◌, ◌++◌, map, length, Option, None, Some, slice_get, refl, subst}
 use Rattle.std.specs.Option.{option_map, option_map_or}
 use Rattle.std.specs.List.{list_all, range_with_len, flat_map}
+use Rattle.std.proofs.lemmas.Option.{same_Some}
+use Rattle.std.proofs.lemmas.Bool.{and_from, and_parts}
+use Rattle.df_lemmas.proofs.Lists.{get_last}
+use Rattle.df_lemmas.proofs.Options.{then_some, map_some}
 use Rattle.df_types.specs.Newtype.{Newtype}
 use Rattle.df_form.specs.Node.{Node}
 use Rattle.df_form.specs.Sequent.{Sequent}
 use Rattle.df_form.specs.Clause.{Clause}
 use Rattle.df_form.specs.Log.{Step, Hypothesis, Goal, Connective, Schema, Propagation, Linear, Split, Make}
-use Rattle.df_form.proofs.Lists.{both, both_true, then_some, map_some, some_is, get_last}
 use Rattle.df_kern.specs.Connective.{Added}
 use Rattle.df_kern.specs.Derivation.{State, with_clause, after, after_all}
 use Rattle.df_ground.specs.Lines.{connective_count, schema_count, node_lines, lines_at, ground_lines}
@@ -28,12 +31,12 @@ is_ground (Make node) = false
 all_joined : (xs ys : List Step) → list_all is_ground xs ≡ true → list_all is_ground ys ≡ true → list_all is_ground (xs ++ ys) ≡ true
 all_joined [] ys e f = f
 all_joined (x ∷ xs) ys e f =
-    let parts = both (is_ground x) (list_all is_ground xs) e in
-    both_true (is_ground x) (list_all is_ground (xs ++ ys)) parts.0 (all_joined xs ys parts.1 f)
+    let parts = and_parts (is_ground x) (list_all is_ground xs) e in
+    and_from (is_ground x) (list_all is_ground (xs ++ ys)) parts.0 (all_joined xs ys parts.1 f)
 
 all_mapped : (f : ℕ → Step) → ((n : ℕ) → is_ground (f n) ≡ true) → (ns : List ℕ) → list_all is_ground (map f ns) ≡ true
 all_mapped f each [] = refl
-all_mapped f each (n ∷ ns) = both_true (is_ground (f n)) (list_all is_ground (map f ns)) (each n) (all_mapped f each ns)
+all_mapped f each (n ∷ ns) = and_from (is_ground (f n)) (list_all is_ground (map f ns)) (each n) (all_mapped f each ns)
 
 all_flat : (f : ℕ → List Step) → ((n : ℕ) → list_all is_ground (f n) ≡ true) → (ns : List ℕ) → list_all is_ground (flat_map f ns) ≡ true
 all_flat f each [] = refl
@@ -79,9 +82,9 @@ module _ (s : Sequent) where
   -- what each line keeps, all keep
   pub all_keep : (P : List Node → Type 0) → ((nodes : List Node) (step : Step) (added : Added) → P nodes → added_by s nodes step ≡ Some added → P added.nodes)
       → (steps : List Step) (state last : State) → list_all is_ground steps ≡ true → after_all s state steps ≡ Some last → P state.nodes → P last.nodes
-  all_keep P keep [] state last all e h = subst (λ (to : State). P to.nodes) (some_is state last e) h
+  all_keep P keep [] state last all e h = subst (λ (to : State). P to.nodes) (same_Some state last e) h
   all_keep P keep (step ∷ steps) state last all e h =
-      let parts = both (is_ground step) (list_all is_ground steps) all in
+      let parts = and_parts (is_ground step) (list_all is_ground steps) all in
       let found = then_some (λ next. after_all s next steps) (after s state step) last e in
       let first = line_adds s state step found.0 parts.0 found.1 in
       let kept = keep state.nodes step first.added h first.by in
@@ -89,9 +92,9 @@ module _ (s : Sequent) where
 
   -- a clause that stands stays
   stays : (steps : List Step) (state last : State) (clause : Clause) → list_all is_ground steps ≡ true → after_all s state steps ≡ Some last → Among state.clauses clause → Among last.clauses clause
-  stays [] state last clause all e h = subst (λ (to : State). Among to.clauses clause) (some_is state last e) h
+  stays [] state last clause all e h = subst (λ (to : State). Among to.clauses clause) (same_Some state last e) h
   stays (step ∷ steps) state last clause all e h =
-      let parts = both (is_ground step) (list_all is_ground steps) all in
+      let parts = and_parts (is_ground step) (list_all is_ground steps) all in
       let found = then_some (λ next. after_all s next steps) (after s state step) last e in
       let first = line_adds s state step found.0 parts.0 found.1 in
       stays steps found.0 last clause parts.1 found.2 (subst (λ (to : State). Among to.clauses clause) first.is (in_left state.clauses (first.added.clause ∷ []) clause h))
@@ -101,14 +104,14 @@ module _ (s : Sequent) where
       → (steps : List Step) (i : ℕ) (state last : State) → list_all is_ground steps ≡ true → after_all s state steps ≡ Some last → slice_get steps i ≡ Some step → Among last.clauses clause
   clause_stands clause step same [] i state last all e at = absurd cc
   clause_stands clause step same (x ∷ steps) zero state last all e at =
-      let parts = both (is_ground x) (list_all is_ground steps) all in
+      let parts = and_parts (is_ground x) (list_all is_ground steps) all in
       let found = then_some (λ next. after_all s next steps) (after s state x) last e in
       let first = line_adds s state x found.0 parts.0 found.1 in
-      let is = same state.nodes first.added (subst (λ (y : Step). added_by s state.nodes y ≡ Some first.added) (some_is x step at) first.by) in
+      let is = same state.nodes first.added (subst (λ (y : Step). added_by s state.nodes y ≡ Some first.added) (same_Some x step at) first.by) in
       let here : Among (state.clauses ++ first.added.clause ∷ []) first.added.clause = (length state.clauses, get_last state.clauses first.added.clause) in
       let now = subst (λ (to : State). Among to.clauses first.added.clause) first.is here in
       stays steps found.0 last clause parts.1 found.2 (subst (λ (c : Clause). Among found.0.clauses c) is now)
   clause_stands clause step same (x ∷ steps) (suc i) state last all e at =
-      let parts = both (is_ground x) (list_all is_ground steps) all in
+      let parts = and_parts (is_ground x) (list_all is_ground steps) all in
       let found = then_some (λ next. after_all s next steps) (after s state x) last e in
       clause_stands clause step same steps i found.0 last parts.1 found.2 at

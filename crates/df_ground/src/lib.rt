@@ -11,8 +11,6 @@ mod fault;
 mod law;
 mod lines;
 mod set;
-#[cfg(test)]
-mod tests;
 
 pub use clause::GroundClause;
 pub use fault::GroundFault;

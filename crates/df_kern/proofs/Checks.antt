@@ -1,5 +1,5 @@
 -- A log that is checked step by step.
-use Rattle.std.proofs.Common.{append-nil, map, ◌≡◌, Result, Ok, Err, OnOk, ℕ, suc, ◌+◌, ◌<◌, ◌≤◌, Bool, true, false, List, [], ◌∷◌, ◌++◌, length, take, drop, get_or, slice_get, Option, None, Some, refl, sym, ap, ◌∙◌, arith, drop-cons, add-one, if◌then◌else◌}
+use Rattle.std.proofs.Common.{append-nil, map, ◌≡◌, Result, Ok, Err, OnOk, IfOk, ℕ, suc, ◌+◌, ◌<◌, ◌≤◌, Bool, true, false, List, [], ◌∷◌, ◌++◌, length, take, drop, get_or, slice_get, Option, None, Some, refl, sym, ap, ◌∙◌, arith, drop-cons, add-one, if◌then◌else◌}
 use Rattle.std.specs.Option.{option_and_then, option_map}
 use Rattle.std.proofs.Math.Seq.{take-suc}
 use Rattle.std.proofs.lemmas.List.{drop_all, take-append-drop}
@@ -9,7 +9,9 @@ use Rattle.df_form.specs.declared.log.Step as declared
 use Rattle.df_form.specs.Sequent.{Sequent, IsSequent, IsValid}
 use Rattle.df_kern.specs.Derivation.{State, begin, after, after_all, ends_empty, kind_row, Derives}
 use Rattle.df_kern.specs.Refusal.{refusal, refusal_from, or_refused, Answers}
+use Rattle.df_kern.specs.declared.accepted.Accepted.{Accepted}
 use Rattle.df_kern.specs.declared.checker.Checker.{Checker}
+use Rattle.df_kern.specs.Accepted.{IsTaken}
 use Rattle.df_kern.specs.declared.fault.KernFault.{KernFault}
 use Rattle.df_kern.specs.declared.fault.KernFault.TheVariants.{Refused, Memory}
 use Rattle.df_kern.specs.CheckerView.{goal_of, state_of, HasTaken, Takes, Finishes, ProvesGoal}
@@ -20,8 +22,9 @@ pub record IsAt (s : Sequent) (steps : List Step) (i : ℕ) (goal : Sequent) (st
   pub goal_is : goal ≡ s
   pub state_is : after_all s (begin s) (take i steps) ≡ Some state
   pub rest_is : refusal s steps ≡ refusal_from s (suc taken) state (drop i steps)
+  pub count_is : taken ≡ i
 
-after_all-append : (s : Sequent) (state : State) (xs ys : List Step) → after_all s state (xs ++ ys) ≡ option_and_then (λ next. after_all s next ys) (after_all s state xs)
+pub after_all-append : (s : Sequent) (state : State) (xs ys : List Step) → after_all s state (xs ++ ys) ≡ option_and_then (λ next. after_all s next ys) (after_all s state xs)
 after_all-append s state [] ys = refl
 after_all-append s state (x ∷ xs) ys =
     ap (λ (f : State → Option State). option_and_then f (after s state x)) (λ i next. after_all-append s next xs ys i) ∙ again (after s state x)
@@ -35,6 +38,7 @@ at_begin s steps goal state taken goal_is state_is taken_is = record {
   goal_is = goal_is;
   state_is = ap Some (sym state_is);
   rest_is = λ k. refusal_from s (suc (sym taken_is k)) (sym state_is k) steps;
+  count_is = taken_is;
 }
 
 module _ (s : Sequent) (steps : List Step) (i : ℕ) (goal : Sequent) (state : State) (taken : ℕ) (is : IsAt s steps i goal state taken) where
@@ -68,6 +72,7 @@ module _ (s : Sequent) (steps : List Step) (i : ℕ) (goal : Sequent) (state : S
         goal_is = goal_stays ∙ is.goal_is;
         state_is = taken_more step next at line;
         rest_is = rest_here step (Some next) at line ∙ ap (λ (n : ℕ). refusal_from s (suc n) next (drop (i + 1) steps)) one;
+        count_is = omega (arith, count, is.count_is);
       }
 
   -- a step is refused
@@ -102,17 +107,25 @@ module _ (s : Sequent) (steps : List Step) (i : ℕ) (checker : Checker) (is : I
   fails after_take step (Refused number row) at told = at_refused s steps i (goal_of checker) (state_of checker) checker.taken is step at told.0.line number row told.0.at told.0.broken
   fails after_take step Memory at told = tt
 
-  pub finishes : (result : Result (Unit {0}) KernFault) → length steps ≤ i → Finishes checker result → Answers (refusal s steps) result
-  finishes (Ok done) past told = (at_end s steps i (goal_of checker) (state_of checker) checker.taken is past told).0
+  pub finishes : (result : Result Accepted KernFault) → length steps ≤ i → Finishes checker result → Answers (refusal s steps) result
+  finishes (Ok accepted) past told = (at_end s steps i (goal_of checker) (state_of checker) checker.taken is past told.0).0
   finishes (Err (Refused number row)) past told = at_unended s steps i (goal_of checker) (state_of checker) checker.taken is past told.0 number row told.1 told.2
   finishes (Err Memory) past told = tt
 
-  pub derives : (result : Result (Unit {0}) KernFault) → length steps ≤ i → Finishes checker result → OnOk result (Derives s steps)
-  derives (Ok done) past told = (at_end s steps i (goal_of checker) (state_of checker) checker.taken is past told).1
+  pub derives : (result : Result Accepted KernFault) → length steps ≤ i → Finishes checker result → OnOk result (Derives s steps)
+  derives (Ok accepted) past told = (at_end s steps i (goal_of checker) (state_of checker) checker.taken is past told.0).1
   derives (Err fault) past told = tt
 
-  pub proves : (result : Result (Unit {0}) KernFault) → IsSequent s → length steps ≤ i → Finishes checker result → OnOk result (IsValid s)
-  proves (Ok done) sequent past told = derivation_is_valid s sequent steps (at_end s steps i (goal_of checker) (state_of checker) checker.taken is past told).1
+  pub is_taken : (result : Result Accepted KernFault) → length steps ≡ i → Finishes checker result → IfOk result (IsTaken s)
+  is_taken (Ok accepted) all told = record {
+    log = steps;
+    derives = (at_end s steps i (goal_of checker) (state_of checker) checker.taken is (omega (arith, all)) told.0).1;
+    steps = omega (arith, told.1, is.count_is, all);
+  }
+  is_taken (Err fault) all told = tt
+
+  pub proves : (result : Result Accepted KernFault) → IsSequent s → length steps ≤ i → Finishes checker result → OnOk result (IsValid s)
+  proves (Ok accepted) sequent past told = derivation_is_valid s sequent steps (at_end s steps i (goal_of checker) (state_of checker) checker.taken is past told.0).1
   proves (Err fault) sequent past told = tt
 
 -- the step that a loop over a log reads
@@ -120,6 +133,6 @@ pub step-at : (log : List declared.Step) (i : ℕ) (step : declared.Step) → i 
 step-at log i step less is = slice_get-map step_of log i ∙ ap (option_map step_of) (slice_get-get_or log i step less ∙ ap Some (sym is))
 
 -- a checker that ends with the empty clause has proved its sequent
-pub proves-goal : (c : Checker) (result : Result (Unit {0}) KernFault) → IsSequent (goal_of c) → Finishes c result → OnOk result (ProvesGoal c)
-proves-goal c (Ok done) sequent told = λ log reached. derivation_is_valid (goal_of c) sequent log (state_of c, reached, told)
+pub proves-goal : (c : Checker) (result : Result Accepted KernFault) → IsSequent (goal_of c) → Finishes c result → OnOk result (ProvesGoal c)
+proves-goal c (Ok accepted) sequent told = λ log reached. derivation_is_valid (goal_of c) sequent log (state_of c, reached, told.0)
 proves-goal c (Err fault) sequent told = tt

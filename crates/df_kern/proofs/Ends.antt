@@ -2,9 +2,8 @@
 use Rattle.std.proofs.Common.{◌≡◌, Vec, Global, ℕ, zero, suc, ◌-◌, List, [], ◌∷◌, length, map, slice_get, Some, sym, ap, ◌∙◌, arith}
 use Rattle.std.specs.Option.{option_map}
 use Rattle.std.proofs.lemmas.List.{length-map}
-use Rattle.std.proofs.lemmas.Option.{slice_get-map}
+use Rattle.std.proofs.lemmas.Option.{slice_get-map, same_Some}
 use Rattle.df_form.specs.declared.log.Lit.{Lit}
-use Rattle.df_form.proofs.Lists.{some_is}
 use Rattle.df_form.specs.Clause.{Clause}
 use Rattle.df_kern.specs.Derivation.{ends_empty}
 use Rattle.df_kern.specs.Propagation.{is_empty}
@@ -12,9 +11,9 @@ use Rattle.df_kern.specs.Propagation.{is_empty}
 -- the last clause tells
 ends-last : (clauses : List Clause) (k : ℕ) (clause : Clause) → suc k ≡ length clauses → slice_get clauses k ≡ Some clause → ends_empty clauses ≡ is_empty clause
 ends-last [] k clause long at = absurd (omega arith)
-ends-last ([] ∷ []) zero clause long at = ap is_empty (some_is [] clause at)
+ends-last ([] ∷ []) zero clause long at = ap is_empty (same_Some [] clause at)
 ends-last ([] ∷ []) (suc k) clause long at = absurd (omega arith)
-ends-last ((l ∷ ls) ∷ []) zero clause long at = ap is_empty (some_is (l ∷ ls) clause at)
+ends-last ((l ∷ ls) ∷ []) zero clause long at = ap is_empty (same_Some (l ∷ ls) clause at)
 ends-last ((l ∷ ls) ∷ []) (suc k) clause long at = absurd (omega arith)
 ends-last (first ∷ next ∷ others) zero clause long at = absurd (omega arith)
 ends-last (first ∷ next ∷ others) (suc k) clause long at = ends-last (next ∷ others) k clause (omega arith) at

@@ -2,17 +2,18 @@
 use Rattle.std.proofs.Common.{◌≡◌, ℤ, Result, Ok, Err, IfOk, slice_index_or, ℕ, ◌<◌, ◌≤◌, Bool, true, ◌&&◌, nat_lt, List, [], ◌∷◌, length, take, get_or, slice_get, Option, None, Some, refl, sym, ap, ◌∙◌, subst, arith, length-take}
 use Rattle.std.specs.Option.{option_map_or}
 use Rattle.std.proofs.Math.Seq.{take-append_seam, take-length}
-use Rattle.std.proofs.lemmas.List.{get_or-take, take_min}
+use Rattle.std.proofs.lemmas.List.{get_or-take, take_min, take-take}
 use Rattle.std.proofs.lemmas.Option.{slice_get-get_or, slice_get_within}
-use Rattle.std.proofs.lemmas.Bool.Decides.{nat_tests}
+use Rattle.std.proofs.lemmas.Bool.{and_parts, lt-ltb, ltb-true}
+use Rattle.df_lemmas.proofs.Lists.{get_last}
 use Rattle.df_form.specs.declared.node.Sort.{Sort}
 use Rattle.df_form.specs.declared.node.Sort.TheVariants as sorts
 use Rattle.df_types.specs.declared.newtype.Ty.{Ty}
 use Rattle.df_form.specs.Node.{Node, number_of, same_sort}
 use Rattle.df_form.specs.Made.{Made, made, made_where}
 use Rattle.df_form.specs.Sorting.{is_well_sorted, sort_at, sort_of}
-use Rattle.df_form.proofs.Tables.{number_of_some, get-seam}
-use Rattle.df_form.proofs.Same.{and_true, same_sort_equal, same_sort-refl}
+use Rattle.df_form.proofs.Tables.{number_of_some}
+use Rattle.df_form.proofs.Same.{same_sort_equal, same_sort-refl}
 use Rattle.df_form.specs.declared.node.Op.TheVariants as ops
 use Rattle.df_kern.specs.Bound.{at_most, number}
 use Rattle.df_kern.specs.Growth.{Grows, IsNumber}
@@ -32,6 +33,9 @@ get-grows (x ∷ xs) new n grows less =
 pub grows-refl : (nodes : List Node) → Grows nodes nodes
 grows-refl nodes = take-length nodes
 
+pub grows-trans : (a b c : List Node) → Grows a b → Grows b c → Grows a c
+grows-trans a b c one two = sym (take-take (length a) (length b) c (length-grows a b one)) ∙ ap (take (length a)) two ∙ one
+
 pub number-grows : (old new : List Node) (n : ℕ) → Grows old new → IsNumber old n → IsNumber new n
 number-grows old new n grows is =
     let longer = length-grows old new grows in
@@ -49,7 +53,7 @@ pub made-at : (nodes : List Node) (node : Node) (m : Made) → made nodes node �
 made-at nodes node m e = subst (λ (k : Made). slice_get k.nodes k.number ≡ Some node) e (by (number_of nodes node) refl)
   where
     by : (r : Option ℕ) → number_of nodes node ≡ r → slice_get (made_where nodes node (number_of nodes node)).nodes (made_where nodes node (number_of nodes node)).number ≡ Some node
-    by None n = subst (λ (r : Option ℕ). slice_get (made_where nodes node r).nodes (made_where nodes node r).number ≡ Some node) (sym n) (get-seam nodes node)
+    by None n = subst (λ (r : Option ℕ). slice_get (made_where nodes node r).nodes (made_where nodes node r).number ≡ Some node) (sym n) (get_last nodes node)
     by (Some k) n = subst (λ (r : Option ℕ). slice_get (made_where nodes node r).nodes (made_where nodes node r).number ≡ Some node) (sym n) (number_of_some nodes node k n)
 
 -- a number that is made names a number
@@ -61,9 +65,6 @@ number-made nodes k m e =
 all_true : (p q r s : Bool) → p ≡ true → q ≡ true → r ≡ true → s ≡ true → ((p && (q && true)) && (r && s)) ≡ true
 all_true p q r s e f g h = rw (e, f, g, h) refl
 
-below : (a b : ℕ) → a < b → nat_lt a b ≡ true
-below a b less = grind (arith, nat_tests)
-
 is_sort : (a b : Sort) → a ≡ b → same_sort a b ≡ true
 is_sort a b e = subst (λ s. same_sort a s ≡ true) e (same_sort-refl a)
 
@@ -71,15 +72,12 @@ is_sort a b e = subst (λ s. same_sort a s ≡ true) e (same_sort-refl a)
 pub sorted-comparison : (nodes : List Node) (a b : ℕ) → IsNumber nodes a → IsNumber nodes b → is_well_sorted nodes (at_most a b) ≡ true
 sorted-comparison nodes a b is_a is_b =
     all_true (nat_lt a (length nodes)) (nat_lt b (length nodes)) (same_sort (sort_at nodes a) sorts.Number) (same_sort (sort_at nodes b) sorts.Number)
-    (below a (length nodes) is_a.0) (below b (length nodes) is_b.0) (is_sort (sort_at nodes a) sorts.Number is_a.1) (is_sort (sort_at nodes b) sorts.Number is_b.1)
+    (lt-ltb a (length nodes) is_a.0) (lt-ltb b (length nodes) is_b.0) (is_sort (sort_at nodes a) sorts.Number is_a.1) (is_sort (sort_at nodes b) sorts.Number is_b.1)
 
 -- what an answer says, by what another says
 pub if_ok : {A E : Type 0} (r : Result A E) (P Q : A → Type 0) → IfOk r P → ((x : A) → P x → Q x) → IfOk r Q
 if_ok (Ok x) P Q h step = step x h
 if_ok (Err e) P Q h step = tt
-
-lt-below : (a b : ℕ) → nat_lt a b ≡ true → a < b
-lt-below a b e = grind (arith, nat_tests)
 
 take-of-take : (n : ℕ) (nodes : List Node) → take (length (take n nodes)) nodes ≡ take n nodes
 take-of-take n nodes = ap (λ (k : ℕ). take k nodes) (length-take n nodes) ∙ take_min n nodes
@@ -88,11 +86,11 @@ take-of-take n nodes = ap (λ (k : ℕ). take k nodes) (length-take n nodes) ∙
 pub equality-numbers : (nodes : List Node) (n a b : ℕ) → is_well_sorted (take n nodes) (record { op = ops.Equal; parts = a ∷ b ∷ [] }) ≡ true → sort_at nodes a ≡ sorts.Number → IsNumber nodes a × IsNumber nodes b
 equality-numbers nodes n a b sorted is =
     let front = take n nodes in
-    let both = and_true (nat_lt a (length front) && (nat_lt b (length front) && true)) (same_sort (sort_at front a) (sort_at front b)) sorted in
-    let there = and_true (nat_lt a (length front)) (nat_lt b (length front) && true) both.0 in
-    let there_b = and_true (nat_lt b (length front)) true there.1 in
-    let less_a = lt-below a (length front) there.0 in
-    let less_b = lt-below b (length front) there_b.0 in
+    let both = and_parts (nat_lt a (length front) && (nat_lt b (length front) && true)) (same_sort (sort_at front a) (sort_at front b)) sorted in
+    let there = and_parts (nat_lt a (length front)) (nat_lt b (length front) && true) both.0 in
+    let there_b = and_parts (nat_lt b (length front)) true there.1 in
+    let less_a = ltb-true a (length front) there.0 in
+    let less_b = ltb-true b (length front) there_b.0 in
     let alike = same_sort_equal (sort_at front a) (sort_at front b) both.1 in
     let grows : Grows front nodes = take-of-take n nodes in
     let kept_a = ap (λ (node : Option Node). option_map_or (λ (x : Node). sort_of x.op) node sorts.Number) (get-grows front nodes a grows less_a) in
@@ -117,9 +115,9 @@ one (a ∷ b ∷ xs) more less = absurd (omega arith)
 pub typed-number : (nodes : List Node) (n x : ℕ) (ty : Ty) → is_well_sorted (take n nodes) (record { op = ops.Is ty; parts = x ∷ [] }) ≡ true → IsNumber nodes x
 typed-number nodes n x ty sorted =
     let front = take n nodes in
-    let both = and_true (nat_lt x (length front) && true) (same_sort (sort_at front x) sorts.Number) sorted in
-    let there = and_true (nat_lt x (length front)) true both.0 in
-    let less = lt-below x (length front) there.0 in
+    let both = and_parts (nat_lt x (length front) && true) (same_sort (sort_at front x) sorts.Number) sorted in
+    let there = and_parts (nat_lt x (length front)) true both.0 in
+    let less = ltb-true x (length front) there.0 in
     let is = same_sort_equal (sort_at front x) sorts.Number both.1 in
     let grows : Grows front nodes = take-of-take n nodes in
     number-grows front nodes x grows (less, is)

@@ -1,6 +1,7 @@
 -- A log is refused exactly where it derives nothing.
 use Rattle.std.proofs.Common.{◌≡◌, ◌↔◌, ℕ, suc, Bool, true, false, List, [], ◌∷◌, Option, None, Some, refl, sym, ap, ◌∙◌, if◌then◌else◌}
 use Rattle.std.specs.Option.{option_and_then}
+use Rattle.std.proofs.lemmas.Option.{same_Some, none-some}
 use Rattle.df_form.specs.Log.{Step}
 use Rattle.df_form.specs.Sequent.{Sequent}
 use Rattle.df_kern.specs.Derivation.{State, begin, after, after_all, ends_empty, kind_row, Derives}
@@ -12,12 +13,6 @@ Ends s state steps = (last : State) × (after_all s state steps ≡ Some last) �
 
 none_is_some : {x : Refusal} → Some x ≡ None → ⊥
 none_is_some e = cc
-
-same_state : {x y : State} → Some x ≡ Some y → x ≡ y
-same_state e = cc
-
-no_state : {x : State} → None ≡ Some x → ⊥
-no_state e = cc
 
 ends : (s : Sequent) (first : ℕ) (state : State) (steps : List Step) → refusal_from s first state steps ≡ None → Ends s state steps
 ends s first state [] none = by (ends_empty state.clauses) refl
@@ -35,12 +30,12 @@ ends s first state (step ∷ others) none = by (after s state step) refl (λ nex
 
 not_refused : (s : Sequent) (first : ℕ) (state : State) (steps : List Step) → Ends s state steps → refusal_from s first state steps ≡ None
 not_refused s first state [] h =
-    let same : state ≡ h.0 = same_state h.1 in
+    let same : state ≡ h.0 = same_Some _ _ h.1 in
     ap (λ (b : Bool). if b then None else Some (record { at = first; broken = 0 })) (ap (λ (x : State). ends_empty x.clauses) same ∙ h.2)
 not_refused s first state (step ∷ others) h = by (after s state step) refl (λ next. not_refused s (suc first) next others)
   where
     by : (r : Option State) → after s state step ≡ r → ((next : State) → Ends s next others → refusal_from s (suc first) next others ≡ None) → refusal_from s first state (step ∷ others) ≡ None
-    by None e go = absurd (no_state (sym (ap (λ (o : Option State). option_and_then (λ next. after_all s next others) o) e) ∙ h.1))
+    by None e go = absurd (none-some _ (sym (ap (λ (o : Option State). option_and_then (λ next. after_all s next others) o) e) ∙ h.1))
     by (Some next) e go =
         let rest = sym (ap (λ (o : Option State). option_and_then (λ next. after_all s next others) o) e) ∙ h.1 in
         ap (λ (o : Option State). or_refused first (kind_row step) o (λ next. refusal_from s (suc first) next others)) e ∙ go next (h.0, rest, h.2)

@@ -2,6 +2,11 @@
 use Rattle.std.proofs.Common.{◌≡◌, ℕ, zero, suc, ◌⊎◌, inl, inr, Bool, true, false, not, ◌&&◌, ◌||◌, List, [], ◌∷◌, ◌++◌, length, Option, Some, slice_get, nat_lt, refl, subst}
 use Rattle.std.specs.Option.{option_map}
 use Rattle.std.specs.List.{list_all, AllByRecursion}
+use Rattle.std.proofs.lemmas.Option.{same_Some}
+use Rattle.std.proofs.lemmas.Bool.{or_cases, or_left, or_right, cases_Bool, and_parts}
+use Rattle.df_lemmas.proofs.Alls.{all_joined}
+use Rattle.df_lemmas.proofs.Lists.{all_parts}
+use Rattle.df_lemmas.proofs.Options.{then_some, map_some, test_some}
 use Rattle.df_form.specs.Log.{Step, Hypothesis, Goal, Connective, Schema, Propagation, Linear, Split, Make}
 use Rattle.df_form.specs.declared.node.Sort.TheVariants as sorts
 use Rattle.df_form.specs.Node.{Node, number_of, same_sort}
@@ -14,12 +19,11 @@ use Rattle.df_kern.specs.Schema.{schema_line}
 use Rattle.df_kern.specs.Truth.{IsTrue}
 use Rattle.df_types.specs.Newtype.{Newtype}
 use Rattle.df_kern.specs.Propagation.{propagation_line}
-use Rattle.df_linear.specs.Linear.{linear_line}
+use Rattle.df_row.specs.Linear.{linear_line}
 use Rattle.df_kern.specs.Derivation.{State, begin, only_clause, split_line, is_free, is_new, made_line, with_clause, adds, after, after_all, ends_empty, Derives}
-use Rattle.df_form.proofs.Lists.{then_some, map_some, test_some, some_is, both, both_true, either, first_true, second_true, is_true_or_false}
 use Rattle.df_form.proofs.Values.{Grows, grows_not, grows_by, grows_twice, AreSorted, one_more_sorted}
 use Rattle.df_kern.proofs.SoundClauses.{Holds, holds_grown, propagation_holds, IsLine}
-use Rattle.df_kern.proofs.SoundConnectives.{connective_is_line, all_appended}
+use Rattle.df_kern.proofs.SoundConnectives.{connective_is_line}
 use Rattle.df_kern.proofs.SoundBounds.{schema_is_line, split_is_line}
 use Rattle.df_kern.proofs.SoundLinear.{linear_holds}
 
@@ -27,21 +31,14 @@ use Rattle.df_kern.proofs.SoundLinear.{linear_holds}
 listed_below : (nodes : List Node) (hypotheses : List ℕ) (i h : ℕ) → list_all (is_formula nodes) hypotheses ≡ true → slice_get hypotheses i ≡ Some h → nat_lt h (length nodes) ≡ true
 listed_below nodes [] i h all e = absurd cc
 listed_below nodes (first ∷ others) zero h all e =
-    let parts = both (is_formula nodes first) (list_all (is_formula nodes) others) all in
-    let formula = both (nat_lt first (length nodes)) (same_sort (sort_at nodes first) sorts.Truth) parts.0 in
-    subst (λ (n : ℕ). nat_lt n (length nodes) ≡ true) (some_is first h e) formula.0
-listed_below nodes (first ∷ others) (suc i) h all e = listed_below nodes others i h (both (is_formula nodes first) (list_all (is_formula nodes) others) all).1 e
-
-all_parts : {A : Type 0} (test : A → Bool) (xs ys : List A) → list_all test (xs ++ ys) ≡ true → (list_all test xs ≡ true) × (list_all test ys ≡ true)
-all_parts test [] ys e = (refl, e)
-all_parts test (x ∷ xs) ys e =
-    let first = both (test x) (list_all test (xs ++ ys)) e in
-    let rest = all_parts test xs ys first.1 in
-    (both_true (test x) (list_all test xs) first.0 rest.0, rest.1)
+    let parts = and_parts (is_formula nodes first) (list_all (is_formula nodes) others) all in
+    let formula = and_parts (nat_lt first (length nodes)) (same_sort (sort_at nodes first) sorts.Truth) parts.0 in
+    subst (λ (n : ℕ). nat_lt n (length nodes) ≡ true) (same_Some first h e) formula.0
+listed_below nodes (first ∷ others) (suc i) h all e = listed_below nodes others i h (and_parts (is_formula nodes first) (list_all (is_formula nodes) others) all).1 e
 
 true_at : (is : ℕ → Bool) (hypotheses : List ℕ) (i h : ℕ) → AllByRecursion (λ n. is n ≡ true) hypotheses → slice_get hypotheses i ≡ Some h → is h ≡ true
 true_at is [] i h all e = absurd cc
-true_at is (first ∷ others) zero h all e = subst (λ (n : ℕ). is n ≡ true) (some_is first h e) all.0
+true_at is (first ∷ others) zero h all e = subst (λ (n : ℕ). is n ≡ true) (same_Some first h e) all.0
 true_at is (first ∷ others) (suc i) h all e = true_at is others i h all.1 e
 
 yes_test : (b t : Bool) → b ≡ true → t ≡ true → ((b && t) || false) ≡ true
@@ -73,7 +70,7 @@ module _ (depth : ℕ) (assignment : Assignment) (s : Sequent) (is : IsSequent s
       subst Keeps found.2 (record {
         grows = grows_twice s.nodes state.nodes now keeps.grows one.grows;
         sorted = one.sorted;
-        hold = all_appended (Holds depth s.newtypes assignment now) state.clauses (found.0.clause ∷ []) (hold_grown state.nodes now state.clauses one.grows keeps.hold) (one.holds, tt);
+        hold = all_joined (Holds depth s.newtypes assignment now) state.clauses (found.0.clause ∷ []) (hold_grown state.nodes now state.clauses one.grows keeps.hold) (one.holds, tt);
       })
 
   clause_line : (nodes : List Node) (o : Option Clause) (added : Added) → AreSorted nodes → ((clause : Clause) → o ≡ Some clause → Holds depth s.newtypes assignment nodes clause) → only_clause nodes o ≡ Some added
@@ -95,14 +92,14 @@ module _ (depth : ℕ) (assignment : Assignment) (s : Sequent) (is : IsSequent s
       let formulas = all_parts (is_formula s.nodes) s.hypotheses (s.goal ∷ []) is.formulas in
       let below = listed_below s.nodes (s.goal ∷ []) zero s.goal formulas.1 refl in
       let holds : Holds depth s.newtypes assignment s.nodes (no s.goal ∷ []) = no_test _ _ below goal_false in
-      subst (Holds depth s.newtypes assignment nodes) (some_is (no s.goal ∷ []) clause e) (holds_grown depth s.newtypes assignment s.nodes nodes grows (no s.goal ∷ []) holds)
+      subst (Holds depth s.newtypes assignment nodes) (same_Some (no s.goal ∷ []) clause e) (holds_grown depth s.newtypes assignment s.nodes nodes grows (no s.goal ∷ []) holds)
 
   make_keeps : (state next : State) (node : Node) → Keeps state → option_map (λ nodes. record { nodes = nodes; clauses = state.clauses }) (made_line state.nodes node) ≡ Some next → Keeps next
   make_keeps state next node keeps e =
       let found = map_some (λ (nodes : List Node). record { nodes = nodes; clauses = state.clauses }) (made_line state.nodes node) next e in
       let tested = test_some (not (is_free node.op) && is_well_sorted state.nodes node && is_new (number_of state.nodes node)) (Some (state.nodes ++ node ∷ [])) found.0 found.1 in
-      let first = both (not (is_free node.op) && is_well_sorted state.nodes node) (is_new (number_of state.nodes node)) tested.0 in
-      let second = both (not (is_free node.op)) (is_well_sorted state.nodes node) first.0 in
+      let first = and_parts (not (is_free node.op) && is_well_sorted state.nodes node) (is_new (number_of state.nodes node)) tested.0 in
+      let second = and_parts (not (is_free node.op)) (is_well_sorted state.nodes node) first.0 in
       let now = state.nodes ++ node ∷ [] in
       let more = grows_by state.nodes node in
       let kept : Keeps (record { nodes = now; clauses = state.clauses }) = record {
@@ -110,7 +107,7 @@ module _ (depth : ℕ) (assignment : Assignment) (s : Sequent) (is : IsSequent s
         sorted = one_more_sorted state.nodes node keeps.sorted second.1;
         hold = hold_grown state.nodes now state.clauses more keeps.hold;
       } in
-      subst Keeps found.2 (subst (λ (nodes : List Node). Keeps (record { nodes = nodes; clauses = state.clauses })) (some_is now found.0 tested.1) kept)
+      subst Keeps found.2 (subst (λ (nodes : List Node). Keeps (record { nodes = nodes; clauses = state.clauses })) (same_Some now found.0 tested.1) kept)
 
   pub after_keeps : (state next : State) (step : Step) → Keeps state → after s state step ≡ Some next → Keeps next
   after_keeps state next (Hypothesis i) keeps e =
@@ -133,7 +130,7 @@ module _ (depth : ℕ) (assignment : Assignment) (s : Sequent) (is : IsSequent s
   after_keeps state next (Make node) keeps e = make_keeps state next node keeps e
 
   pub after_all_keeps : (state last : State) (log : List Step) → Keeps state → after_all s state log ≡ Some last → Keeps last
-  after_all_keeps state last [] keeps e = subst Keeps (some_is state last e) keeps
+  after_all_keeps state last [] keeps e = subst Keeps (same_Some state last e) keeps
   after_all_keeps state last (step ∷ steps) keeps e =
       let found = then_some (λ next. after_all s next steps) (after s state step) last e in
       after_all_keeps found.0 last steps (after_keeps state found.0 step keeps found.1) found.2
@@ -153,13 +150,13 @@ module _ (depth : ℕ) (assignment : Assignment) (s : Sequent) (is : IsSequent s
 -- a clause of which a literal is held is true
 held_is_true : (depth : ℕ) (newtypes : List Newtype) (assignment : Assignment) (nodes : List Node) (clause : Clause) → Holds depth newtypes assignment nodes clause → clause_truth (truth depth newtypes assignment nodes) clause ≡ true
 held_is_true depth newtypes assignment nodes [] e = absurd cc
-held_is_true depth newtypes assignment nodes (l ∷ others) e = next (either (nat_lt l.node (length nodes) && literal_truth (truth depth newtypes assignment nodes) l) _ e) (held_is_true depth newtypes assignment nodes others)
+held_is_true depth newtypes assignment nodes (l ∷ others) e = next (or_cases (nat_lt l.node (length nodes) && literal_truth (truth depth newtypes assignment nodes) l) _ e) (held_is_true depth newtypes assignment nodes others)
   where
     next : ((nat_lt l.node (length nodes) && literal_truth (truth depth newtypes assignment nodes) l) ≡ true) ⊎ Holds depth newtypes assignment nodes others
         → (Holds depth newtypes assignment nodes others → clause_truth (truth depth newtypes assignment nodes) others ≡ true)
         → (literal_truth (truth depth newtypes assignment nodes) l || clause_truth (truth depth newtypes assignment nodes) others) ≡ true
-    next (inl here) more = first_true (literal_truth (truth depth newtypes assignment nodes) l) _ (both (nat_lt l.node (length nodes)) (literal_truth (truth depth newtypes assignment nodes) l) here).1
-    next (inr there) more = second_true (literal_truth (truth depth newtypes assignment nodes) l) _ (more there)
+    next (inl here) more = or_left (literal_truth (truth depth newtypes assignment nodes) l) _ (and_parts (nat_lt l.node (length nodes)) (literal_truth (truth depth newtypes assignment nodes) l) here).1
+    next (inr there) more = or_right (literal_truth (truth depth newtypes assignment nodes) l) _ (more there)
 
 pub true_schemas : (newtypes : List Newtype) (nodes : List Node) (schema clause : ℕ) (terms : List ℕ) (added : Added) → IsTable nodes → schema_line newtypes nodes schema clause terms ≡ Some added → IsTrue newtypes added
 true_schemas newtypes nodes schema clause terms added table line depth assignment =
@@ -170,7 +167,7 @@ true_connectives newtypes nodes node clause added table line depth assignment =
     held_is_true depth newtypes assignment added.nodes added.clause (connective_is_line depth newtypes assignment nodes node clause added (record { sorted = table.sorted }) line).holds
 
 pub derivation_is_valid : (s : Sequent) → IsSequent s → (log : List Step) → Derives s log → IsValid s
-derivation_is_valid s is log derives = λ depth assignment all. by_truth depth assignment all (is_true_or_false (truth depth s.newtypes assignment s.nodes s.goal))
+derivation_is_valid s is log derives = λ depth assignment all. by_truth depth assignment all (cases_Bool (truth depth s.newtypes assignment s.nodes s.goal))
   where
     by_truth : (depth : ℕ) (assignment : Assignment) → AllByRecursion (λ h. truth depth s.newtypes assignment s.nodes h ≡ true) s.hypotheses
         → (truth depth s.newtypes assignment s.nodes s.goal ≡ true) ⊎ (truth depth s.newtypes assignment s.nodes s.goal ≡ false) → truth depth s.newtypes assignment s.nodes s.goal ≡ true

@@ -2,11 +2,13 @@
 use Rattle.std.proofs.Common.{◌≡◌, ℕ, zero, suc, ℤ, pos, ◌+ℤ◌, int_le, Bool, true, false, ◌&&◌, ◌||◌, ◌==◌, List, [], ◌∷◌, length, Option, Some, slice_get, nat_lt, refl, sym, ap, ◌∙◌, arith, subst, ltb-true}
 use Rattle.std.proofs.lemmas.Int.{ints}
 use Rattle.std.specs.Option.{option_map_or}
+use Rattle.std.proofs.lemmas.Option.{same_Some}
+use Rattle.std.proofs.lemmas.Bool.{and_parts}
+use Rattle.df_lemmas.proofs.Options.{then_some, test_some}
 use Rattle.df_types.specs.declared.newtype.Ty.{Ty}
 use Rattle.df_types.specs.declared.newtype.Ty.TheVariants as types
-use Rattle.df_types.specs.Newtype.{Newtype}
+use Rattle.df_types.specs.Newtype.{Newtype, holds}
 use Rattle.df_meaning.specs.Value.{number_of}
-use Rattle.df_meaning.specs.Range.{holds}
 use Rattle.df_form.specs.declared.node.Sort.TheVariants as sorts
 use Rattle.df_form.specs.declared.node.Op.{Op}
 use Rattle.df_form.specs.declared.node.Op.TheVariants as ops
@@ -14,11 +16,10 @@ use Rattle.df_form.specs.Node.{Node, same_sort}
 use Rattle.df_form.specs.Sorting.{sort_at}
 use Rattle.df_form.specs.Truth.{Assignment, truth}
 use Rattle.df_kern.specs.Bound.{number, at_most, made_at_least, made_at_most}
-use Rattle.df_linear.specs.Row.{fits}
+use Rattle.df_row.specs.Row.{fits}
 use Rattle.df_kern.specs.Connective.{Added, of_one}
 use Rattle.df_kern.specs.Schema.{newtype_clause, type_clause, is_clause, schema_74, schema_line}
 use Rattle.df_kern.specs.Derivation.{split_clause, is_number, split_line}
-use Rattle.df_form.proofs.Lists.{then_some, test_some, some_is, both}
 use Rattle.df_form.proofs.Values.{grows_twice, grown_get, AreSorted, parts_taken, value_is}
 use Rattle.df_form.proofs.Making.{IsNumber, grown_number}
 use Rattle.df_form.proofs.Same.{same_sort_equal}
@@ -70,7 +71,7 @@ module _ (depth : ℕ) (newtypes : List Newtype) (assignment : Assignment) where
       let one = at_least_truth now first.literal low.number x newtype.low first.sorted first.literal_there first.there in
       let holds = and_left _ _ _ _ right (stands_below depth newtypes assignment now n node there) (stands_below depth newtypes assignment now low.number (at_most first.literal x) first.there)
       (of_newtype now n x t newtype first.sorted there named ∙ ap (λ t. t && right) (sym one)) in
-      subst (IsLine depth newtypes assignment nodes) (some_is _ added line) (record { grows = first.grows; sorted = first.sorted; holds = holds })
+      subst (IsLine depth newtypes assignment nodes) (same_Some _ added line) (record { grows = first.grows; sorted = first.sorted; holds = holds })
   newtype_line nodes n x t (suc zero) newtype added all e named is line =
       let node : Node = record { op = ops.Is (types.Newtype t); parts = x ∷ [] } in
       let high = made_at_most nodes x newtype.high in
@@ -81,7 +82,7 @@ module _ (depth : ℕ) (newtypes : List Newtype) (assignment : Assignment) where
       let one = up_to_truth now first.literal high.number x newtype.high first.sorted first.literal_there first.there in
       let holds = and_right _ _ _ left _ (stands_below depth newtypes assignment now n node there) (stands_below depth newtypes assignment now high.number (at_most x first.literal) first.there)
       (of_newtype now n x t newtype first.sorted there named ∙ ap (λ t. left && t) (sym one)) in
-      subst (IsLine depth newtypes assignment nodes) (some_is _ added line) (record { grows = first.grows; sorted = first.sorted; holds = holds })
+      subst (IsLine depth newtypes assignment nodes) (same_Some _ added line) (record { grows = first.grows; sorted = first.sorted; holds = holds })
   newtype_line nodes n x t (suc (suc zero)) newtype added all e named is line =
       let node : Node = record { op = ops.Is (types.Newtype t); parts = x ∷ [] } in
       let low = made_at_least nodes newtype.low x in
@@ -96,7 +97,7 @@ module _ (depth : ℕ) (newtypes : List Newtype) (assignment : Assignment) where
       let other = up_to_truth now second.literal high.number x newtype.high second.sorted second.literal_there second.there in
       let holds = and_up _ _ _ _ _ _ (stands_below depth newtypes assignment now n node there) (stands_below depth newtypes assignment now low.number (at_most first.literal x) low_there)
       (stands_below depth newtypes assignment now high.number (at_most x second.literal) second.there) (of_newtype now n x t newtype second.sorted there named ∙ (λ i. sym one i && sym other i)) in
-      subst (IsLine depth newtypes assignment nodes) (some_is _ added line) (record { grows = grows; sorted = second.sorted; holds = holds })
+      subst (IsLine depth newtypes assignment nodes) (same_Some _ added line) (record { grows = grows; sorted = second.sorted; holds = holds })
   newtype_line nodes n x t (suc (suc (suc k))) newtype added all e named is line = absurd cc
 
   type_line : (nodes : List Node) (n x k : ℕ) (ty : Ty) (added : Added) → AreSorted nodes → slice_get nodes n ≡ Some (record { op = ops.Is ty; parts = x ∷ [] }) → type_clause newtypes nodes n x ty k ≡ Some added
@@ -104,7 +105,7 @@ module _ (depth : ℕ) (newtypes : List Newtype) (assignment : Assignment) where
   type_line nodes n x k (types.Newtype t) added all e line =
       let node : Node = record { op = ops.Is (types.Newtype t); parts = x ∷ [] } in
       let found = then_some (λ (newtype : Newtype). newtype_clause newtype nodes n x k) (slice_get newtypes t) added line in
-      let below = both (nat_lt x (length nodes)) true (each_below depth newtypes assignment nodes n node all e) in
+      let below = and_parts (nat_lt x (length nodes)) true (each_below depth newtypes assignment nodes n node all e) in
       let sort = same_sort_equal (sort_at nodes x) sorts.Number (parts_taken nodes n node all e) in
       newtype_line nodes n x t k found.0 added all e found.1 (record { below = ltb-true x (length nodes) below.0; sort = sort }) found.2
 
@@ -128,8 +129,8 @@ module _ (depth : ℕ) (newtypes : List Newtype) (assignment : Assignment) where
   pub split_is_line : (nodes : List Node) (n : ℕ) (k : ℤ) (added : Added) → AreSorted nodes → split_line nodes n k ≡ Some added → IsLine depth newtypes assignment nodes added
   split_is_line nodes n k added all line =
       let tested = test_some (is_number nodes n && fits (k +ℤ pos 1)) (Some (split_clause nodes n k)) added line in
-      let number_and_fits = both (is_number nodes n) (fits (k +ℤ pos 1)) tested.0 in
-      let parts = both (nat_lt n (length nodes)) (same_sort (sort_at nodes n) sorts.Number) number_and_fits.0 in
+      let number_and_fits = and_parts (is_number nodes n) (fits (k +ℤ pos 1)) tested.0 in
+      let parts = and_parts (nat_lt n (length nodes)) (same_sort (sort_at nodes n) sorts.Number) number_and_fits.0 in
       let is : IsNumber nodes n = record { below = ltb-true n (length nodes) parts.0; sort = same_sort_equal (sort_at nodes n) sorts.Number parts.1 } in
       let below = made_at_most nodes n k in
       let above = made_at_least below.nodes (k +ℤ pos 1) n in
@@ -141,4 +142,4 @@ module _ (depth : ℕ) (newtypes : List Newtype) (assignment : Assignment) where
       let other = at_least_truth now second.literal above.number n (k +ℤ pos 1) second.sorted second.literal_there second.there in
       let holds = either_holds _ _ _ _ _ _ (stands_below depth newtypes assignment now below.number (at_most n first.literal) below_there)
       (stands_below depth newtypes assignment now above.number (at_most second.literal n) second.there) one other (split_true (number_in depth newtypes assignment now n) k) in
-      subst (IsLine depth newtypes assignment nodes) (some_is _ added tested.1) (record { grows = grows_twice nodes below.nodes now first.grows second.grows; sorted = second.sorted; holds = holds })
+      subst (IsLine depth newtypes assignment nodes) (same_Some _ added tested.1) (record { grows = grows_twice nodes below.nodes now first.grows second.grows; sorted = second.sorted; holds = holds })

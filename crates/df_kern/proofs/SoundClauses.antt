@@ -2,6 +2,10 @@
 use Rattle.std.proofs.Common.{◌≡◌, ℕ, zero, suc, ◌⊎◌, inl, inr, Bool, true, false, not, cond, ◌&&◌, ◌==◌, List, [], ◌∷◌, map, length, Option, Some, None, slice_get, nat_lt, refl, sym, ap, subst, ltb-true, eqb-true}
 use Rattle.std.specs.Option.{option_and_then, option_map}
 use Rattle.std.specs.List.{list_all, list_any, AllByRecursion}
+use Rattle.std.proofs.lemmas.Option.{same_Some}
+use Rattle.std.proofs.lemmas.Bool.{and_from, or_cases, or_left, or_right, or_parts, and_parts}
+use Rattle.df_lemmas.proofs.Lists.{any_weaker}
+use Rattle.df_lemmas.proofs.Options.{then_some, map_some, test_some}
 use Rattle.df_types.specs.Newtype.{Newtype}
 use Rattle.df_meaning.specs.Value.{truth_of, same_truth}
 use Rattle.df_form.specs.declared.log.Lit.{Lit}
@@ -12,7 +16,6 @@ use Rattle.df_form.specs.Truth.{Assignment, truth}
 use Rattle.df_form.specs.Clause.{Clause, negation, same_literal, is_among, literal_truth, are_literals}
 use Rattle.df_kern.specs.Connective.{Added}
 use Rattle.df_kern.specs.Propagation.{left, only, is_empty, if_some, propagates, clauses_at, propagation_of, propagation_line}
-use Rattle.df_form.proofs.Lists.{then_some, map_some, test_some, some_is, both, both_true, either, first_true, second_true, neither, any_weaker}
 use Rattle.df_form.proofs.Values.{Grows, grown_below, grown_value, AreSorted}
 
 same_truth_is : (a b : Bool) → same_truth a b ≡ true → a ≡ b
@@ -23,7 +26,7 @@ same_truth_is false false e = refl
 
 pub same_literal_is : (a b : Lit) → same_literal a b ≡ true → a ≡ b
 same_literal_is a b e =
-    let parts = both (same_truth a.positive b.positive) (a.node == b.node) e in
+    let parts = and_parts (same_truth a.positive b.positive) (a.node == b.node) e in
     let sign = same_truth_is a.positive b.positive parts.0 in
     let node = eqb-true a.node b.node parts.1 in
     λ i. record { positive = sign i; node = node i }
@@ -35,7 +38,7 @@ module _ (test : Lit → Bool) where
 
   pub among_passes : (literals : List Lit) (l : Lit) → AllPass literals → is_among literals l ≡ true → test l ≡ true
   among_passes [] l all e = absurd cc
-  among_passes (first ∷ others) l all e = next (either (same_literal l first) (is_among others l) e) (among_passes others l all.1)
+  among_passes (first ∷ others) l all e = next (or_cases (same_literal l first) (is_among others l) e) (among_passes others l all.1)
     where
       next : (same_literal l first ≡ true) ⊎ (is_among others l ≡ true) → (is_among others l ≡ true → test l ≡ true) → test l ≡ true
       next (inl same) rest = subst (λ (m : Lit). test m ≡ true) (sym (same_literal_is l first same)) all.0
@@ -46,18 +49,18 @@ module _ (test : Lit → Bool) (apart : (l : Lit) → test l ≡ true → test (
   -- a literal of the clause that passes is left
   left_holds : (known : List Lit) (clause : Clause) → AllPass test known → list_any test clause ≡ true → list_any test (left known clause) ≡ true
   left_holds known [] all e = e
-  left_holds known (l ∷ others) all e = next (is_among known (negation l)) refl (either (test l) (list_any test others) e) (left_holds known others all)
+  left_holds known (l ∷ others) all e = next (is_among known (negation l)) refl (or_cases (test l) (list_any test others) e) (left_holds known others all)
     where
       next : (b : Bool) → is_among known (negation l) ≡ b → (test l ≡ true) ⊎ (list_any test others ≡ true) → (list_any test others ≡ true → list_any test (left known others) ≡ true)
           → list_any test (cond (not b) (l ∷ left known others) (left known others)) ≡ true
       next true is (inl here) rest = absurd (apart l here (among_passes test known (negation l) all is))
       next true is (inr more) rest = rest more
-      next false is (inl here) rest = first_true (test l) (list_any test (left known others)) here
-      next false is (inr more) rest = second_true (test l) (list_any test (left known others)) (rest more)
+      next false is (inl here) rest = or_left (test l) (list_any test (left known others)) here
+      next false is (inr more) rest = or_right (test l) (list_any test (left known others)) (rest more)
 
   same_all_pass : (l : Lit) (others : List Lit) → list_all (same_literal l) others ≡ true → list_any test others ≡ true → test l ≡ true
   same_all_pass l [] all e = absurd cc
-  same_all_pass l (first ∷ others) all e = next (both (same_literal l first) (list_all (same_literal l) others) all) (either (test first) (list_any test others) e) (same_all_pass l others)
+  same_all_pass l (first ∷ others) all e = next (and_parts (same_literal l first) (list_all (same_literal l) others) all) (or_cases (test first) (list_any test others) e) (same_all_pass l others)
     where
       next : (same_literal l first ≡ true) × (list_all (same_literal l) others ≡ true) → (test first ≡ true) ⊎ (list_any test others ≡ true)
           → (list_all (same_literal l) others ≡ true → list_any test others ≡ true → test l ≡ true) → test l ≡ true
@@ -68,8 +71,8 @@ module _ (test : Lit → Bool) (apart : (l : Lit) → test l ≡ true → test (
   only_passes [] l e any = absurd cc
   only_passes (first ∷ others) l e any =
       let parts = test_some (list_all (same_literal first) others) (Some first) l e in
-      let is = some_is first l parts.1 in
-      next (either (test first) (list_any test others) any) parts.0 is
+      let is = same_Some first l parts.1 in
+      next (or_cases (test first) (list_any test others) any) parts.0 is
     where
       next : (test first ≡ true) ⊎ (list_any test others ≡ true) → list_all (same_literal first) others ≡ true → first ≡ l → test l ≡ true
       next (inl here) all is = subst (λ (m : Lit). test m ≡ true) is here
@@ -101,10 +104,10 @@ module _ (depth : ℕ) (newtypes : List Newtype) (assignment : Assignment) where
 
   pub held_grown : (before now : List Node) → Grows before now → (l : Lit) → is_held before l ≡ true → is_held now l ≡ true
   held_grown before now g l e =
-      let parts = both (nat_lt l.node (length before)) (literal_truth (truth depth newtypes assignment before) l) e in
+      let parts = and_parts (nat_lt l.node (length before)) (literal_truth (truth depth newtypes assignment before) l) e in
       let lt = ltb-true l.node (length before) parts.0 in
       let same = ap truth_of (grown_value depth newtypes assignment before now g l.node lt) in
-      both_true (nat_lt l.node (length now)) (literal_truth (truth depth newtypes assignment now) l) (grown_below before now g l.node parts.0)
+      and_from (nat_lt l.node (length now)) (literal_truth (truth depth newtypes assignment now) l) (grown_below before now g l.node parts.0)
       (subst (λ (b : Bool). same_truth l.positive b ≡ true) (sym same) parts.1)
 
   pub holds_grown : (before now : List Node) → Grows before now → (clause : Clause) → Holds before clause → Holds now clause
@@ -131,9 +134,9 @@ module _ (depth : ℕ) (newtypes : List Newtype) (assignment : Assignment) where
   pub negations_held : (nodes : List Node) (clause : Clause) → are_literals nodes clause ≡ true → list_any (is_held nodes) clause ≡ false → AllPass (is_held nodes) (map negation clause)
   negations_held nodes [] are none = tt
   negations_held nodes (l ∷ others) are none =
-      let parts = both (is_formula nodes l.node) (are_literals nodes others) are in
-      let formula = both (nat_lt l.node (length nodes)) (same_sort (sort_at nodes l.node) sorts.Truth) parts.0 in
-      let fails = neither (is_held nodes l) (list_any (is_held nodes) others) none in
+      let parts = and_parts (is_formula nodes l.node) (are_literals nodes others) are in
+      let formula = and_parts (nat_lt l.node (length nodes)) (same_sort (sort_at nodes l.node) sorts.Truth) parts.0 in
+      let fails = or_parts (is_held nodes l) (list_any (is_held nodes) others) none in
       (one_way (nat_lt l.node (length nodes)) (truth depth newtypes assignment nodes l.node) l.positive formula.0 fails.0, negations_held nodes others parts.1 fails.1)
 
   -- a clause that its negation refutes holds
@@ -147,11 +150,11 @@ module _ (depth : ℕ) (newtypes : List Newtype) (assignment : Assignment) where
   -- the clauses of these numbers hold where all do
   pub chosen_holds : (nodes : List Node) (clauses : List Clause) (n : ℕ) (clause : Clause) → AllByRecursion (Holds nodes) clauses → slice_get clauses n ≡ Some clause → Holds nodes clause
   chosen_holds nodes [] n clause all e = absurd cc
-  chosen_holds nodes (first ∷ others) zero clause all e = subst (Holds nodes) (some_is first clause e) all.0
+  chosen_holds nodes (first ∷ others) zero clause all e = subst (Holds nodes) (same_Some first clause e) all.0
   chosen_holds nodes (first ∷ others) (suc n) clause all e = chosen_holds nodes others n clause all.1 e
 
   pub named_hold : (nodes : List Node) (clauses : List Clause) (numbers : List ℕ) (named : List Clause) → AllByRecursion (Holds nodes) clauses → clauses_at clauses numbers ≡ Some named → AllByRecursion (Holds nodes) named
-  named_hold nodes clauses [] named all e = subst (AllByRecursion (Holds nodes)) (some_is [] named e) tt
+  named_hold nodes clauses [] named all e = subst (AllByRecursion (Holds nodes)) (same_Some [] named e) tt
   named_hold nodes clauses (n ∷ others) named all e =
       let one = then_some (λ clause. option_map (λ rest. clause ∷ rest) (clauses_at clauses others)) (slice_get clauses n) named e in
       let rest = map_some (λ rest. one.0 ∷ rest) (clauses_at clauses others) named one.2 in
@@ -164,7 +167,7 @@ module _ (depth : ℕ) (newtypes : List Newtype) (assignment : Assignment) where
       let named = then_some (propagation_of conclusion) (clauses_at clauses numbers) clause tested.1 in
       let found = test_some (propagates (map negation conclusion) named.0) (Some conclusion) clause named.2 in
       let hold = named_hold nodes clauses numbers named.0 all named.1 in
-      subst (Holds nodes) (some_is conclusion clause found.1)
+      subst (Holds nodes) (same_Some conclusion clause found.1)
       (holds_unless nodes conclusion tested.0 (λ known. none_propagates (is_held nodes) (held_apart nodes) (map negation conclusion) named.0 known hold found.0))
 
   -- what a line adds keeps what is known

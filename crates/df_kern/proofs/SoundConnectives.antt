@@ -1,8 +1,15 @@
 -- The clauses of connectives hold.
-use Rattle.std.proofs.Common.{◌≡◌, ℕ, zero, suc, ◌⊎◌, inl, inr, ℤ, int_le, int_eq, Bool, true, false, not, ◌&&◌, ◌||◌, List, [], ◌∷◌, ◌++◌, map, length, Some, slice_get, nat_lt, refl, sym, ap, ◌∙◌, arith, subst, ltb-true, lt-ltb}
+use Rattle.std.proofs.Common.{◌≡◌, ℕ, zero, suc, ◌⊎◌, inl, inr, ℤ, int_le, int_eq, Bool, true, false, not, ◌&&◌, ◌||◌, List, [], ◌∷◌, map, length, Some, slice_get, nat_lt, refl, sym, ap, ◌∙◌, arith, subst, ltb-true, lt-ltb}
 use Rattle.std.specs.List.{list_all, list_any, AllByRecursion}
 use Rattle.std.proofs.lemmas.Int.{ints}
 use Rattle.std.proofs.lemmas.Bool.Decides.{Decides-int_eq, same_from_decides}
+use Rattle.std.proofs.lemmas.Option.{same_Some, slice_get_within}
+use Rattle.std.proofs.lemmas.Bool.{and_from, and_parts}
+use Rattle.std.proofs.lemmas.List.Folds.{list_all-map}
+use Rattle.df_form.proofs.Drafts.{sort_here}
+use Rattle.df_lemmas.proofs.Alls.{all_joined}
+use Rattle.df_lemmas.proofs.Lists.{get_below, all_weaker, any_mapped}
+use Rattle.df_lemmas.proofs.Options.{then_some, map_some}
 use Rattle.df_types.specs.Newtype.{Newtype}
 use Rattle.df_meaning.specs.Value.{Value, Number, Truth, Text, truth_of, number_of, same_truth, same_value}
 use Rattle.df_form.specs.declared.node.Sort.{Sort}
@@ -16,9 +23,8 @@ use Rattle.df_form.specs.Truth.{Assignment, has_sort, truth, values, value_at, n
 use Rattle.df_form.specs.Clause.{Clause, yes, no}
 use Rattle.df_kern.specs.Bound.{at_most}
 use Rattle.df_kern.specs.Connective.{Added, chosen, not_clauses, and_clauses, or_clauses, implies_clauses, iff_clauses, equal_clause, equal_by_sort, connective_clause, connective_line}
-use Rattle.df_form.proofs.Lists.{then_some, map_some, some_is, both, both_true, all_weaker, get_within, get_below}
 use Rattle.df_form.proofs.Values.{grows_not, grows_twice, grown_get, AreSorted, parts_below, parts_taken, worth, value_is}
-use Rattle.df_form.proofs.Making.{made_stands, IsNumber, grown_number, sort_is}
+use Rattle.df_form.proofs.Making.{made_stands, IsNumber, grown_number}
 use Rattle.df_form.proofs.Same.{same_sort_equal}
 use Rattle.df_kern.proofs.SoundNodes.{at_most_sorted}
 use Rattle.df_kern.proofs.SoundClauses.{Holds, is_held, chosen_holds, IsLine}
@@ -87,25 +93,13 @@ and_up b c d n true true e f g h = simp (e, f, g, h)
 and_up b c d n true false e f g h = simp (e, f, g, h)
 and_up b c d n false q e f g h = simp (e, f, g, h)
 
-all_map : {A B : Type 0} (test : B → Bool) (f : A → B) (xs : List A) → list_all test (map f xs) ≡ list_all (λ x. test (f x)) xs
-all_map test f [] = refl
-all_map test f (x ∷ xs) = ap (λ b. test (f x) && b) (all_map test f xs)
-
-any_map : {A B : Type 0} (test : B → Bool) (f : A → B) (xs : List A) → list_any test (map f xs) ≡ list_any (λ x. test (f x)) xs
-any_map test f [] = refl
-any_map test f (x ∷ xs) = ap (λ b. test (f x) || b) (any_map test f xs)
-
-pub all_appended : {A : Type 0} (P : A → Type 0) (xs ys : List A) → AllByRecursion P xs → AllByRecursion P ys → AllByRecursion P (xs ++ ys)
-all_appended P [] ys all more = more
-all_appended P (x ∷ xs) ys all more = (all.0, all_appended P xs ys all.1 more)
-
 -- the truths of parts, with those of any number of others
 all_down : (b n : Bool) (below is : ℕ → Bool) (parts : List ℕ) → b ≡ true → list_all below parts ≡ true → (n ≡ true → list_all is parts ≡ true)
     → AllByRecursion (λ p. ((b && not n) || ((below p && is p) || false)) ≡ true) parts
 all_down b n below is [] e f g = tt
 all_down b n below is (p ∷ others) e f g =
-    let under = both (below p) (list_all below others) f in
-    (one n (below p) (is p) under.0 (λ t. (both (is p) (list_all is others) (g t)).0), all_down b n below is others e under.1 (λ t. (both (is p) (list_all is others) (g t)).1))
+    let under = and_parts (below p) (list_all below others) f in
+    (one n (below p) (is p) under.0 (λ t. (and_parts (is p) (list_all is others) (g t)).0), all_down b n below is others e under.1 (λ t. (and_parts (is p) (list_all is others) (g t)).1))
   where
     one : (n c q : Bool) → c ≡ true → (n ≡ true → q ≡ true) → ((b && not n) || ((c && q) || false)) ≡ true
     one true c q f g = rw (e, f, g refl) refl
@@ -113,7 +107,7 @@ all_down b n below is (p ∷ others) e f g =
 
 all_up : (below is : ℕ → Bool) (parts : List ℕ) → list_all below parts ≡ true → (list_all is parts ≡ true) ⊎ (list_any (λ p. below p && not (is p)) parts ≡ true)
 all_up below is [] f = inl refl
-all_up below is (p ∷ others) f = next (below p) (is p) refl (both (below p) (list_all below others) f).0 (all_up below is others (both (below p) (list_all below others) f).1)
+all_up below is (p ∷ others) f = next (below p) (is p) refl (and_parts (below p) (list_all below others) f).0 (all_up below is others (and_parts (below p) (list_all below others) f).1)
   where
     next : (c q : Bool) → is p ≡ q → c ≡ true → (list_all is others ≡ true) ⊎ (list_any (λ p. below p && not (is p)) others ≡ true)
         → ((q && list_all is others) ≡ true) ⊎ (((c && not q) || list_any (λ p. below p && not (is p)) others) ≡ true)
@@ -123,7 +117,7 @@ all_up below is (p ∷ others) f = next (below p) (is p) refl (both (below p) (l
 
 any_down : (below is : ℕ → Bool) (parts : List ℕ) → list_all below parts ≡ true → list_any is parts ≡ true → list_any (λ p. below p && is p) parts ≡ true
 any_down below is [] f g = g
-any_down below is (p ∷ others) f g = next (below p) (is p) (both (below p) (list_all below others) f).0 g (any_down below is others (both (below p) (list_all below others) f).1)
+any_down below is (p ∷ others) f g = next (below p) (is p) (and_parts (below p) (list_all below others) f).0 g (any_down below is others (and_parts (below p) (list_all below others) f).1)
   where
     next : (c q : Bool) → c ≡ true → (q || list_any is others) ≡ true → (list_any is others ≡ true → list_any (λ p. below p && is p) others ≡ true)
         → ((c && q) || list_any (λ p. below p && is p) others) ≡ true
@@ -134,7 +128,7 @@ any_up : (b n : Bool) (below is : ℕ → Bool) (parts : List ℕ) → b ≡ tru
     → AllByRecursion (λ p. ((b && n) || ((below p && not (is p)) || false)) ≡ true) parts
 any_up b n below is [] e f g = tt
 any_up b n below is (p ∷ others) e f g =
-    let under = both (below p) (list_all below others) f in
+    let under = and_parts (below p) (list_all below others) f in
     (one (below p) (is p) under.0 g, any_up b n below is others e under.1 (λ t. g (later (is p) t)))
   where
     later : (q : Bool) → list_any is others ≡ true → (q || list_any is others) ≡ true
@@ -158,10 +152,10 @@ equal_is_both : (a b : ℤ) → int_eq a b ≡ (int_le a b && int_le b a)
 equal_is_both a b = same_from_decides (int_eq a b) (int_le a b && int_le b a) (Decides-int_eq a b) (from_both, both_from)
   where
     from_both : (int_le a b && int_le b a) ≡ true → a ≡ b
-    from_both e = let parts = both (int_le a b) (int_le b a) e in omega (arith, ints, parts.0, parts.1)
+    from_both e = let parts = and_parts (int_le a b) (int_le b a) e in omega (arith, ints, parts.0, parts.1)
 
     both_from : a ≡ b → (int_le a b && int_le b a) ≡ true
-    both_from e = both_true (int_le a b) (int_le b a) (grind (arith, ints)) (grind (arith, ints))
+    both_from e = and_from (int_le a b) (int_le b a) (grind (arith, ints)) (grind (arith, ints))
 
 module _ (depth : ℕ) (newtypes : List Newtype) (assignment : Assignment) where
   apply_sorted : (op : Op) (parts : List Value) → has_sort (sort_of op) (apply depth newtypes assignment op parts) ≡ true
@@ -188,7 +182,7 @@ module _ (depth : ℕ) (newtypes : List Newtype) (assignment : Assignment) where
   number_worth nodes n all is =
       let at = get_below nodes n is.below in
       let value = worth depth newtypes assignment nodes n in
-      let sort : sort_of at.0.op ≡ sorts.Number = sym (sort_is nodes n at.0 at.1) ∙ is.sort in
+      let sort : sort_of at.0.op ≡ sorts.Number = sym (sort_here nodes n at.0 at.1) ∙ is.sort in
       let sorted : has_sort (sort_of at.0.op) value ≡ true =
       subst (λ (v : Value). has_sort (sort_of at.0.op) v ≡ true) (sym (value_is depth newtypes assignment nodes n at.0 all at.1)) (apply_sorted at.0.op (map (worth depth newtypes assignment nodes) at.0.parts)) in
       number_sorted value (subst (λ (s : Sort). has_sort s value ≡ true) sort sorted)
@@ -206,11 +200,11 @@ module _ (depth : ℕ) (newtypes : List Newtype) (assignment : Assignment) where
       (record { grows = grows_not nodes; sorted = sorted; holds = chosen_holds depth newtypes assignment nodes clauses k found.0 all found.1 })
 
   pub stands_below : (nodes : List Node) (n : ℕ) (node : Node) → slice_get nodes n ≡ Some node → nat_lt n (length nodes) ≡ true
-  stands_below nodes n node e = lt-ltb n (length nodes) (get_within nodes n node e)
+  stands_below nodes n node e = lt-ltb n (length nodes) (slice_get_within nodes n node e)
 
   pub each_below : (nodes : List Node) (n : ℕ) (node : Node) → AreSorted nodes → slice_get nodes n ≡ Some node → list_all (λ part. nat_lt part (length nodes)) node.parts ≡ true
   each_below nodes n node all e =
-      let lt = get_within nodes n node e in
+      let lt = slice_get_within nodes n node e in
       all_weaker (λ part. nat_lt part n) (λ part. nat_lt part (length nodes)) node.parts (λ part below. lt-ltb part (length nodes) (omega (arith, ltb-true part n below))) (parts_below nodes n node all e)
 
   not_line : (nodes : List Node) (n k p : ℕ) (added : Added) → AreSorted nodes → slice_get nodes n ≡ Some (record { op = ops.Not; parts = p ∷ [] }) → chosen nodes (not_clauses n p) k ≡ Some added
@@ -219,7 +213,7 @@ module _ (depth : ℕ) (newtypes : List Newtype) (assignment : Assignment) where
       let node : Node = record { op = ops.Not; parts = p ∷ [] } in
       let is = node_truth nodes n node all e in
       let here = stands_below nodes n node e in
-      let parts = both (nat_lt p (length nodes)) true (each_below nodes n node all e) in
+      let parts = and_parts (nat_lt p (length nodes)) true (each_below nodes n node all e) in
       chosen_line nodes (not_clauses n p) k added all (not_down _ _ _ _ here parts.0 is, (not_up _ _ _ _ here parts.0 is, tt))
 
   and_line : (nodes : List Node) (n k : ℕ) (parts : List ℕ) (added : Added) → AreSorted nodes → slice_get nodes n ≡ Some (record { op = ops.And; parts = parts }) → chosen nodes (and_clauses n parts) k ≡ Some added
@@ -229,19 +223,19 @@ module _ (depth : ℕ) (newtypes : List Newtype) (assignment : Assignment) where
       let holds = Holds depth newtypes assignment nodes in
       let below = λ (part : ℕ). nat_lt part (length nodes) in
       let is = λ (part : ℕ). truth depth newtypes assignment nodes part in
-      let same : is n ≡ list_all is parts = node_truth nodes n node all e ∙ all_map truth_of (worth depth newtypes assignment nodes) parts in
+      let same : is n ≡ list_all is parts = node_truth nodes n node all e ∙ list_all-map truth_of (worth depth newtypes assignment nodes) parts in
       let here = stands_below nodes n node e in
       let under = each_below nodes n node all e in
       let down = all_down (below n) (is n) below is parts here under (λ t. sym same ∙ t) in
       let up = last (below n) (is n) parts here same (all_up below is parts under) in
       chosen_line nodes (and_clauses n parts) k added all
-      (all_appended holds (map (λ p. no n ∷ yes p ∷ []) parts) ((yes n ∷ map no parts) ∷ []) (all_mapped holds (λ p. no n ∷ yes p ∷ []) parts down) (up, tt))
+      (all_joined holds (map (λ p. no n ∷ yes p ∷ []) parts) ((yes n ∷ map no parts) ∷ []) (all_mapped holds (λ p. no n ∷ yes p ∷ []) parts down) (up, tt))
     where
       last : (b m : Bool) (parts : List ℕ) → b ≡ true → m ≡ list_all (λ part. truth depth newtypes assignment nodes part) parts
           → (list_all (λ part. truth depth newtypes assignment nodes part) parts ≡ true) ⊎ (list_any (λ part. nat_lt part (length nodes) && not (truth depth newtypes assignment nodes part)) parts ≡ true)
           → ((b && m) || list_any (is_held depth newtypes assignment nodes) (map no parts)) ≡ true
       last b m parts e f (inl h) = rw (e, f ∙ h) refl
-      last b m parts e f (inr h) = rw (any_map (is_held depth newtypes assignment nodes) no parts ∙ h) (ends (b && m))
+      last b m parts e f (inr h) = rw (any_mapped (is_held depth newtypes assignment nodes) no parts ∙ h) (ends (b && m))
         where
           ends : (b : Bool) → (b || true) ≡ true
           ends true = refl
@@ -254,11 +248,11 @@ module _ (depth : ℕ) (newtypes : List Newtype) (assignment : Assignment) where
       let holds = Holds depth newtypes assignment nodes in
       let below = λ (part : ℕ). nat_lt part (length nodes) in
       let is = λ (part : ℕ). truth depth newtypes assignment nodes part in
-      let same : is n ≡ list_any is parts = node_truth nodes n node all e ∙ any_map truth_of (worth depth newtypes assignment nodes) parts in
+      let same : is n ≡ list_any is parts = node_truth nodes n node all e ∙ any_mapped truth_of (worth depth newtypes assignment nodes) parts in
       let here = stands_below nodes n node e in
       let under = each_below nodes n node all e in
       let up = any_up (below n) (is n) below is parts here under (λ t. same ∙ t) in
-      let down = first (below n) (is n) here (λ t. any_map (is_held depth newtypes assignment nodes) yes parts ∙ any_down below is parts under (sym same ∙ t)) in
+      let down = first (below n) (is n) here (λ t. any_mapped (is_held depth newtypes assignment nodes) yes parts ∙ any_down below is parts under (sym same ∙ t)) in
       chosen_line nodes (or_clauses n parts) k added all (down, all_mapped holds (λ p. yes n ∷ no p ∷ []) parts up)
     where
       first : (b m : Bool) → b ≡ true → (m ≡ true → list_any (is_held depth newtypes assignment nodes) (map yes parts) ≡ true) → ((b && not m) || list_any (is_held depth newtypes assignment nodes) (map yes parts)) ≡ true
@@ -271,8 +265,8 @@ module _ (depth : ℕ) (newtypes : List Newtype) (assignment : Assignment) where
       let node : Node = record { op = ops.Implies; parts = p ∷ q ∷ [] } in
       let is = node_truth nodes n node all e in
       let here = stands_below nodes n node e in
-      let first = both (nat_lt p (length nodes)) (nat_lt q (length nodes) && true) (each_below nodes n node all e) in
-      let second = both (nat_lt q (length nodes)) true first.1 in
+      let first = and_parts (nat_lt p (length nodes)) (nat_lt q (length nodes) && true) (each_below nodes n node all e) in
+      let second = and_parts (nat_lt q (length nodes)) true first.1 in
       chosen_line nodes (implies_clauses n p q) k added all (
         implies_down _ _ _ _ _ _ here first.0 second.0 is,
         (
@@ -287,8 +281,8 @@ module _ (depth : ℕ) (newtypes : List Newtype) (assignment : Assignment) where
       let node : Node = record { op = ops.Iff; parts = p ∷ q ∷ [] } in
       let is = node_truth nodes n node all e in
       let here = stands_below nodes n node e in
-      let first = both (nat_lt p (length nodes)) (nat_lt q (length nodes) && true) (each_below nodes n node all e) in
-      let second = both (nat_lt q (length nodes)) true first.1 in
+      let first = and_parts (nat_lt p (length nodes)) (nat_lt q (length nodes) && true) (each_below nodes n node all e) in
+      let second = and_parts (nat_lt q (length nodes)) true first.1 in
       chosen_line nodes (iff_clauses n p q) k added all (
         iff_forward _ _ _ _ _ _ here first.0 second.0 is,
         (
@@ -335,7 +329,7 @@ module _ (depth : ℕ) (newtypes : List Newtype) (assignment : Assignment) where
       let equal = equal_truth now n a b first.sorted there (grown_number nodes now first.grows a p) (grown_number nodes now first.grows b q) in
       let more = at_most_truth now up.number a b first.sorted first.there in
       let holds = and_left _ _ _ _ (int_le (number_in now b) (number_in now a)) (stands_below now n node there) (stands_below now up.number (at_most a b) first.there) (equal ∙ ap (λ t. t && int_le (number_in now b) (number_in now a)) (sym more)) in
-      subst (IsLine depth newtypes assignment nodes) (some_is _ added is) (record { grows = first.grows; sorted = first.sorted; holds = holds })
+      subst (IsLine depth newtypes assignment nodes) (same_Some _ added is) (record { grows = first.grows; sorted = first.sorted; holds = holds })
   equal_line nodes n (suc zero) a b added all e p q is =
       let node : Node = record { op = ops.Equal; parts = a ∷ b ∷ [] } in
       let down = made nodes (at_most b a) in
@@ -345,7 +339,7 @@ module _ (depth : ℕ) (newtypes : List Newtype) (assignment : Assignment) where
       let equal = equal_truth now n a b first.sorted there (grown_number nodes now first.grows a p) (grown_number nodes now first.grows b q) in
       let more = at_most_truth now down.number b a first.sorted first.there in
       let holds = and_right _ _ _ (int_le (number_in now a) (number_in now b)) _ (stands_below now n node there) (stands_below now down.number (at_most b a) first.there) (equal ∙ ap (λ t. int_le (number_in now a) (number_in now b) && t) (sym more)) in
-      subst (IsLine depth newtypes assignment nodes) (some_is _ added is) (record { grows = first.grows; sorted = first.sorted; holds = holds })
+      subst (IsLine depth newtypes assignment nodes) (same_Some _ added is) (record { grows = first.grows; sorted = first.sorted; holds = holds })
   equal_line nodes n (suc (suc zero)) a b added all e p q is =
       let node : Node = record { op = ops.Equal; parts = a ∷ b ∷ [] } in
       let up = made nodes (at_most a b) in
@@ -361,15 +355,15 @@ module _ (depth : ℕ) (newtypes : List Newtype) (assignment : Assignment) where
       let one = at_most_truth now up.number a b second.sorted up_there in
       let other = at_most_truth now down.number b a second.sorted second.there in
       let holds = and_up _ _ _ _ _ _ (stands_below now n node there) (stands_below now up.number (at_most a b) up_there) (stands_below now down.number (at_most b a) second.there) (equal ∙ (λ i. sym one i && sym other i)) in
-      subst (IsLine depth newtypes assignment nodes) (some_is _ added is) (record { grows = grows_twice nodes up.nodes now first.grows second.grows; sorted = second.sorted; holds = holds })
+      subst (IsLine depth newtypes assignment nodes) (same_Some _ added is) (record { grows = grows_twice nodes up.nodes now first.grows second.grows; sorted = second.sorted; holds = holds })
   equal_line nodes n (suc (suc (suc k))) a b added all e p q is = absurd cc
 
   by_sort : (sort : Sort) (nodes : List Node) (n k a b : ℕ) (added : Added) → sort_at nodes a ≡ sort → AreSorted nodes → slice_get nodes n ≡ Some (record { op = ops.Equal; parts = a ∷ b ∷ [] }) → equal_by_sort sort nodes n a b k ≡ Some added
       → IsLine depth newtypes assignment nodes added
   by_sort sorts.Number nodes n k a b added sort all e is =
       let node : Node = record { op = ops.Equal; parts = a ∷ b ∷ [] } in
-      let first = both (nat_lt a (length nodes)) (nat_lt b (length nodes) && true) (each_below nodes n node all e) in
-      let second = both (nat_lt b (length nodes)) true first.1 in
+      let first = and_parts (nat_lt a (length nodes)) (nat_lt b (length nodes) && true) (each_below nodes n node all e) in
+      let second = and_parts (nat_lt b (length nodes)) true first.1 in
       let alike = same_sort_equal (sort_at nodes a) (sort_at nodes b) (parts_taken nodes n node all e) in
       equal_line nodes n k a b added all e (record { below = ltb-true a (length nodes) first.0; sort = sort }) (record { below = ltb-true b (length nodes) second.0; sort = sym alike ∙ sort }) is
   by_sort sorts.Truth nodes n k a b added sort all e is = absurd cc

@@ -1,12 +1,12 @@
 -- Integers and their sums, as rows need them.
 use Rattle.std.proofs.Common.{◌≡◌, ℕ, zero, suc, ◌+◌, ◌*◌, ◌-◌, ◌/◌, ◌<◌, ◌≤◌, ℤ, pos, negsuc, ◌+ℤ◌, ◌*ℤ◌, int_le, Bool, true, false, cond, ◌==◌, refl, sym, ap, ◌∙◌, arith, subst, eqb-true, div-lt_iff_lt-mul, le-div_iff_mul-le}
 use Rattle.std.proofs.lemmas.Int.{ints}
-use Rattle.std.proofs.lemmas.Bool.{eqb-false}
-pub use Rattle.df_integer.proofs.Products.{times_over_sum, sum_times, times_twice, zero_times, times_zero}
-use Rattle.df_linear.specs.Row.{with_coefficient}
-use Rattle.df_linear.specs.Linear.{all_below, quotient}
-use Rattle.df_linear.specs.Value.{sum_below}
-use Rattle.df_form.proofs.Lists.{both}
+use Rattle.std.proofs.lemmas.Bool.{eqb-false, and_parts}
+use Rattle.df_row.proofs.Sums.{same_sums}
+use Rattle.df_lemmas.proofs.Integers.{times_over_sum, sum_times, times_twice}
+use Rattle.df_row.specs.Row.{with_coefficient}
+use Rattle.df_row.specs.Linear.{all_below, quotient}
+use Rattle.df_row.specs.Value.{sum_below}
 
 -- at least 0
 abbrev pub IsNatural : ℤ → Type 0
@@ -52,29 +52,18 @@ rounded d (negsuc s) (negsuc c) lt h = absurd (next h.0 h.1)
     next : (k : ℕ) → (pos d *ℤ negsuc s) +ℤ negsuc c ≡ pos k → ⊥
     next k e = omega (arith, ints, e)
 
-pub same_sums : (count : ℕ) (f g : ℕ → ℤ) → ((n : ℕ) → n < count → f n ≡ g n) → sum_below count f ≡ sum_below count g
-same_sums zero f g h = refl
-same_sums (suc n) f g h = let first = h n (omega arith) in let rest = same_sums n f g (λ m lt. h m (omega arith)) in cc
-
-pub no_sum : (count : ℕ) (f : ℕ → ℤ) → ((n : ℕ) → n < count → f n ≡ pos 0) → sum_below count f ≡ pos 0
-no_sum zero f h = refl
-no_sum (suc n) f h = let first = h n (omega arith) in let rest = no_sum n f (λ m lt. h m (omega arith)) in omega (arith, ints)
-
 pub all_below_at : (count : ℕ) (test : ℕ → Bool) → all_below count test ≡ true → (n : ℕ) → n < count → test n ≡ true
 all_below_at zero test e n lt = absurd (omega arith)
 all_below_at (suc count) test e n lt =
-    let parts = both (test count) (all_below count test) e in
+    let parts = and_parts (test count) (all_below count test) e in
     next (n == count) refl parts.0 (all_below_at count test parts.1 n)
   where
     next : (b : Bool) → (n == count) ≡ b → test count ≡ true → (n < count → test n ≡ true) → test n ≡ true
     next true is here rest = subst (λ (m : ℕ). test m ≡ true) (sym (eqb-true n count is)) here
     next false is here rest = rest (omega (arith, eqb-false n count is))
 
-regroup : (all first raw second both more s t : ℤ) → all ≡ first +ℤ raw → raw ≡ second → both ≡ second +ℤ more → s ≡ t +ℤ more → all +ℤ s ≡ (first +ℤ t) +ℤ both
-regroup all first raw second both more s t e f g h = omega (arith, ints)
-
-regroup_scaled : (first second both more s : ℤ) → first ≡ second → both ≡ second +ℤ more → s ≡ more → first +ℤ s ≡ both
-regroup_scaled first second both more s e f g = omega (arith, ints)
+regroup : (all first raw second sum more s t : ℤ) → all ≡ first +ℤ raw → raw ≡ second → sum ≡ second +ℤ more → s ≡ t +ℤ more → all +ℤ s ≡ (first +ℤ t) +ℤ sum
+regroup all first raw second sum more s t e f g h = omega (arith, ints)
 
 -- the sum of two sums, the second some times
 pub sum_added : (count : ℕ) (f g v : ℕ → ℤ) (c : ℤ) → sum_below count (λ n. (f n +ℤ (c *ℤ g n)) *ℤ v n) ≡ sum_below count (λ n. f n *ℤ v n) +ℤ (c *ℤ sum_below count (λ n. g n *ℤ v n))
@@ -83,14 +72,6 @@ sum_added (suc n) f g v c = next (f n) (g n) (v n) (sum_below n (λ m. (f m +ℤ
   where
     next : (x y w s t u : ℤ) → s ≡ t +ℤ (c *ℤ u) → ((x +ℤ (c *ℤ y)) *ℤ w) +ℤ s ≡ ((x *ℤ w) +ℤ t) +ℤ (c *ℤ ((y *ℤ w) +ℤ u))
     next x y w s t u e = regroup ((x +ℤ (c *ℤ y)) *ℤ w) (x *ℤ w) ((c *ℤ y) *ℤ w) (c *ℤ (y *ℤ w)) (c *ℤ ((y *ℤ w) +ℤ u)) (c *ℤ u) s t (times_over_sum x (c *ℤ y) w) (times_twice c y w) (sum_times c (y *ℤ w) u) e
-
--- a sum whose coefficients are multiples
-pub sum_scaled : (count : ℕ) (f g v : ℕ → ℤ) (d : ℤ) → ((n : ℕ) → n < count → d *ℤ g n ≡ f n) → sum_below count (λ n. f n *ℤ v n) ≡ d *ℤ sum_below count (λ n. g n *ℤ v n)
-sum_scaled zero f g v d h = omega (arith, ints)
-sum_scaled (suc n) f g v d h = next (f n) (g n) (v n) (sum_below n (λ m. f m *ℤ v m)) (sum_below n (λ m. g m *ℤ v m)) (h n (omega arith)) (sum_scaled n f g v d (λ m lt. h m (omega arith)))
-  where
-    next : (x y w s t : ℤ) → d *ℤ y ≡ x → s ≡ d *ℤ t → (x *ℤ w) +ℤ s ≡ d *ℤ ((y *ℤ w) +ℤ t)
-    next x y w s t e h = subst (λ (x : ℤ). (x *ℤ w) +ℤ s ≡ d *ℤ ((y *ℤ w) +ℤ t)) e (regroup_scaled ((d *ℤ y) *ℤ w) (d *ℤ (y *ℤ w)) (d *ℤ ((y *ℤ w) +ℤ t)) (d *ℤ t) s (times_twice d y w) (sum_times d (y *ℤ w) t) h)
 
 -- the sum with another coefficient for one number
 unchanged : (count n : ℕ) (f : ℕ → ℤ) (c : ℤ) (v : ℕ → ℤ) → count ≤ n → sum_below count (λ m. with_coefficient f n c m *ℤ v m) ≡ sum_below count (λ m. f m *ℤ v m)

@@ -1,9 +1,16 @@
 -- Linear arithmetic: rows of true literals are at least 0, so are their combinations, and no false row is.
-use Rattle.std.proofs.Common.{◌≡◌, ℕ, zero, suc, ◌<◌, ℤ, pos, negsuc, ◌+ℤ◌, ◌*ℤ◌, int_le, int_eq, Bool, true, false, not, ◌&&◌, List, [], ◌∷◌, ◌++◌, map, length, Option, Some, None, slice_get, nat_lt, refl, sym, ap, ◌∙◌, arith, subst}
+use Rattle.std.proofs.Common.{◌≡◌, ℕ, zero, suc, ◌<◌, ℤ, pos, negsuc, ◌+ℤ◌, ◌*ℤ◌, int_le, int_eq, Bool, true, false, ◌&&◌, List, [], ◌∷◌, ◌++◌, map, length, Option, Some, None, slice_get, nat_lt, refl, sym, ap, ◌∙◌, arith, subst}
 use Rattle.std.specs.Option.{option_and_then, option_map}
 use Rattle.std.specs.List.{AllByRecursion}
 use Rattle.std.proofs.lemmas.Int.{ints}
 use Rattle.std.proofs.lemmas.Bool.Decides.{Decides-int_eq}
+use Rattle.std.proofs.lemmas.Option.{same_Some}
+use Rattle.std.proofs.Math.IntN.{+ℤ_idr, zero-*ℤ}
+use Rattle.std.proofs.lemmas.Bool.{not-true, and_parts}
+use Rattle.df_row.proofs.Sums.{no_sum, sum_scaled}
+use Rattle.df_lemmas.proofs.Integers.{sum_times}
+use Rattle.df_lemmas.proofs.Alls.{all_joined}
+use Rattle.df_lemmas.proofs.Options.{then_some, map_some, test_some}
 use Rattle.df_types.specs.Newtype.{Newtype}
 use Rattle.df_meaning.specs.Value.{number_of, same_truth}
 use Rattle.df_form.specs.declared.node.Sort.{Sort}
@@ -17,15 +24,14 @@ use Rattle.df_form.specs.Node.{Node}
 use Rattle.df_form.specs.Sorting.{sort_at}
 use Rattle.df_form.specs.Truth.{Assignment, truth}
 use Rattle.df_form.specs.Clause.{Clause, negation, literal_truth, are_literals}
-use Rattle.df_linear.specs.Row.{Row, constant_row, difference}
-use Rattle.df_linear.specs.Linear.{one_row, two_rows, comparison_rows, rows_by_sort, rows_of_parts, rows_of_node, rows_of, all_below, sum_fits, sum_of, with_multiple, sum_from, quotient, divides, divided, combined, is_false, if_row, refutes, linear_of, linear_line}
-use Rattle.df_linear.specs.Value.{sum_below, row_value}
-use Rattle.df_form.proofs.Lists.{then_some, map_some, test_some, some_is, both}
+use Rattle.df_row.specs.Row.{Row, constant_row, difference}
+use Rattle.df_row.specs.Linear.{one_row, two_rows, comparison_rows, rows_by_sort, rows_of_parts, rows_of_node, rows_of, all_below, sum_fits, sum_of, with_multiple, sum_from, quotient, divides, divided, combined, is_false, if_row, refutes, linear_of, linear_line}
+use Rattle.df_row.specs.Value.{sum_below, row_value}
 use Rattle.df_form.proofs.Values.{AreSorted, parts_taken, value_is}
 use Rattle.df_form.proofs.Same.{same_sort_equal}
 use Rattle.df_kern.proofs.SoundClauses.{Holds, is_held, AllPass, holds_unless}
-use Rattle.df_kern.proofs.SoundConnectives.{all_appended, number_in, at_most_truth, equal_truth, each_below}
-use Rattle.df_kern.proofs.SoundIntegers.{IsNatural, natural_by, natural_above, sum_of_naturals, no_natural, rounded, no_sum, sum_added, sum_scaled, all_below_at, zero_times, sum_times}
+use Rattle.df_kern.proofs.SoundConnectives.{number_in, at_most_truth, equal_truth, each_below}
+use Rattle.df_kern.proofs.SoundIntegers.{IsNatural, natural_by, natural_above, sum_of_naturals, no_natural, rounded, sum_added, all_below_at}
 use Rattle.df_kern.proofs.SoundRows.{AreNumbers, constant_value, two_below, difference_value}
 
 module _ (count : ℕ) (v : ℕ → ℤ) where
@@ -45,26 +51,26 @@ module _ (count : ℕ) (v : ℕ → ℤ) where
 
   row_met : (rows : List Row) (n : ℕ) (row : Row) → AllByRecursion IsMet rows → slice_get rows n ≡ Some row → IsMet row
   row_met [] n row all e = absurd cc
-  row_met (first ∷ others) zero row all e = subst IsMet (some_is first row e) all.0
+  row_met (first ∷ others) zero row all e = subst IsMet (same_Some first row e) all.0
   row_met (first ∷ others) (suc n) row all e = row_met others n row all.1 e
 
   multiple_met : (row next : Row) (factor : ℤ) (o : Option Row) → IsMet row → ((other : Row) → o ≡ Some other → IsMet other) → with_multiple count row factor o ≡ Some next → IsMet next
   multiple_met row next factor None met its e = absurd cc
   multiple_met row next factor (Some other) met its e =
       let tested = test_some (int_le (pos 0) factor && sum_fits count row factor other) (Some (sum_of row factor other)) next e in
-      let at_least = both (int_le (pos 0) factor) (sum_fits count row factor other) tested.0 in
-      subst IsMet (some_is (sum_of row factor other) next tested.1)
+      let at_least = and_parts (int_le (pos 0) factor) (sum_fits count row factor other) tested.0 in
+      subst IsMet (same_Some (sum_of row factor other) next tested.1)
       (subst IsNatural (sym (sum_value row other factor)) (sum_of_naturals (row_value count v row) (row_value count v other) factor met at_least.0 (its other refl)))
 
   sum_met : (rows : List Row) (row next : Row) (members : List Multiple) → AllByRecursion IsMet rows → IsMet row → sum_from count rows row members ≡ Some next → IsMet next
-  sum_met rows row next [] all met e = subst IsMet (some_is row next e) met
+  sum_met rows row next [] all met e = subst IsMet (same_Some row next e) met
   sum_met rows row next (m ∷ others) all met e =
       let found = then_some (λ sum. sum_from count rows sum others) (with_multiple count row m.factor (slice_get rows m.row)) next e in
       sum_met rows found.0 next others all (multiple_met row found.0 m.factor (slice_get rows m.row) met (λ other is. row_met rows m.row other all is) found.1) found.2
 
   divided_by : (d : ℤ) (row : Row) → divides count d row ≡ true → IsMet row → IsNatural (sum_below count (λ n. quotient (row.coefficient n) d *ℤ v n) +ℤ quotient row.constant d)
   divided_by (pos d) row tested met =
-      let parts = both (int_le (pos 1) (pos d)) (all_below count (λ n. int_eq (pos d *ℤ quotient (row.coefficient n) (pos d)) (row.coefficient n))) tested in
+      let parts = and_parts (int_le (pos 1) (pos d)) (all_below count (λ n. int_eq (pos d *ℤ quotient (row.coefficient n) (pos d)) (row.coefficient n))) tested in
       let positive : 0 < d = omega (arith, ints, parts.0) in
       let sum = sum_below count (λ n. quotient (row.coefficient n) (pos d) *ℤ v n) in
       let scaled = sum_scaled count row.coefficient (λ n. quotient (row.coefficient n) (pos d)) v (pos d)
@@ -72,7 +78,7 @@ module _ (count : ℕ) (v : ℕ → ℤ) where
       (all_below_at count (λ n. int_eq (pos d *ℤ quotient (row.coefficient n) (pos d)) (row.coefficient n)) parts.1 n lt)) in
       rounded d sum row.constant positive (subst (λ (z : ℤ). IsNatural (z +ℤ row.constant)) scaled met)
   divided_by (negsuc d) row tested met =
-      let parts = both (int_le (pos 1) (negsuc d)) (all_below count (λ n. int_eq (negsuc d *ℤ quotient (row.coefficient n) (negsuc d)) (row.coefficient n))) tested in
+      let parts = and_parts (int_le (pos 1) (negsuc d)) (all_below count (λ n. int_eq (negsuc d *ℤ quotient (row.coefficient n) (negsuc d)) (row.coefficient n))) tested in
       absurd (no_divisor parts.0)
     where
       no_divisor : int_le (pos 1) (negsuc d) ≡ true → ⊥
@@ -81,7 +87,7 @@ module _ (count : ℕ) (v : ℕ → ℤ) where
   divided_met : (d : ℤ) (row next : Row) → IsMet row → divided count d row ≡ Some next → IsMet next
   divided_met d row next met e =
       let tested = test_some (divides count d row) (Some (record { coefficient = λ n. quotient (row.coefficient n) d; constant = quotient row.constant d })) next e in
-      subst IsMet (some_is _ next tested.1) (divided_by d row tested.0 met)
+      subst IsMet (same_Some _ next tested.1) (divided_by d row tested.0 met)
 
   combined_met : (rows : List Row) (c : Combination) (next : Row) → AllByRecursion IsMet rows → combined count rows c ≡ Some next → IsMet next
   combined_met rows c next all e =
@@ -90,9 +96,9 @@ module _ (count : ℕ) (v : ℕ → ℤ) where
 
   false_not_met : (row : Row) → is_false count row ≡ true → IsMet row → ⊥
   false_not_met row e met =
-      let parts = both (all_below count (λ n. int_eq (row.coefficient n) (pos 0))) (int_le row.constant (negsuc 0)) e in
+      let parts = and_parts (all_below count (λ n. int_eq (row.coefficient n) (pos 0))) (int_le row.constant (negsuc 0)) e in
       let none = no_sum count (λ n. row.coefficient n *ℤ v n) (λ n lt.
-      ap (λ z. z *ℤ v n) ((Decides-int_eq (row.coefficient n) (pos 0)).0 (all_below_at count (λ n. int_eq (row.coefficient n) (pos 0)) parts.0 n lt)) ∙ zero_times (v n)) in
+      ap (λ z. z *ℤ v n) ((Decides-int_eq (row.coefficient n) (pos 0)).0 (all_below_at count (λ n. int_eq (row.coefficient n) (pos 0)) parts.0 n lt)) ∙ zero-*ℤ (v n)) in
       no_natural row.constant (subst IsNatural (only_constant (sum_below count (λ n. row.coefficient n *ℤ v n)) row.constant none) met) parts.1
     where
       only_constant : (s k : ℤ) → s ≡ pos 0 → s +ℤ k ≡ k
@@ -105,7 +111,7 @@ module _ (count : ℕ) (v : ℕ → ℤ) where
       last : (o : Option Row) → combined count rows c ≡ o → if_row o (is_false count) ≡ true → ⊥
       last None is e = cc
       last (Some row) is e = false_not_met row e (combined_met rows c row all is)
-  rows_refuted rows (c ∷ next ∷ others) all e = step (combined count rows c) refl e (λ row met. rows_refuted (rows ++ row ∷ []) (next ∷ others) (all_appended IsMet rows (row ∷ []) all (met, tt)))
+  rows_refuted rows (c ∷ next ∷ others) all e = step (combined count rows c) refl e (λ row met. rows_refuted (rows ++ row ∷ []) (next ∷ others) (all_joined IsMet rows (row ∷ []) all (met, tt)))
     where
       step : (o : Option Row) → combined count rows c ≡ o → if_row o (λ row. refutes count (rows ++ row ∷ []) (next ∷ others)) ≡ true
           → ((row : Row) → IsMet row → refutes count (rows ++ row ∷ []) (next ∷ others) ≡ true → ⊥) → ⊥
@@ -130,10 +136,7 @@ module _ (depth : ℕ) (newtypes : List Newtype) (assignment : Assignment) (node
   -- a <= b, and a < b
   at_most_met : (a b : ℕ) (row : Row) → a < length nodes → b < length nodes → int_le (v a) (v b) ≡ true → difference nodes (length nodes) a b (pos 0) ≡ Some row → Met row
   at_most_met a b row p q le e =
-      natural_by (row_value (length nodes) v row) (v a) (v b) (difference_value nodes v numbers_are a b (pos 0) row p q e ∙ no_more (v b)) le
-    where
-      no_more : (z : ℤ) → z +ℤ pos 0 ≡ z
-      no_more z = omega (arith, ints)
+      natural_by (row_value (length nodes) v row) (v a) (v b) (difference_value nodes v numbers_are a b (pos 0) row p q e ∙ +ℤ_idr (v b)) le
 
   less_met : (a b : ℕ) (row : Row) → a < length nodes → b < length nodes → int_le (v b) (v a) ≡ false → difference nodes (length nodes) a b (negsuc 0) ≡ Some row → Met row
   less_met a b row p q gt e = natural_above (row_value (length nodes) v row) (v a) (v b) (difference_value nodes v numbers_are a b (negsuc 0) row p q e) gt
@@ -150,23 +153,19 @@ module _ (depth : ℕ) (newtypes : List Newtype) (assignment : Assignment) (node
       subst (AllByRecursion Met) other.2 (met one.0 one.1, (its other.0 other.1, tt))
 
   none_met : (rows : List Row) → Some [] ≡ Some rows → AllByRecursion Met rows
-  none_met rows e = subst (AllByRecursion Met) (some_is [] rows e) tt
+  none_met rows e = subst (AllByRecursion Met) (same_Some [] rows e) tt
 
   comparison_met : (n a b : ℕ) (positive : Bool) (op : Op) (rows : List Row) → slice_get nodes n ≡ Some (record { op = op; parts = a ∷ b ∷ [] }) → a < length nodes → b < length nodes → sort_at nodes a ≡ sorts.Number
       → same_truth positive (truth depth newtypes assignment nodes n) ≡ true → comparison_rows nodes positive op a b ≡ Some rows → AllByRecursion Met rows
   comparison_met n a b true ops.AtMost rows at p q sort is e =
       one_met (difference nodes (length nodes) a b (pos 0)) rows (λ row found. at_most_met a b row p q (sym (at_most_truth depth newtypes assignment nodes n a b sorted at) ∙ is) found) e
   comparison_met n a b false ops.AtMost rows at p q sort is e =
-      one_met (difference nodes (length nodes) b a (negsuc 0)) rows (λ row found. less_met b a row q p (sym (at_most_truth depth newtypes assignment nodes n a b sorted at) ∙ false_from (truth depth newtypes assignment nodes n) is) found) e
-    where
-      false_from : (t : Bool) → not t ≡ true → t ≡ false
-      false_from true h = sym h
-      false_from false h = refl
+      one_met (difference nodes (length nodes) b a (negsuc 0)) rows (λ row found. less_met b a row q p (sym (at_most_truth depth newtypes assignment nodes n a b sorted at) ∙ not-true (truth depth newtypes assignment nodes n) is) found) e
   comparison_met n a b true ops.Equal rows at p q sort is e =
       let node : Node = record { op = ops.Equal; parts = a ∷ b ∷ [] } in
       let alike = same_sort_equal (sort_at nodes a) (sort_at nodes b) (parts_taken nodes n node sorted at) in
       let equal = equal_truth depth newtypes assignment nodes n a b sorted at (record { below = p; sort = sort }) (record { below = q; sort = sym alike ∙ sort }) in
-      let ways = both (int_le (v a) (v b)) (int_le (v b) (v a)) (sym equal ∙ is) in
+      let ways = and_parts (int_le (v a) (v b)) (int_le (v b) (v a)) (sym equal ∙ is) in
       two_met (difference nodes (length nodes) a b (pos 0)) (difference nodes (length nodes) b a (pos 0)) rows (λ row found. at_most_met a b row p q ways.0 found) (λ row found. at_most_met b a row q p ways.1 found) e
   comparison_met n a b positive op rows at p q sort is e = none_met rows e
 
@@ -192,14 +191,14 @@ module _ (depth : ℕ) (newtypes : List Newtype) (assignment : Assignment) (node
   literals_met (l ∷ others) rows all e =
       let one = then_some (λ found. option_map (λ more. found ++ more) (rows_of nodes others)) (rows_of_node nodes l.positive (slice_get nodes l.node)) rows e in
       let rest = map_some (λ (more : List Row). one.0 ++ more) (rows_of nodes others) rows one.2 in
-      let held = both (nat_lt l.node (length nodes)) (literal_truth (truth depth newtypes assignment nodes) l) all.0 in
+      let held = and_parts (nat_lt l.node (length nodes)) (literal_truth (truth depth newtypes assignment nodes) l) all.0 in
       subst (AllByRecursion Met) rest.2
-      (all_appended Met one.0 rest.0 (node_met l.node l.positive (slice_get nodes l.node) one.0 refl held.1 one.1) (literals_met others rest.0 all.1 rest.1))
+      (all_joined Met one.0 rest.0 (node_met l.node l.positive (slice_get nodes l.node) one.0 refl held.1 one.1) (literals_met others rest.0 all.1 rest.1))
 
   pub linear_holds : (conclusion clause : Clause) (combinations : List Combination) → linear_line nodes conclusion combinations ≡ Some clause → Holds depth newtypes assignment nodes clause
   linear_holds conclusion clause combinations e =
       let tested = test_some (are_literals nodes conclusion) (option_and_then (linear_of nodes conclusion combinations) (rows_of nodes (map negation conclusion))) clause e in
       let rows = then_some (linear_of nodes conclusion combinations) (rows_of nodes (map negation conclusion)) clause tested.1 in
       let found = test_some (refutes (length nodes) rows.0 combinations) (Some conclusion) clause rows.2 in
-      subst (Holds depth newtypes assignment nodes) (some_is conclusion clause found.1)
+      subst (Holds depth newtypes assignment nodes) (same_Some conclusion clause found.1)
       (holds_unless depth newtypes assignment nodes conclusion tested.0 (λ all. rows_refuted (length nodes) v rows.0 combinations (literals_met (map negation conclusion) rows.0 all rows.1) found.0))

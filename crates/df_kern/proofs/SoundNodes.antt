@@ -1,23 +1,11 @@
 -- Nodes that are made: they stand where the answer says, well sorted after those before them.
-use Rattle.std.proofs.Common.{◌≡◌, ℕ, ◌<◌, ℤ, Bool, true, ◌&&◌, ◌==◌, nat_eq, List, length, get_or, Option, Some, None, slice_get, refl, sym, ap, ◌∙◌, arith, eqb-true, lt-ltb}
-use Rattle.std.specs.Option.{option_map_or}
-use Rattle.std.specs.Cmp.Lexicographic.{pointwise, bytes_decides}
-use Rattle.std.proofs.lemmas.Bool.Decides.{Decides-int_eq}
-use Rattle.std.proofs.lemmas.Option.{slice_get-get_or}
-use Rattle.std.proofs.lemmas.List.Quantifiers.{position-Some}
-use Rattle.df_types.specs.declared.newtype.Ty.{Ty}
-use Rattle.df_types.specs.declared.newtype.Ty.TheVariants as types
-use Rattle.df_form.specs.declared.node.Sort.{Sort}
+use Rattle.std.proofs.Common.{◌≡◌, ℕ, ℤ, Bool, true, ◌&&◌, List, length, Some, slice_get, refl, ap, lt-ltb}
 use Rattle.df_form.specs.declared.node.Sort.TheVariants as sorts
-use Rattle.df_form.specs.declared.node.Free.{Free}
-use Rattle.df_form.specs.declared.node.Op.{Op}
-use Rattle.df_form.specs.declared.node.Op.TheVariants as ops
-use Rattle.df_form.specs.Node.{Node, same_sort, same_type, same_op, same_node, number_of}
-use Rattle.df_form.specs.Sorting.{sort_at, sort_of, is_well_sorted}
-use Rattle.df_form.specs.Made.{Made, made, made_where}
+use Rattle.df_form.specs.Node.{Node, same_sort}
+use Rattle.df_form.specs.Sorting.{is_well_sorted}
+use Rattle.df_form.specs.Made.{Made, made}
 use Rattle.df_kern.specs.Bound.{number, at_most, made_at_least, made_at_most}
-use Rattle.df_form.proofs.Lists.{both, get_last, get_within}
-use Rattle.df_form.proofs.Values.{Grows, grows_not, grows_by, grows_twice, grown_get, grown_length, grown_sort, AreSorted, one_more_sorted}
+use Rattle.df_form.proofs.Values.{Grows, grows_twice, grown_get, AreSorted}
 use Rattle.df_form.proofs.Making.{IsNumber, grown_number, made_stands, number_of_op}
 
 all_of_two : (a b c d : Bool) → a ≡ true → b ≡ true → c ≡ true → d ≡ true → ((a && (b && true)) && (c && d)) ≡ true

@@ -2,14 +2,18 @@
 use Rattle.std.proofs.Common.{◌≡◌, ℕ, zero, suc, ◌<◌, ◌≤◌, ℤ, pos, negsuc, ◌+ℤ◌, ◌*ℤ◌, true, ◌&&◌, List, [], ◌∷◌, length, Option, Some, None, slice_get, nat_lt, refl, sym, ap, ◌∙◌, arith, ltb-true}
 use Rattle.std.specs.List.{list_all}
 use Rattle.std.proofs.lemmas.Int.{ints}
+use Rattle.std.proofs.lemmas.Option.{same_Some}
+use Rattle.std.proofs.lemmas.Bool.{and_parts}
+use Rattle.std.proofs.Math.IntN.{zero-*ℤ}
+use Rattle.df_row.proofs.Sums.{no_sum}
+use Rattle.df_lemmas.proofs.Integers.{times_over_sum, sum_times, times_twice}
 use Rattle.df_form.specs.declared.node.Op.{Op}
 use Rattle.df_form.specs.declared.node.Op.TheVariants as ops
 use Rattle.df_form.specs.Node.{Node}
-use Rattle.df_linear.specs.Row.{Row, with_coefficient, constant_row, with_more, with_constant, without, number_of_op, literal_number, with_product, expanded_parts, expanded_at, expanded_below, expanded_difference, difference}
-use Rattle.df_linear.specs.Value.{sum_below, row_value}
-use Rattle.df_linear.proofs.Rows.{narrow_row_is}
-use Rattle.df_form.proofs.Lists.{some_is, both}
-use Rattle.df_kern.proofs.SoundIntegers.{times_over_sum, sum_times, times_twice, zero_times, no_sum, changed}
+use Rattle.df_row.specs.Row.{Row, with_coefficient, constant_row, with_more, with_constant, without, number_of_op, literal_number, with_product, expanded_parts, expanded_at, expanded_below, expanded_difference, difference}
+use Rattle.df_row.specs.Value.{sum_below, row_value}
+use Rattle.df_row.proofs.Rows.{narrow_row_is}
+use Rattle.df_kern.proofs.SoundIntegers.{changed}
 
 -- numbers that nodes have: a literal its own, a sum and a product those of their parts
 pub record AreNumbers (nodes : List Node) (v : ℕ → ℤ) : Type 0 where
@@ -20,7 +24,7 @@ pub record AreNumbers (nodes : List Node) (v : ℕ → ℤ) : Type 0 where
 
 module _ (count : ℕ) (v : ℕ → ℤ) where
   pub constant_value : (k : ℤ) → row_value count v (constant_row k) ≡ k
-  constant_value k = let e = no_sum count (λ n. pos 0 *ℤ v n) (λ n lt. zero_times (v n)) in zero_more (sum_below count (λ n. pos 0 *ℤ v n)) e
+  constant_value k = let e = no_sum count (λ n. pos 0 *ℤ v n) (λ n lt. zero-*ℤ (v n)) in zero_more (sum_below count (λ n. pos 0 *ℤ v n)) e
     where
       zero_more : (s : ℤ) → s ≡ pos 0 → s +ℤ k ≡ k
       zero_more s e = omega (arith, ints)
@@ -46,7 +50,7 @@ module _ (count : ℕ) (v : ℕ → ℤ) where
   without_value : (n : ℕ) (row : Row) → n < count → row_value count v (without n row) +ℤ (row.coefficient n *ℤ v n) ≡ row_value count v row
   without_value n row lt =
       less row.constant (sum_below count (λ m. with_coefficient row.coefficient n (pos 0) m *ℤ v m)) (sum_below count (λ m. row.coefficient m *ℤ v m)) (row.coefficient n *ℤ v n) (pos 0 *ℤ v n)
-      (changed count n row.coefficient (pos 0) v lt) (zero_times (v n))
+      (changed count n row.coefficient (pos 0) v lt) (zero-*ℤ (v n))
 
 module _ (nodes : List Node) (v : ℕ → ℤ) (are : AreNumbers nodes v) where
   abbrev pub value : Row → ℤ
@@ -74,14 +78,14 @@ module _ (nodes : List Node) (v : ℕ → ℤ) (are : AreNumbers nodes v) where
   literal_found a (Some node) k e f = by_op node.op node.parts e f
     where
       by_op : (op : Op) (parts : List ℕ) → slice_get nodes a ≡ Some (record { op = op; parts = parts }) → number_of_op op ≡ Some k → v a ≡ k
-      by_op (ops.Number j) parts e f = are.literal a j parts e ∙ some_is j k f
+      by_op (ops.Number j) parts e f = are.literal a j parts e ∙ same_Some j k f
       by_op op parts e f = absurd cc
 
   -- the parts of a node of two stand there too
   pub two_below : (n a b : ℕ) (op : Op) → slice_get nodes n ≡ Some (record { op = op; parts = a ∷ b ∷ [] }) → (a < length nodes) × (b < length nodes)
   two_below n a b op e =
-      let first = both (nat_lt a (length nodes)) (nat_lt b (length nodes) && true) (are.below n (record { op = op; parts = a ∷ b ∷ [] }) e) in
-      let second = both (nat_lt b (length nodes)) true first.1 in
+      let first = and_parts (nat_lt a (length nodes)) (nat_lt b (length nodes) && true) (are.below n (record { op = op; parts = a ∷ b ∷ [] }) e) in
+      let second = and_parts (nat_lt b (length nodes)) true first.1 in
       (ltb-true a (length nodes) first.0, ltb-true b (length nodes) second.0)
 
   parts_kept : (n : ℕ) (c : ℤ) (op : Op) (parts : List ℕ) (u row : Row) → slice_get nodes n ≡ Some (record { op = op; parts = parts }) → value u +ℤ (c *ℤ v n) ≡ value row → value (expanded_parts nodes c op parts row u) ≡ value row

@@ -4,6 +4,7 @@ use Rattle.df_form.specs.declared.sequent.Sequent as declared_sequent
 use Rattle.df_form.specs.SequentView.{sequent_of}
 use Rattle.df_form.specs.Log.{Step}
 use Rattle.df_form.specs.Sequent.{Sequent, IsValid}
+use Rattle.df_kern.specs.declared.accepted.Accepted.{Accepted}
 use Rattle.df_kern.specs.declared.checker.Checker.{Checker}
 use Rattle.df_kern.specs.declared.fault.KernFault.{KernFault}
 use Rattle.df_kern.specs.declared.fault.KernFault.TheVariants.{Refused, Memory}
@@ -45,9 +46,9 @@ Takes old new (Ok done) step = HasTaken old new step
 Takes old new (Err (Refused at broken)) step = HasRefused old step at broken × IsSame old new
 Takes old new (Err Memory) step = IsSame old new
 
--- the log ends with the empty clause, or is refused for want of it
-abbrev pub Finishes : Checker → Result (Unit {0}) KernFault → Type 0
-Finishes c (Ok done) = ends_empty (state_of c).clauses ≡ true
+-- the log ends with the empty clause and is accepted with its steps, or is refused for want of that clause
+abbrev pub Finishes : Checker → Result Accepted KernFault → Type 0
+Finishes c (Ok accepted) = (ends_empty (state_of c).clauses ≡ true) × (accepted.steps ≡ c.taken)
 Finishes c (Err (Refused at broken)) = (ends_empty (state_of c).clauses ≡ false) × (at ≡ c.taken + 1) × (broken ≡ 0)
 Finishes c (Err Memory) = ⊥
 

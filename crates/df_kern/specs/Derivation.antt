@@ -13,8 +13,8 @@ use Rattle.df_kern.specs.Bound.{made_at_least, made_at_most}
 use Rattle.df_kern.specs.Connective.{Added, connective_line}
 use Rattle.df_kern.specs.Schema.{schema_line}
 use Rattle.df_kern.specs.Propagation.{propagation_line}
-use Rattle.df_linear.specs.Row.{fits}
-use Rattle.df_linear.specs.Linear.{linear_line}
+use Rattle.df_row.specs.Row.{fits}
+use Rattle.df_row.specs.Linear.{linear_line}
 
 -- the nodes and the clauses so far, by their numbers
 pub record State : Type 0 where

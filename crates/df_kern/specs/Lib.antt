@@ -7,6 +7,7 @@ pub mod Growth
 pub mod Typed
 pub mod Known
 pub mod Learning
+pub mod Accepted
 pub mod Refusal
 pub mod Instance
 pub mod CheckerView

@@ -11,7 +11,7 @@ use Rattle.df_form.specs.Clause.{yes, no}
 use Rattle.df_kern.specs.Connective.{Added, connective_line}
 use Rattle.df_kern.specs.Schema.{schema_line}
 use Rattle.df_kern.specs.Propagation.{propagation_line}
-use Rattle.df_linear.specs.Linear.{linear_line}
+use Rattle.df_row.specs.Linear.{linear_line}
 use Rattle.df_kern.specs.Derivation.{State, only_clause, split_line}
 
 abbrev pub state : List Node → List (Vec Lit Global) → State

@@ -1,5 +1,6 @@
 -- Where a log is refused.
 use Rattle.std.specs.Prelude.{◌≡◌, ℕ, suc, Result, Ok, Err, List, [], ◌∷◌, Option, None, Some, if◌then◌else◌}
+use Rattle.df_kern.specs.declared.accepted.Accepted.{Accepted}
 use Rattle.df_kern.specs.declared.fault.KernFault.{KernFault}
 use Rattle.df_kern.specs.declared.fault.KernFault.TheVariants.{Refused, Memory}
 use Rattle.df_form.specs.Log.{Step}
@@ -26,7 +27,7 @@ abbrev pub refusal : Sequent → List Step → Option Refusal
 refusal s log = refusal_from s 1 (begin s) log
 
 -- the answer is Ok where nothing is refused, else that refusal; but for want of memory
-abbrev pub Answers : Option Refusal → Result (Unit {0}) KernFault → Type 0
-Answers refused (Ok done) = refused ≡ None
+abbrev pub Answers : Option Refusal → Result Accepted KernFault → Type 0
+Answers refused (Ok accepted) = refused ≡ None
 Answers refused (Err (Refused at broken)) = refused ≡ Some (record { at = at; broken = broken })
 Answers refused (Err Memory) = Unit {0}

@@ -1,13 +1,15 @@
 //! Logs, line by line.
 
-ghost use Rattle.std.specs.Prelude.{◌≡◌, ◌+◌, ◌≤◌, OnOk, length, map, vec_len};
+ghost use Rattle.std.specs.Prelude.{◌≡◌, ◌+◌, ◌≤◌, OnOk, IfOk, length, map, vec_len};
 ghost use Rattle.df_form.specs.Log.{step_of};
 ghost use Rattle.df_form.specs.Sequent.{IsValid};
 ghost use Rattle.df_form.specs.SequentView.{sequent_of};
+ghost use Rattle.df_kern.specs.Accepted.{IsTaken};
 ghost use Rattle.df_kern.specs.Derivation.{ends_empty, Derives};
 ghost use Rattle.df_kern.specs.Refusal.{refusal, Answers};
 ghost use Rattle.df_kern.specs.Propagation.{is_empty};
 
+use crate::accepted::Accepted;
 use crate::fault::KernFault;
 use crate::line::{add_line, kind_of};
 use df_form::{Lit, Nodes, Sequent, Step};
@@ -103,13 +105,13 @@ impl<'a> Checker<'a> {
     }
 
     /// The log ends here: refused exactly where there is no clause or the last one isn't empty.
-    pub fn finish(&self) -> Result<(), KernFault>
+    pub fn finish(&self) -> Result<Accepted, KernFault>
         ensures finishes { Finishes self.now result }
         // Where the steps that were taken are a log from the beginning, its sequent is valid.
         ensures valid { OnOk result (ProvesGoal self.now) }
     {
         if ends(&self.clauses) {
-            return Ok(());
+            return Ok(Accepted { steps: self.taken });
         }
         Err(KernFault::Refused {
             at: self.next(),
@@ -120,7 +122,8 @@ impl<'a> Checker<'a> {
 
 /// Whether the log derives its sequent: Ok exactly where each step is a line of a derivation and the
 /// last clause is empty. The sequent is then valid.
-pub fn check(alloc: Global, sequent: &Sequent, log: &[Step]) -> Result<(), KernFault>
+pub fn check(alloc: Global, sequent: &Sequent, log: &[Step]) -> Result<Accepted, KernFault>
+    ensures taken { IfOk result (IsTaken (sequent_of sequent.now)) }
     ensures derives { OnOk result (Derives (sequent_of sequent.now) (map step_of log.now)) }
     ensures valid { OnOk result (IsValid (sequent_of sequent.now)) }
     ensures answers { Answers (refusal (sequent_of sequent.now) (map step_of log.now)) result }

@@ -6,7 +6,7 @@ ghost use Rattle.df_form.specs.Clause.{same_literal, negation};
 ghost use Rattle.df_kern.specs.Propagation.{left, only, is_empty};
 ghost use Rattle.df_kern.specs.Known.{knows, IsSetOf, left_by, counted};
 
-use crate::literal::{is_same, negated};
+use crate::literal::is_same;
 use df_form::Lit;
 use std::alloc::{AllocError, Global};
 use std::collections::BTreeSet;
@@ -69,7 +69,7 @@ impl Known {
     {
         let mut known = Known::new(alloc);
         for literal in literals {
-            known.insert(negated(*literal))?;
+            known.insert(literal.negation())?;
         }
         Ok(known)
     }
@@ -100,7 +100,7 @@ impl Known {
     {
         let mut left = Left::Nothing;
         for literal in clause {
-            if !self.has(negated(*literal)) {
+            if !self.has(literal.negation()) {
                 left = with_literal(left, *literal);
             }
         }

@@ -2,6 +2,7 @@
 //! sequent. It searches for nothing.
 #![tactic(auto)]
 
+mod accepted;
 mod bound;
 mod checker;
 mod connecting;
@@ -14,9 +15,8 @@ mod literal;
 mod propagation;
 mod schema;
 mod step;
-#[cfg(test)]
-mod tests;
 
+pub use accepted::Accepted;
 pub use checker::{Checker, check};
 pub use fault::KernFault;
 pub use instances::{AxiomFault, connective, instance};

@@ -8,7 +8,7 @@ ghost use Rattle.df_kern.specs.Derivation.{after, kind_row};
 ghost use Rattle.df_kern.specs.Lines.{state, line_of, Takes};
 ghost use Rattle.df_kern.specs.Answers.{Gives, Adds};
 ghost use Rattle.df_kern.specs.Propagation.{propagation_line};
-ghost use Rattle.df_linear.specs.Linear.{linear_line};
+ghost use Rattle.df_row.specs.Linear.{linear_line};
 ghost use Rattle.df_form.specs.Log.{combination_of};
 
 use crate::connecting::connective_clause_of;
@@ -16,7 +16,7 @@ use crate::propagation::is_propagation;
 use crate::schema::schema_clause_of;
 use crate::step::{goal_clause, hypothesis_clause, make, split_clause};
 use df_form::{Combination, Lit, Nodes, Sequent, Step};
-use df_linear::is_linear;
+use df_row::is_linear;
 use std::alloc::{AllocError, Global};
 
 /// The row of the step's kind in the table of lines, from 1.

@@ -1,7 +1,7 @@
 //! Literals, and clauses made of parts.
 
 ghost use Rattle.std.specs.Prelude.{◌≡◌, ◌∷◌, map, IfOk};
-ghost use Rattle.df_form.specs.Clause.{yes, no, negation as negation_of, same_literal as same_literal_of};
+ghost use Rattle.df_form.specs.Clause.{yes, no, same_literal as same_literal_of};
 
 use df_form::Lit;
 use std::alloc::{AllocError, Global};
@@ -23,16 +23,6 @@ pub(crate) fn no_of(node: usize) -> Lit
     Lit {
         positive: false,
         node,
-    }
-}
-
-/// A literal's negation.
-pub(crate) fn negated(literal: Lit) -> Lit
-    ensures { result ≡ negation_of literal }
-{
-    Lit {
-        positive: !literal.positive,
-        node: literal.node,
     }
 }
 

@@ -1,20 +1,17 @@
 -- Equality in depth, of lists of values.
 use Rattle.std.proofs.Common.{◌≡◌, ◌≢◌, ℕ, suc, ◌+◌, ◌<◌, ◌≤◌, Bool, true, false, ◌&&◌, List, [], ◌∷◌, drop, length, get_or, refl, sym, ap, ◌∙◌, arith}
 use Rattle.std.proofs.lemmas.List.{drop_more, drop_all}
+use Rattle.std.proofs.Math.Bool.{and-false}
 use Rattle.df_mach.specs.Value.{Value, Nothing, Then, held, same, all_same}
 use Rattle.df_mach.specs.View.{value_of, values_of}
 use Rattle.df_mach.specs.declared.value.Value as declared
-
-and_false : (b : Bool) → (b && false) ≡ false
-and_false true = refl
-and_false false = refl
 
 -- lists of two lengths differ
 other_lengths : (xs ys : List Value) → length xs ≢ length ys → all_same (held xs) (held ys) ≡ false
 other_lengths [] [] other = absurd (other refl)
 other_lengths [] (y ∷ ys) other = refl
 other_lengths (x ∷ xs) [] other = refl
-other_lengths (x ∷ xs) (y ∷ ys) other = rw (other_lengths xs ys (λ e. other (omega (arith, e)))) (and_false (same x y))
+other_lengths (x ∷ xs) (y ∷ ys) other = rw (other_lengths xs ys (λ e. other (omega (arith, e)))) (and-false (same x y))
 
 length_of : (xs : List declared.Value) → length (values_of xs) ≡ length xs
 length_of [] = refl

@@ -62,7 +62,7 @@ binary operator v w = None
 abbrev pub after : Frame → List Value → Frame
 after f operands = record { method = f.method; next = f.next + 1; locals = f.locals; operands = operands }
 
--- the frame goes on with these operands
+-- the frame goes on to its next instruction, with these operands
 abbrev pub leaves : Frame → List Value → Effect
 leaves f operands = Goes (after f operands) []
 

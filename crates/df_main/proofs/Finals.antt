@@ -6,7 +6,8 @@ use Rattle.df_mach.specs.Step.{Stepped, On, Ended, Fault, Huge}
 use Rattle.df_mach.specs.Run.{and_then, machine_run, start_of}
 use Rattle.df_mach.proofs.Runs.{ends_for_good}
 use Rattle.df_main.specs.declared.run.Ran.TheVariants as rans
-use Rattle.df_main.specs.Run.{IsCompiled, HasEnded, IsUnended, IsCutOff, IsStopped, RunsMain}
+use Rattle.df_main.specs.Run.{IsCompiled, IsCutOff, IsStopped, RunsMain}
+use Rattle.df_main.specs.Steps.{HasEnded, IsUnended}
 use Rattle.df_main.proofs.Fronts.{front_is_prefix}
 
 pub one_code : (program : Program) (code other : Code) → IsCompiled program code → IsCompiled program other → code ≡ other

@@ -1,5 +1,6 @@
 -- The text so far of a run that ends is a front of the whole text.
-use Rattle.std.proofs.Common.{◌≡◌, ℕ, ◌+◌, List, [], ◌∷◌, ◌++◌, take, drop, length, Option, refl, sym, ap, subst, ◌∙◌, append_assoc, append-nil, take-append-drop, arith}
+use Rattle.std.proofs.Common.{◌≡◌, ℕ, ◌+◌, List, [], ◌++◌, take, drop, length, Option, sym, ap, subst, ◌∙◌, append_assoc, append-nil, take-append-drop, arith}
+use Rattle.std.proofs.Math.Seq.{take-append_seam}
 use Rattle.df_base.specs.Outside.{Appends, AppendsPrefix}
 use Rattle.df_mach.specs.State.{Code, State, Final}
 use Rattle.df_mach.specs.Step.{Stepped, On, Ended, Fault, Huge}
@@ -45,14 +46,10 @@ one_end code (Ended h) k n f g one other = ap (final_or f) (sym one ∙ other)
 one_end code Fault k n f g one other = absurd cc
 one_end code Huge k n f g one other = absurd cc
 
-take_front : (x y : List ℕ) → take (length x) (x ++ y) ≡ x
-take_front [] y = refl
-take_front (a ∷ x) y = ap (λ (r : List ℕ). a ∷ r) (take_front x y)
-
 -- a front that is put is a prefix that is put
 pub front_is_prefix : (old new : Option (List ℕ)) (part more whole : List ℕ) → whole ≡ part ++ more → Appends old new part → AppendsPrefix old new whole
 front_is_prefix old new part more whole e puts =
-    let same : part ≡ take (length part) whole = sym (take_front part more) ∙ ap (take (length part)) (sym e) in
+    let same : part ≡ take (length part) whole = sym (take-append_seam part more) ∙ ap (take (length part)) (sym e) in
     (length part, subst (λ (x : List ℕ). Appends old new x) same puts)
 
 -- a prefix of a front is a prefix

@@ -3,4 +3,3 @@ mod Fronts
 mod Telling
 mod Finals
 mod Searching
-mod Sampled

@@ -13,7 +13,8 @@ use Rattle.df_runs.specs.Reaching.{RunsReachTheDepth}
 use Rattle.df_runs.specs.Whole.{IsEntry}
 use Rattle.df_mach.specs.State.{Code}
 use Rattle.df_mach.specs.Run.{start_of}
-use Rattle.df_emit.specs.Correct.{machine_value, Ends}
+use Rattle.df_emit.specs.Ending.{Ends}
+use Rattle.df_emit.specs.Correct.{machine_value}
 use Rattle.df_main.specs.Run.{IsCompiled, IsRunOf, IsEntryAt}
 
 -- the run is not dismissed

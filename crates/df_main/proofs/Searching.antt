@@ -1,7 +1,7 @@
 -- The entry is found where there is one.
 use Rattle.std.proofs.Common.{◌≡◌, ℕ, ◌≤◌, Bool, true, false, ◌&&◌, nat_eq, nat_lt, cond, List, [], ◌∷◌, length, map, get_or, slice_get, position, Option, Some, None, option_map, Contains, codes, IfSome, refl, sym, ap, subst, ◌∙◌, arith}
 use Rattle.std.specs.List.{position_or_len}
-use Rattle.std.proofs.lemmas.Bool.{eqb-true}
+use Rattle.std.proofs.lemmas.Bool.{eqb-true, and_parts}
 use Rattle.std.proofs.lemmas.List.Quantifiers.{position-Some}
 use Rattle.std.proofs.lemmas.List.Sums.{fails_before_first}
 use Rattle.std.proofs.lemmas.Option.{slice_get-map, slice_get_within, get_or_from_slice_get, slice_get-get_or}
@@ -14,10 +14,6 @@ use Rattle.df_program.specs.declared.program.Method as declared
 use Rattle.df_runs.specs.Whole.{IsEntry}
 use Rattle.df_main.specs.Run.{IsEntryAt, HasNoEntry}
 use Rattle.df_main.specs.Entry.{is_main, is_main_of}
-
-both : (a b : Bool) → (a && b) ≡ true → (a ≡ true) × (b ≡ true)
-both true b e = (refl, e)
-both false b e = cc
 
 all_four : (a b c d : Bool) → a ≡ true → b ≡ true → c ≡ true → d ≡ true → (a && (b && (c && d))) ≡ true
 all_four true true true true p q r s = refl
@@ -36,9 +32,9 @@ no_length xs e = subst (λ (ys : List _). nat_eq (length ys) 0 ≡ true) (sym e)
 -- what the test finds
 is_entry : (program : Program) (m : Method) → Contains program.methods m → is_main m ≡ true → IsEntry program m
 is_entry program m declared e =
-    let named = both (same_text m.text (codes "Main")) _ e in
-    let first = both (nat_eq (length m.parameters) 0) _ named.1 in
-    let second = both (nat_eq (length m.results) 0) _ first.1 in
+    let named = and_parts (same_text m.text (codes "Main")) _ e in
+    let first = and_parts (nat_eq (length m.parameters) 0) _ named.1 in
+    let second = and_parts (nat_eq (length m.results) 0) _ first.1 in
     record {
       declared = declared;
       text = same_text-equal m.text (codes "Main") named.0;

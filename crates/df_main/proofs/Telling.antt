@@ -14,7 +14,8 @@ use Rattle.df_mach.specs.State.{Code, Heap, State, Final}
 use Rattle.df_mach.specs.Step.{Stepped, On, Ended}
 use Rattle.df_mach.specs.Run.{and_then, machine_run, start_of, NeverFaults}
 use Rattle.df_vm.specs.Runs.{Ends, HasRun, HasBegun}
-use Rattle.df_main.specs.Run.{IsCompiled, IsRunOf, HasEnded, IsUnended, IsCutOff, IsStopped, IsEntryAt}
+use Rattle.df_main.specs.Run.{IsCompiled, IsRunOf, IsCutOff, IsStopped, IsEntryAt}
+use Rattle.df_main.specs.Steps.{HasEnded, IsUnended}
 use Rattle.df_main.proofs.Printing.{main_runs}
 use Rattle.df_main.proofs.Fronts.{text_so_far, one_end, prefix_of_front}
 

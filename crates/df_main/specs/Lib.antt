@@ -1,3 +1,4 @@
+pub mod Compiled
+pub mod Steps
 pub mod Run
 pub mod Entry
-pub mod Sample

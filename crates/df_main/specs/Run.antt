@@ -1,21 +1,18 @@
 -- The run of Main by the machine.
-use Rattle.std.specs.Prelude.{◌≡◌, ◌<◌, ◌⊎◌, ℕ, List, [], ◌++◌, Option, Some, slice_get}
+use Rattle.std.specs.Prelude.{◌≡◌, ◌<◌, ◌⊎◌, ℕ, List, [], Option, Some, slice_get}
 use Rattle.df_base.specs.Outside.{Appends, AppendsPrefix}
 use Rattle.df_program.specs.Program.{Method, Program}
 use Rattle.df_runs.specs.Whole.{IsEntry, Prints}
 use Rattle.df_erase.specs.Erasing.{erased}
 use Rattle.df_erase.specs.Running.{RunsAlike}
-use Rattle.df_emit.specs.Code.{plain_code}
-use Rattle.df_emit.specs.Correct.{Ends, DoesWhat}
-use Rattle.df_mach.specs.State.{Code, State}
-use Rattle.df_mach.specs.Step as step
-use Rattle.df_mach.specs.Run.{and_then, machine_run, start_of}
+use Rattle.df_emit.specs.Ending.{Ends}
+use Rattle.df_emit.specs.Correct.{DoesWhat}
+use Rattle.df_mach.specs.State.{Code}
+use Rattle.df_mach.specs.Run.{start_of}
+use Rattle.df_main.specs.Compiled.{code_for}
+use Rattle.df_main.specs.Steps.{HasEnded, IsUnended}
 use Rattle.df_main.specs.declared.run.Ran.{Ran}
 use Rattle.df_main.specs.declared.run.Ran.TheVariants as rans
-
--- the code of a program: the instructions of the program without its ghosts
-abbrev pub code_for : Program → Code
-code_for program = plain_code (erased program)
 
 -- the code is the program's, and does what the program does without its ghosts
 pub record IsCompiled (program : Program) (code : Code) : Type 0 where
@@ -32,18 +29,6 @@ pub record IsRunOf (program : Program) (number : ℕ) (code : Code) (text : List
   pub prints : Prints program method text
   pub compiled : IsCompiled program code
   pub ends : Ends code (start_of code number [] []) [] text
-
--- within so many steps the machine ends with this text
-pub record HasEnded (code : Code) (number fuel : ℕ) (text : List ℕ) : Type 0 where
-  pub within : and_then (start_of code number [] []) (machine_run code fuel) ≡ step.Ended (record { results = []; heap = []; text = text })
-
--- after so many steps the machine has not ended, and has printed so much of the whole
-pub record IsUnended (code : Code) (number fuel : ℕ) (whole text : List ℕ) : Type 0 where
-  pub state : State
-  pub on : and_then (start_of code number [] []) (machine_run code fuel) ≡ step.On state
-  pub so_far : state.text ≡ text
-  pub more : List ℕ
-  pub is_part : whole ≡ text ++ more
 
 -- the whole text is put, or a prefix of it, of a run of Main
 pub record IsCutOff (program : Program) (number : ℕ) (old new : Option (List ℕ)) : Type 0 where

@@ -4,7 +4,8 @@ ghost use Rattle.std.specs.Prelude.{◌≡◌, ◌≤◌, ℕ, List, Option};
 ghost use Rattle.df_program.specs.Program.{Program};
 ghost use Rattle.df_mach.specs.State.{Code};
 ghost use Rattle.df_main.specs.declared.run.Ran.TheVariants as rans;
-ghost use Rattle.df_main.specs.Run.{IsCompiled, HasEnded, IsUnended, IsCutOff, IsStopped, RunsMain};
+ghost use Rattle.df_main.specs.Run.{IsCompiled, IsCutOff, IsStopped, RunsMain};
+ghost use Rattle.df_main.specs.Steps.{HasEnded, IsUnended};
 
 /// A program has one code.
 pub fn one_code()

@@ -4,8 +4,6 @@
 mod entries;
 mod law;
 mod run;
-#[cfg(test)]
-mod tests;
 
 pub use entries::entry;
 pub use law::{an_end_stays, one_answer, one_code, stopped_is_cut_off};

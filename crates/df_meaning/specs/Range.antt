@@ -1,13 +1,9 @@
 -- Which numbers are values of a type.
-use Rattle.std.specs.Prelude.{ℤ, Bool, false, ◌&&◌, int_le, List, slice_get}
+use Rattle.std.specs.Prelude.{ℤ, Bool, false, List, slice_get}
 use Rattle.std.specs.Option.{option_map_or}
 use Rattle.df_types.specs.declared.newtype.Ty.{Ty}
 use Rattle.df_types.specs.declared.newtype.Ty.TheVariants as types
-use Rattle.df_types.specs.Newtype.{Newtype}
-
--- the number lies in the newtype's interval
-abbrev pub holds : Newtype → ℤ → Bool
-holds newtype n = int_le newtype.low n && int_le n newtype.high
+use Rattle.df_types.specs.Newtype.{Newtype, holds}
 
 -- the number is a value of the type
 abbrev pub is_of : List Newtype → Ty → ℤ → Bool

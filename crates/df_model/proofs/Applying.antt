@@ -2,6 +2,7 @@
 use Rattle.std.proofs.Common.{◌≡◌, ℕ, ℤ, pos, ◌+ℤ◌, ◌*ℤ◌, int_le, Bool, true, false, not, ◌&&◌, ◌||◌, List, [], ◌∷◌, map, refl, ap, subst}
 use Rattle.std.specs.List.{list_all, list_any}
 use Rattle.std.specs.Ordering.{int_eq}
+use Rattle.std.proofs.lemmas.Bool.{and_parts}
 use Rattle.df_types.specs.Newtype.{Newtype}
 use Rattle.df_meaning.specs.Value.{Value, Number, Truth, Text, truth_of, number_of, same_truth, same_value}
 use Rattle.df_meaning.specs.Range.{is_of}
@@ -12,7 +13,6 @@ use Rattle.df_form.specs.declared.node.Op.TheVariants as ops
 use Rattle.df_form.specs.Node.{same_sort}
 use Rattle.df_form.specs.Sorting.{takes}
 use Rattle.df_form.specs.Truth.{Assignment, has_sort, apply}
-use Rattle.df_form.proofs.Lists.{both}
 use Rattle.df_form.proofs.Same.{same_sort_equal}
 use Rattle.df_model.specs.Valuation.{number_of_truth, number_of_value}
 use Rattle.df_model.specs.Numbers.{counts_as_true, number_by}
@@ -72,8 +72,8 @@ module _ (worth : ℕ → Value) (sort : ℕ → Sort) (test : ℕ → Bool) (so
   all_truths : (parts : List ℕ) → list_all test parts ≡ true → list_all (same_sort sorts.Truth) (map sort parts) ≡ true → list_all truth_of (map worth parts) ≡ list_all counts_as_true (map num parts)
   all_truths [] passes same = refl
   all_truths (p ∷ parts) passes same =
-      let h = both (test p) (list_all test parts) passes in
-      let s = both (same_sort sorts.Truth (sort p)) (list_all (same_sort sorts.Truth) (map sort parts)) same in
+      let h = and_parts (test p) (list_all test parts) passes in
+      let s = and_parts (same_sort sorts.Truth (sort p)) (list_all (same_sort sorts.Truth) (map sort parts)) same in
       let first = a_truth p h.0 (turned sorts.Truth (sort p) s.0) in
       let rest = all_truths parts h.1 s.1 in
       λ i. first i && rest i
@@ -81,30 +81,30 @@ module _ (worth : ℕ → Value) (sort : ℕ → Sort) (test : ℕ → Bool) (so
   any_truth : (parts : List ℕ) → list_all test parts ≡ true → list_all (same_sort sorts.Truth) (map sort parts) ≡ true → list_any truth_of (map worth parts) ≡ list_any counts_as_true (map num parts)
   any_truth [] passes same = refl
   any_truth (p ∷ parts) passes same =
-      let h = both (test p) (list_all test parts) passes in
-      let s = both (same_sort sorts.Truth (sort p)) (list_all (same_sort sorts.Truth) (map sort parts)) same in
+      let h = and_parts (test p) (list_all test parts) passes in
+      let s = and_parts (same_sort sorts.Truth (sort p)) (list_all (same_sort sorts.Truth) (map sort parts)) same in
       let first = a_truth p h.0 (turned sorts.Truth (sort p) s.0) in
       let rest = any_truth parts h.1 s.1 in
       λ i. first i || rest i
 
   two_numbers : (a b : ℕ) → (test a && (test b && true)) ≡ true → (same_sort (sort a) sorts.Number && same_sort (sort b) sorts.Number) ≡ true → (number_of (worth a) ≡ num a) × (number_of (worth b) ≡ num b)
   two_numbers a b passes same =
-      let h = both (test a) (test b && true) passes in
-      let k = both (test b) true h.1 in
-      let s = both (same_sort (sort a) sorts.Number) (same_sort (sort b) sorts.Number) same in
+      let h = and_parts (test a) (test b && true) passes in
+      let k = and_parts (test b) true h.1 in
+      let s = and_parts (same_sort (sort a) sorts.Number) (same_sort (sort b) sorts.Number) same in
       (a_number a h.0 s.0, a_number b k.0 s.1)
 
   two_truths : (a b : ℕ) → (test a && (test b && true)) ≡ true → (same_sort (sort a) sorts.Truth && same_sort (sort b) sorts.Truth) ≡ true → (truth_of (worth a) ≡ counts_as_true (num a)) × (truth_of (worth b) ≡ counts_as_true (num b))
   two_truths a b passes same =
-      let h = both (test a) (test b && true) passes in
-      let k = both (test b) true h.1 in
-      let s = both (same_sort (sort a) sorts.Truth) (same_sort (sort b) sorts.Truth) same in
+      let h = and_parts (test a) (test b && true) passes in
+      let k = and_parts (test b) true h.1 in
+      let s = and_parts (same_sort (sort a) sorts.Truth) (same_sort (sort b) sorts.Truth) same in
       (a_truth a h.0 s.0, a_truth b k.0 s.1)
 
   two_alike : (a b : ℕ) → (test a && (test b && true)) ≡ true → same_sort (sort a) (sort b) ≡ true → same_value (worth a) (worth b) ≡ int_eq (num a) (num b)
   two_alike a b passes same =
-      let h = both (test a) (test b && true) passes in
-      let k = both (test b) true h.1 in
+      let h = and_parts (test a) (test b && true) passes in
+      let k = and_parts (test b) true h.1 in
       same_is (sort b) (worth a) (worth b) (has a (sort b) h.0 same) (sorted b k.0)
 
   module _ (depth : ℕ) (newtypes : List Newtype) (assignment : Assignment) where
@@ -114,10 +114,10 @@ module _ (worth : ℕ → Value) (sort : ℕ → Sort) (test : ℕ → Bool) (so
     applied (ops.Free free) parts passes taken = refl
     applied ops.Plus (a ∷ b ∷ []) passes taken = let two = two_numbers a b passes taken in λ i. two.0 i +ℤ two.1 i
     applied ops.Times (a ∷ b ∷ []) passes taken = let two = two_numbers a b passes taken in λ i. two.0 i *ℤ two.1 i
-    applied (ops.Is ty) (a ∷ []) passes taken = let one = a_number a (both (test a) true passes).0 taken in λ i. number_of_truth (is_of newtypes ty (one i))
+    applied (ops.Is ty) (a ∷ []) passes taken = let one = a_number a (and_parts (test a) true passes).0 taken in λ i. number_of_truth (is_of newtypes ty (one i))
     applied ops.Equal (a ∷ b ∷ []) passes taken = ap number_of_truth (two_alike a b passes taken)
     applied ops.AtMost (a ∷ b ∷ []) passes taken = let two = two_numbers a b passes taken in λ i. number_of_truth (int_le (two.0 i) (two.1 i))
-    applied ops.Not (a ∷ []) passes taken = let one = a_truth a (both (test a) true passes).0 taken in λ i. number_of_truth (not (one i))
+    applied ops.Not (a ∷ []) passes taken = let one = a_truth a (and_parts (test a) true passes).0 taken in λ i. number_of_truth (not (one i))
     applied ops.And parts passes taken = ap number_of_truth (all_truths parts passes taken)
     applied ops.Or parts passes taken = ap number_of_truth (any_truth parts passes taken)
     applied ops.Implies (a ∷ b ∷ []) passes taken = let two = two_truths a b passes taken in λ i. number_of_truth (not (two.0 i) || two.1 i)

@@ -19,7 +19,7 @@ use Rattle.df_model.specs.Numbers.{free_by}
 abbrev free_node : Free → Node
 free_node free = record { op = ops.Free free; parts = [] }
 
-no_parts : (sort : ℕ → Sort) (parts : List ℕ) → are_none (map sort parts) ≡ true → parts ≡ []
+pub no_parts : (sort : ℕ → Sort) (parts : List ℕ) → are_none (map sort parts) ≡ true → parts ≡ []
 no_parts sort [] e = refl
 no_parts sort (p ∷ parts) e = absurd cc
 

@@ -8,7 +8,7 @@ use Rattle.df_form.specs.declared.node.Op.{Op}
 use Rattle.df_form.specs.declared.node.Op.TheVariants as ops
 use Rattle.df_form.specs.Node.{Node}
 use Rattle.df_meaning.specs.Value.{same_truth}
-use Rattle.df_linear.specs.Row.{number_of_op, literal_number}
+use Rattle.df_row.specs.Row.{number_of_op, literal_number}
 use Rattle.df_table.specs.TableModel.{number_at, is_multiple, is_exact}
 use Rattle.df_model.specs.Valuation.{number_of_truth}
 use Rattle.df_model.specs.Numbers.{counts_as_true, number_by}

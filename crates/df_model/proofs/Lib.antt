@@ -1,4 +1,3 @@
-pub mod Mapping
 pub mod Applying
 pub mod NodeNumbers
 pub mod Atoms

@@ -1,12 +1,13 @@
 -- An assignment that makes the hypotheses true and the goal false gives a table model.
-use Rattle.std.proofs.Common.{◌≡◌, ℕ, suc, ◌<◌, ℤ, Bool, true, false, List, [], ◌∷◌, ◌++◌, map, length, Some, slice_get, nat_lt, refl, sym, ap, ◌∙◌, ltb-true}
+use Rattle.std.proofs.Common.{◌≡◌, ℕ, suc, ◌<◌, ℤ, true, false, List, [], ◌∷◌, map, length, Some, slice_get, nat_lt, refl, sym, ap, ◌∙◌, ltb-true}
 use Rattle.std.specs.List.{list_all, AllByRecursion}
+use Rattle.std.proofs.lemmas.Bool.{and_parts}
+use Rattle.df_lemmas.proofs.Lists.{all_parts}
 use Rattle.df_form.specs.declared.node.Sort.TheVariants as sorts
 use Rattle.df_form.specs.Node.{Node, same_sort}
 use Rattle.df_form.specs.Sorting.{is_formula, sort_at}
 use Rattle.df_form.specs.Truth.{Assignment, truth}
 use Rattle.df_form.specs.Sequent.{Sequent, IsSequent}
-use Rattle.df_form.proofs.Lists.{both, both_true}
 use Rattle.df_form.proofs.Values.{AreSorted, grows_not}
 use Rattle.df_kern.specs.Derivation.{begin}
 use Rattle.df_kern.proofs.SoundClauses.{Holds}
@@ -22,15 +23,8 @@ use Rattle.df_model.proofs.FirstNodes.{same_truth_of_first}
 use Rattle.df_model.proofs.Exactness.{table_is_exact, tables_agree}
 use Rattle.df_model.proofs.ClauseTruths.{clauses_hold}
 
-all_parts : {A : Type 0} (test : A → Bool) (xs ys : List A) → list_all test (xs ++ ys) ≡ true → (list_all test xs ≡ true) × (list_all test ys ≡ true)
-all_parts test [] ys e = (refl, e)
-all_parts test (x ∷ xs) ys e =
-    let first = both (test x) (list_all test (xs ++ ys)) e in
-    let rest = all_parts test xs ys first.1 in
-    (both_true (test x) (list_all test xs) first.0 rest.0, rest.1)
-
 formula_below : (nodes : List Node) (n : ℕ) → is_formula nodes n ≡ true → n < length nodes
-formula_below nodes n e = ltb-true n (length nodes) (both (nat_lt n (length nodes)) (same_sort (sort_at nodes n) sorts.Truth) e).0
+formula_below nodes n e = ltb-true n (length nodes) (and_parts (nat_lt n (length nodes)) (same_sort (sort_at nodes n) sorts.Truth) e).0
 
 module _ (s : Sequent) (g : Ground) (depth : ℕ) (assignment : Assignment) (is : IsSequent s) (has : IsGroundOf s g) where
   abbrev table : List ℤ
@@ -49,13 +43,13 @@ module _ (s : Sequent) (g : Ground) (depth : ℕ) (assignment : Assignment) (is 
       → AllByRecursion (λ h. truth depth s.newtypes assignment s.nodes h ≡ true) hypotheses
   all_true [] formulas each = tt
   all_true (h ∷ others) formulas each =
-      let parts = both (is_formula s.nodes h) (list_all (is_formula s.nodes) others) formulas in
+      let parts = and_parts (is_formula s.nodes h) (list_all (is_formula s.nodes) others) formulas in
       (sym (same_truth_of_first depth s.newtypes assignment s.nodes g.nodes h has.grows (formula_below s.nodes h parts.0)) ∙ each h 0 refl, all_true others parts.1 (λ other i at. each other (suc i) at))
 
   clauses_true : ((h i : ℕ) → slice_get s.hypotheses i ≡ Some h → truth depth s.newtypes assignment g.nodes h ≡ true) → truth depth s.newtypes assignment g.nodes s.goal ≡ false → AllByRecursion (Holds depth s.newtypes assignment g.nodes) (state_of g).clauses
   clauses_true each goal =
       let formulas = all_parts (is_formula s.nodes) s.hypotheses (s.goal ∷ []) is.formulas in
-      let goal_formula = both (is_formula s.nodes s.goal) true formulas.1 in
+      let goal_formula = and_parts (is_formula s.nodes s.goal) true formulas.1 in
       let goal_false = sym (same_truth_of_first depth s.newtypes assignment s.nodes g.nodes s.goal has.grows (formula_below s.nodes s.goal goal_formula.0)) ∙ goal in
       let true_all = all_true s.hypotheses formulas.0 each in
       let begun : Keeps depth assignment s is true_all goal_false (begin s) = record { grows = grows_not s.nodes; sorted = record { sorted = is.table.sorted }; hold = tt } in

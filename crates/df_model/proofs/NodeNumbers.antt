@@ -2,6 +2,8 @@
 use Rattle.std.proofs.Common.{◌≡◌, ℕ, ◌+◌, ℤ, pos, true, List, [], ◌∷◌, ◌++◌, map, length, Some, slice_get, nat_lt, refl, sym, ap, ◌∙◌, subst, arith, ltb-true}
 use Rattle.std.proofs.lemmas.List.{length-map, length-append}
 use Rattle.std.proofs.Math.ListN.{get_or-map}
+use Rattle.df_form.proofs.Drafts.{sort_here}
+use Rattle.df_lemmas.proofs.Lists.{get_below}
 use Rattle.df_types.specs.Newtype.{Newtype}
 use Rattle.df_meaning.specs.Value.{Value, Number}
 use Rattle.df_form.specs.declared.node.Sort.{Sort}
@@ -11,9 +13,7 @@ use Rattle.df_form.specs.declared.node.Op.TheVariants as ops
 use Rattle.df_form.specs.Node.{Node}
 use Rattle.df_form.specs.Sorting.{sort_at, sort_of}
 use Rattle.df_form.specs.Truth.{Assignment, has_sort, apply, values_after, values, value_at, truth}
-use Rattle.df_form.proofs.Lists.{get_below}
 use Rattle.df_form.proofs.Values.{AreSorted, parts_taken, worth, value_is}
-use Rattle.df_form.proofs.Making.{sort_is}
 use Rattle.df_kern.proofs.SoundConnectives.{each_below}
 use Rattle.df_table.specs.TableModel.{number_at, is_true}
 use Rattle.df_model.specs.Valuation.{number_of_value, numbers_of_nodes}
@@ -51,7 +51,7 @@ module _ (depth : ℕ) (newtypes : List Newtype) (assignment : Assignment) where
   worth_sorted nodes all n below =
       let at = get_below nodes n (ltb-true n (length nodes) below) in
       let value = value_is depth newtypes assignment nodes n at.0 all at.1 in
-      let sort = sort_is nodes n at.0 at.1 in
+      let sort = sort_here nodes n at.0 at.1 in
       let here = apply_sorted at.0.op (map (worth depth newtypes assignment nodes) at.0.parts) in
       (λ i. has_sort (sort i) (value i)) ∙ here
 

@@ -1,6 +1,9 @@
 -- Tables of the numbers of the first nodes.
 use Rattle.std.proofs.Common.{◌≡◌, ℕ, ◌+◌, ◌<◌, ◌≤◌, ℤ, pos, ◌+ℤ◌, ◌*ℤ◌, Bool, true, false, List, [], ◌∷◌, ◌++◌, map, length, None, Some, slice_get, nat_lt, refl, sym, ap, ◌∙◌, arith, cond, ltb-true}
 use Rattle.std.proofs.lemmas.List.{length-append, get_or_append_left, get_or_push, ext_get_or}
+use Rattle.std.proofs.lemmas.Option.{same_Some, slice_get_within, none-some}
+use Rattle.df_row.proofs.RowNarrow.{unfit}
+use Rattle.df_lemmas.proofs.Lists.{get_below, map_agree}
 use Rattle.df_types.specs.Newtype.{Newtype}
 use Rattle.df_form.specs.declared.node.Free.{Free}
 use Rattle.df_form.specs.declared.node.Op.{Op}
@@ -8,10 +11,9 @@ use Rattle.df_form.specs.declared.node.Op.TheVariants as ops
 use Rattle.df_form.specs.Node.{Node}
 use Rattle.df_form.specs.Sorting.{IsTable}
 use Rattle.df_form.specs.Truth.{Assignment}
-use Rattle.df_form.proofs.Lists.{get_below, get_within, some_is, map_agree}
 use Rattle.df_form.proofs.Values.{parts_below}
-use Rattle.df_linear.specs.Row.{fits}
-use Rattle.df_linear.specs.RowView.{narrow}
+use Rattle.df_row.specs.Row.{fits}
+use Rattle.df_row.specs.RowView.{narrow}
 use Rattle.df_table.specs.TableModel.{number_at}
 use Rattle.df_model.specs.Valuation.{number_of_value, assignment_of, numbers_of_nodes, IsWide}
 use Rattle.df_model.specs.Numbers.{number_by, narrow_by, free_by}
@@ -27,25 +29,18 @@ narrow_some : (z y : ℤ) → narrow z ≡ Some y → z ≡ y
 narrow_some z y e = by (fits z) e
   where
     by : (b : Bool) → cond b (Some z) None ≡ Some y → z ≡ y
-    by true e = some_is z y e
+    by true e = same_Some z y e
     by false e = absurd cc
-
-narrow_none : (z : ℤ) → narrow z ≡ None → fits z ≡ false
-narrow_none z e = by (fits z) e
-  where
-    by : (b : Bool) → cond b (Some z) None ≡ None → b ≡ false
-    by true e = absurd cc
-    by false e = refl
 
 -- the number, where it has 128 bits
 number_some : (newtypes : List Newtype) (free : Free → ℤ) (op : Op) (parts : List ℤ) (z : ℤ) → narrow_by newtypes free op parts ≡ Some z → number_by newtypes free op parts ≡ z
 number_some newtypes free ops.Plus parts z e = narrow_some (number_at parts 0 +ℤ number_at parts 1) z e
 number_some newtypes free ops.Times parts z e = narrow_some (number_at parts 0 *ℤ number_at parts 1) z e
-number_some newtypes free op parts z e = some_is _ z e
+number_some newtypes free op parts z e = same_Some _ z e
 
 number_none : (newtypes : List Newtype) (free : Free → ℤ) (op : Op) (parts : List ℤ) → narrow_by newtypes free op parts ≡ None → fits (number_by newtypes free op parts) ≡ false
-number_none newtypes free ops.Plus parts e = narrow_none (number_at parts 0 +ℤ number_at parts 1) e
-number_none newtypes free ops.Times parts e = narrow_none (number_at parts 0 *ℤ number_at parts 1) e
+number_none newtypes free ops.Plus parts e = unfit (number_at parts 0 +ℤ number_at parts 1) e
+number_none newtypes free ops.Times parts e = unfit (number_at parts 0 *ℤ number_at parts 1) e
 number_none newtypes free op parts e = absurd cc
 
 -- only a free term looks at the numbers of free terms
@@ -72,7 +67,7 @@ module _ (newtypes : List Newtype) (numbers : ℕ → ℤ) (truths : ℕ → Boo
   pub tabled_more : (z : ℤ) (longer : List ℤ) → narrow_by newtypes free_here node.op (map (number_at table) node.parts) ≡ Some z → longer ≡ table ++ z ∷ [] → IsTabled newtypes (assignment_of nodes numbers truths) nodes longer
   tabled_more z longer e is =
       let long = ap (λ (all : List ℤ). length all) is ∙ length-append table (z ∷ []) in
-      let within = get_within nodes n node at in
+      let within = slice_get_within nodes n node at in
       record { short = omega arith; numbers = λ depth m less. ap (λ (all : List ℤ). number_at all m) is ∙ by depth m (omega (arith, less)) }
     where
       by : (depth m : ℕ) → m < length table + 1 → number_at (table ++ z ∷ []) m ≡ number_in depth newtypes (assignment_of nodes numbers truths) nodes m
@@ -100,8 +95,5 @@ tabled_all newtypes assignment nodes table has e depth =
     long = by (nat_lt (length table) (length nodes)) refl
       where
         by : (b : Bool) → nat_lt (length table) (length nodes) ≡ b → length table ≡ length nodes
-        by true less = let at = get_below nodes (length table) (ltb-true (length table) (length nodes) less) in absurd (none_some at.0 (sym e ∙ at.1))
-          where
-            none_some : (node : Node) → None ≡ Some node → ⊥
-            none_some node e = cc
+        by true less = let at = get_below nodes (length table) (ltb-true (length table) (length nodes) less) in absurd (none-some at.0 (sym e ∙ at.1))
         by false past = let least = has.short in grind arith

@@ -10,7 +10,7 @@ use Rattle.df_form.specs.declared.node.Free.{Free}
 use Rattle.df_form.specs.declared.node.Op.{Op}
 use Rattle.df_form.specs.declared.node.Op.TheVariants as ops
 use Rattle.df_meaning.specs.Value.{same_truth}
-use Rattle.df_linear.specs.RowView.{narrow}
+use Rattle.df_row.specs.RowView.{narrow}
 use Rattle.df_table.specs.TableModel.{number_at, is_true}
 use Rattle.df_model.specs.Valuation.{number_of_truth}
 

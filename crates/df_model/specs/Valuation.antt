@@ -12,7 +12,7 @@ use Rattle.df_form.specs.Truth.{Assignment, has_sort, values}
 use Rattle.df_form.specs.Clause.{yes}
 use Rattle.df_kern.specs.declared.known.Known.{Known}
 use Rattle.df_kern.specs.Known.{knows}
-use Rattle.df_linear.specs.Row.{fits}
+use Rattle.df_row.specs.Row.{fits}
 use Rattle.df_table.specs.TableModel.{number_at}
 use Rattle.df_model.specs.declared.outcome.Valuation.{Valuation}
 use Rattle.df_model.specs.declared.outcome.Valuation.TheVariants as answers

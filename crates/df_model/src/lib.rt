@@ -6,8 +6,6 @@ mod law;
 mod number;
 mod outcome;
 mod tabulating;
-#[cfg(test)]
-mod tests;
 
 pub use law::{numbers_follow_atoms, truths_of_first_nodes, valuations_are_models};
 pub use outcome::Valuation;

@@ -76,7 +76,7 @@ fn is_of(newtypes: &[Newtype], ty: Ty, number: i128) -> bool
 }
 
 /// Whether a formula is true.
-#[tactic(auto, using(crate::proofs::Mapping::all_mapped, crate::proofs::Mapping::any_mapped))]
+#[tactic(auto, using(df_lemmas::proofs::Lists::mapped))]
 fn is_formula_true(newtypes: &[Newtype], table: &[i128], op: Op, parts: &[usize]) -> bool
     ensures { result ≡ truth_by (newtypes_of newtypes.now) op (map (number_at table.now) parts.now) }
 {

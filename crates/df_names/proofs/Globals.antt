@@ -53,7 +53,7 @@ module _ (g h : Globals) (newtypes : (name : ℕ) → is_among g.newtypes name �
     statement_same : (scope : Scope) (s : Statement) → faults.statement_faults g scope s ≡ faults.statement_faults h scope s
     statement_same scope (Nested pos statements) = statements_same (enter scope) statements
     statement_same scope (Var local ty value) = append_same _ _ _ _ refl (append_same _ _ _ _ (type_same ty) (expr_same scope value))
-    statement_same scope (Assign place value) = append_same _ _ _ _ (name_same scope place) (expr_same scope value)
+    statement_same scope (Assign target value) = append_same _ _ _ _ (name_same scope target) (expr_same scope value)
     statement_same scope (If guard pos body others last) =
         append_same _ _ _ _ (expr_same scope guard) (append_same _ _ _ _ (statements_same (enter scope) body) (append_same _ _ _ _ (branches_same scope others) (otherwise_same scope last)))
     statement_same scope (Assert pos condition) = expr_same scope condition

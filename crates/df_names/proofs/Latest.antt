@@ -4,6 +4,8 @@ use Rattle.std.proofs.lemmas.Bool.{cases_order, eqb-true}
 use Rattle.std.proofs.lemmas.Bool.Decides.{nat_tests}
 use Rattle.std.proofs.lemmas.List.{append-nil, drop_all, length-append, length-drop, length-take, take-append-le, take-append-drop, map-append, length-map}
 use Rattle.std.proofs.lemmas.Option.{slice_get_within}
+use Rattle.std.proofs.Math.Seq.{take-append_seam}
+use Rattle.df_lemmas.proofs.Lists.{get_grown, get_last}
 use Rattle.df_names.specs.declared.scope.Local.{Local}
 use Rattle.df_names.specs.Scope.{Scope, all_locals, leave, IsLocal}
 use Rattle.df_names.specs.Globals.{is_among}
@@ -126,11 +128,6 @@ slice_get-push (z ∷ xs) x (suc i) y e = elim (slice_get-push xs x i y e) [
   | inr p ↦ inr (omega arith, p.1)
 ]
 
-pub slice_get-front : {A : Type 0} (xs ys : List A) (i : ℕ) (y : A) → slice_get xs i ≡ Some y → slice_get (xs ++ ys) i ≡ Some y
-slice_get-front [] ys i y e = absurd cc
-slice_get-front (x ∷ xs) ys zero y e = e
-slice_get-front (x ∷ xs) ys (suc i) y e = slice_get-front xs ys i y e
-
 names_of-push : (locals : List Local) (local : Local) → names_of (locals ++ local ∷ []) ≡ names_of locals ++ local.name ∷ []
 names_of-push locals local = map-append (λ (local : Local). local.name) locals (local ∷ [])
 
@@ -139,10 +136,6 @@ names_of-length locals = length-map locals (λ (local : Local). local.name)
 
 take-front : (xs ys : List ℕ) (n : ℕ) → n ≤ length xs → take n (xs ++ ys) ≡ take n xs
 take-front xs ys n le = take-append-le n xs ys le
-
-take-whole : (xs ys : List ℕ) → take (length xs) (xs ++ ys) ≡ xs
-take-whole [] ys = refl
-take-whole (x ∷ xs) ys = ap (λ (zs : List ℕ). x ∷ zs) (take-whole xs ys)
 
 -- a local is declared, which hides the last one of its name
 pub declared : (latest after : ℕ → Option ℕ) (locals : List Local) (local : Local) → IsIndex latest locals → local.hidden ≡ latest local.name
@@ -163,7 +156,7 @@ declared latest after locals local index hides finds = record { found = found; h
           rw (take-front (names_of locals) (local.name ∷ []) number (omega arith)) (index.hidden number other p)
       | inr p ↦
           let len = names_of-length locals in
-          let whole : take number (names_of locals ++ local.name ∷ []) ≡ names_of locals = rw (p.0, ← len) (take-whole (names_of locals) (local.name ∷ [])) in
+          let whole : take number (names_of locals ++ local.name ∷ []) ≡ names_of locals = rw (p.0, ← len) (take-append_seam (names_of locals) (local.name ∷ [])) in
           rw (whole, p.1) (hides ∙ index.found local.name)
     ])
 
@@ -175,14 +168,10 @@ forgotten latest after locals local index finds = record { found = found; hidden
     names : names_of (locals ++ local ∷ []) ≡ names_of locals ++ local.name ∷ []
     names = names_of-push locals local
 
-    at_end : {A : Type 0} (xs : List A) (x : A) → slice_get (xs ++ x ∷ []) (length xs) ≡ Some x
-    at_end [] x = refl
-    at_end (y ∷ xs) x = at_end xs x
-
     own : local.hidden ≡ last_of (names_of locals) local.name
     own =
         let len = names_of-length locals in
-        index.hidden (length locals) local (at_end locals local) ∙ rw (names, ← len) (ap (λ (xs : List ℕ). last_of xs local.name) (take-whole (names_of locals) (local.name ∷ [])))
+        index.hidden (length locals) local (get_last locals local) ∙ rw (names, ← len) (ap (λ (xs : List ℕ). last_of xs local.name) (take-append_seam (names_of locals) (local.name ∷ [])))
 
     found : (name : ℕ) → after name ≡ last_of (names_of locals) name
     found name = finds name ∙ by (nat_eq local.name name) refl
@@ -199,7 +188,7 @@ forgotten latest after locals local index finds = record { found = found; hidden
         let lt = slice_get_within locals number other at in
         let len = names_of-length locals in
         let front = take-front (names_of locals) (local.name ∷ []) number (omega arith) in
-        rw (← front, ← names) (index.hidden number other (slice_get-front locals (local ∷ []) number other at))
+        rw (← front, ← names) (index.hidden number other (get_grown locals (local ∷ []) number other at))
 
 pub is_local_of : (names : List ℕ) (name : ℕ) (o : Option ℕ) → last_of names name ≡ o → IfSome o (λ number. IsLocal names name number)
 is_local_of names name None e = tt
@@ -244,7 +233,7 @@ still_within outer items front local scope is made some =
 
 -- what is entered is left as it was
 pub left_as_before : (before scope : Scope) → scope.outer ≡ all_locals before → leave scope (length before.outer) ≡ before
-left_as_before before scope same = rw same (λ i. record { outer = take-whole before.outer before.inner i; inner = drop-whole before.outer before.inner i })
+left_as_before before scope same = rw same (λ i. record { outer = take-append_seam before.outer before.inner i; inner = drop-whole before.outer before.inner i })
   where
     drop-whole : (xs ys : List ℕ) → drop (length xs) (xs ++ ys) ≡ ys
     drop-whole [] ys = refl

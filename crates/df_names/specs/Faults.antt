@@ -72,7 +72,7 @@ abbrev mutual
   pub statement_faults : Globals → Scope → Statement → List Refusal
   statement_faults globals scope (Nested pos statements) = statements_faults globals (enter scope) statements
   statement_faults globals scope (Var local ty value) = new_faults scope local ++ (type_faults globals ty ++ expr_faults globals scope value)
-  statement_faults globals scope (Assign place value) = name_faults globals scope place ++ expr_faults globals scope value
+  statement_faults globals scope (Assign target value) = name_faults globals scope target ++ expr_faults globals scope value
   statement_faults globals scope (If guard pos body others last) =
       expr_faults globals scope guard ++ (statements_faults globals (enter scope) body ++ (branches_faults globals scope others ++ otherwise_faults globals scope last))
   statement_faults globals scope (Assert pos condition) = expr_faults globals scope condition

@@ -11,7 +11,7 @@ ghost use Rattle.df_names.specs.Telling.{Tells};
 use crate::expressions::{expr, twice, ty};
 use crate::scope::Scope;
 use crate::statements::{block, new};
-use crate::table::Table;
+use crate::tables::Table;
 use df_base::{Global, Stop};
 use df_tree::{
     Clause, ClauseKind, Declaration, Ident, MethodDeclaration, NewtypeDeclaration, Parameter,

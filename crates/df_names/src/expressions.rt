@@ -8,7 +8,7 @@ ghost use Rattle.df_names.specs.Faults.{name_faults, type_faults, expr_faults, m
 ghost use Rattle.df_names.specs.Telling.{Tells};
 
 use crate::scope::Scope;
-use crate::table::Table;
+use crate::tables::Table;
 use df_base::{Code, Detail, Refusal, Stop};
 use df_tree::{Expr, Ident, Operation, TreeType};
 

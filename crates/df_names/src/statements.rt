@@ -10,7 +10,7 @@ ghost use Rattle.df_names.specs.Telling.{Tells};
 
 use crate::expressions::{expr, name, twice, ty};
 use crate::scope::Scope;
-use crate::table::Table;
+use crate::tables::Table;
 use df_base::Stop;
 use df_tree::{Block, Branch, Expr, Ident, PrintOperand, Statement, TreeType};
 
@@ -69,8 +69,8 @@ fn statement(table: &Table, scope: &mut Scope, statement: &Statement) -> Result<
             ty: declared,
             value,
         } => var(table, scope, local, declared, value),
-        Statement::Assign { place, value } => {
-            name(table, scope, place)?;
+        Statement::Assign { target, value } => {
+            name(table, scope, target)?;
             expr(table, scope, value)
         }
         Statement::If {

@@ -5,7 +5,5 @@ mod join;
 mod method;
 mod pass;
 mod stmt;
-#[cfg(test)]
-mod tests;
 
 pub use method::{Owed, obligations};

@@ -47,10 +47,6 @@ is_done step s front h rest after total e so_far =
     let one : gathered front h (all_of step rest) ≡ Some ((front, h), after) = rw (all_of-step step s rest, e) last in
     sym so_far ∙ one
 
-pub none_left : {X : Type 0} (o : Option X) → ((x : X) → o ≡ Some x → ⊥) → o ≡ None
-none_left (Some x) h = absurd (h x refl)
-none_left None h = refl
-
 -- what a step answered, once it is known which it is
 pub seen : {S X : Type 0} (found : Option (Option X × List S)) (o p : Option X) (rest : List S) → found ≡ Some (o, rest) → o ≡ p → found ≡ Some (p, rest)
 seen {S = S} {X = X} found o p rest e f = e ∙ ap (λ (q : Option X). Some (q, rest)) f

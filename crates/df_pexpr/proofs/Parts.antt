@@ -1,5 +1,5 @@
 -- Parts of the tokens of a source: what is read is spelled there, and what is refused is not.
-use Rattle.std.proofs.Common.{◌≡◌, ℕ, ◌-◌, ◌≤◌, List, map, length, drop, Option, Some, None, Result, Err, sym, ap, ◌∙◌, arith, length-drop}
+use Rattle.std.proofs.Common.{◌≡◌, ℕ, ◌-◌, ◌≤◌, List, map, length, drop, Option, Some, None, Result, Ok, Err, IfOk, refl, sym, ap, ◌∙◌, arith, length-drop}
 use Rattle.std.proofs.lemmas.List.{drop-map}
 use Rattle.df_base.specs.declared.refusal.Refusal.{Refusal}
 use Rattle.df_base.specs.declared.refusal.Stop.{Stop}
@@ -7,18 +7,21 @@ use Rattle.df_base.specs.declared.refusal.Stop.TheVariants as stops
 use Rattle.df_tok.specs.declared.token.Token as declared
 use Rattle.df_tok.specs.Token.{Token, view}
 use Rattle.df_tree.specs.declared.expr.TreeType.{TreeType}
-use Rattle.df_tree.specs.Expr.{Expr}
-use Rattle.df_tree.specs.ExprSpelling.{spell, spell_type, IsExpressionAt, IsTypeAt}
-use Rattle.df_tree.specs.ExprReading.{expression_at, type_at}
+use Rattle.df_tree.specs.declared.expr.Level.TheVariants as levels
+use Rattle.df_tree.specs.Expr.{Expr, expr_of}
+use Rattle.df_tree.specs.ExprSpelling.{spell, spell_type, height, IsExpressionAt, IsTypeAt}
+use Rattle.df_tree.specs.ExprReading.{at_level, unary_at, expression_at, type_at}
 use Rattle.df_tree.proofs.Repeat.{differ}
 use Rattle.df_tree.proofs.ExprTokens.{Begins-length}
-use Rattle.df_tree.proofs.ExprOperands.{expression_sound}
+use Rattle.df_tree.proofs.ExprOperands.{at_sound, expression_sound}
 use Rattle.df_tree.proofs.ExprLaw.{read_is_spelled, spelled_is_read, type_sound, type_is_spelled, type_is_read}
-use Rattle.df_pexpr.specs.Reads.{Stops}
+use Rattle.df_pexpr.specs.Reads.{Stops, Reads}
+use Rattle.df_pexpr.specs.Parts.{part_of}
+use Rattle.df_pexpr.specs.declared.part.Part.{Part}
 
 -- the tokens from one on, as the cursor has them
-pub front : (items all from rest : List declared.Token) (start : ℕ) → all ≡ items → from ≡ drop start all → rest ≡ from → map view rest ≡ drop start (map view items)
-front items all from rest start a f r = ap (map view) (r ∙ f ∙ ap (drop start) a) ∙ sym (drop-map view start items)
+pub front : (items all rest : List declared.Token) (start : ℕ) → all ≡ items → rest ≡ drop start all → map view rest ≡ drop start (map view items)
+front items all rest start a r = ap (map view) (r ∙ ap (drop start) a) ∙ sym (drop-map view start items)
 
 error : (X : Type 0) → Stop → Result X Stop
 error X stop = Err stop
@@ -37,6 +40,17 @@ unfolding error
 is_none {X = X} result own stop r found h p q e = stopped stop r found h (sym q ∙ same_stop {X = X} own (stops.Refused r) (sym p ∙ e))
 
 -- ---- expressions
+
+-- what is read of the loosest level is the expression there
+pub whole_read : (result : Result Part Stop) (tokens rest : List Token) → Reads (λ x. (part_of x, rest)) result (at_level (unary_at 200) levels.Equivalence tokens) → Reads (λ x. (expr_of x.tree, rest)) result (expression_at tokens)
+unfolding expression_at
+whole_read (Ok x) tokens rest h = rw h refl
+whole_read (Err stops.Memory) tokens rest h = tt
+whole_read (Err (stops.Refused refusal)) tokens rest h = (rw h.0 refl, h.1, h.2)
+
+pub read_height : (result : Result Part Stop) (tokens rest : List Token) → Reads (λ x. (part_of x, rest)) result (at_level (unary_at 200) levels.Equivalence tokens) → IfOk result (λ x. x.height ≡ height (expr_of x.tree))
+read_height (Ok x) tokens rest h = ((at_sound 200 levels.Equivalence).reads tokens (part_of x) rest h).tall
+read_height (Err stop) tokens rest h = tt
 
 pub whole : (tokens from rest : List Token) (start n m : ℕ) (e : Expr) → from ≡ drop start tokens → expression_at from ≡ Some (e, rest) → n ≡ length tokens → m ≡ length rest → IsExpressionAt tokens start e (n - m)
 whole tokens from rest start n m e f h p q = rw (p, q) (read_is_spelled tokens start e rest (ap expression_at (sym f) ∙ h))

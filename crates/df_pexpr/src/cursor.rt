@@ -1,17 +1,18 @@
 //! The tokens that are still to be read.
 
-ghost use Rattle.std.specs.Prelude.{◌≡◌, length};
-ghost use Rattle.df_tree.specs.Reading.{is_sign, sign_at, name_at};
-ghost use Rattle.df_tree.specs.ExprReading.{operator_of, operator_by, operator_at, operator_in, leading, optional_operator, optional_number};
+ghost use Rattle.std.specs.Prelude.{◌≡◌, map, length, drop};
+ghost use Rattle.df_tok.specs.Token.{view};
+ghost use Rattle.df_tree.specs.Reading.{is_word, is_sign, word_at, sign_at, name_at, kind_at};
+ghost use Rattle.df_tree.specs.FileReading.{word_stands, sign_stands, some_stands, pos_of_word, pos_of_sign};
 ghost use Rattle.df_pexpr.specs.Reads.{Reads};
 ghost use Rattle.df_pexpr.specs.Rest.{rest_of};
 
 use df_base::{Code, Detail, Pos, Refusal, Stop};
-use df_tok::{Kind, Sign, Token};
-use df_tree::{BinaryOperator, Group, Ident, Level};
+use df_tok::{Kind, Sign, Token, Word};
+use df_tree::Ident;
 
-/// A source is refused since no expression or type has a token where this one stands.
-pub(crate) fn syntax(pos: Pos) -> Stop
+/// A source is refused since nothing that is read has a token where this one stands.
+pub fn syntax(pos: Pos) -> Stop
     ensures { result ≡ Stop.Refused (record { code = Code.Syntax; pos = pos; detail = Detail.Nothing }) }
 {
     Stop::Refused(Refusal {
@@ -19,6 +20,35 @@ pub(crate) fn syntax(pos: Pos) -> Stop
         pos,
         detail: Detail::Nothing,
     })
+}
+
+/// The position of the last token.
+fn end(tokens: &[Token]) -> Pos {
+    match tokens {
+        [.., last] => last.pos,
+        [] => Pos { line: 1, col: 1 },
+    }
+}
+
+/// The tokens from `start` on; there are none where `start` is past the last one.
+fn from<'t, 's>(tokens: &'t [Token<'s>], start: usize) -> &'t [Token<'s>]
+    ensures { result.now ≡ drop start tokens.now }
+{
+    let first = if start < tokens.len() {
+        start
+    } else {
+        tokens.len()
+    };
+    &tokens[first..]
+}
+
+fn is_word(kind: Kind, word: Word) -> bool
+    ensures { result ≡ is_word word kind }
+{
+    match kind {
+        Kind::Word(found) => found == word,
+        _ => false,
+    }
 }
 
 fn is_sign(kind: Kind, sign: Sign) -> bool
@@ -30,141 +60,111 @@ fn is_sign(kind: Kind, sign: Sign) -> bool
     }
 }
 
-/// The operator of a sign between two operands.
-#[tactic(auto, unfolding(df_tree::specs::ExprReading::operator_of))]
-fn operator_of(sign: Sign) -> Option<BinaryOperator>
-    ensures { result ≡ operator_of sign }
+/// The kind of the first token.
+fn first_kind(tokens: &[Token]) -> Option<Kind>
+    ensures { result ≡ kind_at (map view tokens.now) }
 {
-    match sign {
-        Sign::Iff => Some(BinaryOperator::Iff),
-        Sign::Implies => Some(BinaryOperator::Implies),
-        Sign::Explies => Some(BinaryOperator::Explies),
-        Sign::And => Some(BinaryOperator::And),
-        Sign::Or => Some(BinaryOperator::Or),
-        Sign::Equal => Some(BinaryOperator::Equal),
-        Sign::NotEqual => Some(BinaryOperator::NotEqual),
-        Sign::Less => Some(BinaryOperator::Less),
-        Sign::AtMost => Some(BinaryOperator::AtMost),
-        Sign::Greater => Some(BinaryOperator::Greater),
-        Sign::AtLeast => Some(BinaryOperator::AtLeast),
-        Sign::Plus => Some(BinaryOperator::Add),
-        Sign::Minus => Some(BinaryOperator::Subtract),
-        _ => None,
+    match tokens {
+        [] => None,
+        [token, ..] => Some(token.kind),
     }
 }
 
-fn operator_by(kind: Kind) -> Option<BinaryOperator>
-    ensures { result ≡ operator_by kind }
+/// Whether the word comes first.
+pub fn begins_with_word(tokens: &[Token], word: Word) -> bool
+    ensures { result ≡ word_stands word (map view tokens.now) }
 {
-    match kind {
-        Kind::Sign(sign) => operator_of(sign),
-        _ => None,
+    match first_kind(tokens) {
+        None => false,
+        Some(kind) => is_word(kind, word),
     }
 }
 
 /// Tokens that are read from the front on.
 #[derive(Drop)]
-pub(crate) struct Cursor<'t, 's> {
-    pub(crate) rest: &'t [Token<'s>],
+pub struct Cursor<'t, 's> {
+    pub rest: &'t [Token<'s>],
+    /// The position of the last token.
     end: Pos,
 }
 
 impl<'t, 's> Cursor<'t, 's> {
-    /// At the first of the tokens; `end` is the place of the last one.
-    pub(crate) fn new(tokens: &'t [Token<'s>], end: Pos) -> Self
-        ensures { result.rest.now ≡ tokens.now }
+    /// At the token of the number `start`, counted from 0, or at the end where there is none.
+    pub fn new(tokens: &'t [Token<'s>], start: usize) -> Self
+        ensures { result.rest.now ≡ drop start tokens.now }
     {
-        Cursor { rest: tokens, end }
+        Cursor {
+            rest: from(tokens, start),
+            end: end(tokens),
+        }
     }
 
     /// How many tokens are left.
-    pub(crate) fn len(&self) -> usize
+    pub fn len(&self) -> usize
         ensures { result ≡ length (rest_of self.now) }
     {
         self.rest.len()
     }
 
-    /// The place of the next token, or of the last one where none is left.
-    pub(crate) fn place(&self) -> Pos {
+    /// The kind of the next token.
+    pub fn kind(&self) -> Option<Kind>
+        ensures { result ≡ kind_at (rest_of self.now) }
+    {
+        first_kind(self.rest)
+    }
+
+    /// The position of the next token, or of the last one where none is left.
+    pub fn pos(&self) -> Pos {
         match self.rest {
             [] => self.end,
             [token, ..] => token.pos,
         }
     }
 
-    /// The operator whose sign is next.
-    #[tactic(auto, unfolding(df_tree::specs::ExprReading::operator_at))]
-    pub(crate) fn operator(&self) -> Option<BinaryOperator>
-        ensures { result ≡ operator_at (rest_of self.now) }
+    /// Whether a token is left.
+    pub fn some_stands(&self) -> bool
+        ensures { result ≡ some_stands (rest_of self.now) }
     {
         match self.rest {
-            [] => None,
-            [token, ..] => operator_by(token.kind),
+            [] => false,
+            [_, ..] => true,
         }
     }
 
-    /// The operator whose sign is next, where it is of the level.
-    #[tactic(auto, unfolding(df_tree::specs::ExprReading::operator_in))]
-    pub(crate) fn operator_in(&self, level: Level) -> Option<BinaryOperator>
-        ensures { result ≡ operator_in level (rest_of self.now) }
+    /// Whether the word is next.
+    pub fn word_stands(&self, word: Word) -> bool
+        ensures { result ≡ word_stands word (rest_of self.now) }
     {
-        let operator = self.operator()?;
-        if operator.group().level() == level {
-            Some(operator)
-        } else {
-            None
+        begins_with_word(self.rest, word)
+    }
+
+    /// Whether the sign is next.
+    pub fn sign_stands(&self, sign: Sign) -> bool
+        ensures { result ≡ sign_stands sign (rest_of self.now) }
+    {
+        match self.kind() {
+            None => false,
+            Some(kind) => is_sign(kind, sign),
         }
     }
 
-    /// The `&&` or `||` that is next, where the level may begin with one.
-    #[tactic(auto, unfolding(df_tree::specs::ExprReading::leading))]
-    pub(crate) fn leading(&self, level: Level) -> Option<BinaryOperator>
-        ensures { result ≡ leading level (rest_of self.now) }
+    /// Takes the word.
+    #[tactic(auto, unfolding(df_tree::specs::Reading::word_at))]
+    pub fn word(&mut self, word: Word) -> Result<(), Stop>
+        ensures { Reads (λ _. rest_of self.new) result (word_at word (rest_of self.old)) }
     {
-        match level {
-            Level::Junction => self.operator_in(level),
-            _ => None,
-        }
-    }
-
-    /// Takes the operator where one of the group is next, and says at which place it was.
-    #[tactic(auto, unfolding(df_tree::specs::ExprReading::optional_operator))]
-    pub(crate) fn optional_operator(&mut self, group: Group) -> Option<(BinaryOperator, Pos)>
-        ensures { optional_operator group (rest_of self.old) ≡ (result, rest_of self.new) }
-    {
-        let [token, rest @ ..] = self.rest else {
-            return None;
-        };
-        let pos = token.pos;
-        let operator = operator_by(token.kind)?;
-        if operator.group() == group {
-            self.rest = rest;
-            Some((operator, pos))
-        } else {
-            None
-        }
-    }
-
-    /// Takes the number where one is next.
-    #[tactic(auto, unfolding(df_tree::specs::ExprReading::optional_number))]
-    pub(crate) fn optional_number(&mut self) -> Option<u128>
-        ensures { optional_number (rest_of self.old) ≡ (result, rest_of self.new) }
-    {
-        let [token, rest @ ..] = self.rest else {
-            return None;
-        };
-        match token.kind {
-            Kind::Number(magnitude) => {
+        match self.rest {
+            [token, rest @ ..] if is_word(token.kind, word) => {
                 self.rest = rest;
-                Some(magnitude)
+                Ok(())
             }
-            _ => None,
+            _ => Err(syntax(self.pos())),
         }
     }
 
     /// Takes the sign.
     #[tactic(auto, unfolding(df_tree::specs::Reading::sign_at))]
-    pub(crate) fn sign(&mut self, sign: Sign) -> Result<(), Stop>
+    pub fn sign(&mut self, sign: Sign) -> Result<(), Stop>
         ensures { Reads (λ _. rest_of self.new) result (sign_at sign (rest_of self.old)) }
     {
         match self.rest {
@@ -172,17 +172,45 @@ impl<'t, 's> Cursor<'t, 's> {
                 self.rest = rest;
                 Ok(())
             }
-            _ => Err(syntax(self.place())),
+            _ => Err(syntax(self.pos())),
+        }
+    }
+
+    /// Takes the word, and says where it stood.
+    #[tactic(auto, unfolding(df_tree::specs::FileReading::pos_of_word))]
+    pub fn pos_of_word(&mut self, word: Word) -> Result<Pos, Stop>
+        ensures { Reads (λ x. (x, rest_of self.new)) result (pos_of_word word (rest_of self.old)) }
+    {
+        match self.rest {
+            [token, rest @ ..] if is_word(token.kind, word) => {
+                self.rest = rest;
+                Ok(token.pos)
+            }
+            _ => Err(syntax(self.pos())),
+        }
+    }
+
+    /// Takes the sign, and says where it stood.
+    #[tactic(auto, unfolding(df_tree::specs::FileReading::pos_of_sign))]
+    pub fn pos_of_sign(&mut self, sign: Sign) -> Result<Pos, Stop>
+        ensures { Reads (λ x. (x, rest_of self.new)) result (pos_of_sign sign (rest_of self.old)) }
+    {
+        match self.rest {
+            [token, rest @ ..] if is_sign(token.kind, sign) => {
+                self.rest = rest;
+                Ok(token.pos)
+            }
+            _ => Err(syntax(self.pos())),
         }
     }
 
     /// Takes a name.
     #[tactic(auto, unfolding(df_tree::specs::Reading::name_at))]
-    pub(crate) fn name(&mut self) -> Result<Ident, Stop>
+    pub fn name(&mut self) -> Result<Ident, Stop>
         ensures { Reads (λ x. (x, rest_of self.new)) result (name_at (rest_of self.old)) }
     {
         let [token, rest @ ..] = self.rest else {
-            return Err(syntax(self.place()));
+            return Err(syntax(self.pos()));
         };
         let pos = token.pos;
         match token.kind {

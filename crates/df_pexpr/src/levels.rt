@@ -28,7 +28,7 @@ impl Cursor<'_, '_> {
         if height < HEIGHT {
             Ok(height + 1)
         } else {
-            Err(syntax(self.place()))
+            Err(syntax(self.pos()))
         }
     }
 

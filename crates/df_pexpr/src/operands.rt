@@ -18,7 +18,7 @@ impl Cursor<'_, '_> {
         ensures { Reads (λ x. (part_of x, rest_of self.new)) result (unary_at depth (rest_of self.old)) }
     {
         if depth == 0 {
-            return Err(syntax(self.place()));
+            return Err(syntax(self.pos()));
         }
         self.operand(alloc, depth - 1)
     }
@@ -30,7 +30,7 @@ impl Cursor<'_, '_> {
         ensures { Reads (λ x. (part_of x, rest_of self.new)) result (unary_by (at_level (unary_at depth)) (rest_of self.old)) }
     {
         let [token, rest @ ..] = self.rest else {
-            return Err(syntax(self.place()));
+            return Err(syntax(self.pos()));
         };
         let pos = token.pos;
         let tree = match token.kind {

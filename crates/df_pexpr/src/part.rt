@@ -5,11 +5,11 @@ use df_tree::{Expr, Operation};
 /// How many expressions may stand inside one another.
 pub(crate) const HEIGHT: usize = 200;
 
-/// An expression and its height.
+/// An expression, and how many expressions stand inside one another in it.
 #[derive(Drop)]
-pub(crate) struct Part {
-    pub(crate) tree: Expr,
-    pub(crate) height: usize,
+pub struct Part {
+    pub tree: Expr,
+    pub height: usize,
 }
 
 /// An operation and the height of its operand.
@@ -24,14 +24,4 @@ pub(crate) struct Found {
 pub(crate) struct Row {
     pub(crate) operations: Vec<Operation>,
     pub(crate) height: usize,
-}
-
-/// An expression that tokens begin with.
-#[derive(Debug, Drop)]
-pub struct Front {
-    pub tree: Expr,
-    /// How many expressions stand inside one another in it.
-    pub height: usize,
-    /// How many tokens it takes.
-    pub len: usize,
 }

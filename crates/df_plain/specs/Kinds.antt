@@ -1,12 +1,12 @@
 -- What is well kinded, as tests that compute: all locals are numbers.
-use Rattle.std.specs.Prelude.{ℕ, suc, ◌+◌, ◌^◌, Bool, true, false, not, ◌&&◌, nat_lt, List, length}
+use Rattle.std.specs.Prelude.{ℕ, ◌+◌, ◌^◌, Bool, true, false, not, ◌&&◌, nat_lt, List, length}
 use Rattle.std.specs.List.{list_all}
 use Rattle.df_program.specs.declared.expr.Comparison.{Comparison}
 use Rattle.df_program.specs.declared.expr.Comparison.TheVariants as comparisons
 use Rattle.df_plain.specs.declared.expr.Operator.{Operator}
 use Rattle.df_plain.specs.declared.expr.Operator.TheVariants as operators
 use Rattle.df_plain.specs.Expr.{Expr, Number, Truth, Local, Negate, Not, Operations, Chain, Members, end, more, Links, last, link}
-use Rattle.df_plain.specs.Stmt.{Operand, Stmt, Block, Var, Assign, If, Print, Stmts, done, next, Branches}
+use Rattle.df_plain.specs.Stmt.{Operand, Stmt, Block, Var, Assign, If, Print, Stmts, done, next, Branches, locals_after}
 use Rattle.df_plain.specs.Stmt as stmt
 use Rattle.df_plain.specs.Plain.{Method}
 
@@ -56,11 +56,6 @@ abbrev pub is_operand : ℕ → Operand → Bool
 is_operand locals (stmt.Text characters) = nat_lt (length characters) (2 ^ 63)
 is_operand locals (stmt.Number value) = is_expr locals true value
 is_operand locals (stmt.Truth value) = is_expr locals false value
-
--- how many locals there are after a statement
-abbrev pub locals_after : ℕ → Stmt → ℕ
-locals_after locals (Var value) = suc locals
-locals_after locals stmt = locals
 
 abbrev mutual
   pub is_stmt : ℕ → Stmt → Bool

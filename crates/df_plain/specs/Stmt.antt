@@ -1,5 +1,5 @@
 -- Statements as contracts see them: siblings are lists.
-use Rattle.std.specs.Prelude.{ℕ, List, [], ◌∷◌, map}
+use Rattle.std.specs.Prelude.{ℕ, suc, List, [], ◌∷◌, map}
 use Rattle.df_plain.specs.declared.stmt.Operand as declared_operand
 use Rattle.df_plain.specs.declared.stmt.Operand.TheVariants as operands
 use Rattle.df_plain.specs.declared.stmt.Stmt as declared
@@ -30,6 +30,11 @@ mutual
   pub data Branches : Type 0 where
     end : Branches
     more : (guard : Expr) (body : Stmts) (rest : Branches) → Branches
+
+-- how many locals are in scope after a statement
+abbrev pub locals_after : ℕ → Stmt → ℕ
+locals_after locals (Var value) = suc locals
+locals_after locals stmt = locals
 
 pub record Branch : Type 0 where
   pub guard : Expr

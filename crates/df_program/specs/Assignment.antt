@@ -33,7 +33,7 @@ abbrev mutual
 
 -- ---- Which locals have a value, by their numbers.
 
--- a local that is out of the list has one
+-- a local that is out of the list has one; none is asked for
 abbrev pub has_value : List Bool → ℕ → Bool
 has_value assigned local = slice_index_or assigned local true
 

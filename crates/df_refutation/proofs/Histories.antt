@@ -1,48 +1,40 @@
 -- Histories of rows, one row after the other.
 use Rattle.std.proofs.Common.{◌≡◌, ℕ, zero, suc, ◌+◌, ◌<◌, ◌≤◌, ◌^◌, ℤ, pos, negsuc, ◌<ℤ◌, int_le, Bool, true, false, List, [], ◌∷◌, ◌++◌, map, length, take, drop, get_or, slice_get, Option, Some, None, refl, sym, ap, subst, ◌∙◌, arith, add-one}
 use Rattle.std.proofs.Math.Seq.{take-suc, drop-cons}
-use Rattle.std.proofs.lemmas.List.{length-map, take_all}
+use Rattle.std.proofs.lemmas.List.{length-map, take_all, append-nil}
 use Rattle.std.proofs.lemmas.Option.{slice_get_within, get_or_from_slice_get, none-some, same_Some}
 use Rattle.std.proofs.lemmas.Int.{ints}
 use Rattle.std.proofs.lemmas.Bool.Decides.{Decides-int_eq}
 use Rattle.std.specs.Ordering.{int_eq}
 use Rattle.std.specs.Option.{option_and_then}
+use Rattle.df_lemmas.proofs.Lists.{get_grown}
 use Rattle.df_form.specs.declared.log.Multiple.{Multiple}
 use Rattle.df_form.specs.declared.log.Combination as declared_combination
 use Rattle.df_form.specs.Log.{Combination, combination_of}
-use Rattle.df_linear.specs.Row.{Row, constant_row}
-use Rattle.df_linear.specs.Linear.{combined, divided, sum_from, with_multiple, is_false, refutes}
-use Rattle.df_linear.proofs.RowSums.{all_pass}
-use Rattle.df_linear.proofs.LinearRefutes.{refutes_from, refutes_start, refutes_goes}
-use Rattle.df_linear.specs.RowView.{IsNarrow}
-use Rattle.df_lin.specs.declared.level.Level.{Level}
-use Rattle.df_lin.specs.declared.row.Row as declared_row
-use Rattle.df_lin.specs.Row.{IsFalse, function_row}
-use Rattle.df_lin.specs.Way.{Comes, AllCome, of_one}
-use Rattle.df_lin.specs.Levels.{HasFalse, rows_of, level_rows, level_ways}
-use Rattle.df_lin.proofs.Ways.{same_comes}
-use Rattle.df_refutation.specs.History.{Derives, IsShifted, AreShifted, IsShiftedWay, StandFrom, ExtendsHistory, AreChained, TellsRefuted}
+use Rattle.df_row.specs.Row.{Row, constant_row}
+use Rattle.df_row.specs.Linear.{combined, divided, sum_from, with_multiple, is_false, refutes}
+use Rattle.df_row.proofs.RowSums.{all_pass}
+use Rattle.df_row.proofs.LinearRefutes.{refutes_from, refutes_start, refutes_goes}
+use Rattle.df_row.specs.RowView.{IsNarrow}
+use Rattle.df_level.specs.declared.level.Level.{Level}
+use Rattle.df_level.specs.declared.row.Row as declared_row
+use Rattle.df_level.specs.Row.{IsFalse, function_row}
+use Rattle.df_level.specs.Way.{Comes, AllCome, of_one}
+use Rattle.df_level.specs.Levels.{HasFalse, rows_of, level_rows, level_ways, AreChained}
+use Rattle.df_level.proofs.Ways.{same_comes}
+use Rattle.df_refutation.specs.History.{Derives, IsShifted, AreShifted, IsShiftedWay, StandFrom, ExtendsHistory, TellsRefuted}
 
 -- lists
 pub joined : (a b c : List Row) → (a ++ b) ++ c ≡ a ++ (b ++ c)
 joined [] b c = refl
 joined (x ∷ a) b c = ap (λ l. x ∷ l) (joined a b c)
 
-pub with_none : (a : List Row) → a ++ [] ≡ a
-with_none [] = refl
-with_none (x ∷ a) = ap (λ l. x ∷ l) (with_none a)
-
-pub get_left : (a b : List Row) (i : ℕ) (r : Row) → slice_get a i ≡ Some r → slice_get (a ++ b) i ≡ Some r
-get_left [] b i r e = absurd (none-some r e)
-get_left (x ∷ a) b zero r e = e
-get_left (x ∷ a) b (suc i) r e = get_left a b i r e
-
 pub stand_longer : (start : ℕ) (rows all more : List Row) → StandFrom start rows all → StandFrom start rows (all ++ more)
-stand_longer start rows all more h i r e = get_left all more (start + i) r (h i r e)
+stand_longer start rows all more h i r e = get_grown all more (start + i) r (h i r e)
 
 -- one more combination
 pub derives_more : (given : List Row) (cs : List Combination) (ds : List Row) (c : Combination) (d : Row) → Derives given cs ds → Comes (given ++ ds) c d → Derives given (cs ++ c ∷ []) (ds ++ d ∷ [])
-derives_more given [] [] c d h comes = let P : List Row → Type 0 = λ l. Comes l c d in (subst P (with_none given) comes, tt)
+derives_more given [] [] c d h comes = let P : List Row → Type 0 = λ l. Comes l c d in (subst P (append-nil given) comes, tt)
 derives_more given [] (e ∷ ds) c d h comes = absurd h
 derives_more given (b ∷ cs) [] c d h comes = absurd h
 derives_more given (b ∷ cs) (e ∷ ds) c d h comes = let P : List Row → Type 0 = λ l. Comes l c d in (h.0, derives_more (given ++ e ∷ []) cs ds c d h.1 (subst P (sym (joined given (e ∷ []) ds)) comes))
@@ -98,7 +90,7 @@ false_is count row h = rw (all_pass count (λ n. int_eq (row.coefficient n) (pos
     below z h = grind (arith, ints)
 
 ends_false : (count : ℕ) (last : Bool) (given : List Row) (cs : List Combination) (ds : List Row) (c : Combination) (d : Row) → Derives given cs ds → Comes (given ++ ds) c d → IsFalse d → refutes_from count last given (cs ++ c ∷ []) ≡ true
-ends_false count last given [] [] c d h comes is = let P : List Row → Type 0 = λ l. Comes l c d in refutes_goes count last given c [] d (subst P (with_none given) comes count) ∙ false_is count d is
+ends_false count last given [] [] c d h comes is = let P : List Row → Type 0 = λ l. Comes l c d in refutes_goes count last given c [] d (subst P (append-nil given) comes count) ∙ false_is count d is
 ends_false count last given [] (e ∷ ds) c d h comes is = absurd h
 ends_false count last given (b ∷ cs) [] c d h comes is = absurd h
 ends_false count last given (b ∷ cs) (e ∷ ds) c d h comes is = let P : List Row → Type 0 = λ l. Comes l c d in refutes_goes count last given b (cs ++ c ∷ []) e (h.0 count) ∙ ends_false count (is_false count e) (given ++ e ∷ []) cs ds c d h.1 (subst P (sym (joined given (e ∷ []) ds)) comes) is
@@ -111,7 +103,7 @@ pub record ExtendsPart (start : ℕ) (ways : List Combination) (i : ℕ) (old ne
   pub goes : (given before rows derived : List Row) → Derives given old derived → StandFrom start before (given ++ derived) → AllCome before ways rows → length (given ++ derived) < 2 ^ 64 → Derives given new (derived ++ take i rows)
 
 pub part_begins : (start : ℕ) (ways old : List Combination) → ExtendsPart start ways 0 old old
-part_begins start ways old = record { goes = λ given before rows derived h stand come short. let P : List Row → Type 0 = λ ds. Derives given old ds in subst P (sym (with_none derived)) h }
+part_begins start ways old = record { goes = λ given before rows derived h stand come short. let P : List Row → Type 0 = λ ds. Derives given old ds in subst P (sym (append-nil derived)) h }
 
 come_at : (before : List Row) (ways : List Combination) (rows : List Row) (i : ℕ) (c : Combination) → AllCome before ways rows → slice_get ways i ≡ Some c → (r : Row) × (slice_get rows i ≡ Some r) × Comes before c r
 come_at before [] rows i c h e = absurd (none-some c e)
@@ -174,7 +166,7 @@ pub record IsHistory (given : List Row) (levels left : List Level) (cs : List Co
   pub none : TellsRefuted given left None → TellsRefuted given levels None
 
 pub history_begins : (given : List Row) (levels : List Level) → AreChained given levels → IsHistory given levels levels [] 0
-history_begins given levels h = record { derived = []; derives = tt; before = given; placed = λ i r e. ap (slice_get (given ++ [])) (from_zero i) ∙ get_left given [] i r e; chained = h; none = λ k. k }
+history_begins given levels h = record { derived = []; derives = tt; before = given; placed = λ i r e. ap (slice_get (given ++ [])) (from_zero i) ∙ get_grown given [] i r e; chained = h; none = λ k. k }
 
 module _ (given : List Row) (levels others : List Level) (level : Level) (cs more : List Combination) (start next : ℕ) (h : IsHistory given levels (level ∷ others) cs start) (is : next ≡ length given + length cs) (short : next < 2 ^ 64) (grown : ExtendsHistory start (level_ways level) cs more) where
   whole : length (given ++ h.derived) ≡ next

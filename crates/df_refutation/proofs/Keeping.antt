@@ -1,31 +1,26 @@
 -- Combinations of which some are kept.
-use Rattle.std.proofs.Common.{◌≡◌, ℕ, zero, suc, ◌+◌, ◌<◌, ◌≤◌, pos, Bool, true, false, ◌⊎◌, inl, inr, List, [], ◌∷◌, ◌++◌, map, length, take, get_or, slice_get, Option, Some, None, refl, sym, ap, subst, ◌∙◌, arith, add-one}
+use Rattle.std.proofs.Common.{◌≡◌, ℕ, suc, ◌+◌, ◌<◌, ◌≤◌, pos, Bool, true, false, inl, inr, List, [], ◌∷◌, ◌++◌, map, length, take, get_or, slice_get, Option, Some, None, refl, sym, ap, subst, ◌∙◌, arith, add-one}
 use Rattle.std.proofs.Math.Seq.{take-suc}
-use Rattle.std.proofs.lemmas.List.{map-append, length-map, take_all}
+use Rattle.std.proofs.lemmas.List.{map-append, length-map, take_all, append-nil}
 use Rattle.std.proofs.lemmas.Option.{slice_get_within, slice_get-get_or, none-some, same_Some}
 use Rattle.std.specs.Option.{option_and_then, IfSome}
+use Rattle.df_lemmas.proofs.Lists.{get_grown, get_pushed}
 use Rattle.df_form.specs.declared.log.Multiple.{Multiple}
 use Rattle.df_form.specs.declared.log.Combination as declared_combination
 use Rattle.df_form.specs.Log.{Combination, combination_of}
-use Rattle.df_linear.specs.Row.{Row, constant_row}
-use Rattle.df_linear.specs.Linear.{combined, divided, sum_from, with_multiple, is_false, refutes, if_row}
-use Rattle.df_linear.proofs.LinearRefutes.{refutes_from, refutes_start, refutes_goes, refutes_stops}
+use Rattle.df_row.specs.Row.{Row, constant_row}
+use Rattle.df_row.specs.Linear.{combined, divided, sum_from, with_multiple, is_false, refutes, if_row}
+use Rattle.df_row.proofs.LinearRefutes.{refutes_from, refutes_start, refutes_goes, refutes_stops}
 use Rattle.df_refutation.specs.declared.kept.Kept.{Kept}
-use Rattle.df_lin.specs.declared.level.Level.{Level}
-use Rattle.df_lin.specs.declared.row.Row as declared_row
-use Rattle.df_lin.specs.Row.{function_row}
-use Rattle.df_lin.specs.Levels.{rows_of}
+use Rattle.df_level.specs.declared.level.Level.{Level}
+use Rattle.df_level.specs.declared.row.Row as declared_row
+use Rattle.df_level.specs.Row.{function_row}
+use Rattle.df_level.specs.Levels.{rows_of}
 use Rattle.df_refutation.specs.History.{TellsRefuted}
 use Rattle.df_refutation.specs.Needed.{KeepsRefuting, DerivesAt, StandsAt, AreNumbers, HasKept, KeepsSome, IsRenumbered, AreRenumbered, IsRenumberedWay, KeepsNumbers, KeepsOneMore}
-use Rattle.df_refutation.proofs.Histories.{joined, with_none, get_left, get_right, length_joined}
+use Rattle.df_refutation.proofs.Histories.{joined, get_right, length_joined}
 
 -- lists
-get_last : {A : Type 0} (xs : List A) (x : A) (i : ℕ) (y : A) → slice_get (xs ++ x ∷ []) i ≡ Some y → (slice_get xs i ≡ Some y) ⊎ ((i ≡ length xs) × (x ≡ y))
-get_last [] x zero y e = inr (refl, same_Some x y e)
-get_last [] x (suc i) y e = absurd (none-some y e)
-get_last (z ∷ xs) x zero y e = inl e
-get_last (z ∷ xs) x (suc i) y e = elim (get_last xs x i y e) [ inl a ↦ inl a | inr b ↦ inr (ap suc b.0, b.1) ]
-
 length_last : {A : Type 0} (xs : List A) (x : A) → length (xs ++ x ∷ []) ≡ suc (length xs)
 length_last [] x = refl
 length_last (y ∷ xs) x = ap suc (length_last xs x)
@@ -40,7 +35,7 @@ taken_more ways i x less is = ap (λ j. map combination_of (take j ways)) (add-o
 
 -- one more combination
 at_more : (count : ℕ) (given : List Row) (cs : List Combination) (ds : List Row) (c : Combination) (d : Row) → DerivesAt count given cs ds → combined count (given ++ ds) c ≡ Some d → DerivesAt count given (cs ++ c ∷ []) (ds ++ d ∷ [])
-at_more count given [] [] c d h comes = (ap (λ l. combined count l c) (sym (with_none given)) ∙ comes, tt)
+at_more count given [] [] c d h comes = (ap (λ l. combined count l c) (sym (append-nil given)) ∙ comes, tt)
 at_more count given [] (e ∷ ds) c d h comes = absurd h
 at_more count given (b ∷ cs) [] c d h comes = absurd h
 at_more count given (b ∷ cs) (e ∷ ds) c d h comes = (h.0, at_more count (given ++ e ∷ []) cs ds c d h.1 (ap (λ l. combined count l c) (joined given (e ∷ []) ds) ∙ comes))
@@ -54,7 +49,7 @@ record HasLast (count : ℕ) (given : List Row) (cs : List Combination) (c : Com
 
 at_less : (count : ℕ) (given : List Row) (cs : List Combination) (c : Combination) (all : List Row) → DerivesAt count given (cs ++ c ∷ []) all → HasLast count given cs c all
 at_less count given [] c [] h = absurd h
-at_less count given [] c (d ∷ []) h = record { before = []; row = d; derives = tt; comes = ap (λ l. combined count l c) (with_none given) ∙ h.0; is = refl }
+at_less count given [] c (d ∷ []) h = record { before = []; row = d; derives = tt; comes = ap (λ l. combined count l c) (append-nil given) ∙ h.0; is = refl }
 at_less count given [] c (d ∷ e ∷ ds) h = absurd h.1
 at_less count given (b ∷ cs) c [] h = absurd h
 at_less count given (b ∷ cs) c (d ∷ ds) h =
@@ -108,7 +103,7 @@ more_numbers n numbers new h is = record { count = counted; same = same }
     counted = let a = h.count in let b = ap length is ∙ length_last numbers (Some n) in omega (arith)
 
     same : (i j : ℕ) → slice_get new i ≡ Some (Some j) → j ≡ i
-    same i j e = elim (get_last numbers (Some n) i (Some j) (ap (λ l. slice_get l i) (sym is) ∙ e)) [
+    same i j e = elim (get_pushed numbers (Some n) i (Some j) (ap (λ l. slice_get l i) (sym is) ∙ e)) [
       | inl a ↦ h.same i j a
       | inr b ↦ sym (same_Some n j b.1) ∙ sym h.count ∙ sym b.0
     ]
@@ -121,7 +116,7 @@ keeping_begins given new numbers none h = record { count = (let e = h.count in o
         let inside = slice_get_within numbers i (Some j) e in
         let less : i < length rows = (let k = h.count in omega (arith)) in
         let row = get_or rows i (constant_row (pos 0)) in
-        let here = get_left rows [] i row (slice_get-get_or rows i (constant_row (pos 0)) less) in
+        let here = get_grown rows [] i row (slice_get-get_or rows i (constant_row (pos 0)) less) in
         record { row = row; before = here; after = ap (slice_get (rows ++ [])) (h.same i j e) ∙ here }
 
     goes : (count : ℕ) (rows derived : List Row) → length rows ≡ given → DerivesAt count rows [] derived → HasKept count rows derived new numbers
@@ -145,8 +140,8 @@ left_out given c before old new grown = record { goes = λ all h. record { count
         k = h.goes count rows last.before is last.derives
 
         stand : (i j : ℕ) → slice_get new i ≡ Some (Some j) → StandsAt (rows ++ derived) i (rows ++ k.kept) j
-        stand i j e = elim (get_last old None i (Some j) (ap (λ l. slice_get l i) (sym grown) ∙ e)) [
-          | inl a ↦ (let s = k.stand i j a in record { row = s.row; before = ap (λ l. slice_get l i) (ap (λ l. rows ++ l) last.is ∙ sym (joined rows last.before (last.row ∷ []))) ∙ get_left (rows ++ last.before) (last.row ∷ []) i s.row s.before; after = s.after })
+        stand i j e = elim (get_pushed old None i (Some j) (ap (λ l. slice_get l i) (sym grown) ∙ e)) [
+          | inl a ↦ (let s = k.stand i j a in record { row = s.row; before = ap (λ l. slice_get l i) (ap (λ l. rows ++ l) last.is ∙ sym (joined rows last.before (last.row ∷ []))) ∙ get_grown (rows ++ last.before) (last.row ∷ []) i s.row s.before; after = s.after })
           | inr b ↦ absurd (none-some j b.1)
         ]
 
@@ -172,14 +167,14 @@ kept_one given c d before after old new n renumbered number more grown = record 
         there = last_at rows k.kept last.row n (let b = at_length count rows before k.kept k.derives in omega (arith))
 
         stand : (i j : ℕ) → slice_get new i ≡ Some (Some j) → StandsAt (rows ++ derived) i (rows ++ (k.kept ++ last.row ∷ [])) j
-        stand i j at = elim (get_last old (Some n) i (Some j) (ap (λ l. slice_get l i) (sym grown) ∙ at)) [
-          | inl a ↦ (let s = k.stand i j a in record { row = s.row; before = ap (λ l. slice_get l i) (ap (λ l. rows ++ l) last.is ∙ sym (joined rows last.before (last.row ∷ []))) ∙ get_left (rows ++ last.before) (last.row ∷ []) i s.row s.before; after = ap (λ l. slice_get l j) (sym (joined rows k.kept (last.row ∷ []))) ∙ get_left (rows ++ k.kept) (last.row ∷ []) j s.row s.after })
+        stand i j at = elim (get_pushed old (Some n) i (Some j) (ap (λ l. slice_get l i) (sym grown) ∙ at)) [
+          | inl a ↦ (let s = k.stand i j a in record { row = s.row; before = ap (λ l. slice_get l i) (ap (λ l. rows ++ l) last.is ∙ sym (joined rows last.before (last.row ∷ []))) ∙ get_grown (rows ++ last.before) (last.row ∷ []) i s.row s.before; after = ap (λ l. slice_get l j) (sym (joined rows k.kept (last.row ∷ []))) ∙ get_grown (rows ++ k.kept) (last.row ∷ []) j s.row s.after })
           | inr b ↦ record { row = last.row; before = ap (slice_get (rows ++ derived)) b.0 ∙ here; after = ap (slice_get (rows ++ (k.kept ++ last.row ∷ []))) (sym (same_Some n j b.1)) ∙ there }
         ]
 
 -- what refutes
 refuting_at : (count : ℕ) (last : Bool) (rows : List Row) (cs : List Combination) (ds : List Row) (c : Combination) → DerivesAt count rows cs ds → refutes_from count last rows (cs ++ c ∷ []) ≡ if_row (combined count (rows ++ ds) c) (is_false count)
-refuting_at count last rows [] [] c h = ap (λ l. if_row (combined count l c) (is_false count)) (sym (with_none rows))
+refuting_at count last rows [] [] c h = ap (λ l. if_row (combined count l c) (is_false count)) (sym (append-nil rows))
 refuting_at count last rows [] (d ∷ ds) c h = absurd h
 refuting_at count last rows (b ∷ cs) [] c h = absurd h
 refuting_at count last rows (b ∷ cs) (d ∷ ds) c h = refutes_goes count last rows b (cs ++ c ∷ []) d h.0 ∙ refuting_at count (is_false count d) (rows ++ d ∷ []) cs ds c h.1 ∙ ap (λ l. if_row (combined count l c) (is_false count)) (joined rows (d ∷ []) ds)

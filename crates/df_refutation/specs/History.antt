@@ -2,16 +2,11 @@
 use Rattle.std.specs.Prelude.{◌≡◌, ℕ, ◌+◌, ◌<◌, ◌^◌, true, List, [], ◌∷◌, ◌++◌, length, slice_get, Option, Some, None}
 use Rattle.df_form.specs.declared.log.Multiple.{Multiple}
 use Rattle.df_form.specs.Log.{Combination}
-use Rattle.df_linear.specs.Row.{Row}
-use Rattle.df_linear.specs.Linear.{refutes}
-use Rattle.df_lin.specs.declared.level.Level.{Level}
-use Rattle.df_lin.specs.Way.{Comes, AllCome}
-use Rattle.df_lin.specs.Levels.{HasFalse, level_rows, AreWays}
-
--- The rows of each level come of those of the level before, and those of the first one of the given rows.
-abbrev pub AreChained : List Row → List Level → Type 0
-AreChained before [] = Unit
-AreChained before (level ∷ others) = AreWays before level × AreChained (level_rows level) others
+use Rattle.df_row.specs.Row.{Row}
+use Rattle.df_row.specs.Linear.{refutes}
+use Rattle.df_level.specs.declared.level.Level.{Level}
+use Rattle.df_level.specs.Way.{Comes, AllCome}
+use Rattle.df_level.specs.Levels.{HasFalse, level_rows}
 
 -- each row by its combination of the given rows and of the rows before it
 abbrev pub Derives : List Row → List Combination → List Row → Type 0

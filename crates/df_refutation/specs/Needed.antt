@@ -2,8 +2,8 @@
 use Rattle.std.specs.Prelude.{◌≡◌, ℕ, ◌+◌, ◌≤◌, true, List, [], ◌∷◌, ◌++◌, length, slice_get, Option, Some}
 use Rattle.df_form.specs.declared.log.Multiple.{Multiple}
 use Rattle.df_form.specs.Log.{Combination}
-use Rattle.df_linear.specs.Row.{Row}
-use Rattle.df_linear.specs.Linear.{combined, refutes}
+use Rattle.df_row.specs.Row.{Row}
+use Rattle.df_row.specs.Linear.{combined, refutes}
 
 -- Where the old combinations refute so many rows, the new ones do too.
 pub record KeepsRefuting (given : ℕ) (old new : List Combination) : Type 0 where

@@ -3,13 +3,13 @@
 ghost use Rattle.std.specs.Prelude.{map, OnOk, IfOk};
 ghost use Rattle.std.specs.Option.{option_map};
 ghost use Rattle.df_form.specs.Log.{combination_of};
-ghost use Rattle.df_lin.specs.Levels.{rows_of};
-ghost use Rattle.df_refutation.specs.History.{AreChained, ExtendsHistory, IsShifted, IsShiftedWay, TellsRefuted};
+ghost use Rattle.df_level.specs.Levels.{rows_of, AreChained};
+ghost use Rattle.df_refutation.specs.History.{ExtendsHistory, IsShifted, IsShiftedWay, TellsRefuted};
 
 use crate::needs::needed;
 use crate::way::way_of_one;
 use df_form::{Combination, Multiple};
-use df_lin::{Level, Row};
+use df_level::{Level, Row};
 use std::alloc::{AllocError, Global};
 
 /// So many times the row that stands so much later. No row has a number past 64 bits.

@@ -9,6 +9,3 @@ mod way;
 
 pub use history::{refutation, refuting};
 pub use needs::needed;
-
-#[cfg(test)]
-mod tests;

@@ -2,7 +2,7 @@
 
 ghost use Rattle.std.specs.Prelude.{◌≡◌, IfOk};
 ghost use Rattle.df_form.specs.Log.{combination_of};
-ghost use Rattle.df_lin.specs.Way.{of_one};
+ghost use Rattle.df_level.specs.Way.{of_one};
 
 use df_form::{Combination, Multiple};
 use std::alloc::{AllocError, Global};

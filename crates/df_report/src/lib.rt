@@ -3,8 +3,6 @@
 
 mod outcome;
 mod report;
-#[cfg(test)]
-mod tests;
 
 pub use outcome::{Evidence, Failure, Outcome, Parameter};
 pub use report::lines;

@@ -3,7 +3,7 @@ use Rattle.std.specs.Prelude.{ℕ, ℤ, pos, neg_ℤ, ◌+ℤ◌, ◌-ℤ◌, in
 use Rattle.std.specs.Option.{option_map_or}
 use Rattle.std.specs.Ordering.{int_eq}
 use Rattle.df_base.specs.declared.pos.Pos.{Pos}
-use Rattle.df_types.specs.Newtype.{Newtype}
+use Rattle.df_types.specs.Newtype.{Newtype, holds}
 use Rattle.df_program.specs.declared.expr.Ty.{Ty}
 use Rattle.df_program.specs.declared.expr.Ty.TheVariants as types
 use Rattle.df_program.specs.declared.expr.Operator.{Operator}
@@ -14,7 +14,6 @@ use Rattle.df_program.specs.Expr.{Expr, Number, Truth, Local, Negate, Not, Opera
 use Rattle.df_meaning.specs.declared.kind.Kind.TheVariants as kinds
 use Rattle.df_meaning.specs.Value.{Value, number_of, truth_of, same_truth, same_value}
 use Rattle.df_meaning.specs.Value as values
-use Rattle.df_meaning.specs.Range.{holds}
 use Rattle.df_meaning.specs.Outcome.{State, Evaluated, Known, Undefined, with_value}
 
 -- the number is a value of the type: any number is an `int`
@@ -42,7 +41,8 @@ decided operators.Or v = if truth_of v then Some (values.Truth true) else None
 decided operators.Implies v = if truth_of v then None else Some (values.Truth true)
 decided operator v = None
 
--- the value of the operator on both operands, where the left one does not decide it
+-- The value of the operator on both operands, where the left one does not decide it: of `&&`, `||` and `==>` it is
+-- then the right one's.
 abbrev pub combined : List Newtype → Operator → Ty → Pos → Value → Value → Evaluated
 combined newtypes operators.Iff ty place v w = Known (values.Truth (same_truth (truth_of v) (truth_of w)))
 combined newtypes operators.Add ty place v w = in_range newtypes ty place (number_of v +ℤ number_of w)

@@ -21,6 +21,7 @@ pub data Run : Type 0 where
   Dismissed : Run
   TooDeep : Run
 
+-- a precondition that is not true, and the run is none that counts
 abbrev pub require_value : Evaluated → Run → Run
 require_value (Known v) go = if truth_of v then go else Dismissed
 require_value (Undefined place kind) go = Wrong place kind
@@ -32,6 +33,7 @@ require depth newtypes state [] go = go
 require depth newtypes state (clause ∷ others) go =
     require_value (evaluate depth newtypes state clause.condition) (require depth newtypes state others go)
 
+-- a postcondition that is not true is wrong where its expression begins
 abbrev pub ensure_value : Pos → Evaluated → Run → Run
 ensure_value clause (Known v) go = if truth_of v then go else Wrong clause kinds.Ensures
 ensure_value clause (Undefined place kind) go = Wrong place kind
@@ -56,7 +58,7 @@ after_body outcomes.NoChoice go = Dismissed
 abbrev pub begin : Method → List Value → State
 begin method arguments = record { locals = arguments ++ map (λ (place : Place). Number (pos 0)) method.results; text = [] }
 
--- Preconditions, body, postconditions. There are no calls or loops, so only the arguments are guessed.
+-- Preconditions, body, postconditions. There are no calls or loops, so only the arguments are handed in.
 abbrev pub modular_run : ℕ → List Newtype → Method → List Value → Run
 modular_run depth newtypes method arguments =
     require depth newtypes (begin method arguments) method.preconditions

@@ -5,20 +5,23 @@ use Rattle.std.specs.List.{list_all}
 use Rattle.df_form.specs.declared.log.Lit.{Lit}
 use Rattle.df_form.specs.Node.{Node}
 use Rattle.df_form.specs.Clause.{Clause, yes, no, negation, same_literal, is_among}
-use Rattle.df_linear.specs.Row.{Row}
-use Rattle.df_linear.specs.Linear.{rows_of, rows_of_node}
+use Rattle.df_row.specs.Row.{Row}
+use Rattle.df_row.specs.Linear.{rows_of, rows_of_node}
 use Rattle.df_kern.specs.Propagation.{left, only, is_empty}
 use Rattle.df_closure.specs.Closure.{GroundClause, counts_for, Teaches, Refutes, Taught, nothing, more, after}
 use Rattle.df_closure.specs.Closing.{IsSettled}
-use Rattle.df_lin.specs.Levels.{Stands}
+use Rattle.df_level.specs.Levels.{Stands}
 use Rattle.df_elim.specs.Elimination.{AreAmong}
-use Rattle.df_leaf.specs.Evidence.{IsShut, by_clauses, by_rows, IsUnshut, MayFollow, IsBranchAfter, IsBranch, ShareNothingShut}
+use Rattle.df_branch.specs.Evidence.{IsShut, by_clauses, by_rows, IsUnshut, MayFollow, IsBranchAfter, IsBranch, ShareNothingShut}
 use Rattle.std.specs.declared.alloc.Global.{Global}
+use Rattle.std.proofs.lemmas.Option.{same_Some}
+use Rattle.std.proofs.lemmas.Bool.{or_cases, or_left, or_right, and_parts}
+use Rattle.df_form.proofs.Literals.{same_self}
+use Rattle.df_lemmas.proofs.Truths.{true_is_not_false}
+use Rattle.df_lemmas.proofs.Options.{then_some, map_some}
 use Rattle.df_search.specs.Searching.{Lacks, AreApart, AllApart}
-use Rattle.df_form.proofs.Lists.{both, either, first_true, second_true, some_is, then_some, map_some, true_is_not_false}
 use Rattle.df_kern.proofs.SoundClauses.{same_literal_is}
-use Rattle.df_closure.proofs.Lists.{same_self}
-use Rattle.df_lin.proofs.Sets.{stands_left}
+use Rattle.df_level.proofs.Sets.{stands_left, stands_right}
 use Rattle.df_elim.proofs.Keeping.{stay_refuted}
 
 -- the one list holds all that the other does
@@ -28,9 +31,9 @@ pub record Covers (wide known : List Lit) : Type 0 where
 pub counts_more : (wide known : List Lit) → Covers wide known → (bound : Option ℕ) → counts_for known bound ≡ true → counts_for wide bound ≡ true
 counts_more wide known covers None e = refl
 counts_more wide known covers (Some node) e =
-    ⊎_elim (λ here. first_true (is_among wide (yes node)) (is_among wide (no node)) (covers.has (yes node) here))
-    (λ there. second_true (is_among wide (yes node)) (is_among wide (no node)) (covers.has (no node) there))
-    (either (is_among known (yes node)) (is_among known (no node)) e)
+    ⊎_elim (λ here. or_left (is_among wide (yes node)) (is_among wide (no node)) (covers.has (yes node) here))
+    (λ there. or_right (is_among wide (yes node)) (is_among wide (no node)) (covers.has (no node) there))
+    (or_cases (is_among known (yes node)) (is_among known (no node)) e)
 
 module _ (wide known : List Lit) (covers : Covers wide known) where
   none_left : (clause : Clause) → is_empty (left known clause) ≡ true → is_empty (left wide clause) ≡ true
@@ -49,32 +52,32 @@ module _ (wide known : List Lit) (covers : Covers wide known) where
       by : (b c : Bool) → (b ≡ true → c ≡ true) → (list_all (same_literal l) (left known others) ≡ true → list_all (same_literal l) (left wide others) ≡ true) → list_all (same_literal l) (cond (not b) (q ∷ left known others) (left known others)) ≡ true → list_all (same_literal l) (cond (not c) (q ∷ left wide others) (left wide others)) ≡ true
       by true true h go e = go e
       by true false h go e = absurd (true_is_not_false true refl (sym (h refl)))
-      by false true h go e = go (both (same_literal l q) (list_all (same_literal l) (left known others)) e).1
-      by false false h go e = let parts = both (same_literal l q) (list_all (same_literal l) (left known others)) e in rw (parts.0, go parts.1) refl
+      by false true h go e = go (and_parts (same_literal l q) (list_all (same_literal l) (left known others)) e).1
+      by false false h go e = let parts = and_parts (same_literal l q) (list_all (same_literal l) (left known others)) e in rw (parts.0, go parts.1) refl
 
 only_same : (l : Lit) (literals : List Lit) → only literals ≡ Some l → list_all (same_literal l) literals ≡ true
 only_same l [] e = absurd cc
 only_same l (m ∷ others) e = by (list_all (same_literal m) others) refl e
   where
     by : (b : Bool) → list_all (same_literal m) others ≡ b → cond b (Some m) None ≡ Some l → list_all (same_literal l) (m ∷ others) ≡ true
-    by true is e = subst (λ (q : Lit). (same_literal q m && list_all (same_literal q) others) ≡ true) (some_is m l e) (rw (same_self m, is) refl)
+    by true is e = subst (λ (q : Lit). (same_literal q m && list_all (same_literal q) others) ≡ true) (same_Some m l e) (rw (same_self m, is) refl)
     by false is e = absurd cc
 
 same_only : (l : Lit) (literals : List Lit) → list_all (same_literal l) literals ≡ true → (is_empty literals ≡ true) ⊎ (only literals ≡ Some l)
 same_only l [] e = inl refl
 same_only l (m ∷ others) e =
-    let parts = both (same_literal l m) (list_all (same_literal l) others) e in
+    let parts = and_parts (same_literal l m) (list_all (same_literal l) others) e in
     let is = same_literal_is l m parts.0 in
     inr (ap (λ b. cond b (Some m) None) (subst (λ (q : Lit). list_all (same_literal q) others ≡ true) is parts.1) ∙ ap (λ (q : Lit). Some q) (sym is))
 
 covers_one : (wide known : List Lit) (l : Lit) → Covers wide known → is_among wide l ≡ true → Covers wide (l ∷ known)
 covers_one wide known l covers there = record {
-  has = λ q e. ⊎_elim (λ same. subst (λ (p : Lit). is_among wide p ≡ true) (sym (same_literal_is q l same)) there) (λ rest. covers.has q rest) (either (same_literal q l) (is_among known q) e);
+  has = λ q e. ⊎_elim (λ same. subst (λ (p : Lit). is_among wide p ≡ true) (sym (same_literal_is q l same)) there) (λ rest. covers.has q rest) (or_cases (same_literal q l) (is_among known q) e);
 }
 
 pub covers_after : (known learned : List Lit) → Covers (after known learned) known
 covers_after known [] = record { has = λ l e. e }
-covers_after known (m ∷ learned) = record { has = λ l e. (covers_after (m ∷ known) learned).has l (second_true (same_literal l m) (is_among known l) e) }
+covers_after known (m ∷ learned) = record { has = λ l e. (covers_after (m ∷ known) learned).has l (or_right (same_literal l m) (is_among known l) e) }
 
 -- what is taught beside fewer literals is known beside more
 module _ (clauses : List GroundClause) (more_known : List Lit) (settled : IsSettled clauses more_known) where
@@ -114,10 +117,6 @@ stands_split x [] b h = inr h
 stands_split x (r ∷ a) b (inl e) = inl (inl e)
 stands_split x (r ∷ a) b (inr h) = ⊎_elim (λ k. inl (inr k)) (λ k. inr k) (stands_split x a b h)
 
-stands_right : (x : Row) (a b : List Row) → Stands x b → Stands x (a ++ b)
-stands_right x [] b h = h
-stands_right x (r ∷ a) b h = inr (stands_right x a b h)
-
 find_row : (nodes : List Node) (known : List Lit) (rows : List Row) (row : Row) → rows_of nodes known ≡ Some rows → Stands row rows → IsRowOf nodes known row
 find_row nodes [] rows row e stands = absurd (subst (Stands row) (sym (some_list e)) stands)
   where
@@ -129,17 +128,17 @@ find_row nodes (l ∷ others) rows row e stands =
     by first.0 rest.0 first.1 (λ k. find_row nodes others rest.0 row rest.1 k) (stands_split row first.0 rest.0 (subst (Stands row) (sym rest.2) stands))
   where
     by : (here there : List Row) → rows_of_node nodes l.positive (slice_get nodes l.node) ≡ Some here → (Stands row there → IsRowOf nodes others row) → Stands row here ⊎ Stands row there → IsRowOf nodes (l ∷ others) row
-    by here there is go (inl k) = record { literal = l; there = first_true (same_literal l l) (is_among others l) (same_self l); rows = here; rows_are = is; stands = k }
+    by here there is go (inl k) = record { literal = l; there = or_left (same_literal l l) (is_among others l) (same_self l); rows = here; rows_are = is; stands = k }
     by here there is go (inr k) =
         let found = go k in
-        record { literal = found.literal; there = second_true (same_literal found.literal l) (is_among others found.literal) found.there; rows = found.rows; rows_are = found.rows_are; stands = found.stands }
+        record { literal = found.literal; there = or_right (same_literal found.literal l) (is_among others found.literal) found.there; rows = found.rows; rows_are = found.rows_are; stands = found.stands }
 
 put_row : (nodes : List Node) (known : List Lit) (rows : List Row) (row : Row) (l : Lit) (own : List Row) → rows_of nodes known ≡ Some rows → is_among known l ≡ true → rows_of_node nodes l.positive (slice_get nodes l.node) ≡ Some own → Stands row own → Stands row rows
 put_row nodes [] rows row l own e there is stands = absurd (true_is_not_false true refl (sym there))
 put_row nodes (m ∷ others) rows row l own e there is stands =
     let first = then_some (λ rows. option_map (λ more. rows ++ more) (rows_of nodes others)) (rows_of_node nodes m.positive (slice_get nodes m.node)) rows e in
     let rest = map_some (λ more. first.0 ++ more) (rows_of nodes others) rows first.2 in
-    subst (Stands row) rest.2 (by first.0 rest.0 first.1 (λ k. put_row nodes others rest.0 row l own rest.1 k is stands) (either (same_literal l m) (is_among others l) there))
+    subst (Stands row) rest.2 (by first.0 rest.0 first.1 (λ k. put_row nodes others rest.0 row l own rest.1 k is stands) (or_cases (same_literal l m) (is_among others l) there))
   where
     same_rows : (here : List Row) → rows_of_node nodes m.positive (slice_get nodes m.node) ≡ Some here → l ≡ m → own ≡ here
     same_rows here at same = some_lists (sym is ∙ ap (λ (q : Lit). rows_of_node nodes q.positive (slice_get nodes q.node)) same ∙ at)
@@ -185,8 +184,8 @@ among_first [] last l e = inr (by (same_literal l last) e)
     by true e = refl
     by false e = e
 among_first (m ∷ first) last l e =
-    ⊎_elim (λ here. inl (first_true (same_literal l m) (is_among first l) here)) (λ rest. ⊎_elim (λ k. inl (second_true (same_literal l m) (is_among first l) k)) (λ k. inr k) (among_first first last l rest))
-    (either (same_literal l m) (is_among (first ++ last ∷ []) l) e)
+    ⊎_elim (λ here. inl (or_left (same_literal l m) (is_among first l) here)) (λ rest. ⊎_elim (λ k. inl (or_right (same_literal l m) (is_among first l) k)) (λ k. inr k) (among_first first last l rest))
+    (or_cases (same_literal l m) (is_among (first ++ last ∷ []) l) e)
 
 lacks_shares : (nodes : List Node) (clauses : List GroundClause) (branch other : List Lit) → Lacks branch other → IsBranch nodes clauses branch → ShareNothingShut nodes clauses branch other
 lacks_shares nodes clauses branch other lacks is_branch list shared shut =

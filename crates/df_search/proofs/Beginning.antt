@@ -3,6 +3,8 @@ use Rattle.std.proofs.Common.{◌≡◌, ℕ, zero, suc, ◌≤◌, true, List, 
 use Rattle.std.proofs.lemmas.List.{take_all}
 use Rattle.std.specs.List.{list_all}
 use Rattle.std.specs.declared.alloc.Global.{Global}
+use Rattle.std.proofs.lemmas.Option.{slice_get_within}
+use Rattle.std.proofs.lemmas.List.Folds.{list_all-map}
 use Rattle.df_types.specs.View.{newtypes_of}
 use Rattle.df_form.specs.declared.log.Lit.{Lit}
 use Rattle.df_form.specs.Node.{Node}
@@ -19,12 +21,10 @@ use Rattle.df_closure.specs.Closure.{GroundClause, ground_of}
 use Rattle.df_closure.specs.Full.{IsConsistent}
 use Rattle.df_trail.specs.declared.decision.Decision.{Decision}
 use Rattle.df_trail.specs.Trail.{literals_of, branch_of, AreDecided}
-use Rattle.df_leaf.specs.Evidence.{IsBranch}
-use Rattle.df_leaf.specs.Leaf.{IsPlace}
+use Rattle.df_branch.specs.Evidence.{IsBranch}
+use Rattle.df_branch.specs.Leaf.{IsPlace}
 use Rattle.df_search.specs.declared.searching.State.{State}
 use Rattle.df_search.specs.Searching.{clauses_of, AreCounted, AllLeave, Searches}
-use Rattle.df_form.proofs.Lists.{get_within}
-use Rattle.df_form.proofs.Sorts.{all_mapped}
 use Rattle.df_search.proofs.Consistent.{none_consistent}
 use Rattle.df_closure.proofs.Rounds.{length_mapped}
 
@@ -69,13 +69,13 @@ begins s g state is newtypes_are set_is clauses_are nodes_are lines_are count_is
     ground_clauses = λ i. map ground_of (clauses_are i).items
 
     over : (n : ℕ) (node : Node) → length state.set ≤ n → slice_get state.derivation.nodes n ≡ Some node → ⊥
-    over n node past there = let inside = get_within state.derivation.nodes n node there in omega (arith, ap length nodes_are, ap length set_is)
+    over n node past there = let inside = slice_get_within state.derivation.nodes n node there in omega (arith, ap length nodes_are, ap length set_is)
 
     formulas : list_all (λ (clause : GroundClause). are_literals state.set clause.literals) (clauses_of state) ≡ true
     formulas =
         (λ i. list_all (λ (clause : GroundClause). are_literals (set_is i) clause.literals) (ground_clauses i))
-        ∙ all_mapped (λ (clause : GroundClause). are_literals g.nodes clause.literals) ground_of g.clauses.items
-        ∙ sym (all_mapped (are_literals g.nodes) (λ (c : declared.GroundClause). c.literals.items) g.clauses.items)
+        ∙ list_all-map (λ (clause : GroundClause). are_literals g.nodes clause.literals) ground_of g.clauses.items
+        ∙ sym (list_all-map (are_literals g.nodes) (λ (c : declared.GroundClause). c.literals.items) g.clauses.items)
         ∙ is.literals
 
     place : IsPlace state.set (clauses_of state) state.derivation.nodes (branch_of state.trail)

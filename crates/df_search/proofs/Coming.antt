@@ -1,6 +1,9 @@
 -- What comes at a leaf.
 use Rattle.std.proofs.Common.{◌≡◌, inl, ⊎_elim, ℕ, zero, suc, true, false, List, [], ◌∷◌, ◌++◌, Some, slice_get, refl, sym, ap, ◌∙◌, subst, append_assoc, append-nil}
 use Rattle.std.specs.List.{list_all, list_any}
+use Rattle.std.proofs.lemmas.Option.{same_Some}
+use Rattle.std.proofs.lemmas.Bool.{and_from, or_cases, or_parts, cases_Bool, and_parts}
+use Rattle.df_lemmas.proofs.Truths.{true_is_not_false}
 use Rattle.df_types.specs.Newtype.{Newtype}
 use Rattle.df_types.specs.View.{newtypes_of}
 use Rattle.df_table.specs.declared.table.Table.{Table}
@@ -12,35 +15,36 @@ use Rattle.df_form.specs.Clause.{Clause, negation, same_literal, is_among, are_l
 use Rattle.df_form.specs.Sequent.{Sequent, IsSequent}
 use Rattle.df_closure.specs.Closure.{GroundClause, after}
 use Rattle.df_closure.specs.Full.{IsConsistent}
+use Rattle.df_trail.specs.declared.decision.Decision.{Decision}
 use Rattle.df_trail.specs.declared.trail.Trail.{Trail}
 use Rattle.df_trail.specs.Trail.{literals_of, branch_of, decided, IsUndecided, AreDecided}
-use Rattle.df_leaf.specs.Evidence.{of_clause, MayFollow, IsBranchAfter, IsBranch}
-use Rattle.df_leaf.specs.Leaf.{IsOpenLeaf, IsWideLeaf, IsManyLeaf, IsModelOf}
+use Rattle.df_branch.specs.Evidence.{of_clause, MayFollow, IsBranchAfter, IsBranch}
+use Rattle.df_branch.specs.Leaf.{IsOpenLeaf, IsWideLeaf, IsManyLeaf, IsModelOf}
 use Rattle.df_search.specs.declared.searching.State.{State}
-use Rattle.df_search.specs.Found.{HasModel, IsTooWide, HasManyRows}
-use Rattle.df_search.specs.Searching.{clauses_of, branches_of, IsSearching}
-use Rattle.df_form.proofs.Lists.{both, both_true, either, neither, some_is, is_true_or_false, true_is_not_false}
+use Rattle.df_search.specs.Found.{HasModel, AllExclude, IsStop, IsTooWide, HasManyRows}
+use Rattle.df_search.specs.Searching.{clauses_of, branches_of, AllLeave, IsSearching}
 use Rattle.df_kern.proofs.SoundClauses.{same_literal_is}
 use Rattle.df_ground.proofs.Running.{grown_from}
 use Rattle.df_ground.proofs.Literals.{literals_grown}
 use Rattle.df_trail.proofs.Retreated.{put_last}
 use Rattle.df_search.proofs.Apart.{Covers, covers_after}
 use Rattle.df_search.proofs.Consistent.{consistent_more}
-use Rattle.df_search.proofs.Leaving.{literals_split, all_leave_decided}
+use Rattle.df_branch.proofs.Consistency.{consistent_after}
+use Rattle.df_search.proofs.Leaving.{literals_split, all_leave_decided, incompatible, closed_of}
 use Rattle.df_search.proofs.Turning.{place_for, ground_in}
 
 uncovered : (wide known : List Lit) (l : Lit) → Covers wide known → is_among wide l ≡ false → is_among known l ≡ false
-uncovered wide known l covers e = ⊎_elim (λ there. absurd (true_is_not_false (is_among wide l) (covers.has l there) e)) (λ not_there. not_there) (is_true_or_false (is_among known l))
+uncovered wide known l covers e = ⊎_elim (λ there. absurd (true_is_not_false (is_among wide l) (covers.has l there) e)) (λ not_there. not_there) (cases_Bool (is_among known l))
 
 branch_more : (nodes : List Node) (clauses : List GroundClause) (earlier first : List Lit) (l : Lit) → IsBranchAfter nodes clauses earlier first → MayFollow nodes clauses (earlier ++ first) l → IsBranchAfter nodes clauses earlier (first ++ l ∷ [])
 branch_more nodes clauses earlier [] l is follows = (subst (λ (ls : List Lit). MayFollow nodes clauses ls l) (append-nil earlier) follows, tt)
 branch_more nodes clauses earlier (m ∷ first) l is follows = (is.0, branch_more nodes clauses (earlier ++ m ∷ []) first l is.1 (subst (λ (ls : List Lit). MayFollow nodes clauses ls l) (sym (append_assoc earlier (m ∷ []) first)) follows))
 
 formulas_more : (nodes : List Node) (literals : List Lit) (l : Lit) → are_literals nodes literals ≡ true → is_formula nodes l.node ≡ true → are_literals nodes (literals ++ l ∷ []) ≡ true
-formulas_more nodes [] l e f = both_true (is_formula nodes l.node) true f refl
+formulas_more nodes [] l e f = and_from (is_formula nodes l.node) true f refl
 formulas_more nodes (m ∷ literals) l e f =
-    let parts = both (is_formula nodes m.node) (are_literals nodes literals) e in
-    both_true (is_formula nodes m.node) (are_literals nodes (literals ++ l ∷ [])) parts.0 (formulas_more nodes literals l parts.1 f)
+    let parts = and_parts (is_formula nodes m.node) (are_literals nodes literals) e in
+    and_from (is_formula nodes m.node) (are_literals nodes (literals ++ l ∷ [])) parts.0 (formulas_more nodes literals l parts.1 f)
 
 -- a further decision
 pub decides : (s : Sequent) (all : List Clause) (old : State) → IsSearching s all old → (l : Lit) → MayFollow old.derivation.nodes (clauses_of old) (branch_of old.trail) l → is_formula old.derivation.nodes l.node ≡ true
@@ -80,20 +84,20 @@ decides s all old is l follows formula trail trail_is = record {
 none_among : (known clause : List Lit) (l : Lit) → list_any (is_among known) clause ≡ false → is_among clause l ≡ true → is_among known l ≡ false
 none_among known [] l none there = absurd (true_is_not_false false there refl)
 none_among known (m ∷ others) l none there =
-    let parts = neither (is_among known m) (list_any (is_among known) others) none in
-    ⊎_elim (λ here. subst (λ (q : Lit). is_among known q ≡ false) (sym (same_literal_is l m here)) parts.0) (λ rest. none_among known others l parts.1 rest) (either (same_literal l m) (is_among others l) there)
+    let parts = or_parts (is_among known m) (list_any (is_among known) others) none in
+    ⊎_elim (λ here. subst (λ (q : Lit). is_among known q ≡ false) (sym (same_literal_is l m here)) parts.0) (λ rest. none_among known others l parts.1 rest) (or_cases (same_literal l m) (is_among others l) there)
 
 pub literal_formula : (nodes : List Node) (clause : Clause) (l : Lit) → are_literals nodes clause ≡ true → is_among clause l ≡ true → is_formula nodes l.node ≡ true
 literal_formula nodes [] l e there = absurd (true_is_not_false false there refl)
 literal_formula nodes (m ∷ others) l e there =
-    let parts = both (is_formula nodes m.node) (are_literals nodes others) e in
-    ⊎_elim (λ here. subst (λ (q : Lit). is_formula nodes q.node ≡ true) (sym (same_literal_is l m here)) parts.0) (λ rest. literal_formula nodes others l parts.1 rest) (either (same_literal l m) (is_among others l) there)
+    let parts = and_parts (is_formula nodes m.node) (are_literals nodes others) e in
+    ⊎_elim (λ here. subst (λ (q : Lit). is_formula nodes q.node ≡ true) (sym (same_literal_is l m here)) parts.0) (λ rest. literal_formula nodes others l parts.1 rest) (or_cases (same_literal l m) (is_among others l) there)
 
 clause_formulas : (nodes : List Node) (clauses : List GroundClause) (n : ℕ) (clause : GroundClause) → list_all (λ (c : GroundClause). are_literals nodes c.literals) clauses ≡ true → slice_get clauses n ≡ Some clause → are_literals nodes clause.literals ≡ true
 clause_formulas nodes [] n clause e there = absurd cc
 clause_formulas nodes (c ∷ others) zero clause e there =
-    subst (λ (g : GroundClause). are_literals nodes g.literals ≡ true) (some_is c clause there) (both (are_literals nodes c.literals) (list_all (λ (c : GroundClause). are_literals nodes c.literals) others) e).0
-clause_formulas nodes (c ∷ others) (suc n) clause e there = clause_formulas nodes others n clause (both (are_literals nodes c.literals) (list_all (λ (c : GroundClause). are_literals nodes c.literals) others) e).1 there
+    subst (λ (g : GroundClause). are_literals nodes g.literals ≡ true) (same_Some c clause there) (and_parts (are_literals nodes c.literals) (list_all (λ (c : GroundClause). are_literals nodes c.literals) others) e).0
+clause_formulas nodes (c ∷ others) (suc n) clause e there = clause_formulas nodes others n clause (and_parts (are_literals nodes c.literals) (list_all (λ (c : GroundClause). are_literals nodes c.literals) others) e).1 there
 
 pub open_follows : (clauses : List GroundClause) (nodes : List Node) (branch : List Lit) (l : Lit) → IsOpenLeaf clauses nodes branch l → MayFollow nodes clauses branch l
 open_follows clauses nodes branch l leaf = record {
@@ -103,6 +107,11 @@ open_follows clauses nodes branch l leaf = record {
   not_false = leaf.member.not_false;
   decision = inl (of_clause leaf.member.clause leaf.member.is_open leaf.member.in_clause);
 }
+
+-- the branch of the decisions is incompatible with what leaves them
+pub all_exclude : (decisions : List Decision) (branches : List (List Lit)) → AllLeave decisions branches → AllExclude branches (literals_of decisions)
+all_exclude decisions [] all = tt
+all_exclude decisions (branch ∷ others) all = (incompatible decisions branch all.0, all_exclude decisions others all.1)
 
 module _ (s : Sequent) (all : List Clause) (state : State) (is : IsSearching s all state) where
   pub open_formula : (l : Lit) → IsOpenLeaf (clauses_of state) state.derivation.nodes (branch_of state.trail) l → is_formula state.derivation.nodes l.node ≡ true
@@ -122,23 +131,33 @@ module _ (s : Sequent) (all : List Clause) (state : State) (is : IsSearching s a
     model = model s is.standing.ground_set sequent is.standing.is_of arithmetic (sym is.standing.newtypes_are) (sym is.standing.set_is) (sym is.standing.clauses_are);
   }
 
-  pub too_wide : IsWideLeaf (newtypes_of state.newtypes.now) state.set (clauses_of state) state.derivation.nodes (branch_of state.trail) → IsTooWide s
-  too_wide wide = record {
-    nodes = state.derivation.nodes;
-    clauses = clauses_of state;
+  abbrev pub stop : IsStop s state.derivation.nodes (clauses_of state) (branches_of state) (branch_of state.trail)
+  stop = record {
     of_sequent = ground_in s all state is.standing;
-    branch = branch_of state.trail;
+    are_closed = closed_of s state.derivation.nodes (clauses_of state) (branches_of state) is.standing.counted;
+    excluded = all_exclude state.trail.decisions.items (branches_of state) is.leave;
     is_branch = is.standing.branch;
-    wide = subst (λ (newtypes : List Newtype). IsWideLeaf newtypes is.standing.ground_set.nodes (clauses_of state) state.derivation.nodes (branch_of state.trail)) is.standing.newtypes_are
-        (subst (λ (ns : List Node). IsWideLeaf (newtypes_of state.newtypes.now) ns (clauses_of state) state.derivation.nodes (branch_of state.trail)) is.standing.set_is wide);
   }
 
-  pub many_rows : (count : ℕ) → IsManyLeaf (clauses_of state) state.derivation.nodes (branch_of state.trail) count → HasManyRows s count
+  pub too_wide : IsWideLeaf (newtypes_of state.newtypes.now) state.set (clauses_of state) state.derivation.nodes (branch_of state.trail) → IsTooWide s (branches_of state) (branch_of state.trail)
+  too_wide wide = there
+      (subst (λ (newtypes : List Newtype). IsWideLeaf newtypes is.standing.ground_set.nodes (clauses_of state) state.derivation.nodes (branch_of state.trail)) is.standing.newtypes_are
+      (subst (λ (ns : List Node). IsWideLeaf (newtypes_of state.newtypes.now) ns (clauses_of state) state.derivation.nodes (branch_of state.trail)) is.standing.set_is wide))
+    where
+      there : IsWideLeaf s.newtypes is.standing.ground_set.nodes (clauses_of state) state.derivation.nodes (branch_of state.trail) → IsTooWide s (branches_of state) (branch_of state.trail)
+      there here = record {
+        nodes = state.derivation.nodes;
+        clauses = clauses_of state;
+        stop = stop;
+        wide = here;
+        consistent = consistent_after (clauses_of state) (branch_of state.trail) here.reasons here.learned here.closed.taught is.standing.place.consistent;
+      }
+
+  pub many_rows : (count : ℕ) → IsManyLeaf (clauses_of state) state.derivation.nodes (branch_of state.trail) count → HasManyRows s (branches_of state) (branch_of state.trail) count
   many_rows count many = record {
     nodes = state.derivation.nodes;
     clauses = clauses_of state;
-    of_sequent = ground_in s all state is.standing;
-    branch = branch_of state.trail;
-    is_branch = is.standing.branch;
+    stop = stop;
     many = many;
+    consistent = consistent_after (clauses_of state) (branch_of state.trail) many.reasons many.learned many.closed.taught is.standing.place.consistent;
   }

@@ -1,24 +1,25 @@
 -- Branches of undecided literals contradict themselves nowhere.
 use Rattle.std.proofs.Common.{◌≡◌, ⊎_elim, Bool, true, false, not, List, [], ◌∷◌, ◌++◌, refl, sym, ap, ◌∙◌, subst, append_assoc, append-nil, ◌⊎◌, inl, inr}
+use Rattle.std.proofs.lemmas.Bool.{or_cases, or_left, or_right}
+use Rattle.df_form.proofs.Literals.{negated_twice}
+use Rattle.df_lemmas.proofs.Truths.{true_is_not_false}
 use Rattle.df_form.specs.declared.log.Lit.{Lit}
 use Rattle.df_form.specs.Clause.{Clause, negation, same_literal, is_among}
-use Rattle.df_form.proofs.Lists.{either, first_true, second_true, true_is_not_false}
 use Rattle.df_kern.proofs.SoundClauses.{same_literal_is}
 use Rattle.df_closure.specs.Full.{IsConsistent}
 use Rattle.df_trail.specs.declared.decision.Decision.{Decision}
 use Rattle.df_trail.specs.declared.trail.Trail.{Trail}
 use Rattle.df_trail.specs.Trail.{literals_of, branch_of, IsUndecided, AreDecided, IsTrail}
-use Rattle.df_trail.proofs.Joined.{negated_twice}
 
 pub none_consistent : IsConsistent []
 none_consistent l here there = absurd (true_is_not_false false here refl)
 
 among_last : (literals : List Lit) (l m : Lit) → is_among (literals ++ l ∷ []) m ≡ true → (is_among literals m ≡ true) ⊎ (m ≡ l)
-among_last [] l m e = ⊎_elim (λ same. inr (same_literal_is m l same)) (λ f. absurd (true_is_not_false false f refl)) (either (same_literal m l) false e)
+among_last [] l m e = ⊎_elim (λ same. inr (same_literal_is m l same)) (λ f. absurd (true_is_not_false false f refl)) (or_cases (same_literal m l) false e)
 among_last (n ∷ literals) l m e =
-    ⊎_elim (λ same. inl (first_true (same_literal m n) (is_among literals m) same))
-    (λ rest. ⊎_elim (λ there. inl (second_true (same_literal m n) (is_among literals m) there)) (λ last. inr last) (among_last literals l m rest))
-    (either (same_literal m n) (is_among (literals ++ l ∷ []) m) e)
+    ⊎_elim (λ same. inl (or_left (same_literal m n) (is_among literals m) same))
+    (λ rest. ⊎_elim (λ there. inl (or_right (same_literal m n) (is_among literals m) there)) (λ last. inr last) (among_last literals l m rest))
+    (or_cases (same_literal m n) (is_among (literals ++ l ∷ []) m) e)
 
 not_own : (b : Bool) → b ≡ not b → ⊥
 not_own true e = true_is_not_false true refl e

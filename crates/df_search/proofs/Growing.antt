@@ -1,30 +1,31 @@
 -- More nodes leave a search as it is.
-use Rattle.std.proofs.Common.{◌≡◌, inl, inr, ⊎_elim, ℕ, ◌≤◌, Bool, true, false, not, ◌&&◌, if◌then◌else◌, List, [], ◌∷◌, ◌++◌, take, length, Option, Some, None, slice_get, refl, sym, ap, ◌∙◌, subst, arith}
+use Rattle.std.proofs.Common.{◌≡◌, inl, inr, ⊎_elim, ℕ, Bool, true, false, not, ◌&&◌, if◌then◌else◌, List, [], ◌∷◌, ◌++◌, take, length, Option, Some, None, slice_get, refl, sym, ap, ◌∙◌, subst, arith}
 use Rattle.std.proofs.lemmas.List.{take-append-le, take_at, take_all}
 use Rattle.std.specs.Option.{option_and_then, option_map}
+use Rattle.df_kern.proofs.Checks.{after_all-append}
+use Rattle.df_lemmas.proofs.Lists.{get_pushed}
 use Rattle.df_form.specs.declared.log.Lit.{Lit}
 use Rattle.df_form.specs.Node.{Node, number_of}
 use Rattle.df_form.specs.Made.{Made, made, made_where}
 use Rattle.df_form.specs.Sorting.{IsTable, is_well_sorted}
 use Rattle.df_form.specs.Clause.{Clause, are_literals}
-use Rattle.df_form.specs.Log.{Step, Make}
+use Rattle.df_form.specs.Log.{Make}
 use Rattle.df_form.specs.Sequent.{Sequent}
-use Rattle.df_kern.specs.Derivation.{State, begin, after_all, after as after_line, made_line, is_free, is_new}
+use Rattle.df_kern.specs.Derivation.{begin, after_all, made_line, is_free, is_new}
 use Rattle.df_closure.specs.Closure.{GroundClause, after}
-use Rattle.df_derive.specs.declared.derivation.Derivation.{Derivation}
-use Rattle.df_derive.specs.Runs.{Runs}
+use Rattle.df_closure.specs.Filled.{is_comparing, AreComparing}
+use Rattle.df_logbuild.specs.declared.derivation.Derivation.{Derivation}
+use Rattle.df_logbuild.specs.Runs.{Runs}
 use Rattle.df_trail.specs.Trail.{branch_of}
-use Rattle.df_leaf.specs.Evidence.{IsShut, by_clauses, by_rows, IsUnshut, IsDecision, of_clause, of_split, MayFollow, IsBranchAfter, HasLog}
-use Rattle.df_leaf.specs.Splits.{IsSplit}
-use Rattle.df_leaf.specs.Leaf.{IsBoundOp}
+use Rattle.df_branch.specs.Evidence.{IsShut, by_clauses, by_rows, IsUnshut, IsDecision, of_clause, of_split, MayFollow, IsBranchAfter, HasLog}
+use Rattle.df_branch.specs.Splits.{IsSplit}
 use Rattle.df_search.specs.declared.searching.State as declared
 use Rattle.df_search.specs.Searching.{clauses_of, branches_of, AreCounted, IsSearching}
-use Rattle.df_form.proofs.Lists.{get_pushed}
 use Rattle.df_form.proofs.Tables.{table_next}
 use Rattle.df_form.proofs.Values.{Grows, grown_get, grown_length}
 use Rattle.df_ground.proofs.Running.{grown_from}
 use Rattle.df_ground.proofs.Literals.{literals_grown}
-use Rattle.df_full.proofs.LaterRows.{rows_later}
+use Rattle.df_closure.proofs.LaterRows.{rows_later}
 
 -- a node that is made: it stands there, or is the one that is added
 pub data Makes (nodes more : List Node) (node : Node) : Type 0 where
@@ -37,14 +38,6 @@ makes nodes node more number e = by (number_of nodes node) refl e
     by : (found : Option ℕ) → number_of nodes node ≡ found → made_where nodes node found ≡ record { nodes = more; number = number } → Makes nodes more node
     by None is e = added (sym (ap (λ (m : Made). m.nodes) e)) is
     by (Some n) is e = stood (sym (ap (λ (m : Made). m.nodes) e))
-
-all_append : (s : Sequent) (state : State) (xs ys : List Step) → after_all s state (xs ++ ys) ≡ option_and_then (λ next. after_all s next ys) (after_all s state xs)
-all_append s state [] ys = refl
-all_append s state (x ∷ xs) ys = ap (λ (f : State → Option State). option_and_then f (after_line s state x)) (λ i next. all_append s next xs ys i) ∙ again (after_line s state x)
-  where
-    again : (r : Option State) → option_and_then (λ next. option_and_then (λ more. after_all s more ys) (after_all s next xs)) r ≡ option_and_then (λ more. after_all s more ys) (option_and_then (λ next. after_all s next xs) r)
-    again None = refl
-    again (Some next) = refl
 
 -- the line that makes a node
 made_line_is : (nodes : List Node) (node : Node) → is_well_sorted nodes node ≡ true → is_free node.op ≡ false → number_of nodes node ≡ None → made_line nodes node ≡ Some (nodes ++ node ∷ [])
@@ -59,7 +52,7 @@ log_more s nodes more node branch (added same new) sorted bound has = record {
   log = has.log ++ Make node ∷ [];
   clauses = has.clauses;
   run =
-      all_append s (begin s) has.log (Make node ∷ [])
+      after_all-append s (begin s) has.log (Make node ∷ [])
       ∙ ap (option_and_then (λ next. after_all s next (Make node ∷ []))) has.run
       ∙ ap (λ (o : Option (List Node)). option_and_then (λ next. after_all s next []) (option_map (λ ns. record { nodes = ns; clauses = has.clauses }) o)) (made_line_is nodes node sorted bound new)
       ∙ (λ i. Some (record { nodes = sym same i; clauses = has.clauses }));
@@ -145,15 +138,15 @@ set_begins : (set nodes more : List Node) (node : Node) → Makes nodes more nod
 set_begins set nodes more node (stood same) begins = ap (take (length set)) same ∙ begins
 set_begins set nodes more node (added same new) begins = ap (take (length set)) same ∙ take-append-le (length set) nodes (node ∷ []) (grown_length set nodes (grown_from set nodes begins)) ∙ begins
 
-bound_more : (set nodes more : List Node) (node : Node) → Makes nodes more node → IsBoundOp node.op → ((n : ℕ) (other : Node) → length set ≤ n → slice_get nodes n ≡ Some other → IsBoundOp other.op) → (n : ℕ) (other : Node) → length set ≤ n → slice_get more n ≡ Some other → IsBoundOp other.op
-bound_more set nodes more node (stood same) is all n other past e = all n other past (ap (λ (ns : List Node). slice_get ns n) (sym same) ∙ e)
-bound_more set nodes more node (added same new) is all n other past e =
-    ⊎_elim (λ there. all n other past there) (λ last. subst (λ (m : Node). IsBoundOp m.op) last.1 is) (get_pushed nodes node n other (ap (λ (ns : List Node). slice_get ns n) (sym same) ∙ e))
+comparing_more : (set nodes more : List Node) (node : Node) → Makes nodes more node → is_comparing node.op ≡ true → AreComparing (length set) nodes → AreComparing (length set) more
+comparing_more set nodes more node (stood same) is all n other past e = all n other past (ap (λ (ns : List Node). slice_get ns n) (sym same) ∙ e)
+comparing_more set nodes more node (added same new) is all n other past e =
+    ⊎_elim (λ there. all n other past there) (λ last. subst (λ (m : Node). is_comparing m.op ≡ true) last.1 is) (get_pushed nodes node n other (ap (λ (ns : List Node). slice_get ns n) (sym same) ∙ e))
 
 -- a search whose log makes a number or a comparison
-pub makes_node : (s : Sequent) (all : List Clause) (old : declared.State) → IsSearching s all old → (node : Node) → is_well_sorted old.derivation.nodes node ≡ true → is_free node.op ≡ false → IsBoundOp node.op → (derivation : Derivation) → Makes old.derivation.nodes derivation.nodes node → Runs s derivation all
+pub makes_node : (s : Sequent) (all : List Clause) (old : declared.State) → IsSearching s all old → (node : Node) → is_well_sorted old.derivation.nodes node ≡ true → is_free node.op ≡ false → is_comparing node.op ≡ true → (derivation : Derivation) → Makes old.derivation.nodes derivation.nodes node → Runs s derivation all
     → IsSearching s all (record old { derivation = derivation })
-makes_node s all old is node sorted bound is_bound derivation makes_it runs =
+makes_node s all old is node sorted bound compares derivation makes_it runs =
     let nodes = old.derivation.nodes in
     let more = derivation.nodes in
     let table = table_more nodes more node makes_it is.standing.place.table sorted in
@@ -169,7 +162,7 @@ makes_node s all old is node sorted bound is_bound derivation makes_it runs =
         place = record {
           table = table;
           begins = set_begins old.set nodes more node makes_it is.standing.place.begins;
-          made = bound_more old.set nodes more node makes_it is_bound is.standing.place.made;
+          made = comparing_more old.set nodes more node makes_it compares is.standing.place.made;
           formulas = formulas_later (clauses_of old) nodes more table begins (branch_of old.trail) is.standing.place.formulas;
           consistent = is.standing.place.consistent;
           clause_formulas = is.standing.place.clause_formulas;

@@ -1,5 +1,8 @@
 -- Closed branches leave the decisions, before and after a turn.
 use Rattle.std.proofs.Common.{◌≡◌, inl, inr, ⊎_elim, ℕ, true, List, [], ◌∷◌, ◌++◌, None, Some, refl, sym, ap, ◌∙◌, subst, append_assoc}
+use Rattle.std.proofs.lemmas.Bool.{or_left, or_right}
+use Rattle.df_form.proofs.Literals.{negated_twice, same_self}
+use Rattle.df_lemmas.proofs.Lists.{head_same, tail_same}
 use Rattle.df_form.specs.declared.log.Lit.{Lit}
 use Rattle.df_form.specs.Node.{Node}
 use Rattle.df_form.specs.Clause.{negation, same_literal, is_among}
@@ -8,11 +11,8 @@ use Rattle.df_closure.specs.Closure.{GroundClause, after}
 use Rattle.df_trail.specs.declared.decision.Decision.{Decision}
 use Rattle.df_trail.specs.declared.trail.Trail.{Trail}
 use Rattle.df_trail.specs.Trail.{literals_of, branch_of, turned, IsTurned}
-use Rattle.df_leaf.specs.Evidence.{IsSideOf, IsDecision, MayFollow, IsBranchAfter, IsBranch, AreIncompatible, IsClosedBranch, IsApart, AreClosedBranches}
+use Rattle.df_branch.specs.Evidence.{IsSideOf, IsDecision, MayFollow, IsBranchAfter, IsBranch, AreIncompatible, IsClosedBranch, IsApart, AreClosedBranches}
 use Rattle.df_search.specs.Searching.{Leaves, AllLeave, AllLeaveOr, AreApart, AllApart, AllDiffer, AreCounted}
-use Rattle.df_form.proofs.Lists.{first_true, second_true}
-use Rattle.df_closure.proofs.Lists.{same_self}
-use Rattle.df_trail.proofs.Joined.{negated_twice}
 
 -- where a decision stands in a list that is taken apart at another
 data Place (kept : List Decision) (d : Decision) (taken kept_too : List Decision) (e : Decision) (rest : List Decision) : Type 0 where
@@ -20,17 +20,11 @@ data Place (kept : List Decision) (d : Decision) (taken kept_too : List Decision
   here : kept ≡ kept_too → d ≡ e → Place kept d taken kept_too e rest
   behind : (front : List Decision) → kept_too ≡ kept ++ d ∷ front → taken ≡ front ++ e ∷ rest → Place kept d taken kept_too e rest
 
-heads : (x y : Decision) (xs ys : List Decision) → x ∷ xs ≡ y ∷ ys → x ≡ y
-heads x y xs ys e = cc
-
-tails : (x y : Decision) (xs ys : List Decision) → x ∷ xs ≡ y ∷ ys → xs ≡ ys
-tails x y xs ys e = cc
-
 place_of : (kept : List Decision) (d : Decision) (taken kept_too : List Decision) (e : Decision) (rest : List Decision) → kept ++ d ∷ taken ≡ kept_too ++ e ∷ rest → Place kept d taken kept_too e rest
-place_of [] d taken [] e rest is = here refl (heads d e taken rest is)
-place_of [] d taken (y ∷ ys) e rest is = behind ys (ap (λ (x : Decision). x ∷ ys) (sym (heads d y taken (ys ++ e ∷ rest) is))) (tails d y taken (ys ++ e ∷ rest) is)
-place_of (x ∷ xs) d taken [] e rest is = before xs (ap (λ (y : Decision). y ∷ xs) (heads x e (xs ++ d ∷ taken) rest is))
-place_of (x ∷ xs) d taken (y ∷ ys) e rest is = by (heads x y (xs ++ d ∷ taken) (ys ++ e ∷ rest) is) (place_of xs d taken ys e rest (tails x y (xs ++ d ∷ taken) (ys ++ e ∷ rest) is))
+place_of [] d taken [] e rest is = here refl (head_same d e taken rest is)
+place_of [] d taken (y ∷ ys) e rest is = behind ys (ap (λ (x : Decision). x ∷ ys) (sym (head_same d y taken (ys ++ e ∷ rest) is))) (tail_same d y taken (ys ++ e ∷ rest) is)
+place_of (x ∷ xs) d taken [] e rest is = before xs (ap (λ (y : Decision). y ∷ xs) (head_same x e (xs ++ d ∷ taken) rest is))
+place_of (x ∷ xs) d taken (y ∷ ys) e rest is = by (head_same x y (xs ++ d ∷ taken) (ys ++ e ∷ rest) is) (place_of xs d taken ys e rest (tail_same x y (xs ++ d ∷ taken) (ys ++ e ∷ rest) is))
   where
     by : x ≡ y → Place xs d taken ys e rest → Place (x ∷ xs) d taken (y ∷ ys) e rest
     by same (before others e_is) = before others (λ i. same i ∷ e_is i)
@@ -110,8 +104,8 @@ leave_or_last decisions [] last is all = (inr is, tt)
 leave_or_last decisions (branch ∷ others) last is all = (inl all.0, leave_or_last decisions others last is all.1)
 
 among_middle : (xs ys : List Lit) (l : Lit) → is_among (xs ++ l ∷ ys) l ≡ true
-among_middle [] ys l = first_true (same_literal l l) (is_among ys l) (same_self l)
-among_middle (x ∷ xs) ys l = second_true (same_literal l x) (is_among (xs ++ l ∷ ys) l) (among_middle xs ys l)
+among_middle [] ys l = or_left (same_literal l l) (is_among ys l) (same_self l)
+among_middle (x ∷ xs) ys l = or_right (same_literal l x) (is_among (xs ++ l ∷ ys) l) (among_middle xs ys l)
 
 -- what leaves the decisions is incompatible with their branch
 pub incompatible : (decisions : List Decision) (branch : List Lit) → Leaves decisions branch → AreIncompatible branch (literals_of decisions)

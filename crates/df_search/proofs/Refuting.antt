@@ -1,47 +1,35 @@
 -- Lines that say that a branch is not.
-use Rattle.std.proofs.Common.{◌≡◌, ℕ, Bool, true, false, not, cond, if◌then◌else◌, Result, Ok, Err, OnOk, IfOk, List, [], ◌∷◌, ◌++◌, map, length, Option, Some, None, slice_get, refl, sym, ap, ◌∙◌, subst}
+use Rattle.std.proofs.Common.{◌≡◌, ℕ, Bool, true, false, not, cond, if◌then◌else◌, Result, Ok, Err, OnOk, IfOk, List, [], ◌∷◌, ◌++◌, map, length, Some, None, slice_get, refl, sym, ap, ◌∙◌, subst}
 use Rattle.std.specs.Option.{option_and_then}
+use Rattle.std.proofs.lemmas.Bool.{or_left, or_right}
+use Rattle.df_trail.proofs.Retreated.{decided_grown}
+use Rattle.df_trail.proofs.Joined.{negations_are_literals}
+use Rattle.df_form.proofs.Literals.{negated_twice, all_negated_twice, same_self}
+use Rattle.df_lemmas.proofs.Lists.{get_last}
 use Rattle.df_form.specs.declared.log.Lit.{Lit}
 use Rattle.df_form.specs.Node.{Node}
-use Rattle.df_form.specs.Sorting.{is_formula}
 use Rattle.df_form.specs.Clause.{Clause, negation, same_literal, is_among, are_literals}
 use Rattle.df_form.specs.Log.{Combination}
 use Rattle.df_form.specs.Sequent.{Sequent}
-use Rattle.df_linear.specs.Row.{Row}
-use Rattle.df_linear.specs.Linear.{rows_of, refutes, linear_of, linear_line}
+use Rattle.df_row.specs.Row.{Row}
+use Rattle.df_row.specs.Linear.{rows_of, refutes, linear_of, linear_line}
 use Rattle.df_kern.specs.Propagation.{left, is_empty, propagation_line}
 use Rattle.df_closure.specs.Closure.{GroundClause, after, IsRefuted}
 use Rattle.df_closure.specs.Lines.{AreIn}
-use Rattle.df_derive.specs.declared.derivation.Derivation.{Derivation}
-use Rattle.df_derive.specs.Runs.{Runs}
-use Rattle.df_trail.specs.declared.decision.Decision.{Decision}
-use Rattle.df_trail.specs.Trail.{branch_of, IsClosedBy, AreDecided}
-use Rattle.df_leaf.specs.Evidence.{IsShut, by_rows, IsBranch}
-use Rattle.df_leaf.specs.Leaf.{IsPlace, IsUnsolvable}
+use Rattle.df_logbuild.specs.declared.derivation.Derivation.{Derivation}
+use Rattle.df_logbuild.specs.Runs.{Runs}
+use Rattle.df_trail.specs.Trail.{branch_of}
+use Rattle.df_branch.specs.Evidence.{IsShut, by_rows, IsBranch}
+use Rattle.df_branch.specs.Leaf.{IsPlace, IsUnsolvable}
 use Rattle.df_search.specs.declared.searching.State.{State}
 use Rattle.df_search.specs.Searching.{clauses_of, branches_of, AreCounted, IsSearching, IsFinished}
-use Rattle.df_form.proofs.Lists.{get_grown, get_last, second_true, first_true}
-use Rattle.df_form.proofs.Sorts.{all_mapped}
-use Rattle.df_closure.proofs.Lines.{negated_twice, refuted_is_line, closed_is_line}
-use Rattle.df_closure.proofs.Lists.{same_self}
-use Rattle.df_trail.proofs.Joined as joined
+use Rattle.df_closure.proofs.Lines.{refuted_is_line, closed_is_line}
 use Rattle.df_search.proofs.Apart.{Covers}
 use Rattle.df_search.proofs.Turning.{in_longer}
 
 pub both_ok : {X E : Type 0} (r : Result X E) (A : Type 0) (N Q : X → Type 0) → OnOk r A → IfOk r N → (A → (x : X) → N x → Q x) → IfOk r Q
 both_ok (Ok x) A N Q a n f = f a x n
 both_ok (Err e) A N Q a n f = tt
-
-pub negated_literals : (nodes : List Node) (literals : List Lit) → are_literals nodes literals ≡ true → are_literals nodes (map negation literals) ≡ true
-negated_literals nodes literals e = all_mapped (λ (l : Lit). is_formula nodes l.node) negation literals ∙ e
-
-closed_grown : (clauses more : List Clause) (earlier : List Lit) (l : Lit) (closed : Option ℕ) → IsClosedBy clauses earlier l closed → IsClosedBy (clauses ++ more) earlier l closed
-closed_grown clauses more earlier l None is = tt
-closed_grown clauses more earlier l (Some number) is = get_grown clauses more number (map negation (earlier ++ negation l ∷ [])) is
-
-pub decided_grown : (clauses more : List Clause) (earlier : List Lit) (decisions : List Decision) → AreDecided clauses earlier decisions → AreDecided (clauses ++ more) earlier decisions
-decided_grown clauses more earlier [] all = tt
-decided_grown clauses more earlier (d ∷ others) all = (all.0, closed_grown clauses more earlier d.literal d.closed all.1, decided_grown clauses more (earlier ++ d.literal ∷ []) others all.2)
 
 module _ (s : Sequent) (all : List Clause) (old : State) (is : IsSearching s all old) (derivation : Derivation) (nodes : derivation.nodes ≡ old.derivation.nodes) where
   place_there : IsPlace old.set (clauses_of old) derivation.nodes (branch_of old.trail)
@@ -89,15 +77,15 @@ module _ (s : Sequent) (all : List Clause) (old : State) (is : IsSearching s all
 pub linear_is : (nodes : List Node) (facts : List Lit) (rows : List Row) (combinations : List Combination) → are_literals nodes facts ≡ true → rows_of nodes facts ≡ Some rows → refutes (length nodes) rows combinations ≡ true
     → linear_line nodes (map negation facts) combinations ≡ Some (map negation facts)
 linear_is nodes facts rows combinations formulas rows_are refuted =
-    ap (λ (b : Bool). if b then option_and_then (linear_of nodes (map negation facts) combinations) (rows_of nodes (map negation (map negation facts))) else None) (negated_literals nodes facts formulas)
-    ∙ ap (option_and_then (linear_of nodes (map negation facts) combinations)) (ap (rows_of nodes) (negated_twice facts) ∙ rows_are)
+    ap (λ (b : Bool). if b then option_and_then (linear_of nodes (map negation facts) combinations) (rows_of nodes (map negation (map negation facts))) else None) (negations_are_literals nodes facts formulas)
+    ∙ ap (option_and_then (linear_of nodes (map negation facts) combinations)) (ap (rows_of nodes) (all_negated_twice facts) ∙ rows_are)
     ∙ ap (λ (b : Bool). if b then Some (map negation facts) else None) refuted
 
 none_left : (known facts : List Lit) → Covers known facts → is_empty (left known (map negation facts)) ≡ true
 none_left known [] covers = refl
 none_left known (l ∷ others) covers =
-    by (is_among known (negation (negation l))) (ap (is_among known) (joined.negated_twice l) ∙ covers.has l (first_true (same_literal l l) (is_among others l) (same_self l)))
-    (none_left known others (record { has = λ q e. covers.has q (second_true (same_literal q l) (is_among others q) e) }))
+    by (is_among known (negation (negation l))) (ap (is_among known) (negated_twice l) ∙ covers.has l (or_left (same_literal l l) (is_among others l) (same_self l)))
+    (none_left known others (record { has = λ q e. covers.has q (or_right (same_literal q l) (is_among others q) e) }))
   where
     by : (b : Bool) → b ≡ true → is_empty (left known (map negation others)) ≡ true → is_empty (cond (not b) (negation l ∷ left known (map negation others)) (left known (map negation others))) ≡ true
     by true e rest = rest
@@ -111,9 +99,9 @@ unsolvable_shut clauses nodes branch facts reasons rows is =
 pub solved_line : (nodes : List Node) (clauses : List GroundClause) (all : List Clause) (branch facts : List Lit) (reasons : List ℕ) (rows : List Row) (number : ℕ) → AreIn clauses all → are_literals nodes branch ≡ true → number ≡ length all → IsUnsolvable clauses nodes branch reasons facts rows
     → propagation_line nodes (all ++ map negation facts ∷ []) (reasons ++ number ∷ []) (map negation branch) ≡ Some (map negation branch)
 solved_line nodes clauses all branch facts reasons rows number are formulas number_is is =
-    closed_is_line nodes clauses (all ++ map negation facts ∷ []) (in_longer clauses all (map negation facts ∷ []) are) branch (negated_literals nodes branch formulas) reasons is.learned number (map negation facts) is.closed
+    closed_is_line nodes clauses (all ++ map negation facts ∷ []) (in_longer clauses all (map negation facts ∷ []) are) branch (negations_are_literals nodes branch formulas) reasons is.learned number (map negation facts) is.closed
     (ap (slice_get (all ++ map negation facts ∷ [])) number_is ∙ get_last all (map negation facts))
     (none_left (after branch is.learned) facts (record { has = λ l e. subst (λ (ls : List Lit). is_among ls l ≡ true) is.facts_are e }))
 
 pub refuted_line : (nodes : List Node) (clauses : List GroundClause) (all : List Clause) (branch : List Lit) (numbers : List ℕ) → AreIn clauses all → are_literals nodes branch ≡ true → IsRefuted clauses branch numbers → propagation_line nodes all numbers (map negation branch) ≡ Some (map negation branch)
-refuted_line nodes clauses all branch numbers are formulas is = refuted_is_line nodes clauses all are branch (negated_literals nodes branch formulas) numbers is
+refuted_line nodes clauses all branch numbers are formulas is = refuted_is_line nodes clauses all are branch (negations_are_literals nodes branch formulas) numbers is

@@ -1,7 +1,9 @@
 -- A decision at a bound.
-use Rattle.std.proofs.Common.{◌≡◌, inl, ⊎_elim, ℕ, ◌<◌, ℤ, true, false, List, [], ◌∷◌, ◌++◌, take, length, Some, slice_get, nat_lt, refl, sym, ap, ◌∙◌, subst, arith, ltb-true, lt-ltb, Option}
-use Rattle.std.proofs.lemmas.List.{take-take}
+use Rattle.std.proofs.Common.{◌≡◌, inl, ⊎_elim, ℕ, ◌<◌, ℤ, true, false, List, [], ◌∷◌, ◌++◌, length, Some, slice_get, nat_lt, refl, sym, ap, ◌∙◌, subst, arith, ltb-true, lt-ltb, Option}
 use Rattle.std.specs.Option.{option_map_or}
+use Rattle.std.proofs.lemmas.Bool.{and_from, cases_Bool, and_parts}
+use Rattle.std.proofs.lemmas.Option.{slice_get_within}
+use Rattle.df_closure.proofs.Atoms.{two_below}
 use Rattle.df_form.specs.declared.log.Lit.{Lit}
 use Rattle.df_form.specs.declared.node.Sort.TheVariants as sorts
 use Rattle.df_form.specs.Node.{Node, same_sort}
@@ -13,25 +15,24 @@ use Rattle.df_kern.specs.Bound.{number, at_most}
 use Rattle.df_kern.specs.Derivation.{is_number}
 use Rattle.df_kern.specs.Growth.{Grows, IsNumber}
 use Rattle.df_closure.specs.Closure.{GroundClause, after}
-use Rattle.df_derive.specs.declared.derivation.Derivation.{Derivation}
-use Rattle.df_derive.specs.Runs.{Runs}
+use Rattle.df_logbuild.specs.declared.derivation.Derivation.{Derivation}
+use Rattle.df_logbuild.specs.Runs.{Runs}
 use Rattle.df_trail.specs.declared.trail.Trail.{Trail}
 use Rattle.df_trail.specs.Trail.{branch_of, decided}
-use Rattle.df_leaf.specs.Evidence.{of_split, MayFollow}
-use Rattle.df_leaf.specs.Leaf.{IsBetweenLeaf}
+use Rattle.df_branch.specs.Evidence.{of_split, MayFollow}
+use Rattle.df_branch.specs.Leaf.{IsBetweenLeaf}
 use Rattle.df_search.specs.declared.searching.State.{State}
 use Rattle.df_search.specs.Searching.{clauses_of, Searches}
-use Rattle.df_form.proofs.Lists.{get_within, both, both_true, is_true_or_false}
 use Rattle.df_form.proofs.Same.{same_sort_equal}
 use Rattle.df_form.proofs.Values.{parts_below}
-use Rattle.df_kern.proofs.Growth.{length-grows, get-grows, number-grows, made-grows, made-at, number-made, sorted-comparison}
-use Rattle.df_full.proofs.LaterRows.{two_below, rows_later}
+use Rattle.df_kern.proofs.Growth.{get-grows, number-grows, made-grows, made-at, number-made, sorted-comparison, grows-trans}
+use Rattle.df_closure.proofs.LaterRows.{rows_later}
 use Rattle.df_search.proofs.Coming.{decides, literal_formula}
 use Rattle.df_search.proofs.Growing.{makes, makes_node, unshut_later}
 
 pub is_of_number : (nodes : List Node) (n : ℕ) → is_number nodes n ≡ true → IsNumber nodes n
 is_of_number nodes n e =
-    let parts = both (nat_lt n (length nodes)) (same_sort (sort_at nodes n) sorts.Number) e in
+    let parts = and_parts (nat_lt n (length nodes)) (same_sort (sort_at nodes n) sorts.Number) e in
     (ltb-true n (length nodes) parts.0, same_sort_equal (sort_at nodes n) sorts.Number parts.1)
 
 -- the comparison may stand after the number
@@ -43,12 +44,12 @@ comparison_sorted nodes more term place bound is e =
 module _ (nodes more : List Node) (table : IsTable nodes) (grows : Grows nodes more) (facts : List Lit) (formulas : are_literals nodes facts ≡ true) (term place m : ℕ) (bound : ℤ)
     (place_is : slice_get more place ≡ Some (number bound)) (m_is : slice_get more m ≡ Some (at_most term place)) where
   unknown : (l : Lit) → l.node ≡ m → (slice_get nodes place ≡ Some (number bound) → slice_get nodes m ≡ Some (at_most term place) → is_among facts l ≡ false) → is_among facts l ≡ false
-  unknown l node_is none = ⊎_elim (λ there. here there) (λ e. e) (is_true_or_false (is_among facts l))
+  unknown l node_is none = ⊎_elim (λ there. here there) (λ e. e) (cases_Bool (is_among facts l))
     where
       here : is_among facts l ≡ true → is_among facts l ≡ false
       here there =
           let formula : is_formula nodes m ≡ true = subst (λ (n : ℕ). is_formula nodes n ≡ true) node_is (literal_formula nodes facts l formulas there) in
-          let low : m < length nodes = ltb-true m (length nodes) (both (nat_lt m (length nodes)) (same_sort (sort_at nodes m) sorts.Truth) formula).0 in
+          let low : m < length nodes = ltb-true m (length nodes) (and_parts (nat_lt m (length nodes)) (same_sort (sort_at nodes m) sorts.Truth) formula).0 in
           let old_m = sym (get-grows nodes more m grows low) ∙ m_is in
           let parts = two_below m term place (parts_below nodes m (at_most term place) (record { sorted = table.sorted }) old_m) in
           let lower : place < length nodes = omega (arith, low, parts.1) in
@@ -85,12 +86,9 @@ module _ (clauses : List GroundClause) (nodes middle more : List Node) (branch :
     }));
   }
 
-grows_twice : (a b c : List Node) → Grows a b → Grows b c → Grows a c
-grows_twice a b c one two = sym (take-take (length a) (length b) c (length-grows a b one)) ∙ ap (take (length a)) two ∙ one
-
 comparison_formula : (nodes : List Node) (m a b : ℕ) → slice_get nodes m ≡ Some (at_most a b) → is_formula nodes m ≡ true
 comparison_formula nodes m a b e =
-    both_true (nat_lt m (length nodes)) (same_sort (sort_at nodes m) sorts.Truth) (lt-ltb m (length nodes) (get_within nodes m (at_most a b) e))
+    and_from (nat_lt m (length nodes)) (same_sort (sort_at nodes m) sorts.Truth) (lt-ltb m (length nodes) (slice_get_within nodes m (at_most a b) e))
     (ap (λ (o : Option Node). same_sort (option_map_or (λ (node : Node). sort_of node.op) o sorts.Number) sorts.Truth) e)
 
 pub splits : (s : Sequent) (old : State) → Searches s old → (term place m : ℕ) (bound : ℤ) (first second : Derivation) (trail : Trail) → IsBetweenLeaf (clauses_of old) old.derivation.nodes (branch_of old.trail) term bound
@@ -100,14 +98,14 @@ pub splits : (s : Sequent) (old : State) → Searches s old → (term place m : 
 splits s old searches term place m bound first second trail leaf made_first runs_first made_second runs_second trail_is =
     let all = searches.all in
     let nodes = old.derivation.nodes in
-    let one = makes_node s all old searches.is (number bound) refl refl tt first (makes nodes (number bound) first.nodes place made_first) (runs_first s all searches.is.runs) in
+    let one = makes_node s all old searches.is (number bound) refl refl refl first (makes nodes (number bound) first.nodes place made_first) (runs_first s all searches.is.runs) in
     let sorted = comparison_sorted nodes first.nodes term place bound leaf.of_number made_first in
-    let two = makes_node s all (record old { derivation = first }) one (at_most term place) sorted refl tt second (makes first.nodes (at_most term place) second.nodes m made_second) (runs_second s all one.runs) in
+    let two = makes_node s all (record old { derivation = first }) one (at_most term place) sorted refl refl second (makes first.nodes (at_most term place) second.nodes m made_second) (runs_second s all one.runs) in
     let grows_one = made-grows nodes (number bound) (record { nodes = first.nodes; number = place }) made_first in
     let grows_two = made-grows first.nodes (at_most term place) (record { nodes = second.nodes; number = m }) made_second in
     let at_place = made-at nodes (number bound) (record { nodes = first.nodes; number = place }) made_first in
     let at_m = made-at first.nodes (at_most term place) (record { nodes = second.nodes; number = m }) made_second in
     let is_number_there = number-made nodes bound (record { nodes = first.nodes; number = place }) made_first in
-    let follows = bound_follows (clauses_of old) nodes first.nodes second.nodes (branch_of old.trail) term place m bound leaf searches.is.standing.place.table two.standing.place.table (grows_twice nodes first.nodes second.nodes grows_one grows_two)
+    let follows = bound_follows (clauses_of old) nodes first.nodes second.nodes (branch_of old.trail) term place m bound leaf searches.is.standing.place.table two.standing.place.table (grows-trans nodes first.nodes second.nodes grows_one grows_two)
     (get-grows first.nodes second.nodes place grows_two is_number_there.0 ∙ at_place) at_m in
     record { all = all; is = decides s all (record old { derivation = second }) two (yes m) follows (comparison_formula second.nodes m term place at_m) trail trail_is }

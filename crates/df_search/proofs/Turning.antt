@@ -2,6 +2,7 @@
 use Rattle.std.proofs.Common.{◌≡◌, ℕ, true, List, [], ◌∷◌, ◌++◌, map, length, take, Vec, sym, ap, ◌∙◌, subst}
 use Rattle.std.proofs.lemmas.List.{map-append}
 use Rattle.std.specs.declared.alloc.Global.{Global}
+use Rattle.df_lemmas.proofs.Lists.{get_grown, get_last}
 use Rattle.df_form.specs.declared.log.Lit.{Lit}
 use Rattle.df_form.specs.Node.{Node}
 use Rattle.df_form.specs.Clause.{Clause, negation, are_literals}
@@ -11,17 +12,16 @@ use Rattle.df_kern.specs.Derivation.{Derives}
 use Rattle.df_closure.specs.Closure.{GroundClause}
 use Rattle.df_closure.specs.Full.{IsConsistent}
 use Rattle.df_closure.specs.Lines.{AreIn}
-use Rattle.df_derive.specs.declared.derivation.Derivation.{Derivation}
+use Rattle.df_logbuild.specs.declared.derivation.Derivation.{Derivation}
 use Rattle.df_trail.specs.declared.trail.Trail.{Trail}
 use Rattle.df_trail.specs.Trail.{branch_of, IsTurned, HasTurned, HasEnded}
-use Rattle.df_leaf.specs.Evidence.{IsGroundIn, HasLog, IsClosedBranch, IsBranch}
-use Rattle.df_leaf.specs.Leaf.{IsPlace}
+use Rattle.df_branch.specs.Evidence.{IsGroundIn, HasLog, IsClosedBranch, IsBranch}
+use Rattle.df_branch.specs.Leaf.{IsPlace}
 use Rattle.df_search.specs.declared.searching.State.{State}
 use Rattle.df_search.specs.Found.{AreSpent}
 use Rattle.df_search.specs.Searching.{clauses_of, branches_of, AreCounted, AllApart, AllLeaveOr, IsStanding, IsSearching, IsFinished, IsCounted}
-use Rattle.df_form.proofs.Lists.{get_grown, get_last}
 use Rattle.df_closure.proofs.Rounds.{length_mapped}
-use Rattle.df_derive.proofs.Added.{finished}
+use Rattle.df_logbuild.proofs.Added.{finished}
 use Rattle.df_search.proofs.Consistent.{trail_consistent}
 use Rattle.df_search.proofs.Leaving.{counted_last, closed_of, leave_or, leave_or_last, all_leave, branch_turned}
 

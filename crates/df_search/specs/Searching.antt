@@ -9,20 +9,20 @@ use Rattle.df_form.specs.Clause.{Clause, negation, is_among}
 use Rattle.df_form.specs.Arithmetic.{IsArithmeticSequent}
 use Rattle.df_form.specs.Sequent.{Sequent, IsSequent}
 use Rattle.df_form.specs.Log.{step_of, combination_of}
-use Rattle.df_linear.specs.Row.{Row}
-use Rattle.df_linear.specs.Linear.{refutes}
+use Rattle.df_row.specs.Row.{Row}
+use Rattle.df_row.specs.Linear.{refutes}
 use Rattle.df_kern.specs.Propagation.{propagation_line}
 use Rattle.df_kern.specs.Derivation.{Derives}
 use Rattle.df_ground.specs.declared.set.Ground.{Ground}
 use Rattle.df_ground.specs.GroundView.{IsGroundOf}
 use Rattle.df_closure.specs.Closure.{GroundClause, ground_of}
 use Rattle.df_closure.specs.Lines.{AreIn}
-use Rattle.df_derive.specs.Runs.{Runs}
+use Rattle.df_logbuild.specs.Runs.{Runs}
 use Rattle.df_trail.specs.declared.decision.Decision.{Decision}
 use Rattle.df_trail.specs.Trail.{branch_of, literals_of, IsTrail, IsClosed}
-use Rattle.df_leaf.specs.declared.leaf.Leaf.{Leaf}
-use Rattle.df_leaf.specs.Evidence.{IsBranch, IsShut, IsClosedBranch, AreIncompatible, ShareNothingShut}
-use Rattle.df_leaf.specs.Leaf.{IsPlace, IsUnsolvable, IsBetweenLeaf, TellsLeaf}
+use Rattle.df_branch.specs.declared.leaf.Leaf.{Leaf}
+use Rattle.df_branch.specs.Evidence.{IsBranch, IsShut, IsClosedBranch, AreIncompatible, ShareNothingShut}
+use Rattle.df_branch.specs.Leaf.{IsPlace, IsUnsolvable, IsBetweenLeaf, TellsLeaf}
 use Rattle.df_search.specs.declared.searching.State.{State}
 use Rattle.df_search.specs.declared.searching.Turn.{Turn}
 use Rattle.df_search.specs.declared.searching.Turn.TheVariants as turns
@@ -138,8 +138,8 @@ Comes s steps state turns.On = Searches s state × (length state.closed.items < 
 Comes s steps state turns.Proved = Derives s (map step_of state.derivation.lines.items)
 Comes s steps state turns.Spent = AreSpent s steps (branches_of state)
 Comes s steps state (turns.Modelled table) = IsSequent s → IsArithmeticSequent s → HasModel s table
-Comes s steps state turns.Wide = IsTooWide s
-Comes s steps state (turns.Many count) = HasManyRows s count
+Comes s steps state turns.Wide = IsTooWide s (branches_of state) (branch_of state.trail)
+Comes s steps state (turns.Many count) = HasManyRows s (branches_of state) (branch_of state.trail) count
 
 abbrev pub Closes : State → ℕ → ℕ → State → Turn → Type 0
 Closes old number steps new turn = (s : Sequent) → Finishes s old number → length old.closed.items < steps → Comes s steps new turn

@@ -13,12 +13,16 @@ pub struct Budget {
 }
 
 /// Of what there is too much.
-#[derive(Clone, Copy, Debug, PartialEq, Eq)]
+#[derive(Drop)]
 pub enum What {
     /// So many ground clauses.
     Instances(u64),
-    /// So many rows in a level.
-    Rows(u64),
+    /// So many rows in a level, at a branch that is left by the closed ones.
+    Rows {
+        count: u64,
+        closed: Vec<Vec<Lit>>,
+        branch: Vec<Lit>,
+    },
 }
 
 /// A proof, or why the search stopped without one.
@@ -30,7 +34,10 @@ pub enum Found {
     Modelled(Table),
     /// Closed branches, as many as it may close.
     Spent(Vec<Vec<Lit>>),
-    /// A number on the way is past 128 bits.
-    Wide,
+    /// A number on the way is past 128 bits, at a branch that is left by the closed ones.
+    Wide {
+        closed: Vec<Vec<Lit>>,
+        branch: Vec<Lit>,
+    },
     Many(What),
 }

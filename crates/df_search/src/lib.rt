@@ -3,8 +3,6 @@
 
 mod found;
 mod searching;
-#[cfg(test)]
-mod tests;
 
 pub use found::{Budget, Found, What};
 pub use searching::search;

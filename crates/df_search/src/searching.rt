@@ -9,15 +9,15 @@ ghost use Rattle.df_form.specs.SequentView.{sequent_of};
 ghost use Rattle.df_ground.specs.GroundView.{IsGroundOf, Grounds};
 ghost use Rattle.df_kern.specs.Derivation.{is_number};
 ghost use Rattle.df_trail.specs.Trail.{branch_of};
-ghost use Rattle.df_leaf.specs.Leaf.{IsPlace};
+ghost use Rattle.df_branch.specs.Leaf.{IsPlace};
 ghost use Rattle.df_search.specs.Found.{Finds};
 ghost use Rattle.df_search.specs.Searching.{clauses_of, branches_of, Searches, Refutes, Solves, Counts, SplitsAt, Closes, TurnsTo, Tells, GoesOn, Lacks, AreApart, AllApart};
 
 use crate::found::{Budget, Found, What};
-use df_derive::Derivation;
+use df_branch::{Leaf, leaf_at};
 use df_form::{Combination, Lit, Node, Nodes, Op, Sequent};
 use df_ground::{Ground, GroundClause, GroundFault};
-use df_leaf::{Leaf, leaf_at};
+use df_logbuild::Derivation;
 use df_table::Table;
 use df_trail::{Retreat, Trail};
 use df_types::Newtype;
@@ -44,10 +44,7 @@ fn negations(alloc: Global, literals: &[Lit]) -> Result<Vec<Lit>, AllocError>
 {
     let mut negations = Vec::new(alloc);
     for literal in literals {
-        negations.push(Lit {
-            positive: !literal.positive,
-            node: literal.node,
-        })?;
+        negations.push(literal.negation())?;
     }
     Ok(negations)
 }
@@ -76,7 +73,7 @@ fn lacks_last(branch: &[Lit], other: &[Lit]) -> bool
 
 /// Whether one of the branches lacks the last literal of the other: so what both hold are first literals
 /// of one, which are not shut.
-pub(crate) fn is_apart(branch: &[Lit], other: &[Lit]) -> bool
+fn is_apart(branch: &[Lit], other: &[Lit]) -> bool
     ensures { IsTrue result → AreApart branch.now other.now }
 {
     lacks_last(branch, other) || lacks_last(other, branch)
@@ -301,8 +298,20 @@ pub fn search(alloc: Global, sequent: &Sequent, budget: Budget) -> Result<Found,
             }
             Turn::Spent => return Ok(Found::Spent(search.closed)),
             Turn::Modelled(table) => return Ok(Found::Modelled(table)),
-            Turn::Wide => return Ok(Found::Wide),
-            Turn::Many(count) => return Ok(Found::Many(What::Rows(count))),
+            Turn::Wide => {
+                let branch = search.trail.branch(alloc)?;
+                let closed = search.closed;
+                return Ok(Found::Wide { closed, branch });
+            }
+            Turn::Many(count) => {
+                let branch = search.trail.branch(alloc)?;
+                let closed = search.closed;
+                return Ok(Found::Many(What::Rows {
+                    count,
+                    closed,
+                    branch,
+                }));
+            }
         }
     }
 }

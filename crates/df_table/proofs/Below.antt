@@ -1,7 +1,7 @@
 -- Tests of all numbers below another.
 use Rattle.std.proofs.Common.{◌≡◌, ℕ, suc, ◌+◌, ◌<◌, Bool, true, false, ◌&&◌, refl, ap, ◌∙◌, arith}
 use Rattle.std.proofs.lemmas.Bool.Decides.{Decides-below_and}
-use Rattle.df_form.proofs.Lists.{true_is_not_false}
+use Rattle.df_lemmas.proofs.Truths.{true_is_not_false}
 use Rattle.df_table.specs.Testing.{all_below}
 
 -- one more passes
@@ -18,7 +18,3 @@ below_fails test n end less one = by (all_below test end) refl
     by : (b : Bool) → all_below test end ≡ b → all_below test end ≡ false
     by false e = e
     by true e = absurd (true_is_not_false (test n) (passes test end e n less) one)
-
-pub second_false : (a b : Bool) → b ≡ false → (a && b) ≡ false
-second_false true b e = e
-second_false false b e = refl

@@ -5,11 +5,11 @@ use Rattle.std.specs.List.{list_all}
 use Rattle.std.specs.Option.{option_map_or}
 use Rattle.std.specs.Ordering.{int_eq}
 use Rattle.std.proofs.lemmas.Bool.Decides.{Decides-int_eq, Decides-eqb, Decides-and, Decides-below_and}
+use Rattle.std.proofs.lemmas.Option.{same_Some, slice_get_within}
 use Rattle.df_form.specs.declared.node.Op.{Op}
 use Rattle.df_form.specs.Node.{Node, same_op}
 use Rattle.df_form.specs.Clause.{clause_truth}
 use Rattle.df_form.proofs.Same.{same_op_equal, same_op-refl}
-use Rattle.df_form.proofs.Lists.{some_is, get_within}
 use Rattle.df_kern.specs.Derivation.{State}
 use Rattle.df_table.specs.TableModel.{number_at, is_true, is_exact, Agree, IsTableModel}
 use Rattle.df_table.specs.Testing.{all_below, same_at, same_numbers, agree_both, agree, exact_at, agrees_with_all, is_congruent, are_exact, meets}
@@ -70,8 +70,8 @@ agree-Decides nodes table m n = by (slice_get nodes m) (slice_get nodes n) refl 
         let one = implies-Decides (same_op x.op y.op) (same_numbers table x.parts y.parts) (int_eq (number_at table m) (number_at table n)) (x.op ≡ y.op) (map (number_at table) x.parts ≡ map (number_at table) y.parts) (number_at table m ≡ number_at table n)
         (same_op-Decides x.op y.op) (same_numbers-Decides table x.parts y.parts) (Decides-int_eq (number_at table m) (number_at table n)) in (
           λ t a b at other ops numbers.
-              let first = some_is x a (sym e ∙ at) in
-              let second = some_is y b (sym f ∙ other) in
+              let first = same_Some x a (sym e ∙ at) in
+              let second = same_Some y b (sym f ∙ other) in
               one.0 t (ap (λ (node : Node). node.op) first ∙ ops ∙ sym (ap (λ (node : Node). node.op) second))
               (ap (λ (node : Node). map (number_at table) node.parts) first ∙ numbers ∙ sym (ap (λ (node : Node). map (number_at table) node.parts) second)),
           λ h. one.1 (h x y e f),
@@ -85,7 +85,7 @@ exact-Decides nodes table n = by (slice_get nodes n) refl
   where
     by : (o : Option Node) → slice_get nodes n ≡ o → Decides (option_map_or (λ (node : Node). is_exact nodes table n node.op node.parts) o true) (Exact nodes table n)
     by None e = (λ t node at. let wrong = sym e ∙ at in absurd cc, λ h. refl)
-    by (Some x) e = (λ t node at. subst (λ (node : Node). is_exact nodes table n node.op node.parts ≡ true) (some_is x node (sym e ∙ at)) t, λ h. h x e)
+    by (Some x) e = (λ t node at. subst (λ (node : Node). is_exact nodes table n node.op node.parts ≡ true) (same_Some x node (sym e ∙ at)) t, λ h. h x e)
 
 congruent-Decides : (nodes : List Node) (table : List ℤ) → Decides (is_congruent nodes table) ((m : ℕ) → m < length nodes → (n : ℕ) → n < length nodes → Agree nodes table m n)
 congruent-Decides nodes table =
@@ -104,7 +104,7 @@ model-Decides state table =
       λ t. let h = all.0 t in record {
         covers = h.0;
         congruent = λ m n less other. h.1.0 m less n other;
-        exact = λ n node at. h.1.1.0 n (get_within nodes n node at) node at;
+        exact = λ n node at. h.1.1.0 n (slice_get_within nodes n node at) node at;
         clauses = h.1.1.1;
       },
       λ is. all.1 (is.covers, (λ m less n other. is.congruent m n less other, (λ n less node at. is.exact n node at, is.clauses))),

@@ -1,9 +1,10 @@
 -- A model of the ground set of a sequent makes its hypotheses true and its goal false.
 use Rattle.std.proofs.Common.{◌≡◌, ℕ, zero, suc, ℤ, Bool, true, false, not, ◌||◌, List, [], ◌∷◌, Some, slice_get, refl, sym, subst, true≢false}
 use Rattle.std.specs.List.{list_all}
+use Rattle.std.proofs.lemmas.Option.{same_Some}
+use Rattle.std.proofs.lemmas.Bool.{and_from, and_parts}
 use Rattle.df_form.specs.Sequent.{Sequent}
 use Rattle.df_form.specs.Clause.{yes, no, clause_truth}
-use Rattle.df_form.proofs.Lists.{both, both_true, some_is}
 use Rattle.df_ground.specs.declared.set.Ground.{Ground}
 use Rattle.df_ground.specs.GroundView.{IsGroundOf, state_of}
 use Rattle.df_ground.proofs.Clauses.{hypothesis_stands, goal_stands}
@@ -11,12 +12,12 @@ use Rattle.df_table.specs.TableModel.{is_true, IsTableModel}
 
 passes_at : {A : Type 0} (test : A → Bool) (xs : List A) (i : ℕ) (x : A) → list_all test xs ≡ true → slice_get xs i ≡ Some x → test x ≡ true
 passes_at test [] i x all at = absurd cc
-passes_at test (y ∷ xs) zero x all at = subst (λ z. test z ≡ true) (some_is y x at) (both (test y) (list_all test xs) all).0
-passes_at test (y ∷ xs) (suc i) x all at = passes_at test xs i x (both (test y) (list_all test xs) all).1 at
+passes_at test (y ∷ xs) zero x all at = subst (λ z. test z ≡ true) (same_Some y x at) (and_parts (test y) (list_all test xs) all).0
+passes_at test (y ∷ xs) (suc i) x all at = passes_at test xs i x (and_parts (test y) (list_all test xs) all).1 at
 
 each_passes : {A : Type 0} (test : A → Bool) (xs : List A) → ((i : ℕ) (x : A) → slice_get xs i ≡ Some x → test x ≡ true) → list_all test xs ≡ true
 each_passes test [] each = refl
-each_passes test (x ∷ xs) each = both_true (test x) (list_all test xs) (each 0 x refl) (each_passes test xs (λ i y at. each (suc i) y at))
+each_passes test (x ∷ xs) each = and_from (test x) (list_all test xs) (each 0 x refl) (each_passes test xs (λ i y at. each (suc i) y at))
 
 one_true : (b : Bool) → (b || false) ≡ true → b ≡ true
 one_true true e = refl

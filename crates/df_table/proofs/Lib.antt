@@ -1,4 +1,3 @@
 pub mod Below
 pub mod Deciding
-pub mod Mapped
 pub mod Falsifying

@@ -4,7 +4,7 @@ ghost use Rattle.std.specs.Prelude.{◌≡◌, ◌+ℤ◌, ◌*ℤ◌, slice_get
 ghost use Rattle.std.specs.Ordering.{int_eq};
 ghost use Rattle.df_form.specs.Node.{node_of};
 ghost use Rattle.df_meaning.specs.Value.{same_truth};
-ghost use Rattle.df_linear.specs.Row.{literal_number};
+ghost use Rattle.df_row.specs.Row.{literal_number};
 ghost use Rattle.df_table.specs.TableModel.{is_multiple, is_exact};
 ghost use Rattle.df_table.specs.Testing.{exact_at, are_exact};
 

@@ -6,8 +6,6 @@ mod exactness;
 mod law;
 mod model;
 mod table;
-#[cfg(test)]
-mod tests;
 
 pub use law::models_falsify_sequents;
 pub use model::is_model;

@@ -155,8 +155,8 @@ no_sum = refl
 
 -- ---- files: method m(x: small) returns (y: small) ensures y < 5 { y := 1; }
 
-abbrev place : Ident → ℕ → Parameter
-place name col = record { name = name; ty = small col }
+abbrev parameter : Ident → ℕ → Parameter
+parameter name col = record { name = name; ty = small col }
 
 abbrev bounded : Expr
 bounded = Operations (Name (y 30)) (more binary.Less (at 32) (number 5 34) end)
@@ -164,8 +164,8 @@ bounded = Operations (Name (y 30)) (more binary.Less (at 32) (number 5 34) end)
 abbrev method : Clause → MethodDeclaration
 method clause = record {
   name = ident 1 8;
-  parameters = place (x 10) 13 ∷ [];
-  results = Some (place (y 20) 23 ∷ []);
+  parameters = parameter (x 10) 13 ∷ [];
+  results = Some (parameter (y 20) 23 ∷ []);
   clauses = clause ∷ [];
   body = record { pos = at 40; statements = next (Assign (y 42) (number 1 47)) done };
 }

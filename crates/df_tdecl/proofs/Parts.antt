@@ -59,11 +59,11 @@ module _ (names : List (List ℕ)) (newtypes : List ℕ) (tree : MethodDeclarati
       → body ≡ statements_in newtypes (context_of newtypes tree.parameters ++ context_of newtypes (results_of tree)) tree.body.statements
       → pos ≡ tree.body.pos → made ≡ method_with names newtypes tree.name.name tree.parameters (results_of tree) contract pos body
       → (method_faults newtypes tree ≡ []) × (made ≡ method_in names newtypes tree)
-  method_made contract body pos made clear said none does place is =
+  method_made contract body pos made clear said none does at is =
       let joined : also ≡ context_of newtypes (tree.parameters ++ results_of tree) = sym (both_contexts newtypes tree.parameters (results_of tree)) in (
         append_nils (flat_map (clause_faults parameters also) tree.clauses) _ clear none,
         is ∙ (λ i. method_with names newtypes tree.name.name tree.parameters (results_of tree)
-            ((said ∙ ap (λ (c : Context). contract_in parameters c tree.clauses) joined) i) (place i) ((does ∙ ap (λ (c : Context). statements_in newtypes c tree.body.statements) joined) i)),
+            ((said ∙ ap (λ (c : Context). contract_in parameters c tree.clauses) joined) i) (at i) ((does ∙ ap (λ (c : Context). statements_in newtypes c tree.body.statements) joined) i)),
       )
 
 -- ---- files

@@ -2,7 +2,7 @@
 use Rattle.std.proofs.Common.{◌≡◌, ℕ, ◌≤◌, Bool, true, false, cond, List, [], ◌∷◌, ◌++◌, length, Option, Some, None, refl, sym, subst, ◌∙◌, arith}
 use Rattle.std.specs.Prelude.{nat_lt}
 use Rattle.std.specs.List.{flat_map, list_all, list_any}
-use Rattle.std.proofs.lemmas.Bool.{ltb-true, lt-ltb}
+use Rattle.std.proofs.lemmas.Bool.{ltb-true, lt-ltb, and_parts, and_from}
 use Rattle.std.proofs.lemmas.List.{length-append}
 use Rattle.std.proofs.lemmas.List.Folds.{list_all-append}
 use Rattle.std.proofs.lemmas.List.Quantifiers.{position-Some}
@@ -16,7 +16,6 @@ use Rattle.df_tree.specs.declared.file.Parameter.{Parameter}
 use Rattle.df_tree.specs.File.{MethodDeclaration, Declaration, Newtype, Method, File}
 use Rattle.df_tree.specs.FileSpelling.{FilePiece, Plain, Characters, StartsWith, separated, optional, spell_more, spell_parameter, spell_parameters, spell_results, spell_declaration, SpellsFile}
 use Rattle.df_names.specs.Faults.{results_of}
-use Rattle.df_texpr.proofs.Types.{both, both_true}
 use Rattle.df_tdecl.specs.Elaborating.{parameter_names, named_in, are_below, names_below}
 
 -- ---- tokens
@@ -35,7 +34,7 @@ with_longer texts text false = omega (arith, length-append texts (text ∷ []))
 grown : (before after : List (List ℕ)) (text : List ℕ) → after ≡ with_text before text → length before ≤ length after
 grown before after text e = rw e (with_longer before text (list_any (same_text text) before))
 
-as_long : (before after : List (List ℕ)) → after ≡ before → length before ≤ length after
+pub as_long : (before after : List (List ℕ)) → after ≡ before → length before ≤ length after
 as_long before after e = rw e (omega arith)
 
 kind_named : (before : List (List ℕ)) (text : List ℕ) (kind : Kind) (after : List (List ℕ)) → HasKind before text kind after → (length before ≤ length after) × (kind_below (length after) kind ≡ true)
@@ -81,7 +80,7 @@ divided_named pos before source (Lexeme kind text ∷ pieces) after (rest, betwe
     let le = here.0 in
     let all = divided_named (after_bytes pos text) between rest pieces after others in
     let more = all.0 in
-    (omega arith, both_true _ _ (kind_more (length between) (length after) kind more here.1) all.1)
+    (omega arith, and_from _ _ (kind_more (length between) (length after) kind more here.1) all.1)
 
 -- ---- what tokens spell
 
@@ -92,29 +91,29 @@ piece_below count (Characters characters) = true
 spelled_named : (count : ℕ) (pieces : List FilePiece) (tokens rest : List Token) → StartsWith pieces tokens rest → are_named count tokens ≡ true → list_all (piece_below count) pieces ≡ true
 spelled_named count [] tokens rest h named = refl
 spelled_named count (piece ∷ pieces) [] rest h named = absurd h
-spelled_named count (Plain piece ∷ pieces) (token ∷ tokens) rest ((kind, place), others) named =
-    let parts = both _ _ named in
-    both_true _ _ (subst (λ (k : Kind). kind_below count k ≡ true) kind parts.0) (spelled_named count pieces tokens rest others parts.1)
-spelled_named count (Characters characters ∷ pieces) (token ∷ tokens) rest (is, others) named = spelled_named count pieces tokens rest others (both _ _ named).1
+spelled_named count (Plain piece ∷ pieces) (token ∷ tokens) rest ((kind, pos), others) named =
+    let parts = and_parts _ _ named in
+    and_from _ _ (subst (λ (k : Kind). kind_below count k ≡ true) kind parts.0) (spelled_named count pieces tokens rest others parts.1)
+spelled_named count (Characters characters ∷ pieces) (token ∷ tokens) rest (is, others) named = spelled_named count pieces tokens rest others (and_parts _ _ named).1
 
 module _ (count : ℕ) where
   abbrev AreBelow : List FilePiece → Type 0
   AreBelow pieces = list_all (piece_below count) pieces ≡ true
 
   parts : (a b : List FilePiece) → AreBelow (a ++ b) → AreBelow a × AreBelow b
-  parts a b h = both _ _ (sym (list_all-append (piece_below count) a b) ∙ h)
+  parts a b h = and_parts _ _ (sym (list_all-append (piece_below count) a b) ∙ h)
 
   more_parameters : (all : List Parameter) → AreBelow (flat_map (spell_more spell_parameter) all) → are_below count (parameter_names all) ≡ true
   more_parameters [] h = refl
   more_parameters (x ∷ xs) h =
       let here = parts (spell_more spell_parameter x) (flat_map (spell_more spell_parameter) xs) h in
-      both_true _ _ (both _ _ here.0).0 (more_parameters xs here.1)
+      and_from _ _ (and_parts _ _ here.0).0 (more_parameters xs here.1)
 
   all_parameters : (all : List Parameter) → AreBelow (separated spell_parameter all) → are_below count (parameter_names all) ≡ true
   all_parameters [] h = refl
   all_parameters (x ∷ xs) h =
       let here = parts (spell_parameter x) (flat_map (spell_more spell_parameter) xs) h in
-      both_true _ _ (both _ _ here.0).0 (more_parameters xs here.1)
+      and_from _ _ (and_parts _ _ here.0).0 (more_parameters xs here.1)
 
   in_parentheses : (all : List Parameter) → AreBelow (spell_parameters all) → are_below count (parameter_names all) ≡ true
   in_parentheses all h = all_parameters all (parts (separated spell_parameter all) _ h).0
@@ -124,19 +123,19 @@ module _ (count : ℕ) where
   of_results (Some all) m e h = rw e (in_parentheses all h)
 
   declaration_below : (d : Declaration) → AreBelow (spell_declaration d) → are_below count (named_in d) ≡ true
-  declaration_below (Newtype x) h = both_true _ _ (both _ _ h).0 refl
+  declaration_below (Newtype x) h = and_from _ _ (and_parts _ _ h).0 refl
   declaration_below (Method x) h =
-      let name = both _ _ h in
+      let name = and_parts _ _ h in
       let first = parts (spell_parameters x.parameters) _ name.1 in
       let second = parts (optional spell_results x.results) _ first.1 in
-      both_true _ _ name.0
-      (list_all-append (λ (n : ℕ). nat_lt n count) (parameter_names x.parameters) (parameter_names (results_of x)) ∙ both_true _ _ (in_parentheses x.parameters first.0) (of_results x.results x refl second.0))
+      and_from _ _ name.0
+      (list_all-append (λ (n : ℕ). nat_lt n count) (parameter_names x.parameters) (parameter_names (results_of x)) ∙ and_from _ _ (in_parentheses x.parameters first.0) (of_results x.results x refl second.0))
 
   declarations_below : (all : List Declaration) → AreBelow (flat_map spell_declaration all) → list_all (λ (d : Declaration). are_below count (named_in d)) all ≡ true
   declarations_below [] h = refl
   declarations_below (x ∷ xs) h =
       let here = parts (spell_declaration x) (flat_map spell_declaration xs) h in
-      both_true _ _ (declaration_below x here.0) (declarations_below xs here.1)
+      and_from _ _ (declaration_below x here.0) (declarations_below xs here.1)
 
 pub names_have_texts : (source : List ℕ) (tokens : List Token) (names : List (List ℕ)) (file : File) → Divides [] source tokens names → SpellsFile file tokens → names_below (length names) file ≡ true
 names_have_texts source tokens names file (pieces, divided, are) spells =
@@ -148,12 +147,12 @@ names_have_texts source tokens names file (pieces, divided, are) spells =
 names_more : (low high : ℕ) (names : List ℕ) → low ≤ high → are_below low names ≡ true → are_below high names ≡ true
 names_more low high [] le h = refl
 names_more low high (name ∷ names) le h =
-    let here = both _ _ h in
+    let here = and_parts _ _ h in
     let lt = ltb-true name low here.0 in
-    both_true _ _ (lt-ltb name high (omega arith)) (names_more low high names le here.1)
+    and_from _ _ (lt-ltb name high (omega arith)) (names_more low high names le here.1)
 
 pub declarations_more : (low high : ℕ) (all : List Declaration) → low ≤ high → list_all (λ (d : Declaration). are_below low (named_in d)) all ≡ true → list_all (λ (d : Declaration). are_below high (named_in d)) all ≡ true
 declarations_more low high [] le h = refl
 declarations_more low high (x ∷ xs) le h =
-    let here = both _ _ h in
-    both_true _ _ (names_more low high (named_in x) le here.0) (declarations_more low high xs le here.1)
+    let here = and_parts _ _ h in
+    and_from _ _ (names_more low high (named_in x) le here.0) (declarations_more low high xs le here.1)

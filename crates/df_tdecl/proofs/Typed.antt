@@ -12,7 +12,7 @@ use Rattle.df_tree.specs.File.{PrintOperand, Text, Value, Statement, Nested, Var
 use Rattle.df_names.specs.Faults.{else_told}
 use Rattle.df_names.proofs.Latest.{last_is, some_among}
 use Rattle.df_texpr.specs.Context.{Context, names_of, Means}
-use Rattle.df_texpr.specs.Open.{type_in, place_of}
+use Rattle.df_texpr.specs.Open.{type_in, pos_of}
 use Rattle.df_texpr.specs.Faults.{broken, is_truth, expr_faults}
 use Rattle.df_texpr.specs.Elaboration.{IsTyped}
 use Rattle.df_texpr.specs.Elaborating.{elaborated}
@@ -31,12 +31,12 @@ use Rattle.df_tdecl.specs.Elaborating.{operand_in, statement_in, statements_in, 
 pub condition_complete : (context : Context) (e : Expr) (t : typed_expr.Expr) → IsCondition context e t → (condition_faults context e ≡ []) × (t ≡ elaborated context None e)
 condition_complete context e t h =
     let shown = complete context None e types.Bool t h in
-    (append_nils (expr_faults context None e) _ shown.faultless (none_told (is_truth (type_in context None e)) (broken 7 (place_of e)) (rw (← shown.type) refl)), shown.expr)
+    (append_nils (expr_faults context None e) _ shown.faultless (none_told (is_truth (type_in context None e)) (broken 7 (pos_of e)) (rw (← shown.type) refl)), shown.expr)
 
 pub condition_sound : (context : Context) (e : Expr) → condition_faults context e ≡ [] → IsCondition context e (elaborated context None e)
 condition_sound context e f =
     let h = nil_append (expr_faults context None e) _ f in
-    subst (λ (ty : Ty). IsTyped context None e ty (elaborated context None e)) (truth_is (type_in context None e) (untold (is_truth (type_in context None e)) (broken 7 (place_of e)) h.1)) (sound context None e h.0)
+    subst (λ (ty : Ty). IsTyped context None e ty (elaborated context None e)) (truth_is (type_in context None e) (untold (is_truth (type_in context None e)) (broken 7 (pos_of e)) h.1)) (sound context None e h.0)
 
 pub value_complete : (context : Context) (ty : Ty) (e : Expr) (t : typed_expr.Expr) → IsTyped context (Some ty) e ty t → (value_faults context ty e ≡ []) × (t ≡ elaborated context (Some ty) e)
 value_complete context ty e t h =
@@ -86,15 +86,15 @@ means_found context name number e =
     let is : numbered.local_number context name ≡ number = cc in
     subst (λ (n : ℕ). Means context name n (assigned_type context (record { name = name; pos = record { line = 0; col = 0 } }))) is found
 
-assigned_complete : (parameters : ℕ) (context : Context) (place : Ident) (value : Expr) (number : ℕ) (ty : Ty) (t : typed_expr.Expr) → Means context place.name number ty → parameters ≤ number → IsTyped context (Some ty) value ty t
-    → (else_told (is_assignable parameters (local_number context place.name)) (broken 22 place.pos) ++ value_faults context (assigned_type context place) value ≡ [])
-    × (typed.Assign number t ≡ typed.Assign (unwrap_or (local_number context place.name) 0) (elaborated context (Some (assigned_type context place)) value))
-assigned_complete parameters context place value number ty t means le h =
-    let one = means_one context place.name number ty means in
-    let found = number_is context place.name number ty means in
-    let type : ty ≡ assigned_type context place = one.2 in
-    let shown = value_complete context (assigned_type context place) value t (subst (λ (u : Ty). IsTyped context (Some u) value u t) type h) in (
-      append_nils _ _ (none_told (is_assignable parameters (local_number context place.name)) (broken 22 place.pos) (rw found (le-leb parameters number le))) shown.0,
+assigned_complete : (parameters : ℕ) (context : Context) (target : Ident) (value : Expr) (number : ℕ) (ty : Ty) (t : typed_expr.Expr) → Means context target.name number ty → parameters ≤ number → IsTyped context (Some ty) value ty t
+    → (else_told (is_assignable parameters (local_number context target.name)) (broken 22 target.pos) ++ value_faults context (assigned_type context target) value ≡ [])
+    × (typed.Assign number t ≡ typed.Assign (unwrap_or (local_number context target.name) 0) (elaborated context (Some (assigned_type context target)) value))
+assigned_complete parameters context target value number ty t means le h =
+    let one = means_one context target.name number ty means in
+    let found = number_is context target.name number ty means in
+    let type : ty ≡ assigned_type context target = one.2 in
+    let shown = value_complete context (assigned_type context target) value t (subst (λ (u : Ty). IsTyped context (Some u) value u t) type h) in (
+      append_nils _ _ (none_told (is_assignable parameters (local_number context target.name)) (broken 22 target.pos) (rw found (le-leb parameters number le))) shown.0,
       (λ i. typed.Assign (unwrap_or (sym found i) 0) (shown.1 i)),
     )
 
@@ -107,16 +107,16 @@ assignable parameters (Some number) e = (number, refl, leb-true parameters numbe
 mutual
   pub statement_complete : (newtypes : List ℕ) (parameters : ℕ) (context : Context) (s : Statement) (t : typed.Stmt) → IsStatement newtypes parameters context s t
       → (statement_faults newtypes parameters context s ≡ []) × (t ≡ statement_in newtypes context s)
-  statement_complete newtypes parameters context (Nested place statements) t (inner, h, is) =
+  statement_complete newtypes parameters context (Nested pos statements) t (inner, h, is) =
       let a = statements_complete newtypes parameters context statements inner h in
       (a.0, is ∙ ap typed.Block a.1)
   statement_complete newtypes parameters context (Var local ty value) t (e, h, is) =
       let a = value_complete context (type_of newtypes ty) value e h in
       (a.0, is ∙ ap (typed.Var (type_of newtypes ty)) a.1)
-  statement_complete newtypes parameters context (Assign place value) t (number, ty, e, means, le, h, is) =
-      let a = assigned_complete parameters context place value number ty e means le h in
+  statement_complete newtypes parameters context (Assign target value) t (number, ty, e, means, le, h, is) =
+      let a = assigned_complete parameters context target value number ty e means le h in
       (a.0, is ∙ a.1)
-  statement_complete newtypes parameters context (If guard place body others last) t (condition, first, rest, final, h, hs, bs, l, is) =
+  statement_complete newtypes parameters context (If guard pos body others last) t (condition, first, rest, final, h, hs, bs, l, is) =
       let a = condition_complete context guard condition h in
       let b = statements_complete newtypes parameters context body first hs in
       let c = branches_complete newtypes parameters context others rest bs in
@@ -124,9 +124,9 @@ mutual
         append_nils (condition_faults context guard) _ a.0 (append_nils (statements_faults newtypes parameters context body) _ b.0 (append_nils (branches_faults newtypes parameters context others) _ c.0 d.0)),
         is ∙ (λ i. typed.If (typed.more (a.1 i) (b.1 i) (c.1 i)) (d.1 i)),
       )
-  statement_complete newtypes parameters context (Assert place condition) t (e, h, is) =
+  statement_complete newtypes parameters context (Assert pos condition) t (e, h, is) =
       let a = condition_complete context condition e h in
-      (a.0, is ∙ ap (typed.Assert place) a.1)
+      (a.0, is ∙ ap (typed.Assert pos) a.1)
   statement_complete newtypes parameters context (Print operands) t (all, h, is) =
       let a = operands_complete context operands all h in
       (a.0, is ∙ ap typed.Print a.1)
@@ -142,7 +142,7 @@ mutual
   pub branches_complete : (newtypes : List ℕ) (parameters : ℕ) (context : Context) (all : Branches) (ts : typed.Branches) → AreBranches newtypes parameters context all ts
       → (branches_faults newtypes parameters context all ≡ []) × (ts ≡ branches_in newtypes context all)
   branches_complete newtypes parameters context end ts h = (refl, h)
-  branches_complete newtypes parameters context (more guard place body others) ts (condition, first, rest, h, hs, bs, is) =
+  branches_complete newtypes parameters context (more guard pos body others) ts (condition, first, rest, h, hs, bs, is) =
       let a = condition_complete context guard condition h in
       let b = statements_complete newtypes parameters context body first hs in
       let c = branches_complete newtypes parameters context others rest bs in
@@ -151,24 +151,24 @@ mutual
   pub otherwise_complete : (newtypes : List ℕ) (parameters : ℕ) (context : Context) (last : Otherwise) (ts : typed.Stmts) → IsOtherwise newtypes parameters context last ts
       → (otherwise_faults newtypes parameters context last ≡ []) × (ts ≡ otherwise_in newtypes context last)
   otherwise_complete newtypes parameters context without ts h = (refl, h)
-  otherwise_complete newtypes parameters context (otherwise place statements) ts h = statements_complete newtypes parameters context statements ts h
+  otherwise_complete newtypes parameters context (otherwise pos statements) ts h = statements_complete newtypes parameters context statements ts h
 
 mutual
   pub statement_sound : (newtypes : List ℕ) (parameters : ℕ) (context : Context) (s : Statement) → statement_faults newtypes parameters context s ≡ [] → IsStatement newtypes parameters context s (statement_in newtypes context s)
-  statement_sound newtypes parameters context (Nested place statements) f = (statements_in newtypes context statements, statements_sound newtypes parameters context statements f, refl)
+  statement_sound newtypes parameters context (Nested pos statements) f = (statements_in newtypes context statements, statements_sound newtypes parameters context statements f, refl)
   statement_sound newtypes parameters context (Var local ty value) f = (elaborated context (Some (type_of newtypes ty)) value, value_sound context (type_of newtypes ty) value f, refl)
-  statement_sound newtypes parameters context (Assign place value) f =
-      let h = nil_append (else_told (is_assignable parameters (local_number context place.name)) (broken 22 place.pos)) _ f in
-      let n = assignable parameters (local_number context place.name) (untold _ _ h.0) in (
+  statement_sound newtypes parameters context (Assign target value) f =
+      let h = nil_append (else_told (is_assignable parameters (local_number context target.name)) (broken 22 target.pos)) _ f in
+      let n = assignable parameters (local_number context target.name) (untold _ _ h.0) in (
         n.0,
-        assigned_type context place,
-        elaborated context (Some (assigned_type context place)) value,
-        means_found context place.name n.0 n.1,
+        assigned_type context target,
+        elaborated context (Some (assigned_type context target)) value,
+        means_found context target.name n.0 n.1,
         n.2,
-        value_sound context (assigned_type context place) value h.1,
-        ap (λ (o : Option ℕ). typed.Assign (unwrap_or o 0) (elaborated context (Some (assigned_type context place)) value)) n.1,
+        value_sound context (assigned_type context target) value h.1,
+        ap (λ (o : Option ℕ). typed.Assign (unwrap_or o 0) (elaborated context (Some (assigned_type context target)) value)) n.1,
       )
-  statement_sound newtypes parameters context (If guard place body others last) f =
+  statement_sound newtypes parameters context (If guard pos body others last) f =
       let a = nil_append (condition_faults context guard) _ f in
       let b = nil_append (statements_faults newtypes parameters context body) _ a.1 in
       let c = nil_append (branches_faults newtypes parameters context others) _ b.1 in (
@@ -182,7 +182,7 @@ mutual
         otherwise_sound newtypes parameters context last c.1,
         refl,
       )
-  statement_sound newtypes parameters context (Assert place condition) f = (elaborated context None condition, condition_sound context condition f, refl)
+  statement_sound newtypes parameters context (Assert pos condition) f = (elaborated context None condition, condition_sound context condition f, refl)
   statement_sound newtypes parameters context (Print operands) f = (map (operand_in context) operands, operands_sound context operands f, refl)
 
   pub statements_sound : (newtypes : List ℕ) (parameters : ℕ) (context : Context) (all : Statements) → statements_faults newtypes parameters context all ≡ []
@@ -199,7 +199,7 @@ mutual
 
   pub branches_sound : (newtypes : List ℕ) (parameters : ℕ) (context : Context) (all : Branches) → branches_faults newtypes parameters context all ≡ [] → AreBranches newtypes parameters context all (branches_in newtypes context all)
   branches_sound newtypes parameters context end f = refl
-  branches_sound newtypes parameters context (more guard place body others) f =
+  branches_sound newtypes parameters context (more guard pos body others) f =
       let a = nil_append (condition_faults context guard) _ f in
       let b = nil_append (statements_faults newtypes parameters context body) _ a.1 in (
         elaborated context None guard,
@@ -213,4 +213,4 @@ mutual
 
   pub otherwise_sound : (newtypes : List ℕ) (parameters : ℕ) (context : Context) (last : Otherwise) → otherwise_faults newtypes parameters context last ≡ [] → IsOtherwise newtypes parameters context last (otherwise_in newtypes context last)
   otherwise_sound newtypes parameters context without f = refl
-  otherwise_sound newtypes parameters context (otherwise place statements) f = statements_sound newtypes parameters context statements f
+  otherwise_sound newtypes parameters context (otherwise pos statements) f = statements_sound newtypes parameters context statements f

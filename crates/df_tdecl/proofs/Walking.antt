@@ -29,18 +29,18 @@ use Rattle.df_tdecl.specs.Walking.{locals_after, branch_faults, branch_in, in_fr
 
 pub context_is : (newtypes : List ℕ) (locals : Locals) (s : Statement) → context_of (locals_after newtypes locals s) ≡ context_after newtypes (context_of locals) s
 context_is newtypes locals (Var local ty value) = sym (append_assoc locals.outer locals.inner (record { name = local.name; ty = type_of newtypes ty } ∷ []))
-context_is newtypes locals (Nested place statements) = refl
-context_is newtypes locals (Assign place value) = refl
-context_is newtypes locals (If guard place body others last) = refl
-context_is newtypes locals (Assert place condition) = refl
+context_is newtypes locals (Nested pos statements) = refl
+context_is newtypes locals (Assign target value) = refl
+context_is newtypes locals (If guard pos body others last) = refl
+context_is newtypes locals (Assert pos condition) = refl
 context_is newtypes locals (Print operands) = refl
 
 outer_is : (newtypes : List ℕ) (locals : Locals) (s : Statement) → (locals_after newtypes locals s).outer ≡ locals.outer
 outer_is newtypes locals (Var local ty value) = refl
-outer_is newtypes locals (Nested place statements) = refl
-outer_is newtypes locals (Assign place value) = refl
-outer_is newtypes locals (If guard place body others last) = refl
-outer_is newtypes locals (Assert place condition) = refl
+outer_is newtypes locals (Nested pos statements) = refl
+outer_is newtypes locals (Assign target value) = refl
+outer_is newtypes locals (If guard pos body others last) = refl
+outer_is newtypes locals (Assert pos condition) = refl
 outer_is newtypes locals (Print operands) = refl
 
 pub entered : (locals : Locals) → context_of (enter locals) ≡ context_of locals
@@ -167,23 +167,23 @@ none_found context name e = by (last_of (names_of context) name) refl e
 assign_seen : (local : ℕ) (made : declared_expr.Expr) → typed.stmt_of (declared_stmt.Assign local made) ≡ typed.Assign local (typed_expr.expr_of made)
 assign_seen local made = search (rules, declared_stmt.the_lemmas)
 
-module _ (parameters : ℕ) (context : Context) (place : Ident) (value : Expr) (local : ℕ) (ty : Ty) (found : local_of context place.name ≡ Some (local, ty)) (le : parameters ≤ local) where
+module _ (parameters : ℕ) (context : Context) (target : Ident) (value : Expr) (local : ℕ) (ty : Ty) (found : local_of context target.name ≡ Some (local, ty)) (le : parameters ≤ local) where
   abbrev assigned_faults : List Refusal
-  assigned_faults = else_told (is_assignable parameters (local_number context place.name)) (broken 22 place.pos) ++ value_faults context (assigned_type context place) value
+  assigned_faults = else_told (is_assignable parameters (local_number context target.name)) (broken 22 target.pos) ++ value_faults context (assigned_type context target) value
 
   same_faults : value_faults context ty value ≡ assigned_faults
   same_faults =
-      let parts = found_parts context place.name local ty found in
+      let parts = found_parts context target.name local ty found in
       rw (parts.0, le-leb parameters local le, ← parts.1) refl
 
-  pub assigned_told : (stop : Stop) → IsTold stop (value_faults context ty value) → IsTold stop (else_told (is_assignable parameters (local_number context place.name)) (broken 22 place.pos) ++ value_faults context (assigned_type context place) value)
+  pub assigned_told : (stop : Stop) → IsTold stop (value_faults context ty value) → IsTold stop (else_told (is_assignable parameters (local_number context target.name)) (broken 22 target.pos) ++ value_faults context (assigned_type context target) value)
   assigned_told stop told = subst (IsTold stop) same_faults told
 
   pub assigned_made : (made : declared_expr.Expr) → value_faults context ty value ≡ [] → typed_expr.expr_of made ≡ elaborated context (Some ty) value
-      → (else_told (is_assignable parameters (local_number context place.name)) (broken 22 place.pos) ++ value_faults context (assigned_type context place) value ≡ [])
-      × (typed.stmt_of (declared_stmt.Assign local made) ≡ typed.Assign (unwrap_or (local_number context place.name) 0) (elaborated context (Some (assigned_type context place)) value))
+      → (else_told (is_assignable parameters (local_number context target.name)) (broken 22 target.pos) ++ value_faults context (assigned_type context target) value ≡ [])
+      × (typed.stmt_of (declared_stmt.Assign local made) ≡ typed.Assign (unwrap_or (local_number context target.name) 0) (elaborated context (Some (assigned_type context target)) value))
   assigned_made made clear is =
-      let parts = found_parts context place.name local ty found in (
+      let parts = found_parts context target.name local ty found in (
         sym same_faults ∙ clear,
         assign_seen local made ∙ (λ i. typed.Assign (unwrap_or (sym parts.0 i) 0) ((is ∙ ap (λ (t : Ty). elaborated context (Some t) value) parts.1) i)),
       )

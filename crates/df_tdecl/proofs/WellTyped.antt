@@ -1,7 +1,7 @@
 -- What a file without faults elaborates to is well typed.
 use Rattle.std.proofs.Common.{◌≡◌, ℕ, zero, suc, ◌<◌, Bool, true, false, nat_eq, List, [], ◌∷◌, ◌++◌, map, length, slice_get, position, Some, None, option_map, refl, sym, ap, ◌∙◌, subst, unwrap_or, arith}
 use Rattle.std.specs.List.{flat_map, list_all, list_any, position_or_len}
-use Rattle.std.proofs.lemmas.Bool.{lt-ltb}
+use Rattle.std.proofs.lemmas.Bool.{lt-ltb, and_parts, and_from}
 use Rattle.std.proofs.lemmas.List.{map-append}
 use Rattle.std.proofs.lemmas.Option.{slice_get-map}
 use Rattle.df_program.specs.declared.expr.Ty.{Ty}
@@ -24,13 +24,13 @@ use Rattle.df_texpr.specs.Open.{type_in}
 use Rattle.df_texpr.specs.Faults.{broken}
 use Rattle.df_texpr.specs.Elaborating.{elaborated}
 use Rattle.df_texpr.specs.WellTyped.{is_type, types_of}
-use Rattle.df_texpr.proofs.Types.{both, both_true, nil_append, untold}
+use Rattle.df_texpr.proofs.Types.{nil_append, untold}
 use Rattle.df_texpr.proofs.Sound.{sound}
 use Rattle.df_texpr.proofs.WellTyped.{well, places_are_types}
 use Rattle.df_tdecl.specs.Statements.{type_of, context_after}
 use Rattle.df_tdecl.specs.Faults as faults
 use Rattle.df_tdecl.specs.Faults.{context_of}
-use Rattle.df_tdecl.specs.Elaborating.{operand_in, statement_in, statements_in, branches_in, otherwise_in, newtypes_in, place_in, clause_in, method_in, methods_in, program_in}
+use Rattle.df_tdecl.specs.Elaborating.{operand_in, statement_in, statements_in, branches_in, otherwise_in, newtypes_in, parameter_in, clause_in, method_in, methods_in, program_in}
 use Rattle.df_tdecl.specs.Elaboration.{clauses_of, Elaborates}
 use Rattle.df_tdecl.proofs.Whole.{both_contexts, clauses_part, file_complete}
 use Rattle.df_tdecl.proofs.Typed.{condition_sound, value_sound, assignable, means_found}
@@ -67,12 +67,12 @@ module _ (globals : Globals) where
 
   all_append : (a b : List Ty) → list_all (is_place_type count) a ≡ true → list_all (is_place_type count) b ≡ true → list_all (is_place_type count) (a ++ b) ≡ true
   all_append [] b e f = f
-  all_append (x ∷ a) b e f = let h = both _ _ e in both_true _ _ h.0 (all_append a b h.1 f)
+  all_append (x ∷ a) b e f = let h = and_parts _ _ e in and_from _ _ h.0 (all_append a b h.1 f)
 
   one_of_all : (all : List Ty) (i : ℕ) (ty : Ty) → list_all (is_place_type count) all ≡ true → slice_get all i ≡ Some ty → is_place_type count ty ≡ true
   one_of_all [] i ty e f = absurd cc
-  one_of_all (x ∷ xs) zero ty e f = let same : x ≡ ty = cc in rw (← same) (both _ _ e).0
-  one_of_all (x ∷ xs) (suc i) ty e f = one_of_all xs i ty (both _ _ e).1 f
+  one_of_all (x ∷ xs) zero ty e f = let same : x ≡ ty = cc in rw (← same) (and_parts _ _ e).0
+  one_of_all (x ∷ xs) (suc i) ty e f = one_of_all xs i ty (and_parts _ _ e).1 f
 
   types_append : (a b : Context) → types_of (a ++ b) ≡ types_of a ++ types_of b
   types_append a b = map-append (λ (binding : Binding). binding.ty) a b
@@ -90,7 +90,7 @@ module _ (globals : Globals) where
   operands_well context (Text characters ∷ xs) places f = operands_well context xs places f
   operands_well context (Value e ∷ xs) places f =
       let h = nil_append (faults.operand_faults context (Value e)) _ f in
-      both_true _ _ (well count context (places_are_types count (types_of context) places) e None refl (type_in context None e) (elaborated context None e) (sound context None e h.0)) (operands_well context xs places h.1)
+      and_from _ _ (well count context (places_are_types count (types_of context) places) e None refl (type_in context None e) (elaborated context None e) (sound context None e h.0)) (operands_well context xs places h.1)
 
   -- ---- statements
 
@@ -101,29 +101,29 @@ module _ (globals : Globals) where
       let a = nil_append (names.new_faults scope local) _ n in
       let place = type_declared ty (nil_append (names.type_faults globals ty) _ a.1).0 in
       let types : types_of (context_after globals.newtypes context (Var local ty value)) ≡ types_of context ++ type_of globals.newtypes ty ∷ [] = types_append context (record { name = local.name; ty = type_of globals.newtypes ty } ∷ []) in
-      (sym types, rw types (all_append (types_of context) (type_of globals.newtypes ty ∷ []) places (both_true _ _ place refl)))
-  after scope context (Nested place statements) places n = (refl, places)
-  after scope context (Assign place value) places n = (refl, places)
-  after scope context (If guard place body others last) places n = (refl, places)
-  after scope context (Assert place condition) places n = (refl, places)
+      (sym types, rw types (all_append (types_of context) (type_of globals.newtypes ty ∷ []) places (and_from _ _ place refl)))
+  after scope context (Nested pos statements) places n = (refl, places)
+  after scope context (Assign target value) places n = (refl, places)
+  after scope context (If guard pos body others last) places n = (refl, places)
+  after scope context (Assert pos condition) places n = (refl, places)
   after scope context (Print operands) places n = (refl, places)
 
   mutual
     statement_well : (scope : Scope) (parameters : ℕ) (context : Context) (s : Statement) → HasPlaces context → names.statement_faults globals scope s ≡ [] → faults.statement_faults globals.newtypes parameters context s ≡ []
         → is_stmt count (types_of context) (statement_in globals.newtypes context s) ≡ true
-    statement_well scope parameters context (Nested place statements) places n f = statements_well (enter scope) parameters context statements places n f
+    statement_well scope parameters context (Nested pos statements) places n f = statements_well (enter scope) parameters context statements places n f
     statement_well scope parameters context (Var local ty value) places n f =
         let a = nil_append (names.new_faults scope local) _ n in
         let b = nil_append (names.type_faults globals ty) _ a.1 in
         let place = type_declared ty b.0 in
-        both_true _ _ place (value_well context (type_of globals.newtypes ty) value places place f)
-    statement_well scope parameters context (Assign place value) places n f =
-        let h = nil_append (else_told (faults.is_assignable parameters (faults.local_number context place.name)) (broken 22 place.pos)) _ f in
-        let n = assignable parameters (faults.local_number context place.name) (untold _ _ h.0) in
-        let ty = faults.assigned_type context place in
-        let there : slice_get (types_of context) n.0 ≡ Some ty = slice_get-map (λ (binding : Binding). binding.ty) context n.0 ∙ ap (option_map (λ (binding : Binding). binding.ty)) (means_found context place.name n.0 n.1).typed in
+        and_from _ _ place (value_well context (type_of globals.newtypes ty) value places place f)
+    statement_well scope parameters context (Assign target value) places n f =
+        let h = nil_append (else_told (faults.is_assignable parameters (faults.local_number context target.name)) (broken 22 target.pos)) _ f in
+        let n = assignable parameters (faults.local_number context target.name) (untold _ _ h.0) in
+        let ty = faults.assigned_type context target in
+        let there : slice_get (types_of context) n.0 ≡ Some ty = slice_get-map (λ (binding : Binding). binding.ty) context n.0 ∙ ap (option_map (λ (binding : Binding). binding.ty)) (means_found context target.name n.0 n.1).typed in
         rw (n.1, there) (value_well context ty value places (one_of_all (types_of context) n.0 ty places there) h.1)
-    statement_well scope parameters context (If guard place body others last) places n f =
+    statement_well scope parameters context (If guard pos body others last) places n f =
         let na = nil_append (names.expr_faults globals scope guard) _ n in
         let nb = nil_append (names.statements_faults globals (enter scope) body) _ na.1 in
         let nc = nil_append (names.branches_faults globals scope others) _ nb.1 in
@@ -131,7 +131,7 @@ module _ (globals : Globals) where
         let b = nil_append (faults.statements_faults globals.newtypes parameters context body) _ a.1 in
         let c = nil_append (faults.branches_faults globals.newtypes parameters context others) _ b.1 in
         rw (condition_well context guard places a.0, statements_well (enter scope) parameters context body places nb.0 b.0, branches_well scope parameters context others places nc.0 c.0) (otherwise_well scope parameters context last places nc.1 c.1)
-    statement_well scope parameters context (Assert place condition) places n f = condition_well context condition places f
+    statement_well scope parameters context (Assert pos condition) places n f = condition_well context condition places f
     statement_well scope parameters context (Print operands) places n f = operands_well context operands places f
 
     statements_well : (scope : Scope) (parameters : ℕ) (context : Context) (all : Statements) → HasPlaces context → names.statements_faults globals scope all ≡ [] → faults.statements_faults globals.newtypes parameters context all ≡ []
@@ -148,7 +148,7 @@ module _ (globals : Globals) where
     branches_well : (scope : Scope) (parameters : ℕ) (context : Context) (all : Branches) → HasPlaces context → names.branches_faults globals scope all ≡ [] → faults.branches_faults globals.newtypes parameters context all ≡ []
         → are_branches count (types_of context) (branches_in globals.newtypes context all) ≡ true
     branches_well scope parameters context end places n f = refl
-    branches_well scope parameters context (more guard place body others) places n f =
+    branches_well scope parameters context (more guard pos body others) places n f =
         let na = nil_append (names.expr_faults globals scope guard) _ n in
         let nb = nil_append (names.statements_faults globals (enter scope) body) _ na.1 in
         let a = nil_append (faults.condition_faults context guard) _ f in
@@ -158,27 +158,27 @@ module _ (globals : Globals) where
     otherwise_well : (scope : Scope) (parameters : ℕ) (context : Context) (last : Otherwise) → HasPlaces context → names.otherwise_faults globals scope last ≡ [] → faults.otherwise_faults globals.newtypes parameters context last ≡ []
         → are_stmts count (types_of context) (otherwise_in globals.newtypes context last) ≡ true
     otherwise_well scope parameters context without places n f = refl
-    otherwise_well scope parameters context (otherwise place statements) places n f = statements_well (enter scope) parameters context statements places n f
+    otherwise_well scope parameters context (otherwise pos statements) places n f = statements_well (enter scope) parameters context statements places n f
 
   -- ---- methods
 
-  places_typed : (texts : List (List ℕ)) (all : List Parameter) → typing.types_of (map (place_in texts globals.newtypes) all) ≡ types_of (context_of globals.newtypes all)
-  places_typed texts [] = refl
-  places_typed texts (x ∷ xs) = ap (λ (tys : List Ty). type_of globals.newtypes x.ty ∷ tys) (places_typed texts xs)
+  parameters_typed : (texts : List (List ℕ)) (all : List Parameter) → typing.types_of (map (parameter_in texts globals.newtypes) all) ≡ types_of (context_of globals.newtypes all)
+  parameters_typed texts [] = refl
+  parameters_typed texts (x ∷ xs) = ap (λ (tys : List Ty). type_of globals.newtypes x.ty ∷ tys) (parameters_typed texts xs)
 
   parameters_well : (scope : Scope) (all : List Parameter) → names.parameter_faults globals scope all ≡ [] → HasPlaces (context_of globals.newtypes all)
   parameters_well scope [] n = refl
   parameters_well scope (x ∷ xs) n =
       let a = nil_append (names.new_faults scope x.name) _ n in
       let b = nil_append (names.type_faults globals x.ty) _ a.1 in
-      both_true _ _ (type_declared x.ty b.0) (parameters_well (declare scope x.name.name) xs b.1)
+      and_from _ _ (type_declared x.ty b.0) (parameters_well (declare scope x.name.name) xs b.1)
 
   clauses_well : (context : Context) (all : List Clause) → HasPlaces context → flat_map (λ (clause : Clause). faults.condition_faults context clause.condition) all ≡ []
       → list_all (is_clause count (types_of context)) (map (clause_in context) all) ≡ true
   clauses_well context [] places f = refl
   clauses_well context (x ∷ xs) places f =
       let h = nil_append (faults.condition_faults context x.condition) _ f in
-      both_true _ _ (condition_well context x.condition places h.0) (clauses_well context xs places h.1)
+      and_from _ _ (condition_well context x.condition places h.0) (clauses_well context xs places h.1)
 
   method_well : (texts : List (List ℕ)) (m : MethodDeclaration) → names.method_faults globals m ≡ [] → faults.method_faults globals.newtypes m ≡ [] → is_method count (method_in texts globals.newtypes m) ≡ true
   method_well texts m n f =
@@ -197,12 +197,12 @@ module _ (globals : Globals) where
       let second = parameters_well before results nb.0 in
       let joined : types_of also ≡ types_of parameters ++ types_of (context_of globals.newtypes results) = ap types_of (both_contexts globals.newtypes m.parameters results) ∙ types_append parameters (context_of globals.newtypes results) in
       let places : HasPlaces also = rw joined (all_append (types_of parameters) (types_of (context_of globals.newtypes results)) first second) in
-      let typed : typing.types_of (map (place_in texts globals.newtypes) m.parameters) ++ typing.types_of (map (place_in texts globals.newtypes) results) ≡ types_of also =
-      (λ i. places_typed texts m.parameters i ++ places_typed texts results i) ∙ sym joined in
+      let typed : typing.types_of (map (parameter_in texts globals.newtypes) m.parameters) ++ typing.types_of (map (parameter_in texts globals.newtypes) results) ≡ types_of also =
+      (λ i. parameters_typed texts m.parameters i ++ parameters_typed texts results i) ∙ sym joined in
       let all = clauses_well parameters (clauses_of clauses.Requires m.clauses) first contract.0 in
       let most = clauses_well also (clauses_of clauses.Ensures m.clauses) places contract.1 in
       let body = statements_well (enter (names.declare_all before results)) (length m.parameters) also m.body.statements places nc.1 h.1 in
-      rw (typed, places_typed texts m.parameters, places, all, most, body) refl
+      rw (typed, parameters_typed texts m.parameters, places, all, most, body) refl
 
   methods_well : (texts : List (List ℕ)) (before : List ℕ) (all : List Declaration) → names.declarations_faults globals before all ≡ [] → flat_map (faults.declaration_faults globals.newtypes) all ≡ []
       → are_methods count (methods_in texts globals.newtypes all) ≡ true
@@ -215,7 +215,7 @@ module _ (globals : Globals) where
       let na = nil_append (names.told_if (is_among before x.name.name) (names.twice x.name)) _ n in
       let nb = nil_append (names.method_faults globals x) _ na.1 in
       let h = nil_append (faults.method_faults globals.newtypes x) _ f in
-      both_true _ _ (method_well texts x nb.0 h.0) (methods_well texts (before ++ x.name.name ∷ []) others nb.1 h.1)
+      and_from _ _ (method_well texts x nb.0 h.0) (methods_well texts (before ++ x.name.name ∷ []) others nb.1 h.1)
 
 counted : (texts : List (List ℕ)) (all : List Declaration) → length (newtypes_in texts all) ≡ length (newtype_names all)
 counted texts [] = refl

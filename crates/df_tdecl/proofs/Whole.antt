@@ -1,7 +1,7 @@
 -- A file elaborates exactly where it breaks no rule, and then to one program.
 use Rattle.std.proofs.Common.{◌≡◌, ℕ, ◌<◌, true, List, [], ◌∷◌, ◌++◌, map, length, get_or, slice_get, Option, Some, None, refl, sym, ap, ◌∙◌, subst, unwrap_or}
 use Rattle.std.specs.List.{flat_map, list_all}
-use Rattle.std.proofs.lemmas.Bool.{ltb-true}
+use Rattle.std.proofs.lemmas.Bool.{ltb-true, and_parts, and_from}
 use Rattle.std.proofs.lemmas.List.{map-append}
 use Rattle.std.proofs.lemmas.Option.{slice_get-get_or}
 use Rattle.df_base.specs.declared.refusal.Refusal.{Refusal}
@@ -18,11 +18,11 @@ use Rattle.df_names.specs.Globals.{newtype_names}
 use Rattle.df_names.specs.Faults.{results_of, else_told}
 use Rattle.df_names.specs.Faults as name_faults
 use Rattle.df_texpr.specs.Context.{Context}
-use Rattle.df_texpr.proofs.Types.{both, both_true, nil_append, append_nils, untold}
+use Rattle.df_texpr.proofs.Types.{nil_append, append_nils, untold}
 use Rattle.df_tdecl.specs.Newtypes.{Bounds, bounds_of}
 use Rattle.df_tdecl.specs.Faults.{condition_faults, binding_of, context_of, clause_faults, method_faults, has_bounds, newtype_faults, declaration_faults, statements_faults, file_faults}
-use Rattle.df_tdecl.specs.Elaboration.{IsNewtype, ArePlaces, AreClauses, clauses_of, IsMethod, AreDeclarations, Elaborates}
-use Rattle.df_tdecl.specs.Elaborating.{text_of, no_bounds, with_bounds, newtype_in, place_in, clause_in, method_in, newtypes_in, methods_in, program_in, parameter_names, named_in, are_below, names_below}
+use Rattle.df_tdecl.specs.Elaboration.{IsNewtype, AreParameters, AreClauses, clauses_of, IsMethod, AreDeclarations, Elaborates}
+use Rattle.df_tdecl.specs.Elaborating.{text_of, no_bounds, with_bounds, newtype_in, parameter_in, clause_in, method_in, newtypes_in, methods_in, program_in, parameter_names, named_in, are_below, names_below}
 use Rattle.df_tdecl.proofs.Typed.{condition_complete, condition_sound, statements_complete, statements_sound}
 
 -- ---- texts of names
@@ -54,30 +54,30 @@ newtype_sound names tree lt f = record {
   bounds = bounded (bounds_of tree) (untold (has_bounds (bounds_of tree)) (record { code = codes.Range; pos = tree.name.pos; detail = details.Nothing }) f);
 }
 
--- ---- places
+-- ---- parameters
 
 below_append : (count : ℕ) (a b : List ℕ) → are_below count (a ++ b) ≡ true → (are_below count a ≡ true) × (are_below count b ≡ true)
 below_append count [] b e = (refl, e)
 below_append count (x ∷ a) b e =
-    let h = both _ _ e in
+    let h = and_parts _ _ e in
     let rest = below_append count a b h.1 in
-    (both_true _ _ h.0 rest.0, rest.1)
+    (and_from _ _ h.0 rest.0, rest.1)
 
-places_complete : (names : List (List ℕ)) (newtypes : List ℕ) (all : List Parameter) (places : List program.Place) → ArePlaces names newtypes all places → places ≡ map (place_in names newtypes) all
-places_complete names newtypes [] places h = h
-places_complete names newtypes (x ∷ xs) places (one, rest, h, hs, is) =
+parameters_complete : (names : List (List ℕ)) (newtypes : List ℕ) (all : List Parameter) (parameters : List program.Place) → AreParameters names newtypes all parameters → parameters ≡ map (parameter_in names newtypes) all
+parameters_complete names newtypes [] parameters h = h
+parameters_complete names newtypes (x ∷ xs) parameters (one, rest, h, hs, is) =
     let text = text_there names x.name.name one.text h.text in
-    let same : one ≡ place_in names newtypes x = λ i. record { name = h.name i; text = text i; ty = h.ty i } in
-    is ∙ (λ i. same i ∷ places_complete names newtypes xs rest hs i)
+    let same : one ≡ parameter_in names newtypes x = λ i. record { name = h.name i; text = text i; ty = h.ty i } in
+    is ∙ (λ i. same i ∷ parameters_complete names newtypes xs rest hs i)
 
-places_sound : (names : List (List ℕ)) (newtypes : List ℕ) (all : List Parameter) → are_below (length names) (parameter_names all) ≡ true → ArePlaces names newtypes all (map (place_in names newtypes) all)
-places_sound names newtypes [] below = refl
-places_sound names newtypes (x ∷ xs) below =
-    let parts = both _ _ below in (
-      place_in names newtypes x,
-      map (place_in names newtypes) xs,
+parameters_sound : (names : List (List ℕ)) (newtypes : List ℕ) (all : List Parameter) → are_below (length names) (parameter_names all) ≡ true → AreParameters names newtypes all (map (parameter_in names newtypes) all)
+parameters_sound names newtypes [] below = refl
+parameters_sound names newtypes (x ∷ xs) below =
+    let parts = and_parts _ _ below in (
+      parameter_in names newtypes x,
+      map (parameter_in names newtypes) xs,
       record { name = refl; text = has_text names x.name.name (ltb-true x.name.name (length names) parts.0); ty = refl },
-      places_sound names newtypes xs parts.1,
+      parameters_sound names newtypes xs parts.1,
       refl,
     )
 
@@ -91,14 +91,14 @@ own_complete context [] ts h = (refl, h)
 own_complete context (x ∷ xs) ts (one, rest, h, hs, is) =
     let a = condition_complete context x.condition one.condition h.condition in
     let b = own_complete context xs rest hs in
-    let same : one ≡ clause_in context x = λ i. record { pos = h.place i; condition = a.1 i } in
+    let same : one ≡ clause_in context x = λ i. record { pos = h.pos i; condition = a.1 i } in
     (append_nils (condition_faults context x.condition) _ a.0 b.0, is ∙ (λ i. same i ∷ b.1 i))
 
 own_sound : (context : Context) (all : List Clause) → flat_map (λ (clause : Clause). condition_faults context clause.condition) all ≡ [] → AreClauses context all (map (clause_in context) all)
 own_sound context [] f = refl
 own_sound context (x ∷ xs) f =
     let h = nil_append (condition_faults context x.condition) _ f in
-    (clause_in context x, map (clause_in context) xs, record { place = refl; condition = condition_sound context x.condition h.0 }, own_sound context xs h.1, refl)
+    (clause_in context x, map (clause_in context) xs, record { pos = refl; condition = condition_sound context x.condition h.0 }, own_sound context xs h.1, refl)
 
 join_one : (parameters also : Context) (kind : ClauseKind) (e : Expr) (xs : List Clause) → own_faults clauses.Requires parameters (record { kind = kind; condition = e } ∷ xs) ≡ [] → own_faults clauses.Ensures also (record { kind = kind; condition = e } ∷ xs) ≡ []
     → (own_faults clauses.Requires parameters xs ≡ [] → own_faults clauses.Ensures also xs ≡ [] → flat_map (clause_faults parameters also) xs ≡ []) → flat_map (clause_faults parameters also) (record { kind = kind; condition = e } ∷ xs) ≡ []
@@ -132,15 +132,15 @@ method_complete names newtypes tree one h =
     let results = results_of tree in
     let also = context_of newtypes (tree.parameters ++ results) in
     let text = text_there names tree.name.name one.text h.text in
-    let places = places_complete names newtypes tree.parameters one.parameters h.parameters in
-    let others = places_complete names newtypes results one.results h.results in
+    let these = parameters_complete names newtypes tree.parameters one.parameters h.parameters in
+    let others = parameters_complete names newtypes results one.results h.results in
     let pre = own_complete parameters (clauses_of clauses.Requires tree.clauses) one.preconditions h.preconditions in
     let post = own_complete also (clauses_of clauses.Ensures tree.clauses) one.postconditions h.postconditions in
     let body = statements_complete newtypes (length tree.parameters) also tree.body.statements one.body h.body in
     let faultless : flat_map (clause_faults parameters also) tree.clauses ++ statements_faults newtypes (length tree.parameters) also tree.body.statements ≡ [] =
     append_nils (flat_map (clause_faults parameters also) tree.clauses) _ (clauses_join parameters also tree.clauses pre.0 post.0) body.0 in (
       subst (λ (c : Context). flat_map (clause_faults parameters c) tree.clauses ++ statements_faults newtypes (length tree.parameters) c tree.body.statements ≡ []) (both_contexts newtypes tree.parameters results) faultless,
-      (λ i. record { name = h.name i; text = text i; parameters = places i; results = others i; preconditions = pre.1 i; postconditions = post.1 i; pos = h.place i; body = body.1 i }),
+      (λ i. record { name = h.name i; text = text i; parameters = these i; results = others i; preconditions = pre.1 i; postconditions = post.1 i; pos = h.pos i; body = body.1 i }),
     )
 
 method_sound : (names : List (List ℕ)) (newtypes : List ℕ) (tree : MethodDeclaration) → are_below (length names) (named_in (Method tree)) ≡ true → method_faults newtypes tree ≡ [] → IsMethod names newtypes tree (method_in names newtypes tree)
@@ -148,8 +148,8 @@ method_sound names newtypes tree below f =
     let parameters = context_of newtypes tree.parameters in
     let results = results_of tree in
     let also = context_of newtypes (tree.parameters ++ results) in
-    let named = both _ _ below in
-    let placed = below_append (length names) (parameter_names tree.parameters) (parameter_names results) named.1 in
+    let named = and_parts _ _ below in
+    let parts = below_append (length names) (parameter_names tree.parameters) (parameter_names results) named.1 in
     let faultless : flat_map (clause_faults parameters also) tree.clauses ++ statements_faults newtypes (length tree.parameters) also tree.body.statements ≡ [] =
     subst (λ (c : Context). flat_map (clause_faults parameters c) tree.clauses ++ statements_faults newtypes (length tree.parameters) c tree.body.statements ≡ []) (sym (both_contexts newtypes tree.parameters results)) f in
     let h = nil_append (flat_map (clause_faults parameters also) tree.clauses) _ faultless in
@@ -157,11 +157,11 @@ method_sound names newtypes tree below f =
     record {
       name = refl;
       text = has_text names tree.name.name (ltb-true tree.name.name (length names) named.0);
-      parameters = places_sound names newtypes tree.parameters placed.0;
-      results = places_sound names newtypes results placed.1;
+      parameters = parameters_sound names newtypes tree.parameters parts.0;
+      results = parameters_sound names newtypes results parts.1;
       preconditions = own_sound parameters (clauses_of clauses.Requires tree.clauses) contract.0;
       postconditions = own_sound also (clauses_of clauses.Ensures tree.clauses) contract.1;
-      place = refl;
+      pos = refl;
       body = statements_sound newtypes (length tree.parameters) also tree.body.statements h.1;
     }
 
@@ -183,11 +183,11 @@ declarations_sound : (names : List (List ℕ)) (newtypes : List ℕ) (all : List
     → AreDeclarations names newtypes all (newtypes_in names all) (methods_in names newtypes all)
 declarations_sound names newtypes [] below f = (refl, refl)
 declarations_sound names newtypes (Newtype x ∷ others) below f =
-    let b = both _ _ below in
+    let b = and_parts _ _ below in
     let h = nil_append (newtype_faults x) _ f in
-    (newtype_in names x, newtypes_in names others, newtype_sound names x (ltb-true x.name.name (length names) (both _ _ b.0).0) h.0, declarations_sound names newtypes others b.1 h.1, refl)
+    (newtype_in names x, newtypes_in names others, newtype_sound names x (ltb-true x.name.name (length names) (and_parts _ _ b.0).0) h.0, declarations_sound names newtypes others b.1 h.1, refl)
 declarations_sound names newtypes (Method x ∷ others) below f =
-    let b = both _ _ below in
+    let b = and_parts _ _ below in
     let h = nil_append (method_faults newtypes x) _ f in
     (method_in names newtypes x, methods_in names newtypes others, method_sound names newtypes x b.0 h.0, declarations_sound names newtypes others b.1 h.1, refl)
 

@@ -49,8 +49,8 @@ ends_in variable first low high =
     else None
 
 abbrev pub ends_of_run : ℕ → Expr → Members → Option (ℤ × ℤ)
-ends_of_run variable first (more after_low place low (more before_high other high end)) =
-    ends_in variable first (record { operator = after_low; pos = place; operand = low }) (record { operator = before_high; pos = other; operand = high })
+ends_of_run variable first (more after_low at low (more before_high other high end)) =
+    ends_in variable first (record { operator = after_low; pos = at; operand = low }) (record { operator = before_high; pos = other; operand = high })
 ends_of_run variable first members = None
 
 abbrev pub ends_of : ℕ → Expr → Option (ℤ × ℤ)

@@ -10,7 +10,7 @@ use Rattle.df_tree.specs.declared.file.ClauseKind.TheVariants as clauses
 use Rattle.df_tree.specs.File.{Clause}
 use Rattle.df_texpr.specs.Context.{Context}
 use Rattle.df_tdecl.specs.Elaboration.{clauses_of}
-use Rattle.df_tdecl.specs.Elaborating.{text_of, place_in, clause_in}
+use Rattle.df_tdecl.specs.Elaborating.{text_of, parameter_in, clause_in}
 use Rattle.df_tdecl.specs.declared.methods.Contract as declared
 
 pub record Contract : Type 0 where
@@ -36,8 +36,8 @@ abbrev pub method_with : List (List ℕ) → List ℕ → ℕ → List Parameter
 method_with names newtypes name parameters results contract pos body = record {
   name = name;
   text = text_of names name;
-  parameters = map (place_in names newtypes) parameters;
-  results = map (place_in names newtypes) results;
+  parameters = map (parameter_in names newtypes) parameters;
+  results = map (parameter_in names newtypes) results;
   preconditions = contract.preconditions;
   postconditions = contract.postconditions;
   pos = pos;

@@ -25,13 +25,13 @@ operand_in context (Value e) = typed.Value (type_in context None e) (elaborated 
 
 abbrev mutual
   pub statement_in : List ℕ → Context → Statement → typed.Stmt
-  statement_in newtypes context (Nested place statements) = typed.Block (statements_in newtypes context statements)
+  statement_in newtypes context (Nested at statements) = typed.Block (statements_in newtypes context statements)
   statement_in newtypes context (Var local ty value) = typed.Var (type_of newtypes ty) (elaborated context (Some (type_of newtypes ty)) value)
-  statement_in newtypes context (Assign place value) =
-      typed.Assign (unwrap_or (local_number context place.name) 0) (elaborated context (Some (assigned_type context place)) value)
-  statement_in newtypes context (If guard place body others last) =
+  statement_in newtypes context (Assign target value) =
+      typed.Assign (unwrap_or (local_number context target.name) 0) (elaborated context (Some (assigned_type context target)) value)
+  statement_in newtypes context (If guard at body others last) =
       typed.If (typed.more (elaborated context None guard) (statements_in newtypes context body) (branches_in newtypes context others)) (otherwise_in newtypes context last)
-  statement_in newtypes context (Assert place condition) = typed.Assert place (elaborated context None condition)
+  statement_in newtypes context (Assert at condition) = typed.Assert at (elaborated context None condition)
   statement_in newtypes context (Print operands) = typed.Print (map (operand_in context) operands)
 
   pub statements_in : List ℕ → Context → Statements → typed.Stmts
@@ -40,12 +40,12 @@ abbrev mutual
 
   pub branches_in : List ℕ → Context → Branches → typed.Branches
   branches_in newtypes context end = typed.end
-  branches_in newtypes context (more guard place body others) =
+  branches_in newtypes context (more guard at body others) =
       typed.more (elaborated context None guard) (statements_in newtypes context body) (branches_in newtypes context others)
 
   pub otherwise_in : List ℕ → Context → Otherwise → typed.Stmts
   otherwise_in newtypes context without = typed.done
-  otherwise_in newtypes context (otherwise place statements) = statements_in newtypes context statements
+  otherwise_in newtypes context (otherwise at statements) = statements_in newtypes context statements
 
 -- ---- declarations
 
@@ -61,8 +61,8 @@ with_bounds name text bounds = record { name = name; text = text; low = bounds.l
 abbrev pub newtype_in : List (List ℕ) → NewtypeDeclaration → types.Newtype
 newtype_in names tree = with_bounds tree.name.name (text_of names tree.name.name) (unwrap_or (bounds_of tree) no_bounds)
 
-abbrev pub place_in : List (List ℕ) → List ℕ → Parameter → program.Place
-place_in names newtypes tree = record { name = tree.name.name; text = text_of names tree.name.name; ty = type_of newtypes tree.ty }
+abbrev pub parameter_in : List (List ℕ) → List ℕ → Parameter → program.Place
+parameter_in names newtypes tree = record { name = tree.name.name; text = text_of names tree.name.name; ty = type_of newtypes tree.ty }
 
 abbrev pub clause_in : Context → Clause → program.Clause
 clause_in context tree = record { pos = beginning_of tree.condition; condition = elaborated context None tree.condition }
@@ -74,8 +74,8 @@ method_in names newtypes tree =
     record {
       name = tree.name.name;
       text = text_of names tree.name.name;
-      parameters = map (place_in names newtypes) tree.parameters;
-      results = map (place_in names newtypes) (results_of tree);
+      parameters = map (parameter_in names newtypes) tree.parameters;
+      results = map (parameter_in names newtypes) (results_of tree);
       preconditions = map (clause_in parameters) (clauses_of clauses.Requires tree.clauses);
       postconditions = map (clause_in both) (clauses_of clauses.Ensures tree.clauses);
       pos = tree.body.pos;

@@ -12,8 +12,7 @@ use Rattle.df_names.specs.Faults as name_faults
 use Rattle.df_texpr.specs.Context.{Context}
 use Rattle.df_texpr.specs.Open.{beginning_of}
 use Rattle.df_tdecl.specs.Newtypes.{bounds_of}
-use Rattle.df_tdecl.specs.Statements.{type_of, IsCondition, AreStatements}
-use Rattle.df_tdecl.specs.Faults.{context_of}
+use Rattle.df_tdecl.specs.Statements.{type_of, context_of, IsCondition, AreStatements}
 
 -- the newtype has these ends and this default; names are known by their texts
 pub record IsNewtype (names : List (List ℕ)) (tree : NewtypeDeclaration) (newtype : types.Newtype) : Type 0 where
@@ -21,22 +20,23 @@ pub record IsNewtype (names : List (List ℕ)) (tree : NewtypeDeclaration) (newt
   pub text : slice_get names tree.name.name ≡ Some newtype.text
   pub bounds : bounds_of tree ≡ Some (record { low = newtype.low; high = newtype.high; default = newtype.default })
 
-pub record IsPlace (names : List (List ℕ)) (newtypes : List ℕ) (tree : Parameter) (place : program.Place) : Type 0 where
-  pub name : place.name ≡ tree.name.name
-  pub text : slice_get names tree.name.name ≡ Some place.text
-  pub ty : place.ty ≡ type_of newtypes tree.ty
+-- the parameter or result elaborates so
+pub record IsParameter (names : List (List ℕ)) (newtypes : List ℕ) (tree : Parameter) (parameter : program.Place) : Type 0 where
+  pub name : parameter.name ≡ tree.name.name
+  pub text : slice_get names tree.name.name ≡ Some parameter.text
+  pub ty : parameter.ty ≡ type_of newtypes tree.ty
 
-abbrev pub ArePlaces : List (List ℕ) → List ℕ → List Parameter → List program.Place → Type 0
-ArePlaces names newtypes [] places = places ≡ []
-ArePlaces names newtypes (tree ∷ others) places =
-    (one : program.Place) × (rest : List program.Place) × IsPlace names newtypes tree one × ArePlaces names newtypes others rest × (places ≡ one ∷ rest)
+abbrev pub AreParameters : List (List ℕ) → List ℕ → List Parameter → List program.Place → Type 0
+AreParameters names newtypes [] parameters = parameters ≡ []
+AreParameters names newtypes (tree ∷ others) parameters =
+    (one : program.Place) × (rest : List program.Place) × IsParameter names newtypes tree one × AreParameters names newtypes others rest × (parameters ≡ one ∷ rest)
 
 -- a clause stands where its expression begins
 pub record IsClause (context : Context) (tree : Clause) (clause : program.Clause) : Type 0 where
-  pub place : clause.pos ≡ beginning_of tree.condition
+  pub pos : clause.pos ≡ beginning_of tree.condition
   pub condition : IsCondition context tree.condition clause.condition
 
--- a clause of a kind, among those of this kind
+-- the kinds are the same
 abbrev pub is_of_kind : ClauseKind → ClauseKind → Bool
 is_of_kind clauses.Requires clauses.Requires = true
 is_of_kind clauses.Ensures clauses.Ensures = true
@@ -47,6 +47,7 @@ AreClauses context [] all = all ≡ []
 AreClauses context (tree ∷ others) all =
     (one : program.Clause) × (rest : List program.Clause) × IsClause context tree one × AreClauses context others rest × (all ≡ one ∷ rest)
 
+-- the clauses of a kind, in order
 abbrev pub clauses_of : ClauseKind → List Clause → List Clause
 clauses_of kind all = filter (λ (clause : Clause). is_of_kind kind clause.kind) all
 
@@ -54,11 +55,11 @@ clauses_of kind all = filter (λ (clause : Clause). is_of_kind kind clause.kind)
 pub record IsMethod (names : List (List ℕ)) (newtypes : List ℕ) (tree : MethodDeclaration) (method : program.Method) : Type 0 where
   pub name : method.name ≡ tree.name.name
   pub text : slice_get names tree.name.name ≡ Some method.text
-  pub parameters : ArePlaces names newtypes tree.parameters method.parameters
-  pub results : ArePlaces names newtypes (results_of tree) method.results
+  pub parameters : AreParameters names newtypes tree.parameters method.parameters
+  pub results : AreParameters names newtypes (results_of tree) method.results
   pub preconditions : AreClauses (context_of newtypes tree.parameters) (clauses_of clauses.Requires tree.clauses) method.preconditions
   pub postconditions : AreClauses (context_of newtypes (tree.parameters ++ results_of tree)) (clauses_of clauses.Ensures tree.clauses) method.postconditions
-  pub place : method.pos ≡ tree.body.pos
+  pub pos : method.pos ≡ tree.body.pos
   pub body : AreStatements newtypes (length tree.parameters) (context_of newtypes (tree.parameters ++ results_of tree)) tree.body.statements method.body
 
 -- the newtypes and the methods of declarations, each in order

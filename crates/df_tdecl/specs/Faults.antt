@@ -1,7 +1,7 @@
 -- All typing rules that a file breaks, each at its node, in the order in which the nodes end in the text; of two that
 -- end together the inner one comes first, and then the lower rule. And the newtypes that have no range. The first of
 -- them is told.
-use Rattle.std.specs.Prelude.{ℕ, nat_le, Bool, true, false, List, [], ◌++◌, map, length, unwrap_or, Option, Some, None}
+use Rattle.std.specs.Prelude.{ℕ, nat_le, Bool, true, false, List, [], ◌++◌, length, unwrap_or, Option, Some, None}
 use Rattle.std.specs.List.{flat_map}
 use Rattle.df_base.specs.declared.refusal.Code.TheVariants as codes
 use Rattle.df_base.specs.declared.refusal.Detail.TheVariants as details
@@ -10,7 +10,6 @@ use Rattle.df_program.specs.declared.expr.Ty.{Ty}
 use Rattle.df_program.specs.declared.expr.Ty.TheVariants as types
 use Rattle.df_program.specs.Typing.{same_type}
 use Rattle.df_tree.specs.declared.tree.Ident.{Ident}
-use Rattle.df_tree.specs.declared.file.Parameter.{Parameter}
 use Rattle.df_tree.specs.declared.file.ClauseKind.{ClauseKind}
 use Rattle.df_tree.specs.declared.file.ClauseKind.TheVariants as clauses
 use Rattle.df_tree.specs.Expr.{Expr}
@@ -18,21 +17,22 @@ use Rattle.df_tree.specs.File.{PrintOperand, Text, Value, Statement, Nested, Var
 use Rattle.df_names.specs.Globals.{globals_of}
 use Rattle.df_names.specs.Latest.{last_of}
 use Rattle.df_names.specs.Faults.{else_told, results_of}
-use Rattle.df_texpr.specs.Context.{Binding, Context, names_of, local_type}
-use Rattle.df_texpr.specs.Open.{type_in, place_of}
+use Rattle.df_texpr.specs.Context.{Context, names_of, local_type}
+use Rattle.df_texpr.specs.Open.{type_in, pos_of}
 use Rattle.df_texpr.specs.Faults.{broken, is_truth, expr_faults, earlier_faults, later_faults}
 use Rattle.df_tdecl.specs.Newtypes.{Bounds, bounds_of}
 use Rattle.df_tdecl.specs.Statements.{type_of, context_after}
+pub use Rattle.df_tdecl.specs.Statements.{binding_of, context_of}
 
 -- E7: a condition is a truth
 abbrev pub condition_faults : Context → Expr → List Refusal
-condition_faults context e = expr_faults context None e ++ else_told (is_truth (type_in context None e)) (broken 7 (place_of e))
+condition_faults context e = expr_faults context None e ++ else_told (is_truth (type_in context None e)) (broken 7 (pos_of e))
 
 -- E1: a value is of the type of its place. Its node is the whole value, and its rule the lowest one: so it comes after
 -- what ends before the whole or lies inside, and before what else a whole breaks whose type is certain all the same.
 abbrev pub value_faults : Context → Ty → Expr → List Refusal
 value_faults context ty e =
-    earlier_faults context (Some ty) e ++ (else_told (same_type (type_in context (Some ty) e) ty) (broken 1 (place_of e)) ++ later_faults context (Some ty) e)
+    earlier_faults context (Some ty) e ++ (else_told (same_type (type_in context (Some ty) e) ty) (broken 1 (pos_of e)) ++ later_faults context (Some ty) e)
 
 abbrev pub operand_faults : Context → PrintOperand → List Refusal
 operand_faults context (Text characters) = []
@@ -48,19 +48,19 @@ is_assignable parameters None = false
 is_assignable parameters (Some number) = nat_le parameters number
 
 abbrev pub assigned_type : Context → Ident → Ty
-assigned_type context place = unwrap_or (local_type context place.name) types.Int
+assigned_type context target = unwrap_or (local_type context target.name) types.Int
 
 abbrev mutual
   pub statement_faults : List ℕ → ℕ → Context → Statement → List Refusal
-  statement_faults newtypes parameters context (Nested place statements) = statements_faults newtypes parameters context statements
+  statement_faults newtypes parameters context (Nested pos statements) = statements_faults newtypes parameters context statements
   statement_faults newtypes parameters context (Var local ty value) = value_faults context (type_of newtypes ty) value
-  statement_faults newtypes parameters context (Assign place value) =
-      else_told (is_assignable parameters (local_number context place.name)) (broken 22 place.pos) ++ value_faults context (assigned_type context place) value
-  statement_faults newtypes parameters context (If guard place body others last) =
+  statement_faults newtypes parameters context (Assign target value) =
+      else_told (is_assignable parameters (local_number context target.name)) (broken 22 target.pos) ++ value_faults context (assigned_type context target) value
+  statement_faults newtypes parameters context (If guard pos body others last) =
       condition_faults context guard
       ++ (statements_faults newtypes parameters context body
       ++ (branches_faults newtypes parameters context others ++ otherwise_faults newtypes parameters context last))
-  statement_faults newtypes parameters context (Assert place condition) = condition_faults context condition
+  statement_faults newtypes parameters context (Assert pos condition) = condition_faults context condition
   statement_faults newtypes parameters context (Print operands) = flat_map (operand_faults context) operands
 
   pub statements_faults : List ℕ → ℕ → Context → Statements → List Refusal
@@ -70,20 +70,14 @@ abbrev mutual
 
   pub branches_faults : List ℕ → ℕ → Context → Branches → List Refusal
   branches_faults newtypes parameters context end = []
-  branches_faults newtypes parameters context (more guard place body others) =
+  branches_faults newtypes parameters context (more guard pos body others) =
       condition_faults context guard ++ (statements_faults newtypes parameters context body ++ branches_faults newtypes parameters context others)
 
   pub otherwise_faults : List ℕ → ℕ → Context → Otherwise → List Refusal
   otherwise_faults newtypes parameters context without = []
-  otherwise_faults newtypes parameters context (otherwise place statements) = statements_faults newtypes parameters context statements
+  otherwise_faults newtypes parameters context (otherwise pos statements) = statements_faults newtypes parameters context statements
 
 -- ---- declarations
-
-abbrev pub binding_of : List ℕ → Parameter → Binding
-binding_of newtypes parameter = record { name = parameter.name.name; ty = type_of newtypes parameter.ty }
-
-abbrev pub context_of : List ℕ → List Parameter → Context
-context_of newtypes parameters = map (binding_of newtypes) parameters
 
 abbrev pub context_of_clause : ClauseKind → Context → Context → Context
 context_of_clause clauses.Requires parameters both = parameters

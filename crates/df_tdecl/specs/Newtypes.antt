@@ -27,7 +27,7 @@ pub record Ends : Type 0 where
 
 -- the chain `low < variable < high`, each sign `<` or `<=`, each end a literal
 abbrev pub ends_of : ℕ → Expr → Option Ends
-ends_of variable (Operations (Number low) (more after_low place (Name subject) (more before_high other (Number high) end))) =
+ends_of variable (Operations (Number low) (more after_low at (Name subject) (more before_high other (Number high) end))) =
     if is_order after_low && is_order before_high && subject.name == variable && is_literal low && is_literal high
     then Some (record { low = lowest after_low (value_of low); high = highest before_high (value_of high) })
     else None

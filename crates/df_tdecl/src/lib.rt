@@ -8,8 +8,6 @@ mod files;
 mod methods;
 mod newtypes;
 mod statements;
-#[cfg(test)]
-mod tests;
 
 pub use files::elaborate;
 

@@ -10,7 +10,7 @@ ghost use Rattle.df_texpr.specs.Locals.{context_of};
 ghost use Rattle.df_texpr.specs.Gives.{Gives};
 ghost use Rattle.df_tdecl.specs.Faults as faults;
 ghost use Rattle.df_tdecl.specs.Faults.{condition_faults, context_of_clause, clause_faults, statements_faults, method_faults};
-ghost use Rattle.df_tdecl.specs.Elaborating.{parameter_names, named_in, are_below, statements_in, place_in, clause_in, method_in};
+ghost use Rattle.df_tdecl.specs.Elaborating.{parameter_names, named_in, are_below, statements_in, parameter_in, clause_in, method_in};
 ghost use Rattle.df_tdecl.specs.Declaring.{contract_of, with_clause, contract_in, method_with};
 
 use crate::conditions::condition;
@@ -105,14 +105,14 @@ fn declare_all(table: &Table, locals: &mut Locals, all: &[Parameter]) -> Result<
     Ok(())
 }
 
-fn place(
+fn typed_parameter(
     alloc: Global,
     names: &Names,
     table: &Table,
     parameter: &Parameter,
 ) -> Result<Place, Memory>
     requires { parameter.now.name.name < length names.now }
-    ensures { IfOk result (λ p. pure.place_of p ≡ place_in names.now table.now.newtypes parameter.now) }
+    ensures { IfOk result (λ p. pure.place_of p ≡ parameter_in names.now table.now.newtypes parameter.now) }
 {
     Ok(Place {
         declared: declared(alloc, names, parameter.name.name)?,
@@ -121,21 +121,21 @@ fn place(
 }
 
 /// Parameters or results of the program.
-fn places(
+fn typed_parameters(
     alloc: Global,
     names: &Names,
     table: &Table,
     all: &[Parameter],
 ) -> Result<Vec<Place>, Memory>
     requires { are_below (length names.now) (parameter_names all.now) ≡ true }
-    ensures { IfOk result (λ v. map pure.place_of v.items ≡ map (place_in names.now table.now.newtypes) all.now) }
+    ensures { IfOk result (λ v. map pure.place_of v.items ≡ map (parameter_in names.now table.now.newtypes) all.now) }
 {
-    let mut places = Vec::new(alloc);
+    let mut parameters = Vec::new(alloc);
     for parameter in all {
-        let place = place(alloc, names, table, parameter)?;
-        places.push(place)?;
+        let typed = typed_parameter(alloc, names, table, parameter)?;
+        parameters.push(typed)?;
     }
-    Ok(places)
+    Ok(parameters)
 }
 
 /// The results of a method; there are none where `returns` is not written.
@@ -207,8 +207,8 @@ fn with_parts(
 {
     Ok(Method {
         declared: declared(alloc, names, tree.name.name)?,
-        parameters: places(alloc, names, table, &tree.parameters)?,
-        results: places(alloc, names, table, results)?,
+        parameters: typed_parameters(alloc, names, table, &tree.parameters)?,
+        results: typed_parameters(alloc, names, table, results)?,
         preconditions: contract.preconditions,
         postconditions: contract.postconditions,
         pos: tree.body.pos,

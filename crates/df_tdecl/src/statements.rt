@@ -81,21 +81,21 @@ fn var(
     Ok(Stmt::Var { ty, value })
 }
 
-/// `place := value`: a local or a result is assigned, after so many parameters.
+/// `target := value`: a local or a result is assigned, after so many parameters.
 fn assign(
     alloc: Global,
     parameters: usize,
     locals: &Locals,
-    place: &Ident,
+    target: &Ident,
     e: &tree::Expr,
 ) -> Result<Stmt, Stop>
-    ensures { Gives pure.stmt_of result (else_told (is_assignable parameters (local_number (context_of locals.now) place.now.name)) (broken 22 place.now.pos) ++ value_faults (context_of locals.now) (assigned_type (context_of locals.now) place.now) (expr_of e.now)) (pure.Assign (unwrap_or (local_number (context_of locals.now) place.now.name) 0) (elaborated (context_of locals.now) (Some (assigned_type (context_of locals.now) place.now)) (expr_of e.now))) }
+    ensures { Gives pure.stmt_of result (else_told (is_assignable parameters (local_number (context_of locals.now) target.now.name)) (broken 22 target.now.pos) ++ value_faults (context_of locals.now) (assigned_type (context_of locals.now) target.now) (expr_of e.now)) (pure.Assign (unwrap_or (local_number (context_of locals.now) target.now.name) 0) (elaborated (context_of locals.now) (Some (assigned_type (context_of locals.now) target.now)) (expr_of e.now))) }
 {
-    match locals.find(place.name) {
-        None => Err(broken(22, place.pos)),
+    match locals.find(target.name) {
+        None => Err(broken(22, target.pos)),
         Some((local, ty)) => {
             if local < parameters {
-                return Err(broken(22, place.pos));
+                return Err(broken(22, target.pos));
             }
             let value = value(alloc, locals, ty, e)?;
             Ok(Stmt::Assign { local, value })
@@ -140,7 +140,7 @@ fn statement(
             ty: declared,
             value,
         } => var(alloc, table, locals, local, declared, value),
-        Statement::Assign { place, value } => assign(alloc, parameters, locals, place, value),
+        Statement::Assign { target, value } => assign(alloc, parameters, locals, target, value),
         Statement::If {
             first,
             others,

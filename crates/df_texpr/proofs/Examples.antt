@@ -13,7 +13,7 @@ use Rattle.df_tree.specs.declared.expr.BinaryOperator.TheVariants as binary
 use Rattle.df_tree.specs.declared.expr.UnaryOperator.TheVariants as unary
 use Rattle.df_tree.specs.Expr.{Expr, Number, Truth, Name, Parentheses, Unary, Operations, Leading, end, more}
 use Rattle.df_texpr.specs.Context.{Context}
-use Rattle.df_texpr.specs.Open.{place_of}
+use Rattle.df_texpr.specs.Open.{pos_of}
 use Rattle.df_texpr.specs.Elaboration.{IsTyped}
 use Rattle.df_texpr.specs.Faults.{broken, expr_faults, earlier_faults, later_faults}
 use Rattle.df_texpr.proofs.Types.{not_empty}
@@ -148,8 +148,8 @@ sum_earlier : earlier_faults context None (pair (x 1) binary.Add 3 (y 5)) ≡ br
 sum_earlier = refl
 
 -- a sum stands at its last sign, a chain at its first
-sum_place : place_of sum ≡ at 7
-sum_place = refl
+sum_pos : pos_of sum ≡ at 7
+sum_pos = refl
 
-chain_place : place_of (triple (x 1) binary.Less 3 (x 5) binary.Less 7 (x 9)) ≡ at 3
-chain_place = refl
+chain_pos : pos_of (triple (x 1) binary.Less 3 (x 5) binary.Less 7 (x 9)) ≡ at 3
+chain_pos = refl

@@ -9,7 +9,7 @@ use Rattle.df_tree.specs.declared.expr.Group.{Group}
 use Rattle.df_tree.specs.declared.expr.Group.TheVariants as groups
 use Rattle.df_tree.specs.Expr.{Expr, Members, more}
 use Rattle.df_texpr.specs.Context.{Context}
-use Rattle.df_texpr.specs.Open.{is_sum, is_open, are_open, literal_type, own_type, rest_type, type_in, operand_type, first_place}
+use Rattle.df_texpr.specs.Open.{is_sum, is_open, are_open, literal_type, own_type, rest_type, type_in, operand_type, first_pos}
 use Rattle.df_texpr.specs.Elaboration.{Part, keeps_direction, IsRun}
 use Rattle.df_texpr.specs.Faults.{broken, takes, member_faults, whole_faults}
 use Rattle.df_texpr.specs.Elaborating.{run_of}
@@ -54,52 +54,52 @@ IsGoodRun context expected group first rest =
     × ((one : typed.Expr) (parts : List Part) → IsRun (Some group) rest left one parts (type_of_run context expected (Some group) first rest) (run_of (Some group) left one parts))
 
 -- the first operand is what the first operator takes
-first_take : (group : Group) (left : Ty) (operator : BinaryOperator) (place : Pos) (operand : Expr) (rest : Members) → AllTake (Some group) left (more operator place operand rest) → takes (Some group) operator left left ≡ true
-first_take group left operator place operand rest take = take.0
+first_take : (group : Group) (left : Ty) (operator : BinaryOperator) (pos : Pos) (operand : Expr) (rest : Members) → AllTake (Some group) left (more operator pos operand rest) → takes (Some group) operator left left ≡ true
+first_take group left operator pos operand rest take = take.0
 
-good_run : (context : Context) (expected : Option Ty) (group : Group) (first : Expr) (operator : BinaryOperator) (place : Pos) (operand : Expr) (others : Members)
-    → (let rest = more operator place operand others in
+good_run : (context : Context) (expected : Option Ty) (group : Group) (first : Expr) (operator : BinaryOperator) (pos : Pos) (operand : Expr) (others : Members)
+    → (let rest = more operator pos operand others in
     let own = own_of context expected group first rest in
     let left = left_of context expected group first rest in
     member_faults context own (Some group) left rest ≡ [] → whole_faults context (Some group) left rest ≡ [] → IsGoodRun context expected group first rest)
-good_run context expected groups.Equivalence first operator place operand others m w =
-    let h = faults_fit context None (Some groups.Equivalence) (type_in context None first) (more operator place operand others) (λ f. f) m in
+good_run context expected groups.Equivalence first operator pos operand others m w =
+    let h = faults_fit context None (Some groups.Equivalence) (type_in context None first) (more operator pos operand others) (λ f. f) m in
     let t = truths_are (type_in context None first) (type_in context None first) h.1.0 in
     (h.0, λ one parts. (t.0, refl, refl))
-good_run context expected groups.Explication first operator place operand others m w =
-    let h = faults_fit context None (Some groups.Explication) (type_in context None first) (more operator place operand others) (λ f. f) m in
+good_run context expected groups.Explication first operator pos operand others m w =
+    let h = faults_fit context None (Some groups.Explication) (type_in context None first) (more operator pos operand others) (λ f. f) m in
     let t = truths_are (type_in context None first) (type_in context None first) h.1.0 in
     (h.0, λ one parts. (t.0, refl, refl))
-good_run context expected groups.Conjunction first operator place operand others m w =
-    let h = faults_fit context None (Some groups.Conjunction) (type_in context None first) (more operator place operand others) (λ f. f) m in
+good_run context expected groups.Conjunction first operator pos operand others m w =
+    let h = faults_fit context None (Some groups.Conjunction) (type_in context None first) (more operator pos operand others) (λ f. f) m in
     let t = truths_are (type_in context None first) (type_in context None first) h.1.0 in
     (h.0, λ one parts. (t.0, refl, refl))
-good_run context expected groups.Disjunction first operator place operand others m w =
-    let h = faults_fit context None (Some groups.Disjunction) (type_in context None first) (more operator place operand others) (λ f. f) m in
+good_run context expected groups.Disjunction first operator pos operand others m w =
+    let h = faults_fit context None (Some groups.Disjunction) (type_in context None first) (more operator pos operand others) (λ f. f) m in
     let t = truths_are (type_in context None first) (type_in context None first) h.1.0 in
     (h.0, λ one parts. (t.0, refl, refl))
-good_run context expected groups.Implication first operator place operand others m w =
-    let h = implication_fit context (type_in context None first) operator place operand others m w in
-    (subst (λ (t : Ty). AllFit context None (Some groups.Implication) t (more operator place operand others)) (sym h.0) h.1, λ one parts. (h.0, refl, refl))
-good_run context expected groups.Comparison first operator place operand others m w =
-    let rest = more operator place operand others in
+good_run context expected groups.Implication first operator pos operand others m w =
+    let h = implication_fit context (type_in context None first) operator pos operand others m w in
+    (subst (λ (t : Ty). AllFit context None (Some groups.Implication) t (more operator pos operand others)) (sym h.0) h.1, λ one parts. (h.0, refl, refl))
+good_run context expected groups.Comparison first operator pos operand others m w =
+    let rest = more operator pos operand others in
     let left = left_of context expected groups.Comparison first rest in
     let h = faults_fit context (own_of context expected groups.Comparison first rest) (Some groups.Comparison) left rest (λ f. f) m in
-    (h.0, λ one parts. (comparisons_fit left rest h.1, untold (keeps_direction rest) (broken 6 (first_place rest)) w, refl, refl))
-good_run context expected groups.Sum first operator place operand others m w =
-    let rest = more operator place operand others in
+    (h.0, λ one parts. (comparisons_fit left rest h.1, untold (keeps_direction rest) (broken 6 (first_pos rest)) w, refl, refl))
+good_run context expected groups.Sum first operator pos operand others m w =
+    let rest = more operator pos operand others in
     let left = left_of context expected groups.Sum first rest in
     let h = faults_fit context (own_of context expected groups.Sum first rest) (Some groups.Sum) left rest (λ f. f) m in
     (h.0, λ one parts. ((alike_is left left h.1.0).1, sum_type context expected first rest h.0, refl))
 
 -- it is one of a group
-pub good : (context : Context) (expected : Option Ty) (first : Expr) (operator : BinaryOperator) (place : Pos) (operand : Expr) (others : Members) (group : Group)
-    → (let rest = more operator place operand others in
+pub good : (context : Context) (expected : Option Ty) (first : Expr) (operator : BinaryOperator) (pos : Pos) (operand : Expr) (others : Members) (group : Group)
+    → (let rest = more operator pos operand others in
     let own = own_of context expected group first rest in
     let left = left_of context expected group first rest in
     (member_faults context own (Some group) left rest ++ whole_faults context (Some group) left rest) ≡ [] → IsGoodRun context expected group first rest)
-good context expected first operator place operand others group e =
-    let h = nil_append _ _ e in good_run context expected group first operator place operand others h.0 h.1
+good context expected first operator pos operand others group e =
+    let h = nil_append _ _ e in good_run context expected group first operator pos operand others h.0 h.1
 
 -- ---- a run whose operands fit
 
@@ -129,7 +129,7 @@ faultless_run context expected groups.Implication first rest one parts ty e fit 
     (h.0, subst (λ (t : Ty). whole_faults context (Some groups.Implication) t rest ≡ []) (sym run.0) h.1, run.1, run.2)
 faultless_run context expected groups.Comparison first rest one parts ty e fit run =
     let left = left_of context expected groups.Comparison first rest in
-    (fit_faultless context (own_of context expected groups.Comparison first rest) (Some groups.Comparison) left rest fit (comparisons_take left rest run.0), none_told (keeps_direction rest) (broken 6 (first_place rest)) run.1, run.2, run.3)
+    (fit_faultless context (own_of context expected groups.Comparison first rest) (Some groups.Comparison) left rest fit (comparisons_take left rest run.0), none_told (keeps_direction rest) (broken 6 (first_pos rest)) run.1, run.2, run.3)
 faultless_run context expected groups.Sum first rest one parts ty e fit run =
     let left = left_of context expected groups.Sum first rest in
     (fit_faultless context (own_of context expected groups.Sum first rest) (Some groups.Sum) left rest fit (integers_take left rest run.0), refl, run.1 ∙ sym (sum_type context expected first rest fit), run.2)

@@ -1,6 +1,7 @@
 -- The faults of an expression in two, around a fault of its type.
 use Rattle.std.proofs.Common.{◌≡◌, Bool, true, false, not, ◌&&◌, List, [], ◌∷◌, ◌++◌, Option, Some, None, refl, sym, ap, ◌∙◌, append_assoc}
 use Rattle.std.proofs.lemmas.List.{append-nil}
+use Rattle.std.proofs.lemmas.Bool.{not-true}
 use Rattle.df_base.specs.declared.pos.Pos.{Pos}
 use Rattle.df_base.specs.declared.refusal.Refusal.{Refusal}
 use Rattle.df_program.specs.declared.expr.Ty.{Ty}
@@ -28,15 +29,15 @@ around_nil xs ys = ap (λ (t : List Refusal). xs ++ t) (append-nil ys) ∙ ap (�
 
 module _ (context : Context) (own : Option Ty) (group : Option Group) where
   abbrev sign : BinaryOperator → Pos → Ty → Ty → List Refusal
-  sign operator place left right = else_told (is_of_group group operator && takes group operator left right) (broken (rule_of group operator) place)
+  sign operator pos left right = else_told (is_of_group group operator && takes group operator left right) (broken (rule_of group operator) pos)
 
   members_in_two : (left : Ty) (rest : Members) → member_faults context own group left rest ≡ members_but_last context own group left rest ++ last_faults context own group left rest
   members_in_two left end = refl
-  members_in_two left (more operator place operand end) = around_nil (expr_faults context own operand) (sign operator place left (type_in context own operand))
-  members_in_two left (more operator place operand (more second other third rest)) =
+  members_in_two left (more operator pos operand end) = around_nil (expr_faults context own operand) (sign operator pos left (type_in context own operand))
+  members_in_two left (more operator pos operand (more second other third rest)) =
       let right = type_in context own operand in
       let others = more second other third rest in
-      into_two (expr_faults context own operand) (sign operator place left right) (member_faults context own group right others)
+      into_two (expr_faults context own operand) (sign operator pos left right) (member_faults context own group right others)
       (members_but_last context own group right others) (last_faults context own group right others) (members_in_two right (more second other third rest))
 
   -- those that hold to the left
@@ -57,27 +58,27 @@ run_in_two context expected (Some groups.Comparison) first left rest =
     left_in_two context (operand_type context expected (Some groups.Comparison) first rest) (Some groups.Comparison) left rest (whole_faults context (Some groups.Comparison) left rest)
 run_in_two context expected (Some groups.Sum) first left rest = refl
 run_in_two context expected (Some groups.Implication) first left end = refl
-run_in_two context expected (Some groups.Implication) first left (more operator place operand rest) =
-    let all = more operator place operand rest in
+run_in_two context expected (Some groups.Implication) first left (more operator pos operand rest) =
+    let all = more operator pos operand rest in
     sym (append_assoc (member_faults context None (Some groups.Implication) left all) (inner_implications context all) (outer_implication context left all))
 
 leading_in_two : (context : Context) (expected : Option Ty) (all : Members) → expr_faults context expected (Leading all) ≡ earlier_faults context expected (Leading all) ++ later_faults context expected (Leading all)
 leading_in_two context expected end = refl
-leading_in_two context expected (more operator place operand end) =
-    around_nil (expr_faults context None operand) (else_told (is_junction operator && is_truth (type_in context None operand)) (broken 7 place))
-leading_in_two context expected (more operator place operand (more second other third rest)) =
+leading_in_two context expected (more operator pos operand end) =
+    around_nil (expr_faults context None operand) (else_told (is_junction operator && is_truth (type_in context None operand)) (broken 7 pos))
+leading_in_two context expected (more operator pos operand (more second other third rest)) =
     let group = Some (group_of operator) in
     let others = more second other third rest in
-    into_two (expr_faults context None operand) (else_told (is_junction operator && is_truth (type_in context None operand)) (broken 7 place)) (member_faults context None group types.Bool others)
+    into_two (expr_faults context None operand) (else_told (is_junction operator && is_truth (type_in context None operand)) (broken 7 pos)) (member_faults context None group types.Bool others)
     (members_but_last context None group types.Bool others) (last_faults context None group types.Bool others) (members_in_two context None group types.Bool others)
 
 pub in_two : (context : Context) (expected : Option Ty) (e : Expr) → expr_faults context expected e ≡ earlier_faults context expected e ++ later_faults context expected e
 in_two context expected (Number literal) = sym (append-nil (expr_faults context expected (Number literal)))
-in_two context expected (Truth value place) = refl
+in_two context expected (Truth value pos) = refl
 in_two context expected (Name ident) = sym (append-nil (expr_faults context expected (Name ident)))
-in_two context expected (Parentheses place inner) = sym (append-nil (expr_faults context expected inner))
-in_two context expected (Unary unary.Negate place operand) = sym (append-nil (expr_faults context expected (Unary unary.Negate place operand)))
-in_two context expected (Unary unary.Not place operand) = refl
+in_two context expected (Parentheses pos inner) = sym (append-nil (expr_faults context expected inner))
+in_two context expected (Unary unary.Negate pos operand) = sym (append-nil (expr_faults context expected (Unary unary.Negate pos operand)))
+in_two context expected (Unary unary.Not pos operand) = refl
 in_two context expected (Operations first rest) =
     let group = first_group rest in
     let own = operand_type context expected group first rest in
@@ -88,18 +89,14 @@ in_two context expected (Leading all) = leading_in_two context expected all
 
 -- ---- which have later ones
 
-no_sum : (holds : Bool) → not holds ≡ true → holds ≡ false
-no_sum true e = absurd cc
-no_sum false e = refl
-
 pub always_truth : (context : Context) (expected : Option Ty) (e : Expr) → is_always_truth e ≡ true → type_in context expected e ≡ types.Bool
 always_truth context expected (Number literal) h = absurd cc
-always_truth context expected (Truth value place) h = absurd cc
+always_truth context expected (Truth value pos) h = absurd cc
 always_truth context expected (Name ident) h = absurd cc
-always_truth context expected (Parentheses place inner) h = absurd cc
-always_truth context expected (Unary unary.Negate place operand) h = absurd cc
-always_truth context expected (Unary unary.Not place operand) h = refl
-always_truth context expected (Operations first rest) h = rw (no_sum (is_sum (first_group rest)) h) refl
+always_truth context expected (Parentheses pos inner) h = absurd cc
+always_truth context expected (Unary unary.Negate pos operand) h = absurd cc
+always_truth context expected (Unary unary.Not pos operand) h = refl
+always_truth context expected (Operations first rest) h = rw (not-true (is_sum (first_group rest)) h) refl
 always_truth context expected (Leading all) h = refl
 
 sum_later : (context : Context) (own : Option Ty) (group : Option Group) (left : Ty) (rest : Members) → not (is_sum group) ≡ false → later_of_run context own group left rest ≡ []
@@ -114,11 +111,11 @@ sum_later context own (Some groups.Sum) left rest h = refl
 
 pub none_later : (context : Context) (expected : Option Ty) (e : Expr) → is_always_truth e ≡ false → later_faults context expected e ≡ []
 none_later context expected (Number literal) h = refl
-none_later context expected (Truth value place) h = refl
+none_later context expected (Truth value pos) h = refl
 none_later context expected (Name ident) h = refl
-none_later context expected (Parentheses place inner) h = refl
-none_later context expected (Unary unary.Negate place operand) h = refl
-none_later context expected (Unary unary.Not place operand) h = absurd cc
+none_later context expected (Parentheses pos inner) h = refl
+none_later context expected (Unary unary.Negate pos operand) h = refl
+none_later context expected (Unary unary.Not pos operand) h = absurd cc
 none_later context expected (Operations first rest) h =
     let own = operand_type context expected (first_group rest) first rest in
     sum_later context own (first_group rest) (type_in context own first) rest h

@@ -1,6 +1,7 @@
 -- What the code looks at before a fault of the type.
 use Rattle.std.proofs.Common.{◌≡◌, ℕ, ◌+◌, ◌-◌, ◌≤◌, Bool, true, false, List, [], ◌∷◌, ◌++◌, length, map, take, drop, get_or, Option, Some, None, Result, Ok, Err, refl, sym, ap, ◌∙◌, subst, if◌then◌else◌, arith}
 use Rattle.std.proofs.lemmas.List.{map-append, take-append-drop, drop_more, drop_all}
+use Rattle.df_names.proofs.Telling.{told_left, tells_right}
 use Rattle.df_base.specs.declared.pos.Pos.{Pos}
 use Rattle.df_base.specs.declared.refusal.Refusal.{Refusal}
 use Rattle.df_base.specs.declared.refusal.Stop.{Stop}
@@ -22,16 +23,13 @@ use Rattle.df_texpr.specs.Faults.{broken, is_truth, is_end, expr_faults, member_
 use Rattle.df_texpr.specs.Rows.{Row, rows_of, inner_wrong, told_at, leading_group}
 use Rattle.df_texpr.proofs.Types.{truth_is}
 use Rattle.df_texpr.proofs.Opening.{operation_seen}
-use Rattle.df_texpr.proofs.Told.{first_of, told_so, none_so, told_first, first_after}
+use Rattle.df_texpr.proofs.Told.{first_of, told_so, none_so, first_after}
 use Rattle.df_texpr.proofs.Steps.{right_first}
 use Rattle.df_texpr.proofs.Halves.{but_the_last}
 
 tells_so : {A : Type 0} (result : Result A Stop) (xs ys : List Refusal) → first_of xs ≡ first_of ys → Tells result xs → Tells result ys
 tells_so (Ok x) xs ys e none = none_so xs ys e none
 tells_so (Err stop) xs ys e told = told_so stop xs ys e told
-
-tells_later : {A : Type 0} (result : Result A Stop) (xs ys : List Refusal) → xs ≡ [] → Tells result ys → Tells result (xs ++ ys)
-tells_later result xs ys e told = rw e told
 
 -- ---- operations and the last one
 
@@ -53,22 +51,22 @@ module _ (context : Context) (own : Option Ty) (group : Option Group) (left : Ty
 
   pub others_told : (stop : Stop) → IsTold stop (member_faults context own group left (members_of (map operation_of (take (length items - 1) items))))
       → IsTold stop (members_but_last context own group left (members_of (map operation_of items)))
-  others_told stop told = rw but_last_is (told_first stop (member_faults context own group left (members_of (map operation_of (take (length items - 1) items)))) _ told)
+  others_told stop told = rw but_last_is (told_left stop (member_faults context own group left (members_of (map operation_of (take (length items - 1) items)))) _ told)
 
   pub last_tells : {A : Type 0} (result : Result A Stop) → member_faults context own group left (members_of (map operation_of (take (length items - 1) items))) ≡ []
       → Tells result (expr_faults context own (expr_of item.operand)) → Tells result (members_but_last context own group left (members_of (map operation_of items)))
-  last_tells result none told = rw but_last_is (tells_later result (member_faults context own group left (members_of (map operation_of (take (length items - 1) items)))) _ none told)
+  last_tells result none told = rw but_last_is (tells_right result (member_faults context own group left (members_of (map operation_of (take (length items - 1) items)))) _ none told)
 
 -- ---- operations that hold to the right
 
 inner_first : (context : Context) (rest : Members) → first_of (told_at (inner_wrong (rows_of context None rest))) ≡ first_of (inner_implications context rest)
 inner_first context end = refl
-inner_first context (more operator place operand rest) = right_first context (type_in context None operand) rest
+inner_first context (more operator pos operand rest) = right_first context (type_in context None operand) rest
 
 pub inner_tells : {A : Type 0} (result : Result A Stop) (context : Context) (members : List Refusal) (rest : Members) (rows : List Row) → members ≡ [] → rows ≡ rows_of context None rest
     → Tells result (told_at (inner_wrong rows)) → Tells result (members ++ inner_implications context rest)
 inner_tells result context members rest rows none is told =
-    tells_later result members (inner_implications context rest) none
+    tells_right result members (inner_implications context rest) none
     (tells_so result (told_at (inner_wrong rows)) (inner_implications context rest) (ap (λ (r : List Row). first_of (told_at (inner_wrong r))) is ∙ inner_first context rest) told)
 
 -- ---- whole expressions
@@ -78,41 +76,41 @@ pub head_told : (context : Context) (expected : Option Ty) (first : Expr) (rest 
 head_told context expected first rest group own stop eg eo told =
     let own' = operand_type context expected (first_group rest) first rest in
     let same : own ≡ own' = eo ∙ ap (λ (g : Option Group). operand_type context expected g first rest) eg in
-    told_first stop (expr_faults context own' first) (earlier_of_run context own' (first_group rest) (type_in context own' first) rest) (subst (λ (o : Option Ty). IsTold stop (expr_faults context o first)) same told)
+    told_left stop (expr_faults context own' first) (earlier_of_run context own' (first_group rest) (type_in context own' first) rest) (subst (λ (o : Option Ty). IsTold stop (expr_faults context o first)) same told)
 
 either_first : (b : Bool) (xs ys : List Refusal) → first_of xs ≡ first_of ys → first_of (if b then [] else xs) ≡ first_of (if b then [] else ys)
 either_first true xs ys e = refl
 either_first false xs ys e = e
 
-truth_first : (right : Ty) (place : Pos) (faults : Ty → List Refusal) → first_of (else_told (is_truth right) (broken 7 place) ++ faults right) ≡ first_of (else_told (is_truth right) (broken 7 place) ++ faults types.Bool)
-truth_first right place faults = by_test (is_truth right) refl
+truth_first : (right : Ty) (pos : Pos) (faults : Ty → List Refusal) → first_of (else_told (is_truth right) (broken 7 pos) ++ faults right) ≡ first_of (else_told (is_truth right) (broken 7 pos) ++ faults types.Bool)
+truth_first right pos faults = by_test (is_truth right) refl
   where
-    by_test : (b : Bool) → is_truth right ≡ b → first_of (else_told b (broken 7 place) ++ faults right) ≡ first_of (else_told b (broken 7 place) ++ faults types.Bool)
+    by_test : (b : Bool) → is_truth right ≡ b → first_of (else_told b (broken 7 pos) ++ faults right) ≡ first_of (else_told b (broken 7 pos) ++ faults types.Bool)
     by_test true e = ap (λ (t : Ty). first_of (faults t)) (truth_is right e)
     by_test false e = refl
 
-leading_first : (context : Context) (expected : Option Ty) (operator : BinaryOperator) (place : Pos) (operand : Expr) (rest : Members)
-    → (let all = more operator place operand rest in first_of (members_but_last context None (leading_group all) types.Bool all) ≡ first_of (earlier_faults context expected (Leading all)))
-leading_first context expected binary.And place operand rest =
-    first_after (expr_faults context None operand) _ _ (either_first (is_end rest) _ _ (truth_first (type_in context None operand) place (λ (t : Ty). members_but_last context None (Some groups.Conjunction) t rest)))
-leading_first context expected binary.Or place operand rest =
-    first_after (expr_faults context None operand) _ _ (either_first (is_end rest) _ _ (truth_first (type_in context None operand) place (λ (t : Ty). members_but_last context None (Some groups.Disjunction) t rest)))
-leading_first context expected binary.Iff place operand rest = first_after (expr_faults context None operand) _ _ (either_first (is_end rest) _ _ refl)
-leading_first context expected binary.Implies place operand rest = first_after (expr_faults context None operand) _ _ (either_first (is_end rest) _ _ refl)
-leading_first context expected binary.Explies place operand rest = first_after (expr_faults context None operand) _ _ (either_first (is_end rest) _ _ refl)
-leading_first context expected binary.Equal place operand rest = first_after (expr_faults context None operand) _ _ (either_first (is_end rest) _ _ refl)
-leading_first context expected binary.NotEqual place operand rest = first_after (expr_faults context None operand) _ _ (either_first (is_end rest) _ _ refl)
-leading_first context expected binary.Less place operand rest = first_after (expr_faults context None operand) _ _ (either_first (is_end rest) _ _ refl)
-leading_first context expected binary.AtMost place operand rest = first_after (expr_faults context None operand) _ _ (either_first (is_end rest) _ _ refl)
-leading_first context expected binary.Greater place operand rest = first_after (expr_faults context None operand) _ _ (either_first (is_end rest) _ _ refl)
-leading_first context expected binary.AtLeast place operand rest = first_after (expr_faults context None operand) _ _ (either_first (is_end rest) _ _ refl)
-leading_first context expected binary.Add place operand rest = first_after (expr_faults context None operand) _ _ (either_first (is_end rest) _ _ refl)
-leading_first context expected binary.Subtract place operand rest = first_after (expr_faults context None operand) _ _ (either_first (is_end rest) _ _ refl)
+leading_first : (context : Context) (expected : Option Ty) (operator : BinaryOperator) (pos : Pos) (operand : Expr) (rest : Members)
+    → (let all = more operator pos operand rest in first_of (members_but_last context None (leading_group all) types.Bool all) ≡ first_of (earlier_faults context expected (Leading all)))
+leading_first context expected binary.And pos operand rest =
+    first_after (expr_faults context None operand) _ _ (either_first (is_end rest) _ _ (truth_first (type_in context None operand) pos (λ (t : Ty). members_but_last context None (Some groups.Conjunction) t rest)))
+leading_first context expected binary.Or pos operand rest =
+    first_after (expr_faults context None operand) _ _ (either_first (is_end rest) _ _ (truth_first (type_in context None operand) pos (λ (t : Ty). members_but_last context None (Some groups.Disjunction) t rest)))
+leading_first context expected binary.Iff pos operand rest = first_after (expr_faults context None operand) _ _ (either_first (is_end rest) _ _ refl)
+leading_first context expected binary.Implies pos operand rest = first_after (expr_faults context None operand) _ _ (either_first (is_end rest) _ _ refl)
+leading_first context expected binary.Explies pos operand rest = first_after (expr_faults context None operand) _ _ (either_first (is_end rest) _ _ refl)
+leading_first context expected binary.Equal pos operand rest = first_after (expr_faults context None operand) _ _ (either_first (is_end rest) _ _ refl)
+leading_first context expected binary.NotEqual pos operand rest = first_after (expr_faults context None operand) _ _ (either_first (is_end rest) _ _ refl)
+leading_first context expected binary.Less pos operand rest = first_after (expr_faults context None operand) _ _ (either_first (is_end rest) _ _ refl)
+leading_first context expected binary.AtMost pos operand rest = first_after (expr_faults context None operand) _ _ (either_first (is_end rest) _ _ refl)
+leading_first context expected binary.Greater pos operand rest = first_after (expr_faults context None operand) _ _ (either_first (is_end rest) _ _ refl)
+leading_first context expected binary.AtLeast pos operand rest = first_after (expr_faults context None operand) _ _ (either_first (is_end rest) _ _ refl)
+leading_first context expected binary.Add pos operand rest = first_after (expr_faults context None operand) _ _ (either_first (is_end rest) _ _ refl)
+leading_first context expected binary.Subtract pos operand rest = first_after (expr_faults context None operand) _ _ (either_first (is_end rest) _ _ refl)
 
 pub leading_tells : {A : Type 0} (result : Result A Stop) (context : Context) (expected : Option Ty) (all : Members) (group : Option Group) → group ≡ leading_group all
     → Tells result (members_but_last context None group types.Bool all) → Tells result (earlier_faults context expected (Leading all))
 leading_tells result context expected end group e told = told
-leading_tells result context expected (more operator place operand rest) group e told =
-    let all = more operator place operand rest in
-    tells_so result (members_but_last context None (leading_group all) types.Bool all) (earlier_faults context expected (Leading all)) (leading_first context expected operator place operand rest)
+leading_tells result context expected (more operator pos operand rest) group e told =
+    let all = more operator pos operand rest in
+    tells_so result (members_but_last context None (leading_group all) types.Bool all) (earlier_faults context expected (Leading all)) (leading_first context expected operator pos operand rest)
     (subst (λ (g : Option Group). Tells result (members_but_last context None g types.Bool all)) e told)

@@ -1,6 +1,6 @@
 -- Which local a name means, by tests on its context.
 use Rattle.std.proofs.Common.{◌≡◌, ◌≢◌, ℕ, zero, suc, ◌<◌, inl, inr, Bool, true, false, ◌||◌, nat_eq, List, [], ◌∷◌, slice_get, Option, Some, None, refl, sym, ap, ◌∙◌, unwrap_or, arith}
-use Rattle.std.proofs.lemmas.Bool.{eqb-true, eq-eqb, cases_order}
+use Rattle.std.proofs.lemmas.Bool.{eqb-true, eq-eqb, cases_order, or_right, or_parts}
 use Rattle.df_program.specs.declared.expr.Ty.{Ty}
 use Rattle.df_program.specs.declared.expr.Ty.TheVariants as types
 use Rattle.df_names.specs.Globals.{is_among}
@@ -11,10 +11,6 @@ use Rattle.df_texpr.specs.Elaborating.{local_number}
 abbrev pub type_by : Context → ℕ → Ty
 type_by context name = unwrap_or (local_type context name) types.Int
 
-either : (a b : Bool) → b ≡ true → (a || b) ≡ true
-either true b e = refl
-either false b e = e
-
 first_or : (a b : Bool) → (a || b) ≡ true → b ≡ false → a ≡ true
 first_or true b e f = refl
 first_or false b e f = absurd cc
@@ -22,7 +18,7 @@ first_or false b e f = absurd cc
 pub there_among : (names : List ℕ) (name number : ℕ) → slice_get names number ≡ Some name → is_among names name ≡ true
 there_among [] name number e = absurd cc
 there_among (x ∷ xs) name zero e = let same : name ≡ x = cc in rw (eq-eqb name x same) refl
-there_among (x ∷ xs) name (suc number) e = either (nat_eq name x) (is_among xs name) (there_among xs name number e)
+there_among (x ∷ xs) name (suc number) e = or_right (nat_eq name x) (is_among xs name) (there_among xs name number e)
 
 none_there : (names : List ℕ) (name number : ℕ) → is_among names name ≡ false → slice_get names number ≢ Some name
 none_there names name number e h = let f = there_among names name number h in cc
@@ -41,16 +37,12 @@ eq_back a b false e = by_test (nat_eq b a) refl
     by_test true f = let g = eq-eqb a b (sym (eqb-true b a f)) in absurd cc
     by_test false f = f
 
-neither : (a b : Bool) → (a || b) ≡ false → (a ≡ false) × (b ≡ false)
-neither false b e = (refl, e)
-neither true b e = absurd cc
-
 one_more : (binding : Binding) (others : Context) (name : ℕ) (inner outer : Bool) → is_among (names_of others) name ≡ inner → local_type others name ≡ if_there inner others name
     → is_among (names_of (binding ∷ others)) name ≡ outer → local_type (binding ∷ others) name ≡ if_there outer (binding ∷ others) name
 one_more binding others name true true i h o = rw h refl
-one_more binding others name true false i h o = let f = either (nat_eq name binding.name) (is_among (names_of others) name) i in absurd cc
+one_more binding others name true false i h o = let f = or_right (nat_eq name binding.name) (is_among (names_of others) name) i in absurd cc
 one_more binding others name false true i h o = rw (h, eq_back name binding.name true (first_or (nat_eq name binding.name) (is_among (names_of others) name) o i)) refl
-one_more binding others name false false i h o = rw (h, eq_back name binding.name false (neither (nat_eq name binding.name) (is_among (names_of others) name) o).0) refl
+one_more binding others name false false i h o = rw (h, eq_back name binding.name false (or_parts (nat_eq name binding.name) (is_among (names_of others) name) o).0) refl
 
 type_is : (context : Context) (name : ℕ) (there : Bool) → is_among (names_of context) name ≡ there → local_type context name ≡ if_there there context name
 type_is [] name true e = absurd cc

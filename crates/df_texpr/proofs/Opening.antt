@@ -16,5 +16,5 @@ operations_seen first rest = search (rules, declared.the_lemmas)
 pub leading_seen : (all : Vec declared_operation.Operation Global) → tree.expr_of (declared.Leading all) ≡ tree.Leading (tree.members_of (map tree.operation_of all.items))
 leading_seen all = search (rules, declared.the_lemmas)
 
-pub local_seen : (local : ℕ) (place : Pos) → typed.expr_of (typed_declared.Local local place) ≡ typed.Local local place
-local_seen local place = search (rules, typed_declared.the_lemmas)
+pub local_seen : (local : ℕ) (pos : Pos) → typed.expr_of (typed_declared.Local local pos) ≡ typed.Local local pos
+local_seen local pos = search (rules, typed_declared.the_lemmas)

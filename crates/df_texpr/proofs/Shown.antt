@@ -28,26 +28,26 @@ run_shown false a b x y o p e f = refl
 mutual
   pub shown_is : (context : Context) (e : Expr) → shown context e ≡ own_unless (is_open e) (own_type context e)
   shown_is context (Number literal) = refl
-  shown_is context (Truth value place) = refl
+  shown_is context (Truth value pos) = refl
   shown_is context (Name ident) = refl
-  shown_is context (Parentheses place inner) = shown_is context inner
-  shown_is context (Unary unary.Negate place operand) = shown_is context operand
-  shown_is context (Unary unary.Not place operand) = refl
+  shown_is context (Parentheses pos inner) = shown_is context inner
+  shown_is context (Unary unary.Negate pos operand) = shown_is context operand
+  shown_is context (Unary unary.Not pos operand) = refl
   shown_is context (Operations first rest) =
       run_shown (is_sum (first_group rest)) (is_open first) (are_open rest) (own_type context first) (rest_type context rest types.Int) (shown context first) (shown_rest context rest) (shown_is context first) (shown_rest_is context rest types.Int)
   shown_is context (Leading operations) = refl
 
   pub shown_rest_is : (context : Context) (rest : Members) (otherwise : Ty) → shown_rest context rest ≡ own_unless (are_open rest) (rest_type context rest otherwise)
   shown_rest_is context end otherwise = refl
-  shown_rest_is context (more operator place operand rest) otherwise =
+  shown_rest_is context (more operator pos operand rest) otherwise =
       joined (is_open operand) (are_open rest) (own_type context operand) (rest_type context rest otherwise) (shown context operand) (shown_rest context rest) (shown_is context operand) (shown_rest_is context rest otherwise)
 
 rest_otherwise : (context : Context) (rest : Members) (otherwise : Ty) → unwrap_or (shown_rest context rest) otherwise ≡ rest_type context rest otherwise
 rest_otherwise context end otherwise = refl
-rest_otherwise context (more operator place operand rest) otherwise = by_test (is_open operand) refl (rest_otherwise context rest otherwise)
+rest_otherwise context (more operator pos operand rest) otherwise = by_test (is_open operand) refl (rest_otherwise context rest otherwise)
   where
     by_test : (b : Bool) → is_open operand ≡ b → unwrap_or (shown_rest context rest) otherwise ≡ rest_type context rest otherwise
-        → unwrap_or (shown_rest context (more operator place operand rest)) otherwise ≡ rest_type context (more operator place operand rest) otherwise
+        → unwrap_or (shown_rest context (more operator pos operand rest)) otherwise ≡ rest_type context (more operator pos operand rest) otherwise
     by_test true e h = rw (shown_is context operand, e) h
     by_test false e h = rw (shown_is context operand, e) refl
 

@@ -1,6 +1,7 @@
 -- The steps of typing, one after the other.
 use Rattle.std.proofs.Common.{◌≡◌, ℕ, ◌+◌, ◌<◌, Bool, true, false, not, ◌&&◌, ◌||◌, List, [], ◌∷◌, ◌++◌, length, map, drop, get_or, Option, Some, None, Result, Ok, Err, IfOk, refl, sym, ap, ◌∙◌, subst, append_assoc, if◌then◌else◌, drop-cons, add-one}
 use Rattle.std.proofs.lemmas.List.{map-append}
+use Rattle.df_names.proofs.Telling.{told_left, told_right}
 use Rattle.df_base.specs.declared.pos.Pos.{Pos}
 use Rattle.df_base.specs.declared.refusal.Refusal.{Refusal}
 use Rattle.df_base.specs.declared.refusal.Stop.{Stop}
@@ -23,14 +24,14 @@ use Rattle.df_texpr.specs.Elaboration.{Part, is_of_group, IsTyped}
 use Rattle.df_texpr.specs.Elaboration as elaboration
 use Rattle.df_texpr.specs.Faults.{broken, is_truth, takes, rule_of, is_end, implication_faults, whole_faults, expr_faults, member_faults}
 use Rattle.df_texpr.specs.Elaborating.{elaborated, parts_of, run_of}
-use Rattle.df_texpr.specs.Rows.{Typed, Row, typed_of, typed_in, row_of, rows_of, part_of, is_last, or_place, wrong_at, told_at, whole_told, type_of_group, leading_group, leading_told, leading_of}
+use Rattle.df_texpr.specs.Rows.{Typed, Row, typed_of, typed_in, row_of, rows_of, part_of, is_last, or_pos, wrong_at, told_at, whole_told, type_of_group, leading_group, leading_told, leading_of}
 use Rattle.df_names.specs.Telling.{IsTold}
 use Rattle.df_texpr.specs.Gives.{Gives}
 use Rattle.df_texpr.specs.declared.part.Part as declared_part
 use Rattle.df_texpr.specs.declared.part.Typed as declared_typed
 use Rattle.df_texpr.proofs.Types.{truth_is}
 use Rattle.df_texpr.proofs.Opening.{operation_seen}
-use Rattle.df_texpr.proofs.Told.{first_of, told_so, none_so, told_first, told_later, first_after}
+use Rattle.df_texpr.proofs.Told.{first_of, told_so, none_so, first_after}
 use Rattle.df_texpr.proofs.Operands.{faults_fit}
 use Rattle.df_texpr.proofs.Sound.{sound}
 use Rattle.df_texpr.proofs.Groups.{type_of_run, sum_type}
@@ -53,7 +54,7 @@ module _ (context : Context) (own : Option Ty) (group : Option Group) (items : L
   pub operand_told : (i : ℕ) (item : Operation) (left : Ty) (stop : Stop) (total : List Refusal) → i < length items → item ≡ get_or items i item
       → IsTold stop (expr_faults context own (expr_of item.operand)) → faults_from i left ≡ total → IsTold stop total
   operand_told i item left stop total lt is told so_far =
-      rw (← so_far, cut items i item lt is) (told_first stop (expr_faults context own (expr_of item.operand)) _ told)
+      rw (← so_far, cut items i item lt is) (told_left stop (expr_faults context own (expr_of item.operand)) _ told)
 
   -- an operator does not take its operands
   pub operator_told : (i : ℕ) (item : Operation) (left right : Ty) (total : List Refusal) → i < length items → item ≡ get_or items i item
@@ -70,7 +71,7 @@ module _ (context : Context) (own : Option Ty) (group : Option Group) (items : L
       sym all ∙ so_far
 
   pub next_rows : (i : ℕ) (item : Operation) (part : declared_part.Part) (parts more_parts : List declared_part.Part) (total : List Row) → i < length items → item ≡ get_or items i item
-      → row_of part ≡ record { operator = item.operator; place = item.pos; typed = typed_in context own (expr_of item.operand) } → more_parts ≡ parts ++ part ∷ []
+      → row_of part ≡ record { operator = item.operator; pos = item.pos; typed = typed_in context own (expr_of item.operand) } → more_parts ≡ parts ++ part ∷ []
       → map row_of parts ++ rows_of context own (members_of (map operation_of (drop i items))) ≡ total
       → map row_of more_parts ++ rows_of context own (members_of (map operation_of (drop (i + 1) items))) ≡ total
   next_rows i item part parts more_parts total lt is row pushed so_far =
@@ -85,26 +86,26 @@ gives_so view (Err stop) xs ys y z e f told = told_so stop xs ys e told
 
 parts_are : (context : Context) (own : Option Ty) (rest : Members) → map part_of (rows_of context own rest) ≡ parts_of context own rest
 parts_are context own end = refl
-parts_are context own (more operator place operand rest) = ap (λ (parts : List Part). record { operator = operator; place = place; operand = elaborated context own operand } ∷ parts) (parts_are context own rest)
+parts_are context own (more operator pos operand rest) = ap (λ (parts : List Part). record { operator = operator; pos = pos; operand = elaborated context own operand } ∷ parts) (parts_are context own rest)
 
 last_is_end : (context : Context) (own : Option Ty) (rest : Members) → is_last (rows_of context own rest) ≡ is_end rest
 last_is_end context own end = refl
-last_is_end context own (more operator place operand rest) = refl
+last_is_end context own (more operator pos operand rest) = refl
 
-regroup : (xs : List Refusal) (later : Option Pos) (holds : Bool) (place : Pos) → first_of (told_at later) ≡ first_of xs
-    → first_of (told_at (or_place later (if holds then None else Some place))) ≡ first_of (xs ++ else_told holds (broken 7 place))
-regroup [] (Some found) holds place e = absurd cc
-regroup (x ∷ xs) None holds place e = absurd cc
-regroup [] None true place e = refl
-regroup [] None false place e = refl
-regroup (x ∷ xs) (Some found) holds place e = e
+regroup : (xs : List Refusal) (later : Option Pos) (holds : Bool) (pos : Pos) → first_of (told_at later) ≡ first_of xs
+    → first_of (told_at (or_pos later (if holds then None else Some pos))) ≡ first_of (xs ++ else_told holds (broken 7 pos))
+regroup [] (Some found) holds pos e = absurd cc
+regroup (x ∷ xs) None holds pos e = absurd cc
+regroup [] None true pos e = refl
+regroup [] None false pos e = refl
+regroup (x ∷ xs) (Some found) holds pos e = e
 
 pub right_first : (context : Context) (left : Ty) (rest : Members) → first_of (told_at (wrong_at left (rows_of context None rest))) ≡ first_of (implication_faults context left rest)
 right_first context left end = refl
-right_first context left (more operator place operand rest) =
+right_first context left (more operator pos operand rest) =
     let right = type_in context None operand in
     rw (last_is_end context None rest)
-    (regroup (implication_faults context right rest) (wrong_at right (rows_of context None rest)) (is_truth left && (is_truth right || not (is_end rest))) place (right_first context right rest))
+    (regroup (implication_faults context right rest) (wrong_at right (rows_of context None rest)) (is_truth left && (is_truth right || not (is_end rest))) pos (right_first context right rest))
 
 whole_first : (context : Context) (expected : Option Ty) (group : Option Group) (first : Expr) (left : Ty) (rest : Members)
     → first_of (whole_told group left rest (rows_of context (operand_type context expected group first rest) rest)) ≡ first_of (whole_faults context group left rest)
@@ -187,42 +188,42 @@ members_told context expected first rest group own head stop eg eo f eh told =
     let same : member_faults context own group head.ty rest ≡ member_faults context own' (first_group rest) left rest = (λ i. member_faults context (o i) (eg i) (h i).ty rest) in
     let f' : expr_faults context own' first ≡ [] = subst (λ (x : Option Ty). expr_faults context x first ≡ []) o f in
     let told' : IsTold stop (member_faults context own' (first_group rest) left rest) = subst (IsTold stop) same told in
-    told_later stop (expr_faults context own' first) _ f' (told_first stop (member_faults context own' (first_group rest) left rest) (whole_faults context (first_group rest) left rest) told')
+    told_right stop (expr_faults context own' first) _ f' (told_left stop (member_faults context own' (first_group rest) left rest) (whole_faults context (first_group rest) left rest) told')
 
 -- ---- operands that each have their sign before them
 
-junction_first : (context : Context) (group : Group) (right : Ty) (place : Pos) (rest : Members)
-    → first_of (else_told (is_truth right) (broken 7 place) ++ member_faults context None (Some group) right rest) ≡ first_of (else_told (is_truth right) (broken 7 place) ++ member_faults context None (Some group) types.Bool rest)
-junction_first context group right place rest = by_test (is_truth right) refl
+junction_first : (context : Context) (group : Group) (right : Ty) (pos : Pos) (rest : Members)
+    → first_of (else_told (is_truth right) (broken 7 pos) ++ member_faults context None (Some group) right rest) ≡ first_of (else_told (is_truth right) (broken 7 pos) ++ member_faults context None (Some group) types.Bool rest)
+junction_first context group right pos rest = by_test (is_truth right) refl
   where
     by_test : (b : Bool) → is_truth right ≡ b
-        → first_of (else_told b (broken 7 place) ++ member_faults context None (Some group) right rest) ≡ first_of (else_told b (broken 7 place) ++ member_faults context None (Some group) types.Bool rest)
+        → first_of (else_told b (broken 7 pos) ++ member_faults context None (Some group) right rest) ≡ first_of (else_told b (broken 7 pos) ++ member_faults context None (Some group) types.Bool rest)
     by_test true e = ap (λ (t : Ty). first_of (member_faults context None (Some group) t rest)) (truth_is right e)
     by_test false e = refl
 
-leading_first : (context : Context) (expected : Option Ty) (operator : BinaryOperator) (place : Pos) (operand : Expr) (rest : Members)
-    → (let all = more operator place operand rest in first_of (member_faults context None (leading_group all) types.Bool all) ≡ first_of (expr_faults context expected (Leading all)))
-leading_first context expected binary.And place operand rest = first_after (expr_faults context None operand) _ _ (junction_first context groups.Conjunction (type_in context None operand) place rest)
-leading_first context expected binary.Or place operand rest = first_after (expr_faults context None operand) _ _ (junction_first context groups.Disjunction (type_in context None operand) place rest)
-leading_first context expected binary.Iff place operand rest = first_after (expr_faults context None operand) _ _ refl
-leading_first context expected binary.Implies place operand rest = first_after (expr_faults context None operand) _ _ refl
-leading_first context expected binary.Explies place operand rest = first_after (expr_faults context None operand) _ _ refl
-leading_first context expected binary.Equal place operand rest = first_after (expr_faults context None operand) _ _ refl
-leading_first context expected binary.NotEqual place operand rest = first_after (expr_faults context None operand) _ _ refl
-leading_first context expected binary.Less place operand rest = first_after (expr_faults context None operand) _ _ refl
-leading_first context expected binary.AtMost place operand rest = first_after (expr_faults context None operand) _ _ refl
-leading_first context expected binary.Greater place operand rest = first_after (expr_faults context None operand) _ _ refl
-leading_first context expected binary.AtLeast place operand rest = first_after (expr_faults context None operand) _ _ refl
-leading_first context expected binary.Add place operand rest = first_after (expr_faults context None operand) _ _ refl
-leading_first context expected binary.Subtract place operand rest = first_after (expr_faults context None operand) _ _ refl
+leading_first : (context : Context) (expected : Option Ty) (operator : BinaryOperator) (pos : Pos) (operand : Expr) (rest : Members)
+    → (let all = more operator pos operand rest in first_of (member_faults context None (leading_group all) types.Bool all) ≡ first_of (expr_faults context expected (Leading all)))
+leading_first context expected binary.And pos operand rest = first_after (expr_faults context None operand) _ _ (junction_first context groups.Conjunction (type_in context None operand) pos rest)
+leading_first context expected binary.Or pos operand rest = first_after (expr_faults context None operand) _ _ (junction_first context groups.Disjunction (type_in context None operand) pos rest)
+leading_first context expected binary.Iff pos operand rest = first_after (expr_faults context None operand) _ _ refl
+leading_first context expected binary.Implies pos operand rest = first_after (expr_faults context None operand) _ _ refl
+leading_first context expected binary.Explies pos operand rest = first_after (expr_faults context None operand) _ _ refl
+leading_first context expected binary.Equal pos operand rest = first_after (expr_faults context None operand) _ _ refl
+leading_first context expected binary.NotEqual pos operand rest = first_after (expr_faults context None operand) _ _ refl
+leading_first context expected binary.Less pos operand rest = first_after (expr_faults context None operand) _ _ refl
+leading_first context expected binary.AtMost pos operand rest = first_after (expr_faults context None operand) _ _ refl
+leading_first context expected binary.Greater pos operand rest = first_after (expr_faults context None operand) _ _ refl
+leading_first context expected binary.AtLeast pos operand rest = first_after (expr_faults context None operand) _ _ refl
+leading_first context expected binary.Add pos operand rest = first_after (expr_faults context None operand) _ _ refl
+leading_first context expected binary.Subtract pos operand rest = first_after (expr_faults context None operand) _ _ refl
 
 pub leading_told_so : (context : Context) (expected : Option Ty) (all : Members) (group : Option Group) (stop : Stop) → group ≡ leading_group all
     → IsTold stop (member_faults context None group types.Bool all) → IsTold stop (expr_faults context expected (Leading all))
 leading_told_so context expected end group stops.Memory e told = tt
 leading_told_so context expected end group (stops.Refused refusal) e told = absurd told
-leading_told_so context expected (more operator place operand rest) group stop e told =
-    let all = more operator place operand rest in
-    told_so stop (member_faults context None (leading_group all) types.Bool all) (expr_faults context expected (Leading all)) (leading_first context expected operator place operand rest)
+leading_told_so context expected (more operator pos operand rest) group stop e told =
+    let all = more operator pos operand rest in
+    told_so stop (member_faults context None (leading_group all) types.Bool all) (expr_faults context expected (Leading all)) (leading_first context expected operator pos operand rest)
     (subst (λ (g : Option Group). IsTold stop (member_faults context None g types.Bool all)) e told)
 
 pub leading_gives : {X : Type 0} (view : X → Typed) (result : Result X Stop) (context : Context) (expected : Option Ty) (all : Members) (group : Option Group) (rows : List Row) → group ≡ leading_group all
@@ -230,10 +231,10 @@ pub leading_gives : {X : Type 0} (view : X → Typed) (result : Result X Stop) (
     → Gives view result (expr_faults context expected (Leading all)) (typed_in context expected (Leading all))
 leading_gives view result context expected end group rows e m er gives =
     gives_so view result (leading_told rows) (expr_faults context expected (Leading end)) (leading_of rows) (typed_in context expected (Leading end)) (ap (λ (r : List Row). first_of (leading_told r)) er) (λ none. ap leading_of er) gives
-leading_gives view result context expected (more operator place operand rest) group rows e m er gives =
-    let all = more operator place operand rest in
+leading_gives view result context expected (more operator pos operand rest) group rows e m er gives =
+    let all = more operator pos operand rest in
     let m' : member_faults context None (leading_group all) types.Bool all ≡ [] = subst (λ (g : Option Group). member_faults context None g types.Bool all ≡ []) e m in
-    let none : expr_faults context expected (Leading all) ≡ [] = none_so _ _ (leading_first context expected operator place operand rest) m' in
+    let none : expr_faults context expected (Leading all) ≡ [] = none_so _ _ (leading_first context expected operator pos operand rest) m' in
     let same : first_of (leading_told rows) ≡ first_of (expr_faults context expected (Leading all)) = ap (λ (r : List Row). first_of (leading_told r)) er ∙ ap first_of (sym none) in
     let value : leading_of rows ≡ typed_in context expected (Leading all) =
     ap leading_of er ∙ ap (λ (parts : List Part). record { ty = types.Bool; expr = typed.Operations types.Bool (elaborated context None operand) (elaboration.members_of parts) }) (parts_are context None rest) in

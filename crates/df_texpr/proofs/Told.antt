@@ -1,5 +1,6 @@
 -- The first of faults.
 use Rattle.std.proofs.Common.{◌≡◌, List, [], ◌∷◌, ◌++◌, Option, Some, None, refl, ◌∙◌}
+use Rattle.df_names.proofs.Telling.{told_left, told_right}
 use Rattle.df_base.specs.declared.refusal.Refusal.{Refusal}
 use Rattle.df_base.specs.declared.refusal.Stop.{Stop}
 use Rattle.df_base.specs.declared.refusal.Stop.TheVariants as stops
@@ -19,14 +20,6 @@ pub none_so : (xs ys : List Refusal) → first_of xs ≡ first_of ys → xs ≡ 
 none_so [] [] e f = refl
 none_so [] (y ∷ ys) e f = absurd cc
 none_so (x ∷ xs) ys e f = absurd cc
-
-pub told_first : (stop : Stop) (xs ys : List Refusal) → IsTold stop xs → IsTold stop (xs ++ ys)
-told_first stops.Memory xs ys told = tt
-told_first (stops.Refused refusal) [] ys told = absurd told
-told_first (stops.Refused refusal) (x ∷ xs) ys told = told
-
-pub told_later : (stop : Stop) (xs ys : List Refusal) → xs ≡ [] → IsTold stop ys → IsTold stop (xs ++ ys)
-told_later stop xs ys e told = rw e told
 
 -- what is added after faults with the same first
 pub first_after : (xs ys zs : List Refusal) → first_of ys ≡ first_of zs → first_of (xs ++ ys) ≡ first_of (xs ++ zs)

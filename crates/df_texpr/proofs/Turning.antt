@@ -8,7 +8,7 @@ use Rattle.df_program.specs.declared.expr.Ty.{Ty}
 use Rattle.df_program.specs.Expr as typed
 use Rattle.df_texpr.specs.Elaboration.{operator_of, comparison_of, members_of, links_of}
 use Rattle.df_texpr.specs.Faults.{is_truth}
-use Rattle.df_texpr.specs.Rows.{row_of, part_of, or_place, is_last, wrong_at}
+use Rattle.df_texpr.specs.Rows.{row_of, part_of, or_pos, is_last, wrong_at}
 use Rattle.df_texpr.specs.declared.part.Part.{Part}
 
 abbrev pub operation_from : Part → typed.Operation
@@ -40,20 +40,20 @@ last_after (part ∷ parts) (suc n) le =
     let same : (n == length parts) ≡ (suc n == length (part ∷ parts)) = grind (arith, nat_tests) in
     last_after parts n less ∙ same
 
-regroup : (later wrong : Option Pos) (holds : Bool) (place : Pos) → or_place (or_place later (if holds then None else Some place)) wrong ≡ or_place later (if holds then wrong else Some place)
-regroup (Some found) wrong holds place = refl
-regroup None wrong true place = refl
-regroup None wrong false place = refl
+regroup : (later wrong : Option Pos) (holds : Bool) (pos : Pos) → or_pos (or_pos later (if holds then None else Some pos)) wrong ≡ or_pos later (if holds then wrong else Some pos)
+regroup (Some found) wrong holds pos = refl
+regroup None wrong true pos = refl
+regroup None wrong false pos = refl
 
 pub one_further : (parts : List Part) (i : ℕ) (part : Part) (left : Ty) (wrong total : Option Pos) → i < length parts → part ≡ get_or parts i part
-    → or_place (wrong_at left (map row_of (drop i parts))) wrong ≡ total
-    → or_place (wrong_at part.typed.ty (map row_of (drop (i + 1) parts))) (if is_truth left && (is_truth part.typed.ty || not (i + 1 == length parts)) then wrong else Some part.pos) ≡ total
+    → or_pos (wrong_at left (map row_of (drop i parts))) wrong ≡ total
+    → or_pos (wrong_at part.typed.ty (map row_of (drop (i + 1) parts))) (if is_truth left && (is_truth part.typed.ty || not (i + 1 == length parts)) then wrong else Some part.pos) ≡ total
 one_further parts i part left wrong total lt is so_far =
     let rest = drop (i + 1) parts in
     let cut : drop i parts ≡ part ∷ rest = drop-cons parts i part lt ∙ rw (← is, add-one) refl in
     let within : i + 1 ≤ length parts = omega arith in
     let last = last_after parts (i + 1) within in
-    let step : or_place (wrong_at left (map row_of (part ∷ rest))) wrong ≡ total = rw cut at so_far in
+    let step : or_pos (wrong_at left (map row_of (part ∷ rest))) wrong ≡ total = rw cut at so_far in
     rw (← last) (sym (regroup (wrong_at part.typed.ty (map row_of rest)) wrong (is_truth left && (is_truth part.typed.ty || not (is_last (map row_of rest)))) part.pos) ∙ step)
 
 pub map-reverse : {A B : Type 0} (f : A → B) (xs : List A) → map f (reverse xs) ≡ reverse (map f xs)

@@ -1,6 +1,7 @@
 -- Types, and the tests of them.
 use Rattle.std.proofs.Common.{◌≡◌, Bool, true, false, ◌&&◌, List, [], ◌∷◌, ◌++◌, Option, Some, None, refl, ap}
-use Rattle.std.proofs.lemmas.Bool.{eqb-true, eq-eqb}
+use Rattle.std.proofs.lemmas.Bool.{eqb-true, eq-eqb, and_parts, and_from}
+use Rattle.df_lemmas.proofs.Truths.{three}
 use Rattle.df_base.specs.declared.refusal.Refusal.{Refusal}
 use Rattle.df_program.specs.declared.expr.Ty.{Ty}
 use Rattle.df_program.specs.declared.expr.Ty.TheVariants as types
@@ -25,22 +26,11 @@ same_type_refl types.Int = refl
 same_type_refl types.Bool = refl
 same_type_refl (types.Newtype a) = eq-eqb a a refl
 
-pub both : (a b : Bool) → (a && b) ≡ true → (a ≡ true) × (b ≡ true)
-both true b e = (refl, e)
-both false b e = absurd cc
-
-pub three : (a b c : Bool) → (a && b && c) ≡ true → (a ≡ true) × (b ≡ true) × (c ≡ true)
-three true b c e = let rest = both b c e in (refl, rest.0, rest.1)
-three false b c e = absurd (let f : false ≡ true = e in cc)
-
-pub both_true : (a b : Bool) → a ≡ true → b ≡ true → (a && b) ≡ true
-both_true a b e f = rw (e, f) refl
-
 pub truth_is : (a : Ty) → is_truth a ≡ true → a ≡ types.Bool
 truth_is a e = same_type_equal a types.Bool e
 
 pub truths_are : (a b : Ty) → (is_truth a && is_truth b) ≡ true → (a ≡ types.Bool) × (b ≡ types.Bool)
-truths_are a b e = let h = both (is_truth a) (is_truth b) e in (truth_is a h.0, truth_is b h.1)
+truths_are a b e = let h = and_parts (is_truth a) (is_truth b) e in (truth_is a h.0, truth_is b h.1)
 
 -- two that are alike are one integer type
 pub alike_is : (a b : Ty) → are_alike a b ≡ true → (a ≡ b) × (is_integer a ≡ true)

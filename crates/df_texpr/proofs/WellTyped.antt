@@ -1,6 +1,7 @@
 -- What is typed is well typed.
 use Rattle.std.proofs.Common.{◌≡◌, ℕ, zero, suc, ℤ, ◌⊎◌, inl, inr, Bool, true, false, nat_eq, List, [], ◌∷◌, slice_get, Option, Some, None, refl, sym, ap, ◌∙◌, subst, if◌then◌else◌, unwrap_or}
 use Rattle.std.specs.List.{list_all}
+use Rattle.std.proofs.lemmas.Bool.{and_parts, and_from}
 use Rattle.df_base.specs.declared.pos.Pos.{Pos}
 use Rattle.df_program.specs.declared.expr.Ty.{Ty}
 use Rattle.df_program.specs.declared.expr.Ty.TheVariants as types
@@ -23,7 +24,7 @@ use Rattle.df_texpr.specs.Context.{Binding, Context, Means, local_type}
 use Rattle.df_texpr.specs.Open.{value_of, is_sum, is_open, is_integer, literal_type, own_type, rest_type, type_in, operand_type}
 use Rattle.df_texpr.specs.Elaboration.{Part, operator_of, comparison_of, fits_comparison, is_of_group, all_of, members_of, links_of, turned, IsTyped, AreParts, IsRun}
 use Rattle.df_texpr.specs.WellTyped.{is_type, is_expected, types_of}
-use Rattle.df_texpr.proofs.Types.{both, both_true, same_type_refl, literal_is_integer}
+use Rattle.df_texpr.proofs.Types.{same_type_refl, literal_is_integer}
 use Rattle.df_texpr.proofs.Operands.{IsLogical}
 use Rattle.df_texpr.proofs.Complete.{complete, junction_is_logical}
 
@@ -37,7 +38,7 @@ choose newtypes false x y p q = q
 local_is_type : (newtypes : ℕ) (context : Context) (name : ℕ) → list_all (is_type newtypes) (types_of context) ≡ true → is_type newtypes (unwrap_or (local_type context name) types.Int) ≡ true
 local_is_type newtypes [] name all = refl
 local_is_type newtypes (binding ∷ others) name all =
-    let parts = both (is_type newtypes binding.ty) (list_all (is_type newtypes) (types_of others)) all in
+    let parts = and_parts (is_type newtypes binding.ty) (list_all (is_type newtypes) (types_of others)) all in
     by_test (local_type others name) (nat_eq binding.name name) refl refl (local_is_type newtypes others name parts.1) parts.0
   where
     by_test : (o : Option Ty) (b : Bool) → local_type others name ≡ o → nat_eq binding.name name ≡ b → is_type newtypes (unwrap_or (local_type others name) types.Int) ≡ true → is_type newtypes binding.ty ≡ true
@@ -61,18 +62,18 @@ integer_there newtypes (types.Newtype n) i e = e
 mutual
   own_is_type : (newtypes : ℕ) (context : Context) → list_all (is_type newtypes) (types_of context) ≡ true → (e : Expr) → is_type newtypes (own_type context e) ≡ true
   own_is_type newtypes context all (Number literal) = refl
-  own_is_type newtypes context all (Truth value place) = refl
+  own_is_type newtypes context all (Truth value pos) = refl
   own_is_type newtypes context all (Name ident) = local_is_type newtypes context ident.name all
-  own_is_type newtypes context all (Parentheses place inner) = own_is_type newtypes context all inner
-  own_is_type newtypes context all (Unary unary.Negate place operand) = own_is_type newtypes context all operand
-  own_is_type newtypes context all (Unary unary.Not place operand) = refl
+  own_is_type newtypes context all (Parentheses pos inner) = own_is_type newtypes context all inner
+  own_is_type newtypes context all (Unary unary.Negate pos operand) = own_is_type newtypes context all operand
+  own_is_type newtypes context all (Unary unary.Not pos operand) = refl
   own_is_type newtypes context all (Operations first rest) =
       choose newtypes (is_sum (first_group rest)) _ _ (choose newtypes (is_open first) _ _ (rest_is_type newtypes context all rest types.Int refl) (own_is_type newtypes context all first)) refl
   own_is_type newtypes context all (Leading operations) = refl
 
   rest_is_type : (newtypes : ℕ) (context : Context) → list_all (is_type newtypes) (types_of context) ≡ true → (rest : Members) (otherwise : Ty) → is_type newtypes otherwise ≡ true → is_type newtypes (rest_type context rest otherwise) ≡ true
   rest_is_type newtypes context all end otherwise e = e
-  rest_is_type newtypes context all (more operator place operand rest) otherwise e =
+  rest_is_type newtypes context all (more operator pos operand rest) otherwise e =
       choose newtypes (is_open operand) _ _ (rest_is_type newtypes context all rest otherwise e) (own_is_type newtypes context all operand)
 
 -- the type that an expression shows is one of the program
@@ -247,14 +248,14 @@ turned_well : (newtypes : ℕ) (locals : List Ty) (group : Group) (test : Binary
     → AreWell newtypes locals group test types.Bool parts → is_expr newtypes locals types.Bool (turned first done parts) ≡ true
 turned_well newtypes locals group test first done [] f m a o well = rw (f, m) o
 turned_well newtypes locals group test first done (part ∷ parts) f m a o well =
-    turned_well newtypes locals group test part.operand (typed.more operators.Implies part.place first done) parts well.0 (rw f m) a a well.3
+    turned_well newtypes locals group test part.operand (typed.more operators.Implies part.pos first done) parts well.0 (rw f m) a a well.3
 
 abbrev any_pass : BinaryOperator → Bool
 any_pass operator = true
 
 all_pass : (rest : Members) → all_of any_pass rest ≡ true
 all_pass end = refl
-all_pass (more operator place operand rest) = all_pass rest
+all_pass (more operator pos operand rest) = all_pass rest
 
 grouped_so : (operator : BinaryOperator) (group : Group) → is_of_group (Some group) operator ≡ true → group_of operator ≡ group
 grouped_so operator group e = same_true declared_group.the_type tt (group_of operator) group e
@@ -295,62 +296,62 @@ AreAllWell newtypes context rest = (own : Option Ty) → is_expected newtypes ow
 run_is_well : (newtypes : ℕ) (context : Context) → list_all (is_type newtypes) (types_of context) ≡ true → (first : Expr) (rest : Members) → IsWell newtypes context first → AreAllWell newtypes context rest
     → IsWell newtypes context (Operations first rest)
 run_is_well newtypes context all first end one others expected x ty t (of, head, parts, h, hs, run) = absurd run
-run_is_well newtypes context all first (more operator place operand rest) one others expected x ty t (of, head, parts, h, hs, run) =
-    let members = more operator place operand rest in
+run_is_well newtypes context all first (more operator pos operand rest) one others expected x ty t (of, head, parts, h, hs, run) =
+    let members = more operator pos operand rest in
     let group = group_of operator in
     let own = operand_type context expected (Some group) first members in
     let x' = own_is_expected newtypes context expected (Some group) first members all x in
     run_well newtypes (types_of context) group members of head parts ty t (typed_is_type newtypes context own first of head all x' h) (one own x' of head h)
     (λ test pass. others own x' group test of parts hs pass) run
 
-leading_is_well : (newtypes : ℕ) (context : Context) (operator : BinaryOperator) (place : Pos) (operand : Expr) (rest : Members) → IsWell newtypes context operand → AreAllWell newtypes context rest
-    → IsWell newtypes context (Leading (more operator place operand rest))
-leading_is_well newtypes context operator place operand rest one others expected x ty t (head, parts, h, hs, junction, type, e) =
+leading_is_well : (newtypes : ℕ) (context : Context) (operator : BinaryOperator) (pos : Pos) (operand : Expr) (rest : Members) → IsWell newtypes context operand → AreAllWell newtypes context rest
+    → IsWell newtypes context (Leading (more operator pos operand rest))
+leading_is_well newtypes context operator pos operand rest one others expected x ty t (head, parts, h, hs, junction, type, e) =
     let group = group_of operator in
     logical_well newtypes (types_of context) group types.Bool head parts ty t (junction_is_logical operator junction) refl type e (one None refl types.Bool head h)
     (others None refl group any_pass types.Bool parts hs (all_pass rest))
 
-number_well : (newtypes : ℕ) (locals : List Ty) (ty : Ty) (value : ℤ) (place : Pos) → typing.is_integer newtypes ty ≡ true → is_expr newtypes locals ty (typed.Number ty value place) ≡ true
-number_well newtypes locals ty value place i = rw (same_type_refl ty, i) refl
+number_well : (newtypes : ℕ) (locals : List Ty) (ty : Ty) (value : ℤ) (pos : Pos) → typing.is_integer newtypes ty ≡ true → is_expr newtypes locals ty (typed.Number ty value pos) ≡ true
+number_well newtypes locals ty value pos i = rw (same_type_refl ty, i) refl
 
-negated_well : (newtypes : ℕ) (context : Context) → list_all (is_type newtypes) (types_of context) ≡ true → (place : Pos) (operand : Expr) → IsWell newtypes context operand
-    → IsWell newtypes context (Unary unary.Negate place operand)
-negated_well newtypes context all place operand one expected x ty t (inner, h, integer, e) =
+negated_well : (newtypes : ℕ) (context : Context) → list_all (is_type newtypes) (types_of context) ≡ true → (pos : Pos) (operand : Expr) → IsWell newtypes context operand
+    → IsWell newtypes context (Unary unary.Negate pos operand)
+negated_well newtypes context all pos operand one expected x ty t (inner, h, integer, e) =
     rw (e, same_type_refl ty, integer_there newtypes ty integer (typed_is_type newtypes context expected operand ty inner all x h)) (one expected x ty inner h)
 
-denied_well : (newtypes : ℕ) (context : Context) (place : Pos) (operand : Expr) → IsWell newtypes context operand → IsWell newtypes context (Unary unary.Not place operand)
-denied_well newtypes context place operand one expected x ty t (inner, h, type, e) = rw (e, type) (one None refl types.Bool inner h)
+denied_well : (newtypes : ℕ) (context : Context) (pos : Pos) (operand : Expr) → IsWell newtypes context operand → IsWell newtypes context (Unary unary.Not pos operand)
+denied_well newtypes context pos operand one expected x ty t (inner, h, type, e) = rw (e, type) (one None refl types.Bool inner h)
 
-name_well : (newtypes : ℕ) (context : Context) (name number : ℕ) (place : Pos) (ty : Ty) → Means context name number ty → is_expr newtypes (types_of context) ty (typed.Local number place) ≡ true
-name_well newtypes context name number place ty h = rw (type_there context number (record { name = name; ty = ty }) h.typed) (same_type_refl ty)
+name_well : (newtypes : ℕ) (context : Context) (name number : ℕ) (pos : Pos) (ty : Ty) → Means context name number ty → is_expr newtypes (types_of context) ty (typed.Local number pos) ≡ true
+name_well newtypes context name number pos ty h = rw (type_there context number (record { name = name; ty = ty }) h.typed) (same_type_refl ty)
 
 mutual
   pub well : (newtypes : ℕ) (context : Context) → list_all (is_type newtypes) (types_of context) ≡ true → (e : Expr) → IsWell newtypes context e
   well newtypes context all (Number literal) expected x ty t h =
       let i = integer_there newtypes (literal_type expected) (literal_is_integer expected) (literal_is_type newtypes expected x) in
       rw (h.2, h.1) (number_well newtypes (types_of context) (literal_type expected) (value_of literal) literal.pos i)
-  well newtypes context all (Truth value place) expected x ty t h = rw (h.1, h.0) refl
+  well newtypes context all (Truth value pos) expected x ty t h = rw (h.1, h.0) refl
   well newtypes context all (Name ident) expected x ty t (number, h, e) = rw e (name_well newtypes context ident.name number ident.pos ty h)
-  well newtypes context all (Parentheses place inner) expected x ty t h = well newtypes context all inner expected x ty t h
-  well newtypes context all (Unary unary.Negate place operand) expected x ty t h = negated_well newtypes context all place operand (well newtypes context all operand) expected x ty t h
-  well newtypes context all (Unary unary.Not place operand) expected x ty t h = denied_well newtypes context place operand (well newtypes context all operand) expected x ty t h
+  well newtypes context all (Parentheses pos inner) expected x ty t h = well newtypes context all inner expected x ty t h
+  well newtypes context all (Unary unary.Negate pos operand) expected x ty t h = negated_well newtypes context all pos operand (well newtypes context all operand) expected x ty t h
+  well newtypes context all (Unary unary.Not pos operand) expected x ty t h = denied_well newtypes context pos operand (well newtypes context all operand) expected x ty t h
   well newtypes context all (Operations first rest) expected x ty t h = run_is_well newtypes context all first rest (well newtypes context all first) (well_members newtypes context all rest) expected x ty t h
   well newtypes context all (Leading end) expected x ty t h = absurd h
-  well newtypes context all (Leading (more operator place operand rest)) expected x ty t h =
-      leading_is_well newtypes context operator place operand rest (well newtypes context all operand) (well_members newtypes context all rest) expected x ty t h
+  well newtypes context all (Leading (more operator pos operand rest)) expected x ty t h =
+      leading_is_well newtypes context operator pos operand rest (well newtypes context all operand) (well_members newtypes context all rest) expected x ty t h
 
   well_members : (newtypes : ℕ) (context : Context) → list_all (is_type newtypes) (types_of context) ≡ true → (rest : Members) → AreAllWell newtypes context rest
   well_members newtypes context all end own x group test of parts h pass = rw h tt
-  well_members newtypes context all (more operator place operand rest) own x group test of parts (one, others, grouped, h, hs, e) pass =
-      let passes = both (test operator) (all_of test rest) pass in
+  well_members newtypes context all (more operator pos operand rest) own x group test of parts (one, others, grouped, h, hs, e) pass =
+      let passes = and_parts (test operator) (all_of test rest) pass in
       rw e (well newtypes context all operand own x of one h, grouped_so operator group grouped, passes.0, well_members newtypes context all rest own x group test of others hs passes.1)
 
 -- newtypes of the program are types of it
 pub places_are_types : (newtypes : ℕ) (all : List Ty) → list_all (is_place_type newtypes) all ≡ true → list_all (is_type newtypes) all ≡ true
 places_are_types newtypes [] h = refl
 places_are_types newtypes (ty ∷ others) h =
-    let parts = both (is_place_type newtypes ty) (list_all (is_place_type newtypes) others) h in
-    both_true (is_type newtypes ty) (list_all (is_type newtypes) others) (one ty parts.0) (places_are_types newtypes others parts.1)
+    let parts = and_parts (is_place_type newtypes ty) (list_all (is_place_type newtypes) others) h in
+    and_from (is_type newtypes ty) (list_all (is_type newtypes) others) (one ty parts.0) (places_are_types newtypes others parts.1)
   where
     one : (ty : Ty) → is_place_type newtypes ty ≡ true → is_type newtypes ty ≡ true
     one types.Int e = refl

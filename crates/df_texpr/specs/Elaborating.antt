@@ -28,19 +28,19 @@ run_of group of first parts = typed.Operations types.Bool first (members_of part
 abbrev mutual
   pub elaborated : Context → Option Ty → Expr → typed.Expr
   elaborated context expected (Number literal) = typed.Number (literal_type expected) (value_of literal) literal.pos
-  elaborated context expected (Truth value place) = typed.Truth value
+  elaborated context expected (Truth value pos) = typed.Truth value
   elaborated context expected (Name ident) = typed.Local (local_number context ident.name) ident.pos
-  elaborated context expected (Parentheses place inner) = elaborated context expected inner
-  elaborated context expected (Unary unary.Negate place operand) = typed.Negate (type_in context expected operand) place (elaborated context expected operand)
-  elaborated context expected (Unary unary.Not place operand) = typed.Not (elaborated context None operand)
+  elaborated context expected (Parentheses pos inner) = elaborated context expected inner
+  elaborated context expected (Unary unary.Negate pos operand) = typed.Negate (type_in context expected operand) pos (elaborated context expected operand)
+  elaborated context expected (Unary unary.Not pos operand) = typed.Not (elaborated context None operand)
   elaborated context expected (Operations first rest) =
       let own = operand_type context expected (first_group rest) first rest in
       run_of (first_group rest) (type_in context own first) (elaborated context own first) (parts_of context own rest)
   elaborated context expected (Leading end) = typed.Truth true
-  elaborated context expected (Leading (more operator place operand rest)) =
+  elaborated context expected (Leading (more operator pos operand rest)) =
       typed.Operations types.Bool (elaborated context None operand) (members_of (parts_of context None rest))
 
   -- the operations, their operands typed where a type is expected
   pub parts_of : Context → Option Ty → Members → List Part
   parts_of context own end = []
-  parts_of context own (more operator place operand rest) = record { operator = operator; place = place; operand = elaborated context own operand } ∷ parts_of context own rest
+  parts_of context own (more operator pos operand rest) = record { operator = operator; pos = pos; operand = elaborated context own operand } ∷ parts_of context own rest

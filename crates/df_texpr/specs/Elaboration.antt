@@ -73,10 +73,10 @@ falls operator = false
 
 abbrev pub all_of : (BinaryOperator → Bool) → Members → Bool
 all_of test end = true
-all_of test (more operator place operand rest) = test operator && all_of test rest
+all_of test (more operator pos operand rest) = test operator && all_of test rest
 
 abbrev pub is_single : Members → Bool
-is_single (more operator place operand end) = true
+is_single (more operator pos operand end) = true
 is_single members = false
 
 -- only `<`, `<=` and `==`, or only `>`, `>=` and `==`; or one comparison
@@ -87,23 +87,23 @@ keeps_direction members = is_single members || (all_of rises members || all_of f
 
 pub record Part : Type 0 where
   pub operator : BinaryOperator
-  pub place : Pos
+  pub pos : Pos
   pub operand : typed.Expr
 
 abbrev pub members_of : List Part → typed.Members
 members_of [] = typed.end
-members_of (part ∷ parts) = typed.more (operator_of part.operator) part.place part.operand (members_of parts)
+members_of (part ∷ parts) = typed.more (operator_of part.operator) part.pos part.operand (members_of parts)
 
 abbrev pub links_of : List Part → typed.Links
 links_of [] = typed.last
-links_of (part ∷ parts) = typed.link (comparison_of part.operator) part.place part.operand (links_of parts)
+links_of (part ∷ parts) = typed.link (comparison_of part.operator) part.pos part.operand (links_of parts)
 
 -- A run of `<==` is one of `==>` from the right: what stands before an operation, in front of what is turned.
 abbrev pub turned : typed.Expr → typed.Members → List Part → typed.Expr
 turned first done [] = typed.Operations types.Bool first done
-turned first done (part ∷ parts) = turned part.operand (typed.more operators.Implies part.place first done) parts
+turned first done (part ∷ parts) = turned part.operand (typed.more operators.Implies part.pos first done) parts
 
--- The operations after a first operand, all operands of one type, make a typed expression of a type.
+-- The operations after a first operand, all operands of one type `of`, make a typed expression of a type.
 abbrev pub IsRun : Option Group → Members → Ty → typed.Expr → List Part → Ty → typed.Expr → Type 0
 IsRun None rest of first parts ty e = ⊥
 -- E3: the members of a sum are of one integer type
@@ -124,23 +124,23 @@ abbrev mutual
   pub IsTyped : Context → Option Ty → Expr → Ty → typed.Expr → Type 0
   -- E2: a literal takes the expected integer type
   IsTyped context expected (Number literal) ty e = (is_literal literal ≡ true) × (ty ≡ literal_type expected) × (e ≡ typed.Number ty (value_of literal) literal.pos)
-  IsTyped context expected (Truth value place) ty e = (ty ≡ types.Bool) × (e ≡ typed.Truth value)
+  IsTyped context expected (Truth value pos) ty e = (ty ≡ types.Bool) × (e ≡ typed.Truth value)
   -- E15: a name is one of a local
   IsTyped context expected (Name ident) ty e = (number : ℕ) × Means context ident.name number ty × (e ≡ typed.Local number ident.pos)
-  IsTyped context expected (Parentheses place inner) ty e = IsTyped context expected inner ty e
+  IsTyped context expected (Parentheses pos inner) ty e = IsTyped context expected inner ty e
   -- E3: a minus takes an integer type
-  IsTyped context expected (Unary unary.Negate place operand) ty e =
-      (inner : typed.Expr) × IsTyped context expected operand ty inner × (is_integer ty ≡ true) × (e ≡ typed.Negate ty place inner)
+  IsTyped context expected (Unary unary.Negate pos operand) ty e =
+      (inner : typed.Expr) × IsTyped context expected operand ty inner × (is_integer ty ≡ true) × (e ≡ typed.Negate ty pos inner)
   -- E7: `!` takes a truth
-  IsTyped context expected (Unary unary.Not place operand) ty e =
+  IsTyped context expected (Unary unary.Not pos operand) ty e =
       (inner : typed.Expr) × IsTyped context None operand types.Bool inner × (ty ≡ types.Bool) × (e ≡ typed.Not inner)
   IsTyped context expected (Operations first rest) ty e =
       let own = operand_type context expected (first_group rest) first rest in
       (of : Ty) × (one : typed.Expr) × (parts : List Part)
       × IsTyped context own first of one × AreParts context own (first_group rest) of rest parts × IsRun (first_group rest) rest of one parts ty e
-  -- E7: so do `&&` and `||` before a first operand, which say nothing more
+  -- E7: the operands of a row that begins with `&&` or `||` are truths; that first sign adds nothing
   IsTyped context expected (Leading end) ty e = ⊥
-  IsTyped context expected (Leading (more operator place operand rest)) ty e =
+  IsTyped context expected (Leading (more operator pos operand rest)) ty e =
       (one : typed.Expr) × (parts : List Part)
       × IsTyped context None operand types.Bool one × AreParts context None (Some (group_of operator)) types.Bool rest parts
       × (is_junction operator ≡ true) × (ty ≡ types.Bool) × (e ≡ typed.Operations types.Bool one (members_of parts))
@@ -148,7 +148,7 @@ abbrev mutual
   -- operations of the group, whose operands are of the type
   pub AreParts : Context → Option Ty → Option Group → Ty → Members → List Part → Type 0
   AreParts context own group of end parts = parts ≡ []
-  AreParts context own group of (more operator place operand rest) parts =
+  AreParts context own group of (more operator pos operand rest) parts =
       (one : typed.Expr) × (others : List Part) × (is_of_group group operator ≡ true)
       × IsTyped context own operand of one × AreParts context own group of rest others
-      × (parts ≡ record { operator = operator; place = place; operand = one } ∷ others)
+      × (parts ≡ record { operator = operator; pos = pos; operand = one } ∷ others)

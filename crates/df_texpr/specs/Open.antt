@@ -33,6 +33,7 @@ abbrev pub is_sum : Option Group → Bool
 is_sum (Some groups.Sum) = true
 is_sum group = false
 
+-- a minus before an open expression leaves it open
 abbrev pub opens : UnaryOperator → Bool
 opens unary.Negate = true
 opens unary.Not = false
@@ -41,26 +42,26 @@ abbrev mutual
   -- Made of literals alone: numbers, parentheses, minus, and sums of such.
   pub is_open : Expr → Bool
   is_open (Number literal) = true
-  is_open (Truth value place) = false
+  is_open (Truth value at) = false
   is_open (Name ident) = false
-  is_open (Parentheses place inner) = is_open inner
-  is_open (Unary operator place operand) = opens operator && is_open operand
+  is_open (Parentheses at inner) = is_open inner
+  is_open (Unary operator at operand) = opens operator && is_open operand
   is_open (Operations first rest) = is_sum (first_group rest) && is_open first && are_open rest
   is_open (Leading operations) = false
 
   pub are_open : Members → Bool
   are_open end = true
-  are_open (more operator place operand rest) = is_open operand && are_open rest
+  are_open (more operator at operand rest) = is_open operand && are_open rest
 
 abbrev mutual
   -- the type of an expression that is not open
   pub own_type : Context → Expr → Ty
   own_type context (Number literal) = types.Int
-  own_type context (Truth value place) = types.Bool
+  own_type context (Truth value at) = types.Bool
   own_type context (Name ident) = unwrap_or (local_type context ident.name) types.Int
-  own_type context (Parentheses place inner) = own_type context inner
-  own_type context (Unary unary.Negate place operand) = own_type context operand
-  own_type context (Unary unary.Not place operand) = types.Bool
+  own_type context (Parentheses at inner) = own_type context inner
+  own_type context (Unary unary.Negate at operand) = own_type context operand
+  own_type context (Unary unary.Not at operand) = types.Bool
   own_type context (Operations first rest) =
       if is_sum (first_group rest) then (if is_open first then rest_type context rest types.Int else own_type context first) else types.Bool
   own_type context (Leading operations) = types.Bool
@@ -68,7 +69,7 @@ abbrev mutual
   -- the type of the first operand that is not open, and another one where all are
   pub rest_type : Context → Members → Ty → Ty
   rest_type context end otherwise = otherwise
-  rest_type context (more operator place operand rest) otherwise = if is_open operand then rest_type context rest otherwise else own_type context operand
+  rest_type context (more operator at operand rest) otherwise = if is_open operand then rest_type context rest otherwise else own_type context operand
 
 abbrev pub run_type : Context → Expr → Members → Ty → Ty
 run_type context first rest otherwise = if is_open first then rest_type context rest otherwise else own_type context first
@@ -84,38 +85,38 @@ operand_type context expected (Some groups.Sum) first rest = Some (run_type cont
 operand_type context expected (Some groups.Comparison) first rest = Some (run_type context first rest types.Int)
 operand_type context expected group first rest = None
 
--- ---- places
+-- ---- positions
 
-abbrev pub first_place : Members → Pos
-first_place end = record { line = 0; col = 0 }
-first_place (more operator place operand rest) = place
+abbrev pub first_pos : Members → Pos
+first_pos end = record { line = 0; col = 0 }
+first_pos (more operator at operand rest) = at
 
-abbrev pub last_place : Pos → Members → Pos
-last_place before end = before
-last_place before (more operator place operand rest) = last_place place rest
+abbrev pub last_pos : Pos → Members → Pos
+last_pos before end = before
+last_pos before (more operator at operand rest) = last_pos at rest
 
-abbrev pub place_of_run : Option Group → Members → Pos
-place_of_run (Some groups.Implication) rest = first_place rest
-place_of_run (Some groups.Comparison) rest = first_place rest
-place_of_run group rest = last_place (first_place rest) rest
+abbrev pub pos_of_run : Option Group → Members → Pos
+pos_of_run (Some groups.Implication) rest = first_pos rest
+pos_of_run (Some groups.Comparison) rest = first_pos rest
+pos_of_run group rest = last_pos (first_pos rest) rest
 
 -- Where an expression stands: at its sign, which is the last of those that hold to the left, and the first of
 -- those that hold to the right or of a chain; else at its first token.
-abbrev pub place_of : Expr → Pos
-place_of (Number literal) = literal.pos
-place_of (Truth value place) = place
-place_of (Name ident) = ident.pos
-place_of (Parentheses place inner) = place
-place_of (Unary operator place operand) = place
-place_of (Operations first rest) = place_of_run (first_group rest) rest
-place_of (Leading operations) = last_place (first_place operations) operations
+abbrev pub pos_of : Expr → Pos
+pos_of (Number literal) = literal.pos
+pos_of (Truth value at) = at
+pos_of (Name ident) = ident.pos
+pos_of (Parentheses at inner) = at
+pos_of (Unary operator at operand) = at
+pos_of (Operations first rest) = pos_of_run (first_group rest) rest
+pos_of (Leading operations) = last_pos (first_pos operations) operations
 
 -- where its first token stands
 abbrev pub beginning_of : Expr → Pos
 beginning_of (Number literal) = literal.pos
-beginning_of (Truth value place) = place
+beginning_of (Truth value at) = at
 beginning_of (Name ident) = ident.pos
-beginning_of (Parentheses place inner) = place
-beginning_of (Unary operator place operand) = place
+beginning_of (Parentheses at inner) = at
+beginning_of (Unary operator at operand) = at
 beginning_of (Operations first rest) = beginning_of first
-beginning_of (Leading operations) = first_place operations
+beginning_of (Leading operations) = first_pos operations

@@ -17,7 +17,7 @@ use Rattle.df_tree.specs.declared.expr.Group.TheVariants as groups
 use Rattle.df_tree.specs.Expr.{Expr, Members, end, more}
 use Rattle.df_names.specs.Faults.{else_told}
 use Rattle.df_texpr.specs.Context.{Context}
-use Rattle.df_texpr.specs.Open.{type_in, first_place}
+use Rattle.df_texpr.specs.Open.{type_in, first_pos}
 use Rattle.df_texpr.specs.Elaboration.{Part, keeps_direction, is_junction, members_of}
 use Rattle.df_tree.specs.Operator.{group_of}
 use Rattle.df_texpr.specs.Faults.{broken, is_truth}
@@ -44,19 +44,19 @@ too_large literal = record { code = codes.Number; pos = literal.pos; detail = de
 -- an operator and the operand after it, with its type
 pub record Row : Type 0 where
   pub operator : BinaryOperator
-  pub place : Pos
+  pub pos : Pos
   pub typed : Typed
 
 abbrev pub row_of : declared_part.Part → Row
-row_of part = record { operator = part.operator; place = part.pos; typed = typed_of part.typed }
+row_of part = record { operator = part.operator; pos = part.pos; typed = typed_of part.typed }
 
 abbrev pub part_of : Row → Part
-part_of row = record { operator = row.operator; place = row.place; operand = row.typed.expr }
+part_of row = record { operator = row.operator; pos = row.pos; operand = row.typed.expr }
 
 abbrev pub rows_of : Context → Option Ty → Members → List Row
 rows_of context own end = []
-rows_of context own (more operator place operand rest) =
-    record { operator = operator; place = place; typed = typed_in context own operand } ∷ rows_of context own rest
+rows_of context own (more operator pos operand rest) =
+    record { operator = operator; pos = pos; typed = typed_in context own operand } ∷ rows_of context own rest
 
 -- ---- what is told of a whole run
 
@@ -64,14 +64,14 @@ abbrev pub is_last : List Row → Bool
 is_last [] = true
 is_last (row ∷ rows) = false
 
-abbrev pub or_place : Option Pos → Option Pos → Option Pos
-or_place (Some place) other = Some place
-or_place None other = other
+abbrev pub or_pos : Option Pos → Option Pos → Option Pos
+or_pos (Some pos) other = Some pos
+or_pos None other = other
 
 -- in a run that holds to the right, the last operator that has no truths
 abbrev pub wrong_at : Ty → List Row → Option Pos
 wrong_at left [] = None
-wrong_at left (row ∷ rows) = or_place (wrong_at row.typed.ty rows) (if is_truth left && (is_truth row.typed.ty || not (is_last rows)) then None else Some row.place)
+wrong_at left (row ∷ rows) = or_pos (wrong_at row.typed.ty rows) (if is_truth left && (is_truth row.typed.ty || not (is_last rows)) then None else Some row.pos)
 
 -- the operators after the first
 abbrev pub inner_wrong : List Row → Option Pos
@@ -80,12 +80,12 @@ inner_wrong (row ∷ rows) = wrong_at row.typed.ty rows
 
 abbrev pub told_at : Option Pos → List Refusal
 told_at None = []
-told_at (Some place) = broken 7 place ∷ []
+told_at (Some pos) = broken 7 pos ∷ []
 
 abbrev pub whole_told : Option Group → Ty → Members → List Row → List Refusal
-whole_told (Some groups.Comparison) left rest rows = else_told (keeps_direction rest) (broken 6 (first_place rest))
+whole_told (Some groups.Comparison) left rest rows = else_told (keeps_direction rest) (broken 6 (first_pos rest))
 whole_told (Some groups.Implication) left rest rows = told_at (wrong_at left rows)
-whole_told None left rest rows = broken 7 (first_place rest) ∷ []
+whole_told None left rest rows = broken 7 (first_pos rest) ∷ []
 whole_told group left rest rows = []
 
 abbrev pub type_of_group : Option Group → Ty → Ty
@@ -96,10 +96,10 @@ type_of_group group left = types.Bool
 
 abbrev pub leading_group : Members → Option Group
 leading_group end = None
-leading_group (more operator place operand rest) = if is_junction operator then Some (group_of operator) else None
+leading_group (more operator pos operand rest) = if is_junction operator then Some (group_of operator) else None
 
 abbrev pub leading_told : List Row → List Refusal
-leading_told [] = broken 7 (first_place end) ∷ []
+leading_told [] = broken 7 (first_pos end) ∷ []
 leading_told (row ∷ rows) = []
 
 abbrev pub leading_of : List Row → Typed

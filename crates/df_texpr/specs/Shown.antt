@@ -15,15 +15,15 @@ or_else None other = other
 abbrev mutual
   pub shown : Context → Expr → Option Ty
   shown context (Number literal) = None
-  shown context (Truth value place) = Some types.Bool
+  shown context (Truth value pos) = Some types.Bool
   shown context (Name ident) = Some (unwrap_or (local_type context ident.name) types.Int)
-  shown context (Parentheses place inner) = shown context inner
-  shown context (Unary unary.Negate place operand) = shown context operand
-  shown context (Unary unary.Not place operand) = Some types.Bool
+  shown context (Parentheses pos inner) = shown context inner
+  shown context (Unary unary.Negate pos operand) = shown context operand
+  shown context (Unary unary.Not pos operand) = Some types.Bool
   shown context (Operations first rest) = if is_sum (first_group rest) then or_else (shown context first) (shown_rest context rest) else Some types.Bool
   shown context (Leading operations) = Some types.Bool
 
   -- the first of the operands that shows one
   pub shown_rest : Context → Members → Option Ty
   shown_rest context end = None
-  shown_rest context (more operator place operand rest) = or_else (shown context operand) (shown_rest context rest)
+  shown_rest context (more operator pos operand rest) = or_else (shown context operand) (shown_rest context rest)

@@ -16,11 +16,9 @@ mod earlier;
 mod locals;
 mod open;
 mod part;
-mod places;
+mod positions;
 mod rules;
 mod runs;
-#[cfg(test)]
-mod tests;
 mod typing;
 
 use df_base::{Global, Stop};
@@ -29,7 +27,7 @@ use df_tree::Expr;
 pub use earlier::is_always_truth;
 pub use locals::Locals;
 pub use part::Typed;
-pub use places::{beginning_of, place_of};
+pub use positions::{beginning_of, pos_of};
 
 /// The type and the typed expression of an expression where a type is expected, or none. The first rule that
 /// it breaks is told.

@@ -14,7 +14,7 @@ use df_base::{Code, Detail, Pos, Refusal, Stop};
 use df_program::{Comparison, Operator, Ty};
 use df_tree::{BinaryOperator, Group, Literal, Operation};
 
-/// A typing rule is broken at a place.
+/// A typing rule is broken at a position.
 pub(crate) fn broken(rule: u8, pos: Pos) -> Stop
     ensures { result ≡ stops.Refused (faults.broken rule pos) }
 {

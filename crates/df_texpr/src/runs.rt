@@ -11,7 +11,7 @@ ghost use Rattle.df_names.specs.Telling.{Tells};
 ghost use Rattle.df_texpr.specs.Gives.{Gives};
 
 use crate::part::{Part, Typed};
-use crate::places::first_place;
+use crate::positions::first_pos;
 use crate::rules::{broken, comparison_of, is_truth, keeps_direction, operator_of};
 use df_base::{Global, Pos, Stop};
 use df_program::{Expr, Link, Operation, Operator, Ty};
@@ -27,7 +27,7 @@ fn has_truths(left: Ty, right: Ty, is_last: bool) -> bool
     is_truth(left) && (is_truth(right) || !is_last)
 }
 
-/// The place, unless it holds there.
+/// The position, unless it holds there.
 fn unless(holds: bool, wrong: Option<Pos>, pos: Pos) -> Option<Pos>
     ensures { result ≡ if holds then wrong else Some pos }
 {
@@ -176,8 +176,8 @@ fn whole(
     ensures { Tells result (whole_told group left (tree.members_of (map tree.operation_of rest.now)) (map row_of parts.now)) }
 {
     match group {
-        None => Err(broken(7, first_place(rest))),
-        Some(Group::Comparison) if !keeps_direction(rest) => Err(broken(6, first_place(rest))),
+        None => Err(broken(7, first_pos(rest))),
+        Some(Group::Comparison) if !keeps_direction(rest) => Err(broken(6, first_pos(rest))),
         Some(Group::Implication) => match wrong_at(left, parts) {
             Some(pos) => Err(broken(7, pos)),
             None => Ok(()),

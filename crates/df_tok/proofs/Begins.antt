@@ -4,6 +4,8 @@ use Rattle.std.specs.Prelude.{nat_eq, ◌&&◌, codes, is_some}
 use Rattle.std.specs.List.{starts_with}
 use Rattle.std.proofs.lemmas.Bool.{cases_lt, cond-true, eqb-true, cases_Bool, false≢true}
 use Rattle.std.proofs.lemmas.List.{append-nil, length-append, take-append-drop, length-take, take_all, nil_from_length}
+use Rattle.df_lemmas.proofs.Truths.{choice}
+use Rattle.df_lemmas.proofs.Lists.{head_same, tail_same}
 use Rattle.df_tok.specs.Byte.{is_digit, is_hex_digit, is_plain_in_character, is_plain_in_text, escaped}
 use Rattle.df_tok.specs.declared.sign.Sign.{Sign}
 use Rattle.df_tok.specs.declared.sign.Sign.TheVariants as all
@@ -11,7 +13,7 @@ use Rattle.df_tok.specs.Sign.{sign_text}
 use Rattle.df_tok.specs.Lexeme.{AreDigits, IsNumber, IsCharacter, Part, Plain, Escape, AreParts, IsText, IsSign, IsLexeme, identifier, number, character, string, sign}
 use Rattle.df_tok.specs.Fault.{IsBegun, Stops}
 use Rattle.df_tok.specs.Scanning.{are_digits, text_len, digits_begun, number_begun, escape_begun, character_begun, text_begun, begun_at}
-use Rattle.df_tok.proofs.Lists.{chosen, starts_front}
+use Rattle.df_tok.proofs.Lists.{starts_front}
 use Rattle.df_tok.proofs.Literals.{digits_sound, digits_complete, number_first, text_sound, plain_apart, some_is_some}
 
 abbrev pub NoLexeme : List ℕ → Type 0
@@ -39,9 +41,9 @@ digits_local digit before (b ∷ front) x y h = elim (cases_Bool (digit b)) [
 -- digits are begun to their end
 digits_whole : (digit : ℕ → Bool) (before : Bool) (bs x : List ℕ) → are_digits digit before bs ≡ true → length bs ≤ digits_begun digit before (bs ++ x)
 digits_whole digit before [] x h = omega arith
-digits_whole digit before (b ∷ bs) x h = elim (chosen (digit b) (are_digits digit true bs) (cond (before && eqb b 95) (are_digits digit false bs) false) true h) [
+digits_whole digit before (b ∷ bs) x h = elim (choice (digit b) (are_digits digit true bs) (cond (before && eqb b 95) (are_digits digit false bs) false) true h) [
   | inl p ↦ let r = digits_whole digit true bs x p.1 in rw p.0 (omega (arith, r))
-  | inr p ↦ elim (chosen (before && eqb b 95) (are_digits digit false bs) false true p.1) [
+  | inr p ↦ elim (choice (before && eqb b 95) (are_digits digit false bs) false true p.1) [
     | inl q ↦ let r = digits_whole digit false bs x q.1 in rw (p.0, q.0) (omega (arith, r))
     | inr q ↦ absurd (false≢true q.1)
   ]
@@ -77,12 +79,6 @@ digits_longest digit front more after other h =
     let long : length front ≤ digits_begun digit false (front ++ (more ++ [])) = subst (λ (t : List ℕ). length front ≤ digits_begun digit false t) (append_assoc front more []) (omega (arith, whole, length-append front more)) in
     digits_local digit false front (more ++ []) after long
 
-head_is : (a b : ℕ) (xs ys : List ℕ) → a ∷ xs ≡ b ∷ ys → a ≡ b
-head_is a b xs ys e = cc
-
-tail_is : (a b : ℕ) (xs ys : List ℕ) → a ∷ xs ≡ b ∷ ys → xs ≡ ys
-tail_is a b xs ys e = cc
-
 number_longest : (front more after : List ℕ) → IsNumber (front ++ more) → length front ≤ number_begun (front ++ after)
 number_longest front more after (inl ds) =
     let r = digits_longest is_digit front more after refl ds in
@@ -95,16 +91,16 @@ number_longest front more after (inl ds) =
     ]
 number_longest [] more after (inr h) = omega arith
 number_longest (a ∷ []) more after (inr (digits, is, ds)) =
-    let zero_is : a ≡ 48 = head_is a 48 more (120 ∷ digits) is in
+    let zero_is : a ≡ 48 = head_same a 48 more (120 ∷ digits) is in
     elim (cases_Bool (starts_with nat_eq (a ∷ after) (codes "0x"))) [
       | inl e ↦ rw e (omega arith)
       | inr e ↦ let d : is_digit a ≡ true = ap is_digit zero_is in rw (e, d) (omega arith)
     ]
 number_longest (a ∷ b ∷ front) more after (inr (digits, is, ds)) =
-    let zero_is : a ≡ 48 = head_is a 48 (b ∷ (front ++ more)) (120 ∷ digits) is in
-    let tail : b ∷ (front ++ more) ≡ 120 ∷ digits = tail_is a 48 (b ∷ (front ++ more)) (120 ∷ digits) is in
-    let x_is : b ≡ 120 = head_is b 120 (front ++ more) digits tail in
-    let d : AreDigits is_hex_digit (front ++ more) = subst (AreDigits is_hex_digit) (sym (tail_is b 120 (front ++ more) digits tail)) ds in
+    let zero_is : a ≡ 48 = head_same a 48 (b ∷ (front ++ more)) (120 ∷ digits) is in
+    let tail : b ∷ (front ++ more) ≡ 120 ∷ digits = tail_same a 48 (b ∷ (front ++ more)) (120 ∷ digits) is in
+    let x_is : b ≡ 120 = head_same b 120 (front ++ more) digits tail in
+    let d : AreDigits is_hex_digit (front ++ more) = subst (AreDigits is_hex_digit) (sym (tail_same b 120 (front ++ more) digits tail)) ds in
     let r = digits_longest is_hex_digit front more after refl d in
     let both : suc (suc (length front)) ≤ number_begun (48 ∷ 120 ∷ (front ++ after)) = omega (arith, r) in
     subst (λ (t : List ℕ). suc (suc (length front)) ≤ number_begun t) (ap (λ (x : ℕ). 48 ∷ x ∷ (front ++ after)) (sym x_is) ∙ ap (λ (x : ℕ). x ∷ b ∷ (front ++ after)) (sym zero_is)) both
@@ -134,24 +130,24 @@ no_more front more n e le = nil_from_length more (omega (arith, length-append fr
 character_longest : (front more after : List ℕ) (c : ℕ) → IsCharacter (39 ∷ (front ++ more)) c → more ≢ [] → length front ≤ character_begun (front ++ after)
 character_longest [] more after c h some = omega arith
 character_longest (a ∷ []) more after c (inl (plain, is)) some =
-    let e : a ≡ c = head_is a c more (39 ∷ []) (tail_is 39 39 (a ∷ more) (c ∷ 39 ∷ []) is) in
+    let e : a ≡ c = head_same a c more (39 ∷ []) (tail_same 39 39 (a ∷ more) (c ∷ 39 ∷ []) is) in
     let p : is_plain_in_character a ≡ true = ap is_plain_in_character e ∙ plain in
     rw p (omega arith)
 character_longest (a ∷ b ∷ front) more after c (inl (plain, is)) some =
-    absurd (some (no_more (a ∷ b ∷ front) more 2 (ap length (tail_is 39 39 (a ∷ b ∷ (front ++ more)) (c ∷ 39 ∷ []) is)) (omega arith)))
+    absurd (some (no_more (a ∷ b ∷ front) more 2 (ap length (tail_same 39 39 (a ∷ b ∷ (front ++ more)) (c ∷ 39 ∷ []) is)) (omega arith)))
 character_longest (a ∷ []) more after c (inr (e, esc, is)) some =
-    let first : a ≡ 92 = head_is a 92 more (e ∷ 39 ∷ []) (tail_is 39 39 (a ∷ more) (92 ∷ e ∷ 39 ∷ []) is) in
+    let first : a ≡ 92 = head_same a 92 more (e ∷ 39 ∷ []) (tail_same 39 39 (a ∷ more) (92 ∷ e ∷ 39 ∷ []) is) in
     let n : 1 ≤ character_begun (92 ∷ after) = omega arith in
     subst (λ x. 1 ≤ character_begun (x ∷ after)) (sym first) n
 character_longest (a ∷ b ∷ []) more after c (inr (e, esc, is)) some =
-    let tail : a ∷ b ∷ more ≡ 92 ∷ e ∷ 39 ∷ [] = tail_is 39 39 (a ∷ b ∷ more) (92 ∷ e ∷ 39 ∷ []) is in
-    let first : a ≡ 92 = head_is a 92 (b ∷ more) (e ∷ 39 ∷ []) tail in
-    let second : b ≡ e = head_is b e more (39 ∷ []) (tail_is a 92 (b ∷ more) (e ∷ 39 ∷ []) tail) in
+    let tail : a ∷ b ∷ more ≡ 92 ∷ e ∷ 39 ∷ [] = tail_same 39 39 (a ∷ b ∷ more) (92 ∷ e ∷ 39 ∷ []) is in
+    let first : a ≡ 92 = head_same a 92 (b ∷ more) (e ∷ 39 ∷ []) tail in
+    let second : b ≡ e = head_same b e more (39 ∷ []) (tail_same a 92 (b ∷ more) (e ∷ 39 ∷ []) tail) in
     let found : is_some (escaped b) ≡ true = ap (λ x. is_some (escaped x)) second ∙ ap is_some esc in
     let n : 2 ≤ character_begun (92 ∷ b ∷ after) = rw found (omega arith) in
     subst (λ x. 2 ≤ character_begun (x ∷ b ∷ after)) (sym first) n
 character_longest (a ∷ b ∷ d ∷ front) more after c (inr (e, esc, is)) some =
-    absurd (some (no_more (a ∷ b ∷ d ∷ front) more 3 (ap length (tail_is 39 39 (a ∷ b ∷ d ∷ (front ++ more)) (92 ∷ e ∷ 39 ∷ []) is)) (omega arith)))
+    absurd (some (no_more (a ∷ b ∷ d ∷ front) more 3 (ap length (tail_same 39 39 (a ∷ b ∷ d ∷ (front ++ more)) (92 ∷ e ∷ 39 ∷ []) is)) (omega arith)))
 
 -- ---- strings
 
@@ -186,7 +182,7 @@ parts_begun (Escape e ∷ parts) inner cs x (front, after, c, others, is, _, (es
 
 text_longest : (front more after cs : List ℕ) → IsText (34 ∷ (front ++ more)) cs → more ≢ [] → length front ≤ text_begun false (front ++ after)
 text_longest front more after cs (parts, inner, is, are) some =
-    let e : front ++ more ≡ inner ++ 34 ∷ [] = tail_is 34 34 (front ++ more) (inner ++ 34 ∷ []) is in
+    let e : front ++ more ≡ inner ++ 34 ∷ [] = tail_same 34 34 (front ++ more) (inner ++ 34 ∷ []) is in
     let n = parts_begun parts inner cs (34 ∷ []) are in
     let shorter : length front ≤ length inner = elim (cases_lt (length inner) (length front)) [
       | inl lt ↦ absurd (some (nil_from_length more (omega (arith, ap length e, length-append front more, length-append inner (34 ∷ [])))))
@@ -279,19 +275,19 @@ sign_longest b front more after (s, is, h) none = by (first_sign s)
   where
     by : (x : ℕ) × (xs : List ℕ) × (sign_text s ≡ x ∷ xs) × ((s ≡ all.And) × (x ≡ 38) ⊎ ((t : Sign) × (sign_text t ≡ x ∷ []) × (t ≢ all.NotIn))) → (b ≡ 38) × (front ≡ [])
     by (x, xs, first, inl (and, amp)) =
-        let b_is : b ≡ 38 = head_is b x (front ++ more) xs (is ∙ first) ∙ amp in
-        let rest_is : front ++ more ≡ 38 ∷ [] = tail_is b 38 (front ++ more) (38 ∷ []) (is ∙ ap sign_text and) in
+        let b_is : b ≡ 38 = head_same b x (front ++ more) xs (is ∙ first) ∙ amp in
+        let rest_is : front ++ more ≡ 38 ∷ [] = tail_same b 38 (front ++ more) (38 ∷ []) (is ∙ ap sign_text and) in
         (b_is, only front rest_is b_is none)
       where
         only : (front : List ℕ) → front ++ more ≡ 38 ∷ [] → b ≡ 38 → NoLexeme (b ∷ (front ++ after)) → front ≡ []
         only [] e b_is none = refl
         only (c ∷ front) e b_is none =
-            let none_left : front ++ more ≡ [] = tail_is c 38 (front ++ more) [] e in
+            let none_left : front ++ more ≡ [] = tail_same c 38 (front ++ more) [] e in
             let ended : front ≡ [] = nil_from_length front (omega (arith, ap length none_left, length-append front more)) in
-            let both : b ∷ c ∷ front ≡ 38 ∷ 38 ∷ [] = ap (λ (t : List ℕ). b ∷ c ∷ t) ended ∙ ap (λ (x : ℕ). b ∷ x ∷ []) (head_is c 38 (front ++ more) [] e) ∙ ap (λ (x : ℕ). x ∷ 38 ∷ []) b_is in
+            let both : b ∷ c ∷ front ≡ 38 ∷ 38 ∷ [] = ap (λ (t : List ℕ). b ∷ c ∷ t) ended ∙ ap (λ (x : ℕ). b ∷ x ∷ []) (head_same c 38 (front ++ more) [] e) ∙ ap (λ (x : ℕ). x ∷ 38 ∷ []) b_is in
             absurd (none (b ∷ c ∷ front) after refl (sign (all.And, both, λ e. cc)))
     by (x, xs, first, inr (t, single, other)) =
-        let b_is : b ≡ x = head_is b x (front ++ more) xs (is ∙ first) in
+        let b_is : b ≡ x = head_same b x (front ++ more) xs (is ∙ first) in
         absurd (none (b ∷ []) (front ++ after) refl (sign (t, ap (λ (y : ℕ). y ∷ []) b_is ∙ sym single, λ e. absurd (other e))))
 
 -- ---- all of them
@@ -300,8 +296,8 @@ digit_begun : (b : ℕ) (bs : List ℕ) → is_digit b ≡ true → begun_at (b 
 digit_begun b bs h = cond-true (is_digit b) (number_begun (b ∷ bs)) (cond (eqb b 39) (1 + character_begun bs) (cond (eqb b 34) (1 + text_begun false bs) (cond (eqb b 38) 1 0))) h
 
 character_begins : (b : ℕ) (bs : List ℕ) (c : ℕ) → IsCharacter (b ∷ bs) c → b ≡ 39
-character_begins b bs c (inl (plain, is)) = head_is b 39 bs (c ∷ 39 ∷ []) is
-character_begins b bs c (inr (e, esc, is)) = head_is b 39 bs (92 ∷ e ∷ 39 ∷ []) is
+character_begins b bs c (inl (plain, is)) = head_same b 39 bs (c ∷ 39 ∷ []) is
+character_begins b bs c (inr (e, esc, is)) = head_same b 39 bs (92 ∷ e ∷ 39 ∷ []) is
 
 pub begun_can : (rest : List ℕ) → IsBegun (take (begun_at rest) rest)
 begun_can [] = (48 ∷ [], number (inl refl) tt)
@@ -327,7 +323,7 @@ begun_longest rest (b ∷ front) more none e (after, h) = subst (λ (t : List �
     by (identifier h) none = absurd (none (b ∷ []) (front ++ more) refl (identifier (h.0, tt)))
     by (number h f) none =
         let p = number_first (b ∷ (front ++ after)) h in
-        let d : is_digit b ≡ true = ap is_digit (head_is b p.0 (front ++ after) p.1 p.2) ∙ p.3 in
+        let d : is_digit b ≡ true = ap is_digit (head_same b p.0 (front ++ after) p.1 p.2) ∙ p.3 in
         subst (λ n. suc (length front) ≤ n) (sym (digit_begun b (front ++ more) d)) (number_longest (b ∷ front) after more h)
     by (character c h) none =
         let first : b ≡ 39 = character_begins b (front ++ after) c h in
@@ -336,7 +332,7 @@ begun_longest rest (b ∷ front) more none e (after, h) = subst (λ (t : List �
         let m : suc (length front) ≤ begun_at (39 ∷ (front ++ more)) = omega (arith, n) in
         subst (λ x. suc (length front) ≤ begun_at (x ∷ (front ++ more))) (sym first) m
     by (string cs h) none =
-        let first : b ≡ 34 = head_is b 34 (front ++ after) (h.1 ++ 34 ∷ []) h.2 in
+        let first : b ≡ 34 = head_same b 34 (front ++ after) (h.1 ++ 34 ∷ []) h.2 in
         let some : after ≢ [] = λ e. none (b ∷ front) more refl (string cs (subst (λ (t : List ℕ). IsText (b ∷ t) cs) (ap (λ (t : List ℕ). front ++ t) e ∙ append-nil front) h)) in
         let n = text_longest front after more cs (subst (λ x. IsText (x ∷ (front ++ after)) cs) first h) some in
         let m : suc (length front) ≤ begun_at (34 ∷ (front ++ more)) = omega (arith, n) in

@@ -2,10 +2,11 @@
 use Rattle.std.proofs.Common.{◌≡◌, ℕ, zero, suc, ◌+◌, inl, inr, Bool, true, false, eqb, List, [], ◌∷◌, ◌++◌, length, Option, Some, refl, sym, ap, ◌∙◌, arith, add-one, sub-one}
 use Rattle.std.specs.Prelude.{◌&&◌, MatchBool}
 use Rattle.std.proofs.lemmas.Bool.{ne_eqb, MatchBool-at_true, MatchBool-at_false, cases_Bool}
+use Rattle.std.proofs.lemmas.Option.{same_Some}
 use Rattle.df_tok.specs.Division.{Closes}
 use Rattle.df_tok.specs.Scanning.{more, comment_len}
 use Rattle.df_tok.proofs.Lists.{Parts}
-use Rattle.df_tok.proofs.Literals.{some_is, less_one}
+use Rattle.df_tok.proofs.Literals.{less_one}
 
 abbrev opens : ℕ → ℕ → Bool
 opens a b = eqb a 47 && eqb b 42
@@ -97,7 +98,7 @@ comment_sound depth before (b ∷ bs) n h = elim (cases_Bool (opens before b)) [
     closing zero e f g next = record {
       inner = b ∷ [];
       rest = bs;
-      parts = record { is = refl; len = some_is 1 n (sym (step_last before b bs e f) ∙ g) };
+      parts = record { is = refl; len = same_Some 1 n (sym (step_last before b bs e f) ∙ g) };
       closes = closes_shuts 0 before b [] e f refl;
     }
     closing (suc d) e f g next =

@@ -30,9 +30,9 @@ tokens_append pos (piece ∷ pieces) more =
     ∙ sym (append_assoc (token_of pos piece) (tokens_of next pieces) (tokens_of (after_pieces next pieces) more))
     ∙ ap (λ (t : List Token). t ++ tokens_of (after_pieces next pieces) more) (sym (tokens_cons pos piece pieces))
 
-place_append : (pos : Pos) (pieces : List Piece) (piece : Piece) → after_pieces pos (pieces ++ piece ∷ []) ≡ after_bytes (after_pieces pos pieces) (text_of piece)
-place_append pos [] piece = refl
-place_append pos (p ∷ pieces) piece = place_append (after_bytes pos (text_of p)) pieces piece
+pos_append : (pos : Pos) (pieces : List Piece) (piece : Piece) → after_pieces pos (pieces ++ piece ∷ []) ≡ after_bytes (after_pieces pos pieces) (text_of piece)
+pos_append pos [] piece = refl
+pos_append pos (p ∷ pieces) piece = pos_append (after_bytes pos (text_of p)) pieces piece
 
 -- ---- a front of the source
 
@@ -115,7 +115,7 @@ progress_more before source tokens more rest pos names after n p q =
       tokens_are =
           ap (λ (t : List Token). t ++ more) p.tokens_are ∙ ap (λ (t : List Token). tokens_of start p.pieces ++ t) (q.tokens_are ∙ ap (λ (x : Pos). token_of x q.piece) p.pos_is ∙ sym (one_token (after_pieces start p.pieces) q.piece))
           ∙ sym (tokens_append start p.pieces (q.piece ∷ []));
-      pos_is = ap (after_bytes pos) (sym text) ∙ ap (λ (x : Pos). after_bytes x (text_of q.piece)) p.pos_is ∙ sym (place_append start p.pieces q.piece);
+      pos_is = ap (after_bytes pos) (sym text) ∙ ap (λ (x : Pos). after_bytes x (text_of q.piece)) p.pos_is ∙ sym (pos_append start p.pieces q.piece);
     }
   where
     one_token : (pos : Pos) (piece : Piece) → tokens_of pos (piece ∷ []) ≡ token_of pos piece

@@ -5,6 +5,7 @@ use Rattle.std.specs.List.{find, starts_with}
 use Rattle.std.proofs.lemmas.Bool.{both_ways, le-leb, false_from_ne_true}
 use Rattle.std.proofs.lemmas.Option.{MatchOption-at_none, none-some}
 use Rattle.std.proofs.lemmas.List.{take-append-drop, take_at, drop_at}
+use Rattle.df_tok.proofs.OneFault.{same_stop}
 use Rattle.df_base.specs.Names.{same_text, with_text}
 use Rattle.df_base.specs.declared.pos.Pos.{Pos}
 use Rattle.df_base.specs.declared.refusal.Code.TheVariants as tags
@@ -45,7 +46,7 @@ token_at kind text pos = record { kind = kind; text = text; pos = pos }
 
 -- ---- a division, a piece after another
 
--- bytes that divide into these tokens from a place on, with the names before and after them
+-- bytes that divide into these tokens from a position on, with the names before and after them
 record Divided (before : List (List ℕ)) (bytes : List ℕ) (pos : Pos) (tokens : List Token) (after : List (List ℕ)) : Type 0 where
   pieces : List Piece
   divided : AreDivided before bytes pieces after
@@ -202,14 +203,6 @@ no_token pos = refusal tags.Token pos Nothing
 at_front : (source : List ℕ) → front_at source ≡ None → 0 < length source → length source ≤ 4194304 → IsFault [] source (fault_at start source)
 at_front source none some few = stop few [] source [] (refl, refl) (omega arith) (fault_from [] source start 0 some none)
 
--- the front that can be continued, and what is behind it, are determined
-one_stop : (rest front behind other more : List ℕ) → Stops rest front behind → Stops rest other more → (front ≡ other) × (behind ≡ more)
-one_stop rest front behind other more s t =
-    let len : length front ≡ length other = omega (arith, s.longest other more t.is t.begun, t.longest front behind s.is s.begun) in (
-      sym (take_at front behind (length front) refl) ∙ ap (take (length front)) (sym s.is ∙ t.is) ∙ take_at other more (length front) (sym len),
-      sym (drop_at front behind (length front) refl) ∙ ap (drop (length front)) (sym s.is ∙ t.is) ∙ drop_at other more (length front) (sym len),
-    )
-
 -- what begins no comment begins no open comment
 no_open : (rest : List ℕ) → ¬ BeginsComment rest → starts_with nat_eq rest (codes "/*") ≡ false
 no_open rest h = false_from_ne_true _ (λ e. h (42, drop 2 rest, starts_front rest (codes "/*") e, inr refl))
@@ -227,11 +220,11 @@ refused_once rest pos r none (number text more is lex longest comment num value 
 refused_once rest pos r none (many kind text more after is p count e) = absurd (omega arith)
 refused_once rest pos r none (unclosed h e) = e ∙ sym (ap (fault_at pos) h.1)
 refused_once rest pos r none (byte h front b behind s high e) =
-    let same = one_stop rest front (b ∷ behind) (take (begun_at rest) rest) (drop (begun_at rest) rest) s (stops_at rest h.lexeme) in
+    let same = same_stop rest front (b ∷ behind) (take (begun_at rest) rest) (drop (begun_at rest) rest) s (stops_at rest h.lexeme) in
     let is_byte : is_high (drop (begun_at rest) rest) ≡ true = ap is_high (sym same.1) ∙ le-leb 128 b high in
     e ∙ ap (λ (f : List ℕ). refusal tags.Byte (after_bytes pos f) Nothing) same.0 ∙ rw (no_open rest h.comment, is_byte) refl
 refused_once rest pos r none (token h front behind s low e) =
-    let same = one_stop rest front behind (take (begun_at rest) rest) (drop (begun_at rest) rest) s (stops_at rest h.lexeme) in
+    let same = same_stop rest front behind (take (begun_at rest) rest) (drop (begun_at rest) rest) s (stops_at rest h.lexeme) in
     let is_token : is_high (drop (begun_at rest) rest) ≡ false = ap is_high (sym same.1) ∙ low_byte behind low in
     e ∙ rw (no_open rest h.comment, is_token) refl
 

@@ -17,6 +17,7 @@ use Rattle.df_tok.specs.Steps.{CannotAdd, large, full, NoPiece, Exceeds}
 use Rattle.df_tok.proofs.Lists.{starts_front}
 use Rattle.df_tok.proofs.Comments.{unused, used, comment_again, comment_sound}
 use Rattle.std.proofs.lemmas.List.{take-append-drop, take_at}
+use Rattle.df_tok.proofs.Outsides.{some_length}
 use Rattle.df_tok.proofs.Lexemes.{furthest}
 use Rattle.df_tok.proofs.OneKind.{number_small}
 use Rattle.df_tok.proofs.Pieces.{Turn, blank, line, block, lexeme, turn_of, no_comment, block_case, lex_next, lexeme_next, lexeme_seen, nothing_next, no_kind_next}
@@ -109,10 +110,6 @@ no_piece_begins names rest h (BlockComment text) more after is ((inner, t, close
     h.comment (42, inner ++ more, is ∙ ap (λ (x : List ℕ). x ++ more) t, inr refl)
 no_piece_begins names rest h (Lexeme kind text) more after is p = h.lexeme text more is p.0
 
-some_bytes : (rest : List ℕ) → rest ≢ [] → 0 < length rest
-some_bytes [] h = absurd (h refl)
-some_bytes (b ∷ bs) h = omega arith
-
 pub unclosed_none : (rest : List ℕ) → IsUnclosed rest → front_at rest ≡ None
 unclosed_none rest (inner, is, h) = ap front_at is ∙ block_case inner ∙ ap (skips 2) (by (comment_len 0 0 inner) refl)
   where
@@ -138,8 +135,8 @@ refused_exceeds names rest pos count r (many kind text more after is p c e) =
     let next = lexeme_next names rest start f.0 (length text) kind after l (subst (λ (t : List ℕ). HasKind names t kind after) (sym taken) p.3) in
     subst (Exceeds names rest) none (token_exceeds names rest start _ (length text) after (omega (arith, l.some, l.within)) next)
 refused_exceeds names rest pos count r (unclosed h e) = no_piece_exceeds names rest (500000 - count) (omega (arith, ap length h.1)) (nothing_next names rest (unclosed_none rest h))
-refused_exceeds names rest pos count r (byte h front b behind s high e) = no_piece_exceeds names rest (500000 - count) (some_bytes rest h.some) (no_piece_begins names rest h)
-refused_exceeds names rest pos count r (token h front behind s low e) = no_piece_exceeds names rest (500000 - count) (some_bytes rest h.some) (no_piece_begins names rest h)
+refused_exceeds names rest pos count r (byte h front b behind s high e) = no_piece_exceeds names rest (500000 - count) (some_length rest h.some) (no_piece_begins names rest h)
+refused_exceeds names rest pos count r (token h front behind s low e) = no_piece_exceeds names rest (500000 - count) (some_length rest h.some) (no_piece_begins names rest h)
 
 -- a source with a fault has no division within the limits
 pub fault_excludes : (before : List (List ℕ)) (source : List ℕ) (r : Refusal) (all : List Token) (after : List (List ℕ)) → IsFault before source r → Divides before source all after → length source ≤ 4194304 → length all ≤ 500000 → ⊥

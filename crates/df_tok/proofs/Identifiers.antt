@@ -33,8 +33,8 @@ pub identifier_utf8 : (text : List ℕ) → IsIdentifier text → IsUtf8 text
 identifier_utf8 [] h = absurd h
 identifier_utf8 (b ∷ bs) h = IsUtf8-from_ascii (b ∷ bs) (IsAscii-cons b bs (ascii_first b h.0) (all_ascii bs h.1))
 
-some_place : (texts : List (List ℕ)) (text : List ℕ) (i : ℕ) → slice_get texts i ≡ Some text → (j : ℕ) × (position (same_text text) texts ≡ Some j)
-some_place texts text i h =
+some_index : (texts : List (List ℕ)) (text : List ℕ) (i : ℕ) → slice_get texts i ≡ Some text → (j : ℕ) × (position (same_text text) texts ≡ Some j)
+some_index texts text i h =
     let k = position_or_len (same_text text) texts in
     let here : same_text text text ≡ true = (bytes_eq-Decides text text).1 refl in
     let within : k < length texts = elim (cases_lt k (length texts)) [
@@ -46,9 +46,9 @@ some_place texts text i h =
     ] in
     (k, rw (lt-ltb k (length texts) within) refl)
 
-pub place_of : (texts : List (List ℕ)) (text : List ℕ) (i : ℕ) → IsDistinct texts → slice_get texts i ≡ Some text → position (same_text text) texts ≡ Some i
-place_of texts text i apart h =
-    let p = some_place texts text i h in
+pub index_of : (texts : List (List ℕ)) (text : List ℕ) (i : ℕ) → IsDistinct texts → slice_get texts i ≡ Some text → position (same_text text) texts ≡ Some i
+index_of texts text i apart h =
+    let p = some_index texts text i h in
     let q = position-Some (same_text text) texts p.0 [] p.1 in
     let same : text ≡ get_or texts p.0 [] = (bytes_eq-Decides text (get_or texts p.0 [])).0 q.1 in
     let at : slice_get texts p.0 ≡ Some text = slice_get-get_or texts p.0 [] q.0 ∙ ap Some (sym same) in
@@ -56,5 +56,5 @@ place_of texts text i apart h =
 
 -- what interning says, as the numbers of names
 pub named_from : (old new : List (List ℕ)) (text : List ℕ) (found : Result ℕ Memory) → IsDistinct new → IfOk found (λ name. slice_get new name ≡ Some text) → OnOk found (new ≡ with_text old text) → IfOk found (λ name. IsNamed old text name new)
-named_from old new text (Ok name) apart at after = (after, place_of new text name apart at)
+named_from old new text (Ok name) apart at after = (after, index_of new text name apart at)
 named_from old new text (Err e) apart at after = tt

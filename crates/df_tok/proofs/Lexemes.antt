@@ -5,6 +5,7 @@ use Rattle.std.specs.List.{prefix_len}
 use Rattle.std.proofs.lemmas.Bool.{and_parts, not-true, eqb-true}
 use Rattle.std.proofs.lemmas.Bool.Decides.{nat_tests}
 use Rattle.std.proofs.lemmas.Option.{some_pair_parts}
+use Rattle.df_lemmas.proofs.Truths.{choice}
 use Rattle.df_tok.specs.Byte.{is_digit, is_blank, begins_identifier, continues_identifier, continues_number}
 use Rattle.df_tok.specs.declared.sign.Sign.{Sign}
 use Rattle.df_tok.specs.declared.sign.Sign.TheVariants.{NotIn}
@@ -14,7 +15,7 @@ use Rattle.df_tok.specs.Sign.{sign_text}
 use Rattle.df_tok.specs.Lexeme.{NotNext, IsIdentifier, IsNumber, IsCharacter, IsText, IsLexeme, identifier, number, character, string, sign}
 use Rattle.df_tok.specs.Scanned.{HasForm}
 use Rattle.df_tok.specs.Scanning.{number_at, character_at, text_len, sign_at, sign_lexeme, lexeme_at}
-use Rattle.df_tok.proofs.Lists.{chosen, Parts, Parts-take, Parts-le, Passes, run_of, run_all}
+use Rattle.df_tok.proofs.Lists.{Parts, Parts-take, Parts-le, Passes, run_of, run_all}
 use Rattle.df_tok.proofs.Literals.{number_at_sound, number_again, number_first, character_sound, character_again, text_sound, text_again}
 use Rattle.df_tok.proofs.Signs.{same_sign, sign_sound, sign_furthest, begins_sign, sign_begins}
 
@@ -129,13 +130,13 @@ lexeme_sound (b ∷ bs) form n e =
     let texts = cond (eqb b 34) (option_map {U = Form × ℕ} (λ n. (forms.Text, 1 + n)) (text_len false bs)) signs in
     let characters = cond (eqb b 39) (option_map {U = Form × ℕ} (λ c. (forms.Character c.0, 1 + c.1)) (character_at bs)) texts in
     let numbers = cond (is_digit b) (option_map {U = Form × ℕ} (λ n. (forms.Number, n)) (number_at (b ∷ bs))) characters in
-    elim (chosen (begins_identifier b) (Some (forms.Identifier, 1 + prefix_len continues_identifier bs)) numbers (Some (form, n)) e) [
+    elim (choice (begins_identifier b) (Some (forms.Identifier, 1 + prefix_len continues_identifier bs)) numbers (Some (form, n)) e) [
       | inl p ↦ found_is (b ∷ bs) forms.Identifier form (1 + prefix_len continues_identifier bs) n p.1 (identifier_front b bs p.0)
-      | inr p ↦ elim (chosen (is_digit b) (option_map {U = Form × ℕ} (λ n. (forms.Number, n)) (number_at (b ∷ bs))) characters (Some (form, n)) p.1) [
+      | inr p ↦ elim (choice (is_digit b) (option_map {U = Form × ℕ} (λ n. (forms.Number, n)) (number_at (b ∷ bs))) characters (Some (form, n)) p.1) [
         | inl q ↦ number_front b bs (number_at (b ∷ bs)) refl form n q.1
-        | inr q ↦ elim (chosen (eqb b 39) (option_map {U = Form × ℕ} (λ c. (forms.Character c.0, 1 + c.1)) (character_at bs)) texts (Some (form, n)) q.1) [
+        | inr q ↦ elim (choice (eqb b 39) (option_map {U = Form × ℕ} (λ c. (forms.Character c.0, 1 + c.1)) (character_at bs)) texts (Some (form, n)) q.1) [
           | inl r ↦ character_front b bs (character_at bs) (eqb-true b 39 r.0) refl form n r.1
-          | inr r ↦ elim (chosen (eqb b 34) (option_map {U = Form × ℕ} (λ n. (forms.Text, 1 + n)) (text_len false bs)) signs (Some (form, n)) r.1) [
+          | inr r ↦ elim (choice (eqb b 34) (option_map {U = Form × ℕ} (λ n. (forms.Text, 1 + n)) (text_len false bs)) signs (Some (form, n)) r.1) [
             | inl t ↦ text_front b bs (text_len false bs) (eqb-true b 34 t.0) refl form n t.1
             | inr t ↦ sign_front (b ∷ bs) (sign_at (b ∷ bs)) refl form n t.1
           ]

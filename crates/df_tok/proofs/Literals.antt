@@ -4,24 +4,25 @@ use Rattle.std.specs.Prelude.{nat_eq, ◌&&◌, ◌||◌, not, codes, is_some, o
 use Rattle.std.specs.List.{starts_with, prefix_len}
 use Rattle.std.proofs.lemmas.Bool.{and_parts, or_left, or_right, not-true, eqb-true, eq-eqb, cases_Bool, false≢true}
 use Rattle.std.proofs.lemmas.Bool.Decides.{nat_tests}
-use Rattle.std.proofs.lemmas.Option.{some_pair_parts}
+use Rattle.std.proofs.lemmas.Option.{some_pair_parts, cond_some, same_Some}
 use Rattle.std.proofs.lemmas.List.{length-append, take_at}
+use Rattle.df_lemmas.proofs.Truths.{choice}
 use Rattle.df_tok.specs.Byte.{is_letter, is_digit, is_hex_digit, continues_number, is_plain_in_character, is_plain_in_text, escaped}
 use Rattle.df_tok.specs.Lexeme.{NotNext, AreDigits, IsNumber, IsCharacter, Part, Plain, Escape, AreParts, IsText}
 use Rattle.df_tok.specs.Scanning.{more, are_digits, is_number, number_at, character_at, text_len}
-use Rattle.df_tok.proofs.Lists.{chosen, some_if, Parts, Parts-take, Parts-drop, Parts-le, Passes, run_of, run_all, run_none, starts_front}
+use Rattle.df_tok.proofs.Lists.{Parts, Parts-take, Parts-drop, Parts-le, Passes, run_of, run_all, run_none, starts_front}
 
 -- ---- digits
 
 pub digits_sound : (digit : ℕ → Bool) (bs : List ℕ) → are_digits digit false bs ≡ true → AreDigits digit bs
 digits_sound digit [] h = absurd (false≢true h)
-digits_sound digit (d ∷ []) h = elim (chosen (digit d) true false true h) [ inl p ↦ p.0 | inr p ↦ absurd (false≢true p.1) ]
-digits_sound digit (d ∷ e ∷ rest) h = elim (chosen (digit d) (are_digits digit true (e ∷ rest)) false true h) [
+digits_sound digit (d ∷ []) h = elim (choice (digit d) true false true h) [ inl p ↦ p.0 | inr p ↦ absurd (false≢true p.1) ]
+digits_sound digit (d ∷ e ∷ rest) h = elim (choice (digit d) (are_digits digit true (e ∷ rest)) false true h) [
   | inl p ↦ (
     p.0,
-    elim (chosen (digit e) (are_digits digit true rest) (cond (eqb e 95) (are_digits digit false rest) false) true p.1) [
+    elim (choice (digit e) (are_digits digit true rest) (cond (eqb e 95) (are_digits digit false rest) false) true p.1) [
       | inl q ↦ inl (digits_sound digit (e ∷ rest) (rw q.0 q.1))
-      | inr q ↦ elim (chosen (eqb e 95) (are_digits digit false rest) false true q.1) [
+      | inr q ↦ elim (choice (eqb e 95) (are_digits digit false rest) false true q.1) [
         | inl r ↦ inr (eqb-true e 95 r.0, digits_sound digit rest r.1)
         | inr r ↦ absurd (false≢true r.1)
       ]
@@ -32,7 +33,7 @@ digits_sound digit (d ∷ e ∷ rest) h = elim (chosen (digit d) (are_digits dig
 
 digits_first : (digit : ℕ → Bool) (bs : List ℕ) → are_digits digit false bs ≡ true → are_digits digit true bs ≡ true
 digits_first digit [] h = refl
-digits_first digit (d ∷ ds) h = elim (chosen (digit d) (are_digits digit true ds) false true h) [ inl p ↦ rw p.0 p.1 | inr p ↦ absurd (false≢true p.1) ]
+digits_first digit (d ∷ ds) h = elim (choice (digit d) (are_digits digit true ds) false true h) [ inl p ↦ rw p.0 p.1 | inr p ↦ absurd (false≢true p.1) ]
 
 pub digits_complete : (digit : ℕ → Bool) (bs : List ℕ) → digit 95 ≡ false → AreDigits digit bs → are_digits digit false bs ≡ true
 digits_complete digit [] other h = absurd h
@@ -51,7 +52,7 @@ digits_pass digit p (d ∷ e ∷ rest) each line (h, inr (is, ds)) = (each d h, 
 -- ---- numbers
 
 number_sound : (text : List ℕ) → is_number text ≡ true → IsNumber text
-number_sound text h = elim (chosen (starts_with nat_eq text (codes "0x")) (are_digits is_hex_digit false (drop 2 text)) (are_digits is_digit false text) true h) [
+number_sound text h = elim (choice (starts_with nat_eq text (codes "0x")) (are_digits is_hex_digit false (drop 2 text)) (are_digits is_digit false text) true h) [
   | inl p ↦ inr (drop 2 text, starts_front text (codes "0x") p.0, digits_sound is_hex_digit _ p.1)
   | inr p ↦ inl (digits_sound is_digit text p.1)
 ]
@@ -84,7 +85,7 @@ number_passes text (inr (digits, is, ds)) = subst (Passes continues_number) (sym
 pub number_at_sound : (bytes : List ℕ) (n : ℕ) → number_at bytes ≡ Some n → IsNumber (take n bytes) × NotNext continues_number (drop n bytes) × (n ≤ length bytes)
 number_at_sound bytes n h =
     let r = run_of continues_number bytes in
-    let p = some_if (is_number (take (prefix_len continues_number bytes) bytes)) (prefix_len continues_number bytes) n h in
+    let p = cond_some (is_number (take (prefix_len continues_number bytes) bytes)) (prefix_len continues_number bytes) n h in
     let len : Parts bytes r.front r.rest n = subst (Parts bytes r.front r.rest) p.1 r.parts in
     (subst (λ k. IsNumber (take k bytes)) p.1 (number_sound _ p.0), subst (NotNext continues_number) (Parts-drop bytes r.front r.rest n len) r.stops, Parts-le bytes r.front r.rest n len)
 
@@ -119,13 +120,13 @@ escape_found a b d rest c n (Some x) is h e =
 pub character_sound : (bs : List ℕ) (c n : ℕ) → character_at bs ≡ Some (c, n) → IsCharacter (39 ∷ take n bs) c × (n ≤ length bs)
 character_sound [] c n h = absurd cc
 character_sound (a ∷ []) c n h = absurd cc
-character_sound (a ∷ b ∷ []) c n h = elim (chosen (is_plain_in_character a && eqb b 39) (Some (a, 2)) None (Some (c, n)) h) [
+character_sound (a ∷ b ∷ []) c n h = elim (choice (is_plain_in_character a && eqb b 39) (Some (a, 2)) None (Some (c, n)) h) [
   | inl p ↦ plain_found a b [] c n p.0 p.1
   | inr p ↦ absurd cc
 ]
-character_sound (a ∷ b ∷ d ∷ rest) c n h = elim (chosen (is_plain_in_character a && eqb b 39) (Some (a, 2)) (cond (eqb a 92 && eqb d 39) (option_map (λ e. (e, 3)) (escaped b)) None) (Some (c, n)) h) [
+character_sound (a ∷ b ∷ d ∷ rest) c n h = elim (choice (is_plain_in_character a && eqb b 39) (Some (a, 2)) (cond (eqb a 92 && eqb d 39) (option_map (λ e. (e, 3)) (escaped b)) None) (Some (c, n)) h) [
   | inl p ↦ plain_found a b (d ∷ rest) c n p.0 p.1
-  | inr p ↦ elim (chosen (eqb a 92 && eqb d 39) (option_map (λ e. (e, 3)) (escaped b)) None (Some (c, n)) p.1) [
+  | inr p ↦ elim (choice (eqb a 92 && eqb d 39) (option_map (λ e. (e, 3)) (escaped b)) None (Some (c, n)) p.1) [
     | inl q ↦ escape_found a b d rest c n (escaped b) refl q.0 q.1
     | inr q ↦ absurd cc
   ]
@@ -154,12 +155,9 @@ pub record TextFront (bs : List ℕ) (n : ℕ) : Type 0 where
   pub is : bs ≡ inner ++ 34 ∷ rest
   pub len : n ≡ length inner + 1
 
-pub some_is : (a b : ℕ) → Some a ≡ Some b → a ≡ b
-some_is a b e = cc
-
 pub less_one : (o : Option ℕ) (n : ℕ) → more 1 o ≡ Some n → (k : ℕ) × (o ≡ Some k) × (n ≡ 1 + k)
 less_one None n e = absurd cc
-less_one (Some k) n e = (k, refl, some_is n (1 + k) (sym e))
+less_one (Some k) n e = (k, refl, same_Some n (1 + k) (sym e))
 
 some_if_more : (b : Bool) (o : Option ℕ) (n : ℕ) → cond b (more 1 o) None ≡ Some n → (k : ℕ) × (b ≡ true) × (o ≡ Some k) × (n ≡ 1 + k)
 some_if_more true o n e = let k = less_one o n e in (k.0, refl, k.1, k.2)
@@ -192,27 +190,27 @@ some_is_some None h = absurd (false≢true h)
 some_is_some (Some c) h = (c, refl)
 
 ended : (b : ℕ) (bs : List ℕ) (n : ℕ) → eqb b 34 ≡ true → Some 1 ≡ Some n → TextFront (b ∷ bs) n
-ended b bs n e len = record { parts = []; inner = []; cs = []; rest = bs; are = (refl, refl); is = ap (λ (x : ℕ). x ∷ bs) (eqb-true b 34 e); len = some_is n 1 (sym len) }
+ended b bs n e len = record { parts = []; inner = []; cs = []; rest = bs; are = (refl, refl); is = ap (λ (x : ℕ). x ∷ bs) (eqb-true b 34 e); len = same_Some n 1 (sym len) }
 
 text_front : (bs : List ℕ) (n : ℕ) → text_len false bs ≡ Some n → TextFront bs n
 text_front [] n h = absurd cc
-text_front (b ∷ []) n h = elim (chosen (eqb b 34) (Some 1) (cond (eqb b 92) None (cond (is_plain_in_text b) None None)) (Some n) h) [
+text_front (b ∷ []) n h = elim (choice (eqb b 34) (Some 1) (cond (eqb b 92) None (cond (is_plain_in_text b) None None)) (Some n) h) [
   | inl p ↦ ended b [] n p.0 p.1
-  | inr p ↦ elim (chosen (eqb b 92) None (cond (is_plain_in_text b) None None) (Some n) p.1) [
+  | inr p ↦ elim (choice (eqb b 92) None (cond (is_plain_in_text b) None None) (Some n) p.1) [
     | inl q ↦ absurd cc
-    | inr q ↦ elim (chosen (is_plain_in_text b) None None (Some n) q.1) [ inl r ↦ absurd cc | inr r ↦ absurd cc ]
+    | inr q ↦ elim (choice (is_plain_in_text b) None None (Some n) q.1) [ inl r ↦ absurd cc | inr r ↦ absurd cc ]
   ]
 ]
-text_front (b ∷ e ∷ bs) n h = elim (chosen (eqb b 34) (Some 1) (cond (eqb b 92) (more 1 (text_len true (e ∷ bs))) (cond (is_plain_in_text b) (more 1 (text_len false (e ∷ bs))) None)) (Some n) h) [
+text_front (b ∷ e ∷ bs) n h = elim (choice (eqb b 34) (Some 1) (cond (eqb b 92) (more 1 (text_len true (e ∷ bs))) (cond (is_plain_in_text b) (more 1 (text_len false (e ∷ bs))) None)) (Some n) h) [
   | inl p ↦ ended b (e ∷ bs) n p.0 p.1
-  | inr p ↦ elim (chosen (eqb b 92) (more 1 (text_len true (e ∷ bs))) (cond (is_plain_in_text b) (more 1 (text_len false (e ∷ bs))) None) (Some n) p.1) [
+  | inr p ↦ elim (choice (eqb b 92) (more 1 (text_len true (e ∷ bs))) (cond (is_plain_in_text b) (more 1 (text_len false (e ∷ bs))) None) (Some n) p.1) [
     | inl q ↦
         let k = less_one (text_len true (e ∷ bs)) n q.1 in
         let r = some_if_more (is_some (escaped e)) (text_len false bs) k.0 k.1 in
         let c = some_is_some (escaped e) r.1 in
         let t = with_escape e c.0 bs r.0 c.1 (text_front bs r.0 r.2) in
         subst (λ x. TextFront (x ∷ e ∷ bs) n) (sym (eqb-true b 92 q.0)) (subst (TextFront (92 ∷ e ∷ bs)) (sym (k.2 ∙ ap (λ x. 1 + x) r.3)) t)
-    | inr q ↦ elim (chosen (is_plain_in_text b) (more 1 (text_len false (e ∷ bs))) None (Some n) q.1) [
+    | inr q ↦ elim (choice (is_plain_in_text b) (more 1 (text_len false (e ∷ bs))) None (Some n) q.1) [
       | inl r ↦ let k = less_one (text_len false (e ∷ bs)) n r.1 in subst (TextFront (b ∷ e ∷ bs)) (sym k.2) (with_plain b (e ∷ bs) k.0 r.0 (text_front (e ∷ bs) k.0 k.1))
       | inr r ↦ absurd cc
     ]

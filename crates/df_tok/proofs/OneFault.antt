@@ -19,9 +19,9 @@ use Rattle.df_tok.proofs.Pieces.{lexeme_seen, nothing_next, no_kind_next, fronts
 use Rattle.df_tok.proofs.Divisions.{tokens_cons}
 use Rattle.df_tok.proofs.Faults.{no_piece_begins, unclosed_none}
 
--- ---- one refusal at a place
+-- ---- one refusal at a position
 
--- two lexemes at one place, of which none is longer
+-- two lexemes at one position, of which none is longer
 same_lexeme : (rest text more other last : List ℕ) → rest ≡ text ++ more → rest ≡ other ++ last → IsLexeme text more → IsLexeme other last → IsLongest text more → IsLongest other last → text ≡ other
 same_lexeme rest text more other last is is' lex lex' longest longest' =
     let le = longest other last (sym is' ∙ is) lex' in
@@ -43,7 +43,7 @@ comment_apart rest text more h is none = none (42, h.0, sym is ∙ h.1, inr refl
 nothing_apart : (rest : List ℕ) → IsUnclosed rest → NothingBegins rest → ⊥
 nothing_apart rest h none = none.comment (42, h.0, h.1, inr refl)
 
-same_stop : (rest front behind other last : List ℕ) → Stops rest front behind → Stops rest other last → (front ≡ other) × (behind ≡ last)
+pub same_stop : (rest front behind other last : List ℕ) → Stops rest front behind → Stops rest other last → (front ≡ other) × (behind ≡ last)
 same_stop rest front behind other last s s' =
     let le = s.longest other last s'.is s'.begun in
     let ge = s'.longest front behind s.is s.begun in
@@ -113,7 +113,7 @@ no_further : (names : List (List ℕ)) (rest : List ℕ) (pos : Pos) (count most
 no_further names rest pos count most r h g few =
     omega (arith, g.counted, few, goes_no_further names rest pos count r g.at g.piece g.next g.between h g.is g.is_piece)
 
--- of two fronts of one source, from a place on, one goes on to the other
+-- of two fronts of one source, from a position on, one goes on to the other
 data Meets (pos : Pos) (pieces others : List Piece) (rest more : List ℕ) (names last : List (List ℕ)) : Type 0 where
   same : rest ≡ more → names ≡ last → after_pieces pos pieces ≡ after_pieces pos others → length (tokens_of pos pieces) ≡ length (tokens_of pos others) → Meets pos pieces others rest more names last
   shorter : GoesOn rest names (length (tokens_of pos pieces)) (length (tokens_of pos others)) → Meets pos pieces others rest more names last
@@ -159,8 +159,8 @@ with_piece pos piece other pieces others next left between after rest more names
         ∙ ap (λ (t : List ℕ). length (token_of pos piece) + length (tokens_of (after_bytes pos t) others)) (sym s.text)
 
     by : Meets (after_bytes pos (text_of piece)) pieces others rest more names last → Meets pos (piece ∷ pieces) (other ∷ others) rest more names last
-    by (same is kept place tokens) =
-        same is kept (place ∙ ap (λ (t : List ℕ). after_pieces (after_bytes pos t) others) s.text) (omega (arith, tokens, count, count_cons pos piece pieces))
+    by (same is kept at tokens) =
+        same is kept (at ∙ ap (λ (t : List ℕ). after_pieces (after_bytes pos t) others) s.text) (omega (arith, tokens, count, count_cons pos piece pieces))
     by (shorter g) = shorter (further rest names _ _ _ _ (length (token_of pos piece)) g (count_cons pos piece pieces) count)
     by (longer g) = longer (further more last _ _ _ _ (length (token_of pos piece)) g count (count_cons pos piece pieces))
 
@@ -184,10 +184,10 @@ one_fault before source r other (stop small pieces rest names reaches few h) (lo
 one_fault before source r other (stop small pieces rest names reaches few h) (stop small' others more last reaches' few' h') = by (meet start before source pieces others rest more names last reaches reaches')
   where
     by : Meets start pieces others rest more names last → r ≡ other
-    by (same is kept place count) =
+    by (same is kept at count) =
         let a = subst (λ (x : List (List ℕ)). IsRefusedAt x more (after_pieces start others) (length (tokens_of start others)) other) (sym kept) h' in
         let b = subst (λ (t : List ℕ). IsRefusedAt names t (after_pieces start others) (length (tokens_of start others)) other) (sym is) a in
-        let c = subst (λ (p : Pos). IsRefusedAt names rest p (length (tokens_of start others)) other) (sym place) b in
+        let c = subst (λ (p : Pos). IsRefusedAt names rest p (length (tokens_of start others)) other) (sym at) b in
         one_refused names rest (after_pieces start pieces) (length (tokens_of start pieces)) r other h (subst (λ (k : ℕ). IsRefusedAt names rest (after_pieces start pieces) k other) (sym count) c)
     by (shorter g) = absurd (no_further names rest (after_pieces start pieces) (length (tokens_of start pieces)) (length (tokens_of start others)) r h g few')
     by (longer g) = absurd (no_further last more (after_pieces start others) (length (tokens_of start others)) (length (tokens_of start pieces)) other h' g few)

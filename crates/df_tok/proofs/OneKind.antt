@@ -3,7 +3,7 @@ use Rattle.std.proofs.Common.{◌≡◌, ◌≢◌, ℕ, zero, suc, ◌<◌, ◌
 use Rattle.std.specs.Prelude.{nat_eq, ◌&&◌, not, codes, position, option_map}
 use Rattle.std.specs.List.{find, list_all}
 use Rattle.std.proofs.lemmas.Bool.{false≢true, false_from_ne_true, and_parts, not-true}
-use Rattle.std.proofs.lemmas.Option.{MatchOption-at_some}
+use Rattle.std.proofs.lemmas.Option.{MatchOption-at_some, same_Some}
 use Rattle.std.proofs.lemmas.List.{append-nil}
 use Rattle.std.proofs.lemmas.Slice.Eq.{bytes_eq-Decides}
 use Rattle.df_base.specs.Names.{same_text, with_text}
@@ -255,11 +255,8 @@ pub one_kind : (before : List (List ℕ)) (text : List ℕ) (kind other : Kind) 
 one_kind before text kind other after last h g =
     let p = kind_found before text kind after h in
     let q = kind_found before text other last g in
-    let same : kind ≡ other = some_is kind other (sym p.0 ∙ q.0) in
+    let same : kind ≡ other = same_Some kind other (sym p.0 ∙ q.0) in
     (same, p.1 ∙ ap (names_after before text) same ∙ sym q.1)
-  where
-    some_is : (x y : Kind) → Some x ≡ Some y → x ≡ y
-    some_is x y e = cc
 
 -- a number's token has its value, below 2^127
 pub number_small : (before : List (List ℕ)) (text : List ℕ) (kind : Kind) (after : List (List ℕ)) → IsNumber text → HasKind before text kind after → value_of_number text < 2 ^ 127
@@ -268,8 +265,5 @@ number_small before text kind after is h =
     let p = number_first text is in
     let e : kind_at before (p.0 ∷ p.1) ≡ Some (kinds.Number (value_of_number (p.0 ∷ p.1))) = rw (digit_is_none p.0 p.3, p.3) refl in
     let number : kind_at before text ≡ Some (kinds.Number (value_of_number text)) = subst (λ (t : List ℕ). kind_at before t ≡ Some (kinds.Number (value_of_number t))) (sym p.2) e in
-    let same : kind ≡ kinds.Number (value_of_number text) = kind_same kind (kinds.Number (value_of_number text)) (sym (kind_found before text kind after h).0 ∙ number) in
+    let same : kind ≡ kinds.Number (value_of_number text) = same_Some kind (kinds.Number (value_of_number text)) (sym (kind_found before text kind after h).0 ∙ number) in
     (subst (λ (k : Kind). HasKind before text k after) same h).2
-  where
-    kind_same : (x y : Kind) → Some x ≡ Some y → x ≡ y
-    kind_same x y e = cc

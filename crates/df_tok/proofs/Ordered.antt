@@ -1,14 +1,15 @@
--- Tokens stand one after another, so that no two stand at one place.
+-- Tokens stand one after another, so that no two stand at one position.
 use Rattle.std.proofs.Common.{◌≡◌, ℕ, zero, suc, ◌+◌, ◌<◌, ◌⊎◌, inl, inr, Bool, true, false, List, [], ◌∷◌, ◌++◌, length, if◌then◌else◌, Contains, sym, ap, subst, ◌∙◌, arith}
 use Rattle.std.specs.Prelude.{◌==◌}
 use Rattle.std.specs.List.{AllByRecursion}
+use Rattle.df_lemmas.proofs.Alls.{all_at}
 use Rattle.df_base.specs.declared.pos.Pos.{Pos}
 use Rattle.df_tok.specs.declared.token.Kind.{Kind}
 use Rattle.df_tok.specs.Token.{Token}
 use Rattle.df_tok.specs.Division.{after_byte, after_bytes, start, Piece, Blank, LineComment, BlockComment, Lexeme, IsPiece, AreDivided, tokens_of, Divides}
 use Rattle.df_tok.proofs.Pieces.{lexeme_seen, lex_next}
 
--- the one place stands before the other
+-- the one position stands before the other
 abbrev IsBefore : Pos → Pos → Type 0
 IsBefore one other = (one.line < other.line) ⊎ ((one.line ≡ other.line) × (one.col < other.col))
 
@@ -29,7 +30,7 @@ before_byte pos b = by (b == 10)
     by true = inl (omega arith)
     by false = inr (λ i. pos.line, omega arith)
 
--- what stands before a place stands before those after it
+-- what stands before a position stands before those after it
 before_bytes : (first pos : Pos) (bytes : List ℕ) → IsBefore first pos → IsBefore first (after_bytes pos bytes)
 before_bytes first pos [] h = h
 before_bytes first pos (b ∷ bytes) h = before_bytes first (after_byte pos b) bytes (before_after first pos (after_byte pos b) h (before_byte pos b))
@@ -66,14 +67,9 @@ divided_ordered pos before source (BlockComment text ∷ pieces) after (rest, be
 divided_ordered pos before source (Lexeme kind text ∷ pieces) after (rest, between, is, first, others) =
     (all_after pos (after_bytes pos text) pieces (passes pos text (lexeme_some before kind text rest between first)), divided_ordered (after_bytes pos text) between rest pieces after others)
 
-all_in : (P : Token → Type 0) (tokens : List Token) (t : Token) → AllByRecursion P tokens → Contains tokens t → P t
-all_in P [] t all (k, lt, e) = absurd (omega arith)
-all_in P (x ∷ tokens) t all (zero, lt, e) = subst P e all.0
-all_in P (x ∷ tokens) t all (suc k, lt, e) = all_in P tokens t all.1 (k, omega arith, e)
-
 apart : (x one other : Token) (tokens : List Token) → AreAfter x.pos tokens → x ≡ one → Contains tokens other → one.pos ≡ other.pos → ⊥
 apart x one other tokens all e there same =
-    not_before x.pos other.pos (ap (λ (t : Token). t.pos) e ∙ same) (all_in (λ (t : Token). IsBefore x.pos t.pos) tokens other all there)
+    not_before x.pos other.pos (ap (λ (t : Token). t.pos) e ∙ same) (all_at (λ (t : Token). IsBefore x.pos t.pos) tokens other all there)
 
 ordered_once : (tokens : List Token) (one other : Token) → AreOrdered tokens → Contains tokens one → Contains tokens other → one.pos ≡ other.pos → one ≡ other
 ordered_once [] one other h (k, lt, e) there same = absurd (omega arith)
@@ -82,8 +78,8 @@ ordered_once (x ∷ tokens) one other h (zero, lt, e) (suc k, lt', e') same = ab
 ordered_once (x ∷ tokens) one other h (suc k, lt, e) (zero, lt', e') same = absurd (apart x other one tokens h.0 e' (k, omega arith, e) (sym same))
 ordered_once (x ∷ tokens) one other h (suc k, lt, e) (suc k', lt', e') same = ordered_once tokens one other h.1 (k, omega arith, e) (k', omega arith, e') same
 
--- no two tokens stand at one place
-pub one_place : (before : List (List ℕ)) (source : List ℕ) (tokens : List Token) (after : List (List ℕ)) (one other : Token) → Divides before source tokens after → Contains tokens one → Contains tokens other → one.pos ≡ other.pos → one ≡ other
-one_place before source tokens after one other (pieces, divided, is) there its same =
+-- no two tokens stand at one position
+pub one_pos : (before : List (List ℕ)) (source : List ℕ) (tokens : List Token) (after : List (List ℕ)) (one other : Token) → Divides before source tokens after → Contains tokens one → Contains tokens other → one.pos ≡ other.pos → one ≡ other
+one_pos before source tokens after one other (pieces, divided, is) there its same =
     ordered_once (tokens_of start pieces) one other (divided_ordered start before source pieces after divided)
     (subst (λ (ts : List Token). Contains ts one) is there) (subst (λ (ts : List Token). Contains ts other) is its) same

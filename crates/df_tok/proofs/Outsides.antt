@@ -33,7 +33,7 @@ listed_complete text (w ∷ ws) (suc k) lt at = or_right _ _ (listed_complete te
 not_nil : (bytes : List ℕ) → 0 < length bytes → bytes ≢ []
 not_nil bytes lt e = absurd (omega (arith, ap length e))
 
-some_length : (bytes : List ℕ) → bytes ≢ [] → 0 < length bytes
+pub some_length : (bytes : List ℕ) → bytes ≢ [] → 0 < length bytes
 some_length [] h = absurd (h refl)
 some_length (b ∷ bs) h = omega arith
 

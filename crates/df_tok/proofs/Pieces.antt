@@ -2,10 +2,11 @@
 use Rattle.std.proofs.Common.{◌≡◌, ◌≢◌, ℕ, ◌+◌, ◌<◌, ◌≤◌, ◌⊎◌, inl, inr, Bool, true, false, cond, eqb, List, [], ◌∷◌, ◌++◌, length, take, drop, Option, Some, None, refl, sym, ap, subst, ◌∙◌, arith}
 use Rattle.std.specs.Prelude.{nat_eq, ◌&&◌, not, codes}
 use Rattle.std.specs.List.{prefix_len, starts_with, AllByRecursion}
-use Rattle.std.proofs.lemmas.Bool.{and_parts, not-true, eqb-true, ne_eqb, eqb-false, both_ways, false_from_ne_true, not_from_false}
+use Rattle.std.proofs.lemmas.Bool.{and_parts, not-true, eqb-true, ne_eqb, eqb-false, both_ways, false_from_ne_true, not_from_false, not-false}
 use Rattle.std.proofs.lemmas.Bool.Decides.{nat_tests}
 use Rattle.std.proofs.lemmas.List.{take_at, drop_at, length-take-le, take-append-drop}
-use Rattle.std.proofs.lemmas.Option.{some_pair_parts}
+use Rattle.std.proofs.lemmas.Option.{some_pair_parts, none-some}
+use Rattle.df_lemmas.proofs.Truths.{choice}
 use Rattle.df_base.specs.declared.pos.Pos.{Pos}
 use Rattle.df_tok.specs.Byte.{is_digit, is_blank, begins_identifier}
 use Rattle.df_tok.specs.declared.token.Kind.{Kind}
@@ -20,7 +21,7 @@ use Rattle.df_tok.specs.Scanned.{HasForm}
 use Rattle.df_tok.specs.Scanning.{begins_blank, comment_len, skips, lexes, lexeme_at, front_at}
 use Rattle.df_tok.specs.Division.{EndsLine, Closes, BeginsComment, IsLongest, Piece, Blank, LineComment, BlockComment, Lexeme, text_of, IsPiece}
 use Rattle.df_tok.specs.Steps.{token_of, NextPiece, NoPiece}
-use Rattle.df_tok.proofs.Lists.{chosen, starts_front, Parts, Parts-take, Parts-drop, Passes, run_of, run_all, run_none}
+use Rattle.df_tok.proofs.Lists.{starts_front, Parts, Parts-take, Parts-drop, Passes, run_of, run_all, run_none}
 use Rattle.df_tok.proofs.Literals.{number_first}
 use Rattle.df_tok.proofs.Comments.{unused, used, comment_again, comment_sound}
 use Rattle.df_tok.proofs.Signs.{begins_sign, sign_begins}
@@ -170,11 +171,7 @@ one_piece names bytes piece other rest more after last e f h g =
 -- the rest of a run of other bytes ends the line
 line_ends : (rest : List ℕ) → NotNext other_byte rest → EndsLine rest
 line_ends [] h = tt
-line_ends (b ∷ bs) h = eqb-true b 10 (ten (eqb b 10) h)
-  where
-    ten : (t : Bool) → not t ≡ false → t ≡ true
-    ten true h = refl
-    ten false h = cc
+line_ends (b ∷ bs) h = eqb-true b 10 (not-false (eqb b 10) h)
 
 others_all : (inner : List ℕ) → Passes other_byte inner → AllByRecursion (λ b. b ≢ 10) inner
 others_all [] h = tt
@@ -245,11 +242,11 @@ turn_of bytes found h =
     let lexed = lexes (lexeme_at bytes) in
     let blocks = cond (starts_with nat_eq bytes (codes "/*")) (skips 2 (comment_len 0 0 (drop 2 bytes))) lexed in
     let lines = cond (starts_with nat_eq bytes (codes "//")) (Some (Skipped (2 + prefix_len other_byte (drop 2 bytes)))) blocks in
-    elim (chosen (begins_blank bytes) (Some (Skipped 1)) lines found h) [
+    elim (choice (begins_blank bytes) (Some (Skipped 1)) lines found h) [
       | inl p ↦ blank p.0 p.1
-      | inr p ↦ elim (chosen (starts_with nat_eq bytes (codes "//")) (Some (Skipped (2 + prefix_len other_byte (drop 2 bytes)))) blocks found p.1) [
+      | inr p ↦ elim (choice (starts_with nat_eq bytes (codes "//")) (Some (Skipped (2 + prefix_len other_byte (drop 2 bytes)))) blocks found p.1) [
         | inl q ↦ line q.0 q.1
-        | inr q ↦ elim (chosen (starts_with nat_eq bytes (codes "/*")) (skips 2 (comment_len 0 0 (drop 2 bytes))) lexed found q.1) [
+        | inr q ↦ elim (choice (starts_with nat_eq bytes (codes "/*")) (skips 2 (comment_len 0 0 (drop 2 bytes))) lexed found q.1) [
           | inl r ↦ block r.0 r.1
           | inr r ↦ lexeme p.0 q.0 r.0 r.1
         ]
@@ -314,12 +311,9 @@ lexeme_next names bytes pos form n kind after r has =
 pub nothing_next : (names : List (List ℕ)) (bytes : List ℕ) → front_at bytes ≡ None → NoPiece names bytes
 nothing_next names bytes h piece rest after is p = by (subst (λ (t : List ℕ). Seen names piece t after) (sym is) (seen names piece rest after p))
   where
-    none_is : (f : Front) → None ≡ Some f → ⊥
-    none_is f e = cc
-
     by : Seen names piece bytes after → ⊥
-    by (skip s kept t) = none_is (Skipped (length (text_of piece))) (sym h ∙ s)
-    by (lex kind form s has t) = none_is (Lexed form (length (text_of piece))) (sym h ∙ s)
+    by (skip s kept t) = none-some (Skipped (length (text_of piece))) (sym h ∙ s)
+    by (lex kind form s has t) = none-some (Lexed form (length (text_of piece))) (sym h ∙ s)
 
 -- where the lexeme that is found has no kind no piece stands
 pub no_kind_next : (names : List (List ℕ)) (bytes : List ℕ) (form : Form) (n : ℕ) → front_at bytes ≡ Some (Lexed form n) → ((kind : Kind) (after : List (List ℕ)) → HasKind names (take n bytes) kind after → ⊥) → NoPiece names bytes

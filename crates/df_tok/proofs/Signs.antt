@@ -4,6 +4,7 @@ use Rattle.std.specs.Prelude.{nat_eq, nat_le, ◌&&◌, not}
 use Rattle.std.specs.List.{find, list_all, starts_with}
 use Rattle.std.specs.Cmp.Lexicographic.{pointwise}
 use Rattle.std.proofs.lemmas.Bool.{and_parts, and_from, not_from_false, not-true, leb-true}
+use Rattle.std.proofs.lemmas.Option.{same_Some}
 use Rattle.df_tok.specs.Byte.{continues_identifier, begins_identifier, is_digit, is_blank}
 use Rattle.df_tok.specs.declared.sign.Sign.{Sign}
 use Rattle.df_tok.specs.declared.sign.Sign.TheVariants as all
@@ -57,10 +58,7 @@ sign_again all.Arrow = refl
 sign_again all.Define = refl
 
 pub same_sign : (a b : Sign) → sign_text a ≡ sign_text b → a ≡ b
-same_sign a b e = some_is a b (sym (sign_again a) ∙ ap coded e ∙ sign_again b)
-  where
-    some_is : (x y : Sign) → Some x ≡ Some y → x ≡ y
-    some_is x y e = cc
+same_sign a b e = same_Some a b (sym (sign_again a) ∙ ap coded e ∙ sign_again b)
 
 -- ---- a sign stands at the front
 
@@ -124,44 +122,44 @@ first_longest p (x ∷ xs) t k f lt at pass = by (λ n. first_longest p xs t n (
         let r = next k (omega arith) at pass in
         record { sign = r.sign; found = rw e r.found; long = r.long }
 
-place : (t : Sign) → (k : ℕ) × (k < length signs) × (get_or signs k t ≡ t)
-place all.Iff = (0, lit< tt, refl)
-place all.Implies = (1, lit< tt, refl)
-place all.Explies = (2, lit< tt, refl)
-place all.And = (4, lit< tt, refl)
-place all.Or = (5, lit< tt, refl)
-place all.Equal = (6, lit< tt, refl)
-place all.NotEqual = (7, lit< tt, refl)
-place all.AtMost = (8, lit< tt, refl)
-place all.AtLeast = (9, lit< tt, refl)
-place all.Less = (17, lit< tt, refl)
-place all.Greater = (18, lit< tt, refl)
-place all.NotIn = (3, lit< tt, refl)
-place all.Disjoint = (10, lit< tt, refl)
-place all.Not = (19, lit< tt, refl)
-place all.Plus = (20, lit< tt, refl)
-place all.Minus = (21, lit< tt, refl)
-place all.Times = (22, lit< tt, refl)
-place all.Divide = (23, lit< tt, refl)
-place all.Modulo = (24, lit< tt, refl)
-place all.Assign = (11, lit< tt, refl)
-place all.SuchThat = (12, lit< tt, refl)
-place all.DoubleColon = (13, lit< tt, refl)
-place all.Colon = (25, lit< tt, refl)
-place all.Semicolon = (26, lit< tt, refl)
-place all.Comma = (27, lit< tt, refl)
-place all.DotDot = (14, lit< tt, refl)
-place all.Dot = (28, lit< tt, refl)
-place all.OpenParenthesis = (29, lit< tt, refl)
-place all.CloseParenthesis = (30, lit< tt, refl)
-place all.OpenBracket = (31, lit< tt, refl)
-place all.CloseBracket = (32, lit< tt, refl)
-place all.OpenAttribute = (15, lit< tt, refl)
-place all.OpenBrace = (33, lit< tt, refl)
-place all.CloseBrace = (34, lit< tt, refl)
-place all.Bar = (35, lit< tt, refl)
-place all.Arrow = (16, lit< tt, refl)
-place all.Define = (36, lit< tt, refl)
+index : (t : Sign) → (k : ℕ) × (k < length signs) × (get_or signs k t ≡ t)
+index all.Iff = (0, lit< tt, refl)
+index all.Implies = (1, lit< tt, refl)
+index all.Explies = (2, lit< tt, refl)
+index all.And = (4, lit< tt, refl)
+index all.Or = (5, lit< tt, refl)
+index all.Equal = (6, lit< tt, refl)
+index all.NotEqual = (7, lit< tt, refl)
+index all.AtMost = (8, lit< tt, refl)
+index all.AtLeast = (9, lit< tt, refl)
+index all.Less = (17, lit< tt, refl)
+index all.Greater = (18, lit< tt, refl)
+index all.NotIn = (3, lit< tt, refl)
+index all.Disjoint = (10, lit< tt, refl)
+index all.Not = (19, lit< tt, refl)
+index all.Plus = (20, lit< tt, refl)
+index all.Minus = (21, lit< tt, refl)
+index all.Times = (22, lit< tt, refl)
+index all.Divide = (23, lit< tt, refl)
+index all.Modulo = (24, lit< tt, refl)
+index all.Assign = (11, lit< tt, refl)
+index all.SuchThat = (12, lit< tt, refl)
+index all.DoubleColon = (13, lit< tt, refl)
+index all.Colon = (25, lit< tt, refl)
+index all.Semicolon = (26, lit< tt, refl)
+index all.Comma = (27, lit< tt, refl)
+index all.DotDot = (14, lit< tt, refl)
+index all.Dot = (28, lit< tt, refl)
+index all.OpenParenthesis = (29, lit< tt, refl)
+index all.CloseParenthesis = (30, lit< tt, refl)
+index all.OpenBracket = (31, lit< tt, refl)
+index all.CloseBracket = (32, lit< tt, refl)
+index all.OpenAttribute = (15, lit< tt, refl)
+index all.OpenBrace = (33, lit< tt, refl)
+index all.CloseBrace = (34, lit< tt, refl)
+index all.Bar = (35, lit< tt, refl)
+index all.Arrow = (16, lit< tt, refl)
+index all.Define = (36, lit< tt, refl)
 
 -- what stands at the front in order of length is the longest sign
 pub record Found (bytes : List ℕ) (len : ℕ) : Type 0 where
@@ -171,7 +169,7 @@ pub record Found (bytes : List ℕ) (len : ℕ) : Type 0 where
 
 pub sign_furthest : (text rest : List ℕ) → IsSign text rest → Found (text ++ rest) (length text)
 sign_furthest text rest (t, is, h) =
-    let p = place t in
+    let p = index t in
     let pass : stands (text ++ rest) t ≡ true = subst (λ (x : List ℕ). stands (x ++ rest) t ≡ true) (sym is) (stands_again t rest h) in
     let r = first_longest (stands (text ++ rest)) signs t p.0 refl p.1 p.2 pass in
     record { sign = r.sign; found = r.found; long = subst (λ (x : List ℕ). length x ≤ length (sign_text r.sign)) (sym is) r.long }

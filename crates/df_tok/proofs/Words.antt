@@ -3,6 +3,7 @@ use Rattle.std.proofs.Common.{◌≡◌, ℕ, List, Option, Some, None, refl, sy
 use Rattle.std.specs.Prelude.{MatchOption}
 use Rattle.std.specs.List.{find}
 use Rattle.std.proofs.lemmas.Slice.Eq.{bytes_eq-Decides}
+use Rattle.std.proofs.lemmas.Option.{none-some, same_Some}
 use Rattle.df_tok.specs.declared.word.Word.{Word}
 use Rattle.df_tok.specs.declared.word.Word.TheVariants as all
 use Rattle.df_tok.specs.Word.{word_text}
@@ -72,15 +73,9 @@ word_again all.Witness = refl
 pub word_found : (text : List ℕ) → MatchOption (find (is_written text) words) (¬ IsWord text) (λ word. text ≡ word_text word)
 word_found text = by (find (is_written text) words) refl
   where
-    none_is : (word : Word) → None ≡ Some word → ⊥
-    none_is word e = cc
-
     by : (found : Option Word) → find (is_written text) words ≡ found → MatchOption found (¬ IsWord text) (λ word. text ≡ word_text word)
-    by None e = λ w. none_is w.0 (sym e ∙ ap (λ (t : List ℕ). find (is_written t) words) w.1 ∙ word_again w.0)
+    by None e = λ w. none-some w.0 (sym e ∙ ap (λ (t : List ℕ). find (is_written t) words) w.1 ∙ word_again w.0)
     by (Some word) e = (bytes_eq-Decides text (word_text word)).0 (find_passes (is_written text) words word e)
 
 pub same_word : (a b : Word) → word_text a ≡ word_text b → a ≡ b
-same_word a b e = some_is a b (sym (word_again a) ∙ ap (λ (t : List ℕ). find (is_written t) words) e ∙ word_again b)
-  where
-    some_is : (x y : Word) → Some x ≡ Some y → x ≡ y
-    some_is x y e = cc
+same_word a b e = same_Some a b (sym (word_again a) ∙ ap (λ (t : List ℕ). find (is_written t) words) e ∙ word_again b)

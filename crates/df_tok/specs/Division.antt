@@ -7,7 +7,7 @@ use Rattle.df_tok.specs.Byte.{is_blank}
 use Rattle.df_tok.specs.Lexeme.{IsLexeme}
 use Rattle.df_tok.specs.Token.{Token, HasKind}
 
--- the place after a byte, and after some: lines end at a line feed
+-- the position after a byte, and after some: lines end at a line feed
 abbrev pub after_byte : Pos → ℕ → Pos
 after_byte pos b = if b == 10 then record { line = pos.line + 1; col = 1 } else record { line = pos.line; col = pos.col + 1 }
 
@@ -45,7 +45,7 @@ IsBlockComment text = (inner : List ℕ) × (text ≡ 47 ∷ 42 ∷ inner) × Cl
 abbrev pub BeginsComment : List ℕ → Type 0
 BeginsComment bytes = (b : ℕ) × (rest : List ℕ) × (bytes ≡ 47 ∷ b ∷ rest) × ((b ≡ 47) ⊎ (b ≡ 42))
 
--- no longer front is a token's
+-- no longer prefix of the source from here is a lexeme
 abbrev pub IsLongest : List ℕ → List ℕ → Type 0
 IsLongest text rest = (other more : List ℕ) → other ++ more ≡ text ++ rest → IsLexeme other more → length other ≤ length text
 
@@ -78,7 +78,7 @@ AreDivided before source (piece ∷ pieces) after =
     (rest : List ℕ) × (between : List (List ℕ))
     × (source ≡ text_of piece ++ rest) × IsPiece before piece rest between × AreDivided between rest pieces after
 
--- the tokens among the pieces, from a place on
+-- the tokens among the pieces, from a position on
 abbrev pub tokens_of : Pos → List Piece → List Token
 tokens_of pos [] = []
 tokens_of pos (Blank b ∷ pieces) = tokens_of (after_byte pos b) pieces

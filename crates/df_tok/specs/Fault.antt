@@ -35,7 +35,7 @@ pub record NothingBegins (rest : List ℕ) : Type 0 where
 abbrev pub IsUnclosed : List ℕ → Type 0
 IsUnclosed rest = (inner : List ℕ) × (rest ≡ 47 ∷ 42 ∷ inner) × ((front more : List ℕ) → inner ≡ front ++ more → ¬ Closes 1 front)
 
--- The refusal at the rest of a source, at this place and after so many tokens: the token there is a number
+-- The refusal at the rest of a source, at this position and after so many tokens: the token there is a number
 -- of 2^127 or more, or a token too many; or a comment is not closed; or no token stands there, and
 -- the byte that continues none is 128 or more, or it is less or the end.
 pub data IsRefusedAt (names : List (List ℕ)) (rest : List ℕ) (pos : Pos) (count : ℕ) (r : Refusal) : Type 0 where
@@ -55,7 +55,7 @@ IsFront before source [] rest after = (source ≡ rest) × (after ≡ before)
 IsFront before source (piece ∷ pieces) rest after =
     (next : List ℕ) × (between : List (List ℕ)) × (source ≡ text_of piece ++ next) × IsPiece before piece next between × IsFront between next pieces rest after
 
--- the place after some pieces
+-- the position after some pieces
 abbrev pub after_pieces : Pos → List Piece → Pos
 after_pieces pos [] = pos
 after_pieces pos (piece ∷ pieces) = after_pieces (after_bytes pos (text_of piece)) pieces

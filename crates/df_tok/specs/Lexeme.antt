@@ -18,13 +18,13 @@ abbrev pub IsIdentifier : List ℕ → Type 0
 IsIdentifier [] = ⊥
 IsIdentifier (b ∷ bs) = IsTrue (begins_identifier b) × AllByRecursion (λ c. IsTrue (continues_identifier c)) bs
 
--- digits, with single `_` allowed between two of them
+-- digits, with single `_` (95) allowed between two of them
 abbrev pub AreDigits : (ℕ → Bool) → List ℕ → Type 0
 AreDigits digit [] = ⊥
 AreDigits digit (d ∷ []) = IsTrue (digit d)
 AreDigits digit (d ∷ e ∷ rest) = IsTrue (digit d) × (AreDigits digit (e ∷ rest) ⊎ ((e ≡ 95) × AreDigits digit rest))
 
--- decimal digits, or `0x` and hexadecimal digits
+-- decimal digits, or `0x` (48, 120) and hexadecimal digits
 abbrev pub IsNumber : List ℕ → Type 0
 IsNumber text = AreDigits is_digit text ⊎ ((digits : List ℕ) × (text ≡ 48 ∷ 120 ∷ digits) × AreDigits is_hex_digit digits)
 
@@ -35,7 +35,7 @@ value_of_digits base digits = fold (λ v d. if d == 95 then v else v * base + di
 abbrev pub value_of_number : List ℕ → ℕ
 value_of_number text = if starts_with nat_eq text (codes "0x") then value_of_digits 16 (drop 2 text) else value_of_digits 10 text
 
--- a quote, one plain byte or an escape, a quote; and the character's code
+-- a quote (39), one plain byte or a backslash (92) and the letter of an escape, a quote; and the character's code
 abbrev pub IsCharacter : List ℕ → ℕ → Type 0
 IsCharacter text c =
     (IsTrue (is_plain_in_character c) × (text ≡ 39 ∷ c ∷ 39 ∷ []))
@@ -46,7 +46,7 @@ pub data Part : Type 0 where
   Plain : ℕ → Part
   Escape : ℕ → Part
 
--- how a part is written, for the character that it stands for
+-- how a part is written (92 is a backslash), for the character that it stands for
 abbrev pub IsPart : Part → List ℕ → ℕ → Type 0
 IsPart (Plain b) text c = IsTrue (is_plain_in_text b) × (text ≡ b ∷ []) × (c ≡ b)
 IsPart (Escape e) text c = (escaped e ≡ Some c) × (text ≡ 92 ∷ e ∷ [])
@@ -58,7 +58,7 @@ AreParts (part ∷ parts) text cs =
     (front : List ℕ) × (rest : List ℕ) × (c : ℕ) × (others : List ℕ)
     × (text ≡ front ++ rest) × (cs ≡ c ∷ others) × IsPart part front c × AreParts parts rest others
 
--- a quote, parts, a quote; and the characters
+-- a double quote (34), parts, a double quote; and the characters
 abbrev pub IsText : List ℕ → List ℕ → Type 0
 IsText text cs = (parts : List Part) × (inner : List ℕ) × (text ≡ 34 ∷ (inner ++ 34 ∷ [])) × AreParts parts inner cs
 

@@ -5,7 +5,7 @@ ghost use Rattle.df_tok.specs.Byte as spec;
 ghost use Rattle.df_tok.specs.Scanning as scanning;
 
 use crate::byte::{escaped, is_digit, is_hex_digit, is_plain_in_character, is_plain_in_text};
-use crate::place::after;
+use crate::pos::after;
 use df_base::{Code, Detail, Pos, Refusal};
 
 /// How far these are decimal digits.

@@ -12,7 +12,7 @@ mod byte;
 mod comment;
 mod kind;
 mod literal;
-mod place;
+mod pos;
 mod reader;
 mod run;
 mod scan;
@@ -42,11 +42,8 @@ pub fn one_fault()
     ensures { (before : List (List ℕ)) (source : List ℕ) (r other : Refusal) → IsFault before source r → IsFault before source other → r ≡ other }
 {}
 
-/// No two tokens of a source stand at one place.
-pub fn one_place()
+/// No two tokens of a source stand at one position.
+pub fn one_pos()
     ensures { (before : List (List ℕ)) (source : List ℕ) (tokens : List pure.Token) (after : List (List ℕ)) (one other : pure.Token)
         → Divides before source tokens after → Contains tokens one → Contains tokens other → one.pos ≡ other.pos → one ≡ other }
 {}
-
-#[cfg(test)]
-mod tests;

@@ -11,7 +11,7 @@ ghost use Rattle.df_tok.specs.Fault.{refusal, IsRefusedAt, IsFault};
 
 use crate::begun::fault;
 use crate::kind::kind_of;
-use crate::place::{START, after};
+use crate::pos::{START, after};
 use crate::scan::{Form, Front, front_of};
 use crate::token::{Token, Tokens};
 use df_base::{Code, Detail, Global, Names, Pos, Refusal, Stop};

@@ -1,15 +1,9 @@
 -- A command may close at least one branch.
-use Rattle.std.proofs.Common.{◌≡◌, ℕ, ◌≤◌, Bool, true, false, ◌&&◌, nat_le, List, [], ◌∷◌, ◌++◌, refl, arith}
+use Rattle.std.proofs.Common.{◌≡◌, ℕ, ◌≤◌, true, ◌&&◌, nat_le, List, [], ◌∷◌, refl, arith}
 use Rattle.std.specs.List.{list_all, flat_map, AllByRecursion}
+use Rattle.std.proofs.lemmas.Bool.{and_parts}
+use Rattle.df_lemmas.proofs.Alls.{all_joined}
 use Rattle.df_cmd.specs.Line.{Command, Argument, File, Joined, Apart, least, greatest, default, number_for, numbers_in, is_argument, is_plain, IsSet, left_out, given, IsLine, budget_of}
-
-and_true : (a b : Bool) → (a && b) ≡ true → (a ≡ true) × (b ≡ true)
-and_true true b e = (refl, e)
-and_true false b e = cc
-
-all_joined : {A : Type 0} (P : A → Type 0) (xs ys : List A) → AllByRecursion P xs → AllByRecursion P ys → AllByRecursion P (xs ++ ys)
-all_joined P [] ys a b = b
-all_joined P (x ∷ xs) ys a b = (a.0, all_joined P xs ys a.1 b)
 
 for_one : (option other : _) (n : ℕ) → (nat_le (least other) n && nat_le n (greatest other)) ≡ true → AllByRecursion (λ m. nat_le (least option) m ≡ true) (number_for option other n)
 for_one option other n e = grind arith
@@ -17,12 +11,12 @@ for_one option other n e = grind arith
 -- the numbers that arguments give an option are not less than its least
 in_range : (option : _) (arguments : List Argument) → list_all is_argument arguments ≡ true → AllByRecursion (λ m. nat_le (least option) m ≡ true) (flat_map (numbers_in option) arguments)
 in_range option [] e = tt
-in_range option (File name ∷ others) e = in_range option others (and_true (is_plain name) (list_all is_argument others) e).1
+in_range option (File name ∷ others) e = in_range option others (and_parts (is_plain name) (list_all is_argument others) e).1
 in_range option (Joined other n ∷ others) e =
-    let both = and_true (is_argument (Joined other n)) (list_all is_argument others) e in
+    let both = and_parts (is_argument (Joined other n)) (list_all is_argument others) e in
     all_joined (λ m. nat_le (least option) m ≡ true) (number_for option other n) (flat_map (numbers_in option) others) (for_one option other n both.0) (in_range option others both.1)
 in_range option (Apart other n ∷ others) e =
-    let both = and_true (is_argument (Apart other n)) (list_all is_argument others) e in
+    let both = and_parts (is_argument (Apart other n)) (list_all is_argument others) e in
     all_joined (λ m. nat_le (least option) m ≡ true) (number_for option other n) (flat_map (numbers_in option) others) (for_one option other n both.0) (in_range option others both.1)
 
 set_in_range : (option : _) (numbers : List ℕ) (n : ℕ) → nat_le (least option) (default option) ≡ true → IsSet option numbers n → AllByRecursion (λ m. nat_le (least option) m ≡ true) numbers → nat_le (least option) n ≡ true

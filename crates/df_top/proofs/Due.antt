@@ -1,7 +1,8 @@
 -- The status of a call is the one that is due.
-use Rattle.std.proofs.Common.{◌≡◌, ◌⊎◌, inl, inr, ℕ, ◌≤◌, ◌<◌, List, [], length, Option, Some, None, refl, sym, subst, arith}
-use Rattle.std.specs.Prelude.{Contains}
-use Rattle.df_base.specs.Outside.{Contents, bytes_of, Appends}
+use Rattle.std.proofs.Common.{◌≡◌, ◌⊎◌, inl, inr, ℕ, ◌≤◌, ◌<◌, List, length, Option, Some, None, refl, subst, arith}
+use Rattle.std.specs.Prelude.{Contains, IfSome}
+use Rattle.df_lemmas.proofs.Alls.{none_there}
+use Rattle.df_base.specs.Outside.{Contents, bytes_of}
 use Rattle.df_base.specs.declared.pos.Pos.{Pos}
 use Rattle.df_base.specs.declared.refusal.Refusal.{Refusal}
 use Rattle.df_base.specs.declared.status.Status.{Status}
@@ -12,14 +13,14 @@ use Rattle.df_mach.specs.Step as step
 use Rattle.df_mach.specs.Step.{Stepped}
 use Rattle.df_mach.specs.State as states
 use Rattle.df_mach.specs.State.{Code}
-use Rattle.df_main.specs.Run.{HasEnded}
-use Rattle.df_erase.specs.Native.{IsNative}
+use Rattle.df_main.specs.Steps.{HasEnded}
 use Rattle.df_front.specs.Source.{IsLawful, IsUnlawful, byte_limit}
 use Rattle.df_front.specs.Refused.{IsRefused}
-use Rattle.df_top.specs.Answer.{IsDoneText, IsSpentText, IsVerifyReport, IsRunReport, ProgramTells, not_native, no_main, SourceTells, refused, lawful, FilesTell, unread, large, loaded, IsLoaded, IsLarge, Puts}
-use Rattle.df_top.specs.Complete.{Holds, IsCutShort, IsDueOn, IsDue}
+use Rattle.df_top.specs.Call.{Call}
+use Rattle.df_top.specs.Loaded.{IsLoaded}
+use Rattle.df_top.specs.Answer.{OfLine, IsNoLine, IsDone, IsSpent, IsUnproved, ProgramTells, not_native, no_main, SourceTells, refused, lawful, FilesTell, unread, large, loaded, IsLarge, Tells, Answers}
+use Rattle.df_top.specs.Complete.{Holds, IsCutShort, IsDueOn, IsDue, IsComplete}
 use Rattle.df_top.specs.Complete as complete
-use Rattle.df_top.specs.Ending.{Streams, Answers}
 
 not_both : (a b : ℕ) → a ≤ b → b < a → ⊥
 not_both a b = omega arith
@@ -27,11 +28,8 @@ not_both a b = omega arith
 one_way : (s : Stepped) (ended : _) (state : states.State) → s ≡ step.Ended ended → s ≡ step.On state → ⊥
 one_way s ended state e o = cc
 
-none_there : (place : Pos) → Contains [] place → ⊥
-none_there place h = omega (arith, h.1)
-
 -- the files tell of one source
-same_source : (held : Option Contents) (name source other : List ℕ) → IsLoaded held name source → Holds held name other → source ≡ other
+same_source : (held : Option Contents) (name source other : List ℕ) → IfSome held (λ files. bytes_of files name ≡ Some source) → Holds held name other → source ≡ other
 same_source None name source other is (files, e, there) = absurd cc
 same_source (Some f) name source other is (files, e, there) = cc
 
@@ -40,16 +38,16 @@ large_source None name source is (files, e, there) = absurd cc
 large_source (Some f) name source (other, is, long) (files, e, there) =
     let same : other ≡ source = cc in subst (λ (x : List ℕ). byte_limit < length x) same long
 
-module _ (words : List (List ℕ)) (held : Option Contents) (before now : ℕ) (old new : Streams)
+module _ (call : Call)
     (same_command : (words : List (List ℕ)) (command other : Command) → IsLine words command → IsLine words other → command ≡ other)
     (same_program : (source : List ℕ) (program other : Program) → IsLawful source program → IsLawful source other → program ≡ other)
     (later : (code : Code) (number taken more : ℕ) (text : List ℕ) → HasEnded code number taken text → taken ≤ more → HasEnded code number more text)
     (unlawful : (source : List ℕ) (names : List (List ℕ)) (r : Refusal) → IsRefused source names r → IsUnlawful source) where
   abbrev Due : Command → List ℕ → Status → Type 0
-  Due command source status = IsDue command source status old.out new.out
+  Due command source status = IsDue command source status call.out
 
   abbrev DueOn : Command → Program → Status → Type 0
-  DueOn command program status = IsDueOn command program status old.out new.out
+  DueOn command program status = IsDueOn command program status call.out
 
   of_lawful : (command : Command) (source : List ℕ) (program : Program) (status : Status) → IsLawful source program → DueOn command program status → Due command source status
   of_lawful command source program status is due = record {
@@ -74,39 +72,51 @@ module _ (words : List (List ℕ)) (held : Option Contents) (before now : ℕ) (
 
   -- ---- with a program
 
-  done_due : (command : Command) (program : Program) (text : List ℕ) → IsDoneText command program text → Appends old.out new.out text → DueOn command program statuses.Done
-  done_due (Verify file budget) program text is put = inl refl
-  done_due (Run file budget fuel) program text is put = record {
-    not_native = λ h. absurd (h is.accepted.native);
-    no_main = λ native none. absurd (none is.accepted.run.method is.accepted.run.entry);
-    main = λ native number entry. inr (record { number = is.number; code = is.code; whole = text; accepted = is.accepted; enough = λ taken few h. (refl, put); short = λ h. absurd (h is.ended) });
-  }
+  module _ (command : Command) (source : List ℕ) (there : Holds call.files.held (file_of command) source) where
+    -- the files tell that the source is this one
+    of_source : (other : List ℕ) (status : Status) → IsLoaded call.files (file_of command) other → Due command other status → Due command source status
+    of_source other status is due = subst (λ (x : List ℕ). Due command x status) (same_source call.files.held (file_of command) other source is.held there) due
 
-  spent_due : (command : Command) (program : Program) (text : List ℕ) → IsSpentText command program text → Appends old.out new.out text → DueOn command program statuses.FuelSpent
-  spent_due (Verify file budget) program text is put = absurd is
-  spent_due (Run file budget fuel) program text is put = record {
-    not_native = λ h. absurd (h is.accepted.native);
-    no_main = λ native none. absurd (none is.accepted.run.method is.accepted.run.entry);
-    main = λ native number entry. inr (record { number = is.number; code = is.code; whole = is.whole; accepted = is.accepted; enough = λ taken few h. absurd (one_way _ _ is.unended.state (later is.code is.number taken fuel is.whole h few).within is.unended.on); short = λ h. refl });
-  }
+  done_due : (command : Command) (source : List ℕ) → Holds call.files.held (file_of command) source → IsDone call command → Due command source statuses.Done
+  done_due (Verify file budget) source there is =
+      of_source (Verify file budget) source there is.right.source statuses.Done is.right.loaded
+      (of_lawful (Verify file budget) is.right.source is.right.program statuses.Done is.right.lawful (inl refl))
+  done_due (Run file budget fuel) source there is =
+      of_source (Run file budget fuel) source there is.run.source statuses.Done is.run.loaded
+      (of_lawful (Run file budget fuel) is.run.source is.run.program statuses.Done is.run.lawful (record {
+        not_native = λ h. absurd (h is.accepted.native);
+        no_main = λ native none. absurd (none is.run.main is.run.entry);
+        main = λ native number entry. inr (record { number = is.run.number; code = is.run.code; whole = is.run.text; accepted = is.accepted; enough = λ taken few h. (refl, is.run.put.1); short = λ h. absurd (h is.run.put.0) });
+      }))
 
-  verify_due : (command : Command) (program : Program) (text : List ℕ) → IsVerifyReport command program text → DueOn command program statuses.Unproved
-  verify_due (Verify file budget) program text is = inr refl
-  verify_due (Run file budget fuel) program text is = absurd is
+  spent_due : (command : Command) (source : List ℕ) → Holds call.files.held (file_of command) source → IsSpent call command → Due command source statuses.FuelSpent
+  spent_due (Verify file budget) source there is = absurd is
+  spent_due (Run file budget fuel) source there is =
+      let unended = is.run.put.1 in
+      of_source (Run file budget fuel) source there is.run.source statuses.FuelSpent is.run.loaded
+      (of_lawful (Run file budget fuel) is.run.source is.run.program statuses.FuelSpent is.run.lawful (record {
+        not_native = λ h. absurd (h is.accepted.native);
+        no_main = λ native none. absurd (none is.run.main is.run.entry);
+        main = λ native number entry. inr (record { number = is.run.number; code = is.run.code; whole = is.run.text; accepted = is.accepted; enough = λ taken few h. absurd (one_way _ _ unended.state (later is.run.code is.run.number taken fuel is.run.text h few).within unended.on); short = λ h. refl });
+      }))
 
-  run_due : (command : Command) (program : Program) (text : List ℕ) → IsRunReport command program text → DueOn command program statuses.Unproved
-  run_due (Verify file budget) program text is = absurd is
-  run_due (Run file budget fuel) program text is = record {
-    not_native = λ h. absurd (h is.native);
-    no_main = λ native none. absurd (none is.entry.method is.entry.entry);
-    main = λ native number entry. inl refl;
-  }
+  unproved_due : (command : Command) (source : List ℕ) → Holds call.files.held (file_of command) source → IsUnproved call command → Due command source statuses.Unproved
+  unproved_due (Verify file budget) source there (is, silent) =
+      of_source (Verify file budget) source there is.source statuses.Unproved is.loaded
+      (of_lawful (Verify file budget) is.source is.program statuses.Unproved is.lawful (inr refl))
+  unproved_due (Run file budget fuel) source there (is, quiet) =
+      of_source (Run file budget fuel) source there is.source statuses.Unproved is.loaded
+      (of_lawful (Run file budget fuel) is.source is.program statuses.Unproved is.lawful (record {
+        not_native = λ h. absurd (h is.is.native);
+        no_main = λ native none. absurd (none is.is.entry.method is.is.entry.entry);
+        main = λ native number entry. inl refl;
+      }))
 
   program_due : (command : Command) (program : Program) (status : Status) (line : List ℕ) → ProgramTells program command status line → DueOn command program status
-  program_due command program status line (not_native place first) = record {
+  program_due command program status line (not_native pos first) = record {
     not_native = λ h. refl;
-    no_main = λ native none. absurd (none_there place (subst (λ (l : List Pos). Contains l place) native first.there));
-    main = λ native number entry. absurd (none_there place (subst (λ (l : List Pos). Contains l place) native first.there));
+    no_main = λ native none. absurd (none_there pos (subst (λ (l : List Pos). Contains l pos) native first.there));
+    main = λ native number entry. absurd (none_there pos (subst (λ (l : List Pos). Contains l pos) native first.there));
   }
   program_due command program status line (no_main native none) = record {
     not_native = λ h. absurd (h native);
@@ -120,36 +130,48 @@ module _ (words : List (List ℕ)) (held : Option Contents) (before now : ℕ) (
   source_due command source status line (refused names r why) = of_refused command source names r why
   source_due command source status line (lawful program is told) = of_lawful command source program status is (program_due command program status line told)
 
-  files_due : (command : Command) (source : List ℕ) (status : Status) (line : List ℕ) → Holds held (file_of command) source → FilesTell held before now command status line → IsCutShort status ⊎ Due command source status
+  files_due : (command : Command) (source : List ℕ) (status : Status) (line : List ℕ) → Holds call.files.held (file_of command) source → FilesTell call.files command status line → IsCutShort status ⊎ Due command source status
   files_due command source status line there (unread rose) = inl complete.unread
-  files_due command source status line there (large long) = inr (of_long command source (large_source held (file_of command) source long there))
-  files_due command source status line there (loaded other is told) =
-      inr (subst (λ (x : List ℕ). Due command x status) (same_source held (file_of command) other source is there) (source_due command other status line told))
+  files_due command source status line there (large long) = inr (of_long command source (large_source call.files.held (file_of command) source long there))
+  files_due command source status line there (loaded other is told) = inr (of_source command source there other status is (source_due command other status line told))
 
-  module _ (command : Command) (source : List ℕ) (line : IsLine words command) (there : Holds held (file_of command) source) where
-    of_puts : (status : Status) (is_of : Command → Program → List ℕ → Type 0) (put : List ℕ → Type 0) → Puts words held is_of put → ((program : Program) (text : List ℕ) → is_of command program text → put text → DueOn command program status) → IsCutShort status ⊎ Due command source status
-    of_puts status is_of put p due =
-        let same = same_command words p.command command p.line line in
-        let is = subst (λ (c : Command). is_of c p.program p.text) same p.is in
-        let holds = subst (λ (c : Command). IsLoaded held (file_of c) p.source) same p.loaded in
-        inr (subst (λ (x : List ℕ). Due command x status) (same_source held (file_of command) p.source source holds there)
-        (of_lawful command p.source p.program status p.lawful (due p.program p.text is p.was_put)))
+  module _ (command : Command) (source : List ℕ) (line : IsLine call.words command) (there : Holds call.files.held (file_of command) source) where
+    of_line : (is : Command → Type 0) → OfLine call.words is → is command
+    of_line is h = subst is (same_command call.words h.command command h.line line) h.holds
 
-    of_tells : (status : Status) (text : List ℕ) (other : Command) → IsLine words other → FilesTell held before now other status text → IsCutShort status ⊎ Due command source status
-    of_tells status text other is tells =
-        files_due command source status text there
-        (subst (λ (c : Command). FilesTell held before now c status text) (same_command words other command is line) tells)
+    of_tells : (status : Status) (text : List ℕ) → Tells call status text → IsCutShort status ⊎ Due command source status
+    of_tells status text tells = files_due command source status text there (of_line (λ (c : Command). FilesTell call.files c status text) tells)
 
-    pub is_due : (status : Status) → Answers words held before now old new status → IsCutShort status ⊎ Due command source status
-    is_due statuses.Done a = of_puts statuses.Done _ _ a.0 (done_due command)
-    is_due statuses.Unproved (inl a) = of_puts statuses.Unproved _ _ a.0 (λ program text is put. verify_due command program text is)
-    is_due statuses.Unproved (inr a) = of_puts statuses.Unproved _ _ a.0 (λ program text is put. run_due command program text is)
+    is_due : (status : Status) → Answers call status → IsCutShort status ⊎ Due command source status
+    is_due statuses.Done a = inr (done_due command source there (of_line (IsDone call) a.0))
+    is_due statuses.Unproved a = inr (unproved_due command source there (of_line (IsUnproved call) a))
     is_due statuses.Usage a = absurd (a.0 command line)
-    is_due statuses.Refused a = of_tells statuses.Refused a.0 a.1.command a.1.words_are a.1.tells
+    is_due statuses.Refused a = of_tells statuses.Refused a.0 a.1
     is_due statuses.Unread a = inl complete.unread
     is_due statuses.Unwritten a = inl complete.unwritten
     is_due statuses.Memory a = inl complete.memory
-    is_due statuses.FuelSpent a = of_puts statuses.FuelSpent _ _ a.0 (spent_due command)
-    is_due statuses.NotCompilable a = of_tells statuses.NotCompilable a.0 a.1.command a.1.words_are a.1.tells
-    is_due statuses.NoMain a = of_tells statuses.NoMain a.0 a.1.command a.1.words_are a.1.tells
+    is_due statuses.FuelSpent a = inr (spent_due command source there (of_line (IsSpent call) a.0))
+    is_due statuses.NotCompilable a = of_tells statuses.NotCompilable a.0 a.1
+    is_due statuses.NoMain a = of_tells statuses.NoMain a.0 a.1
     is_due statuses.BadLog a = absurd a
+
+  -- ---- words that are no line
+
+  no_line : (status : Status) → Answers call status → IsNoLine call.words → (status ≡ statuses.Usage) ⊎ ((status ≡ statuses.Unwritten) ⊎ (status ≡ statuses.Memory))
+  no_line statuses.Done a none = absurd (none a.0.command a.0.line)
+  no_line statuses.Unproved a none = absurd (none a.command a.line)
+  no_line statuses.Usage a none = inl refl
+  no_line statuses.Refused a none = absurd (none a.1.command a.1.line)
+  no_line statuses.Unread a none = absurd (none a.1.command a.1.line)
+  no_line statuses.Unwritten a none = inr (inl refl)
+  no_line statuses.Memory a none = inr (inr refl)
+  no_line statuses.FuelSpent a none = absurd (none a.0.command a.0.line)
+  no_line statuses.NotCompilable a none = absurd (none a.1.command a.1.line)
+  no_line statuses.NoMain a none = absurd (none a.1.command a.1.line)
+  no_line statuses.BadLog a none = absurd a
+
+  pub is_complete : (status : Status) → Answers call status → IsComplete call status
+  is_complete status a = record {
+    no_line = no_line status a;
+    due = λ command source line there. is_due command source line there status a;
+  }

@@ -1,23 +1,14 @@
 -- Texts that are put piece by piece.
 use Rattle.std.proofs.Common.{◌≡◌, ℕ, ◌+◌, ◌-◌, ◌<◌, List, [], ◌∷◌, ◌++◌, take, drop, length, Option, Some, None, Result, Ok, Err, OnErr, refl, sym, ap, subst, ◌∙◌, append_assoc, append-nil, take-append-drop, arith}
-use Rattle.std.proofs.Math.Seq.{take-add}
+use Rattle.std.proofs.Math.Seq.{take-add, take-append_seam}
+use Rattle.df_vm.proofs.Reached.{Appends-more}
 use Rattle.df_base.specs.declared.sink.SinkFault.{SinkFault}
 use Rattle.df_base.specs.declared.sink.SinkFault.TheVariants as faults
 use Rattle.df_base.specs.Outside.{Appends, AppendsPrefix}
 
-appends_more : (old mid new : Option (List ℕ)) (t u : List ℕ) → Appends old mid t → Appends mid new u → Appends old new (t ++ u)
-appends_more None mid new t u a b = let P : Option (List ℕ) → Type 0 = λ m. Appends m new u in subst P a b
-appends_more (Some x) mid new t u a b =
-    let P : Option (List ℕ) → Type 0 = λ m. Appends m new u in
-    subst P a b ∙ ap Some (append_assoc x t u)
-
-take_front : (x y : List ℕ) → take (length x) (x ++ y) ≡ x
-take_front [] y = refl
-take_front (a ∷ x) y = ap (λ r. a ∷ r) (take_front x y)
-
 -- a text that a whole begins with is a prefix of it
 pub part_of_whole : (old new : Option (List ℕ)) (whole text more : List ℕ) → whole ≡ text ++ more → Appends old new text → AppendsPrefix old new whole
-part_of_whole old new whole text more is put = (length text, subst (λ (x : List ℕ). Appends old new x) (sym (ap (take (length text)) is ∙ take_front text more)) put)
+part_of_whole old new whole text more is put = (length text, subst (λ (x : List ℕ). Appends old new x) (sym (ap (take (length text)) is ∙ take-append_seam text more)) put)
 
 -- a text that goes on after a part of it is put
 prefix_more : (old mid new : Option (List ℕ)) (t u more : List ℕ) → Appends old mid t → AppendsPrefix mid new u → AppendsPrefix old new ((t ++ u) ++ more)
@@ -26,7 +17,7 @@ prefix_more old mid new t u more a b =
     let rest : List ℕ = drop b.0 u ++ more in
     let whole : (t ++ part) ++ rest ≡ (t ++ u) ++ more =
     append_assoc t part rest ∙ ap (λ x. t ++ x) (sym (append_assoc part (drop b.0 u) more) ∙ ap (λ x. x ++ more) (take-append-drop b.0 u)) ∙ sym (append_assoc t u more) in
-    part_of_whole old new ((t ++ u) ++ more) (t ++ part) rest (sym whole) (appends_more old mid new t part a b.1)
+    part_of_whole old new ((t ++ u) ++ more) (t ++ part) rest (sym whole) (Appends-more old mid new t part a b.1)
 
 -- nothing is put
 pub appends_nothing : (old : Option (List ℕ)) → Appends old old []
@@ -60,7 +51,7 @@ pub line_put : (first old new : Option (List ℕ)) (text : List ℕ) (start end 
 line_put first old new text start end less so_far line =
     let count : start + (end - start) ≡ end = omega arith in
     let more : take start text ++ take (end - start) (drop start text) ≡ take end text = sym (take-add start (end - start) text) ∙ ap (λ (n : ℕ). take n text) count in
-    subst (Appends first new) more (appends_more first old new (take start text) (take (end - start) (drop start text)) so_far line)
+    subst (Appends first new) more (Appends-more first old new (take start text) (take (end - start) (drop start text)) so_far line)
 
 part_put : (result : Result (Unit {0}) SinkFault) (fault : SinkFault) (old new : Option (List ℕ)) (line : List ℕ) → result ≡ Err fault → (result ≡ Err faults.Failed → AppendsPrefix old new line) → (result ≡ Err faults.Memory → new ≡ old) → AppendsPrefix old new line
 part_put result faults.Failed old new line is failed memory = failed is

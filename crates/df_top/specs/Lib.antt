@@ -1,6 +1,9 @@
 pub use Rattle.df_base.specs.Outside
-pub mod Answer
+pub mod Call
+pub mod Loaded
 pub mod Headline
+pub mod Lines
+pub mod Answer
 pub mod Complete
 pub mod Ending
 pub mod Telling

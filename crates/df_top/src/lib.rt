@@ -2,16 +2,11 @@
 #![tactic(auto)]
 
 mod command;
-#[cfg(test)]
-mod devices;
 mod ending;
 mod proving;
 mod putting;
 mod running;
-#[cfg(test)]
-mod sources;
 mod telling;
-#[cfg(test)]
-mod tests;
 
 pub use command::top;
+pub use telling::tell_memory;

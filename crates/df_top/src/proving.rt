@@ -41,11 +41,12 @@ fn all_verified(outcomes: &[Outcome]) -> bool
 /// The report on a program, of which each obligation is proved or told.
 pub(crate) fn prove(alloc: Global, program: &Program, budget: Budget) -> Result<Report, AllocError>
     requires { 1 ≤ budget.steps }
-    ensures { IfOk result (λ report. IsReport (program_of program.now) budget.steps report.verified report.text.items) }
+    ensures { IfOk result (λ report. IsReport (program_of program.now) (record { steps = budget.steps; rounds = budget.rounds }) report.verified report.text.items) }
 {
-    let outcomes = verdicts(alloc, program, budget)?;
+    let judged = verdicts(alloc, program, budget)?;
+    let outcomes = judged.outcomes.as_slice();
     Ok(Report {
-        verified: all_verified(outcomes.as_slice()),
-        text: lines(alloc, outcomes.as_slice())?,
+        verified: all_verified(outcomes),
+        text: lines(alloc, outcomes)?,
     })
 }

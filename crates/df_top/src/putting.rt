@@ -2,6 +2,7 @@
 
 ghost use Rattle.std.specs.Prelude.{◌≡◌, ◌<◌, ◌≤◌, length, OnOk, OnErr, Err};
 ghost use Rattle.df_base.specs.Outside.{Appends, AppendsPrefix, HasCause};
+ghost use Rattle.df_top.specs.Call.{stream};
 ghost use Rattle.df_top.specs.Ending.{PutsText};
 
 use crate::ending::End;
@@ -36,7 +37,7 @@ fn put_lines<S: Sink>(sink: &mut S, text: &[u8]) -> Result<(), SinkFault>
 
 /// Puts a report.
 pub(crate) fn put_report<S: Sink>(sink: &mut S, report: &Report) -> End
-    ensures puts { PutsText report.now.verified report.now.text.items (S.taken sink.old) (S.taken sink.new) (S.fault_count sink.old) (S.fault_count sink.new) result }
+    ensures puts { PutsText report.now.verified report.now.text.items (stream S.Sink sink.old sink.new) result }
     ensures counts { S.fault_count sink.old ≤ S.fault_count sink.new }
 {
     match put_lines(sink, report.text.as_slice()) {

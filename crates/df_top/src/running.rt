@@ -9,6 +9,7 @@ ghost use Rattle.df_erase.specs.Erasing.{erased};
 ghost use Rattle.df_erase.specs.Native.{IsNative};
 ghost use Rattle.df_erase.specs.Running.{RunsAlike};
 ghost use Rattle.df_main.specs.Run.{IsEntryAt};
+ghost use Rattle.df_top.specs.Call.{streams};
 ghost use Rattle.df_top.specs.Ending.{IsToldBy, Ends, of_program, of_source};
 
 use crate::ending::End;
@@ -77,7 +78,7 @@ fn prove_and_run<O: Sink, E: Sink>(
     requires alike { RunsAlike (program_of program.now) (plain_of plain.now) }
     requires native { IsNative (program_of program.now) }
     requires entry { IsEntryAt (program_of program.now) number }
-    ensures ends { Ends (of_program (command_of command.now) (program_of program.now)) (record { out = O.taken out.old; err = E.taken err.old; out_faults = O.fault_count out.old; err_faults = E.fault_count err.old }) (record { out = O.taken out.new; err = E.taken err.new; out_faults = O.fault_count out.new; err_faults = E.fault_count err.new }) result }
+    ensures ends { Ends (of_program (command_of command.now) (program_of program.now)) (streams O.Sink out.old out.new E.Sink err.old err.new) result }
     ensures counts { (O.fault_count out.old ≤ O.fault_count out.new) × (E.fault_count err.old ≤ E.fault_count err.new) }
 {
     judged_is_safe();
@@ -106,7 +107,7 @@ fn run_program<O: Sink, E: Sink>(
 ) -> End
     requires run { command_of command.now ≡ Run (file_of (command_of command.now)) (budget_in (command_of command.now)) fuel }
     requires steps { 1 ≤ (budget_in (command_of command.now)).steps }
-    ensures ends { Ends (of_program (command_of command.now) (program_of program.now)) (record { out = O.taken out.old; err = E.taken err.old; out_faults = O.fault_count out.old; err_faults = E.fault_count err.old }) (record { out = O.taken out.new; err = E.taken err.new; out_faults = O.fault_count out.new; err_faults = E.fault_count err.new }) result }
+    ensures ends { Ends (of_program (command_of command.now) (program_of program.now)) (streams O.Sink out.old out.new E.Sink err.old err.new) result }
     ensures counts { (O.fault_count out.old ≤ O.fault_count out.new) × (E.fault_count err.old ≤ E.fault_count err.new) }
 {
     let plain = match erase(alloc, program) {
@@ -134,7 +135,7 @@ fn end_program<O: Sink, E: Sink>(
     err: &mut E,
 ) -> End
     requires { 1 ≤ (budget_in (command_of command.now)).steps }
-    ensures ends { Ends (of_program (command_of command.now) (program_of program.now)) (record { out = O.taken out.old; err = E.taken err.old; out_faults = O.fault_count out.old; err_faults = E.fault_count err.old }) (record { out = O.taken out.new; err = E.taken err.new; out_faults = O.fault_count out.new; err_faults = E.fault_count err.new }) result }
+    ensures ends { Ends (of_program (command_of command.now) (program_of program.now)) (streams O.Sink out.old out.new E.Sink err.old err.new) result }
     ensures counts { (O.fault_count out.old ≤ O.fault_count out.new) × (E.fault_count err.old ≤ E.fault_count err.new) }
 {
     match command {
@@ -155,7 +156,7 @@ pub(crate) fn end_source<O: Sink, E: Sink>(
     err: &mut E,
 ) -> End
     requires { 1 ≤ (budget_in (command_of command.now)).steps }
-    ensures ends { Ends (of_source (command_of command.now) source.now) (record { out = O.taken out.old; err = E.taken err.old; out_faults = O.fault_count out.old; err_faults = E.fault_count err.old }) (record { out = O.taken out.new; err = E.taken err.new; out_faults = O.fault_count out.new; err_faults = E.fault_count err.new }) result }
+    ensures ends { Ends (of_source (command_of command.now) source.now) (streams O.Sink out.old out.new E.Sink err.old err.new) result }
     ensures counts { (O.fault_count out.old ≤ O.fault_count out.new) × (E.fault_count err.old ≤ E.fault_count err.new) }
 {
     let Ok(mut names) = Names::new(alloc) else {

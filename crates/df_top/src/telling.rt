@@ -1,16 +1,18 @@
 //! Lines, told on `err`.
 
 ghost use Rattle.std.specs.Prelude.{◌≡◌, ◌≤◌, ◌++◌, IfOk};
-ghost use Rattle.df_top.specs.Answer.{usage_line, memory_line, fuel_line, unread_line, large_line, native_line, no_main_line};
+ghost use Rattle.df_top.specs.Call.{stream};
+ghost use Rattle.df_top.specs.Lines.{usage_line, memory_line, fuel_line, unread_line, large_line, native_line, no_main_line};
 ghost use Rattle.df_top.specs.Telling.{Tells};
 
 use df_base::{Global, Pos, Sink, SinkFault, Status};
-use df_front::place_text;
+use df_front::pos_text;
 use std::alloc::AllocError;
 
-/// Tells that memory was refused. Nothing more is told where this needs memory that is refused.
-pub(crate) fn tell_memory<E: Sink>(err: &mut E) -> Status
-    ensures tells { Tells Status.Memory memory_line (E.taken err.old) (E.taken err.new) (E.fault_count err.old) (E.fault_count err.new) result }
+/// Tells on `err` that memory was refused. Nothing more is told where this needs memory that is refused. The status
+/// says whether the line was written.
+pub fn tell_memory<E: Sink>(err: &mut E) -> Status
+    ensures tells { Tells Status.Memory memory_line (stream E.Sink err.old err.new) result }
     ensures counts { E.fault_count err.old ≤ E.fault_count err.new }
 {
     match err.put(b"dfy: out of memory\n") {
@@ -22,7 +24,7 @@ pub(crate) fn tell_memory<E: Sink>(err: &mut E) -> Status
 
 /// Tells why a status comes.
 pub(crate) fn tell<E: Sink>(err: &mut E, line: &[u8], status: Status) -> Status
-    ensures tells { Tells status line.now (E.taken err.old) (E.taken err.new) (E.fault_count err.old) (E.fault_count err.new) result }
+    ensures tells { Tells status line.now (stream E.Sink err.old err.new) result }
     ensures counts { E.fault_count err.old ≤ E.fault_count err.new }
 {
     match err.put(line) {
@@ -34,7 +36,7 @@ pub(crate) fn tell<E: Sink>(err: &mut E, line: &[u8], status: Status) -> Status
 
 /// Tells that the words are no command.
 pub(crate) fn tell_usage<E: Sink>(err: &mut E) -> Status
-    ensures tells { Tells Status.Usage usage_line (E.taken err.old) (E.taken err.new) (E.fault_count err.old) (E.fault_count err.new) result }
+    ensures tells { Tells Status.Usage usage_line (stream E.Sink err.old err.new) result }
     ensures counts { E.fault_count err.old ≤ E.fault_count err.new }
 {
     tell(err, b"dfy: usage\n", Status::Usage)
@@ -42,7 +44,7 @@ pub(crate) fn tell_usage<E: Sink>(err: &mut E) -> Status
 
 /// Tells that the fuel is spent.
 pub(crate) fn tell_fuel<E: Sink>(err: &mut E) -> Status
-    ensures tells { Tells Status.FuelSpent fuel_line (E.taken err.old) (E.taken err.new) (E.fault_count err.old) (E.fault_count err.new) result }
+    ensures tells { Tells Status.FuelSpent fuel_line (stream E.Sink err.old err.new) result }
     ensures counts { E.fault_count err.old ≤ E.fault_count err.new }
 {
     tell(err, b"dfy: fuel spent\n", Status::FuelSpent)
@@ -89,7 +91,7 @@ pub(crate) fn native_text(
     ensures { IfOk result (λ line. line.items ≡ native_line file.now pos rule) }
 {
     let mut text = Vec::new(alloc);
-    text.extend_from_slice(place_text(alloc, file, pos)?.as_slice())?;
+    text.extend_from_slice(pos_text(alloc, file, pos)?.as_slice())?;
     text.extend_from_slice(b"not compilable N")?;
     text.extend_from_slice(rule.to_string(alloc)?.as_bytes())?;
     text.extend_from_slice(b"\n")?;

@@ -1,7 +1,7 @@
 -- Lists that begin others.
 use Rattle.std.proofs.Common.{◌≤◌, List, length, take, sym, ap, ◌∙◌, arith, length-take}
 use Rattle.std.proofs.lemmas.List.{take-take}
-use Rattle.df_derive.specs.Front.{IsFront}
+use Rattle.df_logbuild.specs.Front.{IsFront}
 
 pub front_then : {A : Type 0} (a b c : List A) → IsFront a b → IsFront b c → IsFront a c
 front_then a b c first second =

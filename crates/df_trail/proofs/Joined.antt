@@ -1,41 +1,23 @@
 -- Two closed sides close what stands before them.
-use Rattle.std.proofs.Common.{◌≡◌, ℕ, Bool, true, false, not, ◌&&◌, ◌==◌, cond, if◌then◌else◌, List, [], ◌∷◌, ◌++◌, map, Option, Some, None, slice_get, refl, sym, ap, ◌∙◌, arith, true≢false}
+use Rattle.std.proofs.Common.{◌≡◌, ℕ, Bool, true, false, not, ◌&&◌, cond, if◌then◌else◌, List, [], ◌∷◌, ◌++◌, map, Option, Some, None, slice_get, refl, sym, ap, ◌∙◌, true≢false}
 use Rattle.std.specs.Option.{option_and_then, option_map}
+use Rattle.std.proofs.lemmas.Bool.{or_left, or_right}
+use Rattle.df_form.proofs.Literals.{negated_twice, all_negated_twice, same_self}
 use Rattle.df_form.specs.declared.log.Lit.{Lit}
 use Rattle.df_form.specs.Node.{Node}
 use Rattle.df_form.specs.Sorting.{is_formula}
-use Rattle.df_meaning.specs.Value.{same_truth}
 use Rattle.df_form.specs.Clause.{Clause, negation, same_literal, is_among, are_literals}
 use Rattle.df_kern.specs.Propagation.{left, only, is_empty, if_some, propagates, clauses_at, propagation_of, propagation_line}
 use Rattle.df_trail.specs.Trail.{IsUndecided}
-use Rattle.df_form.proofs.Lists.{first_true, second_true}
-use Rattle.df_derive.proofs.Added.{mapped_append}
-
-not_not : (b : Bool) → not (not b) ≡ b
-not_not true = refl
-not_not false = refl
-
-pub negated_twice : (l : Lit) → negation (negation l) ≡ l
-negated_twice l = λ i. record { positive = not_not l.positive i; node = l.node }
-
-all_negated_twice : (literals : List Lit) → map negation (map negation literals) ≡ literals
-all_negated_twice [] = refl
-all_negated_twice (l ∷ others) = λ i. negated_twice l i ∷ all_negated_twice others i
-
-same_self : (l : Lit) → same_literal l l ≡ true
-same_self l = by l.positive
-  where
-    by : (b : Bool) → (same_truth b b && l.node == l.node) ≡ true
-    by true = grind arith
-    by false = grind arith
+use Rattle.df_logbuild.proofs.Added.{mapped_append}
 
 -- negations of known literals are not left
 left_behind : (known branch : List Lit) (rest : Clause) → ((p : Lit) → is_among branch p ≡ true → is_among known p ≡ true) → left known (map negation branch ++ rest) ≡ left known rest
 left_behind known [] rest are = refl
 left_behind known (p ∷ others) rest are =
-    let here : is_among known (negation (negation p)) ≡ true = ap (is_among known) (negated_twice p) ∙ are p (first_true (same_literal p p) (is_among others p) (same_self p)) in
+    let here : is_among known (negation (negation p)) ≡ true = ap (is_among known) (negated_twice p) ∙ are p (or_left (same_literal p p) (is_among others p) (same_self p)) in
     ap (λ (b : Bool). cond (not b) (negation p ∷ left known (map negation others ++ rest)) (left known (map negation others ++ rest))) here
-    ∙ left_behind known others rest (λ q e. are q (second_true (same_literal q p) (is_among others q) e))
+    ∙ left_behind known others rest (λ q e. are q (or_right (same_literal q p) (is_among others q) e))
 
 -- one side leaves the other
 one_side : (branch : List Lit) (l : Lit) → IsUndecided branch l → left branch (map negation (branch ++ negation l ∷ [])) ≡ l ∷ []
@@ -48,9 +30,9 @@ one_side branch l undecided =
 -- which leaves nothing
 other_side : (branch : List Lit) (l : Lit) → left (l ∷ branch) (map negation (branch ++ l ∷ [])) ≡ []
 other_side branch l =
-    let here : is_among (l ∷ branch) (negation (negation l)) ≡ true = ap (is_among (l ∷ branch)) (negated_twice l) ∙ first_true (same_literal l l) (is_among branch l) (same_self l) in
+    let here : is_among (l ∷ branch) (negation (negation l)) ≡ true = ap (is_among (l ∷ branch)) (negated_twice l) ∙ or_left (same_literal l l) (is_among branch l) (same_self l) in
     ap (left (l ∷ branch)) (mapped_append negation branch l)
-    ∙ left_behind (l ∷ branch) branch (negation l ∷ []) (λ p e. second_true (same_literal p l) (is_among branch p) e)
+    ∙ left_behind (l ∷ branch) branch (negation l ∷ []) (λ p e. or_right (same_literal p l) (is_among branch p) e)
     ∙ ap (λ (b : Bool). cond (not b) (negation l ∷ []) []) here
 
 propagated : (branch : List Lit) (l : Lit) → IsUndecided branch l → propagates branch (map negation (branch ++ negation l ∷ []) ∷ map negation (branch ++ l ∷ []) ∷ []) ≡ true
@@ -58,7 +40,7 @@ propagated branch l undecided =
     ap (λ (ls : List Lit). if_some (only ls) (λ m. is_empty (left (m ∷ branch) (map negation (branch ++ l ∷ []))))) (one_side branch l undecided) ∙ ap is_empty (other_side branch l)
 
 -- negations are of the same formulas
-negations_are_literals : (nodes : List Node) (literals : List Lit) → are_literals nodes literals ≡ true → are_literals nodes (map negation literals) ≡ true
+pub negations_are_literals : (nodes : List Node) (literals : List Lit) → are_literals nodes literals ≡ true → are_literals nodes (map negation literals) ≡ true
 negations_are_literals nodes [] e = e
 negations_are_literals nodes (l ∷ others) e = by (is_formula nodes l.node) (are_literals nodes others) e (negations_are_literals nodes others)
   where

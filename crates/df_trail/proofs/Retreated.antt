@@ -1,19 +1,20 @@
 -- Trails shorter by one decision, and turned ones.
 use Rattle.std.proofs.Common.{◌≡◌, ℕ, Bool, true, ◌&&◌, List, [], ◌∷◌, ◌++◌, map, length, Option, Some, None, slice_get, refl, sym, ap, ◌∙◌, subst, append_assoc, append-nil}
 use Rattle.std.specs.List.{list_all}
+use Rattle.std.proofs.lemmas.Bool.{and_from, and_parts}
+use Rattle.df_form.proofs.Literals.{negated_twice}
+use Rattle.df_lemmas.proofs.Lists.{get_grown, get_last}
 use Rattle.df_form.specs.declared.log.Lit.{Lit}
 use Rattle.df_form.specs.Node.{Node}
 use Rattle.df_form.specs.Sorting.{is_formula}
 use Rattle.df_form.specs.Sequent.{Sequent}
 use Rattle.df_form.specs.Clause.{Clause, negation, is_among, are_literals}
-use Rattle.df_derive.specs.declared.derivation.Derivation.{Derivation}
-use Rattle.df_derive.specs.Runs.{Runs}
+use Rattle.df_logbuild.specs.declared.derivation.Derivation.{Derivation}
+use Rattle.df_logbuild.specs.Runs.{Runs}
 use Rattle.df_trail.specs.declared.decision.Decision.{Decision}
 use Rattle.df_trail.specs.declared.trail.Trail.{Trail}
 use Rattle.df_trail.specs.Trail.{literal_of, literals_of, branch_of, turned, IsUndecided, IsClosedBy, AreDecided, IsTrail, IsClosed, HasTurned, HasEnded, JoinsSides}
-use Rattle.df_form.proofs.Lists.{both, both_true, get_grown, get_last}
-use Rattle.df_derive.proofs.Added.{mapped_append}
-use Rattle.df_trail.proofs.Joined.{negated_twice}
+use Rattle.df_logbuild.proofs.Added.{mapped_append}
 
 -- the last decision, after those before it
 pub record IsLast (clauses : List Clause) (before : List Lit) (decisions : List Decision) (last : Decision) : Type 0 where
@@ -48,7 +49,7 @@ put_last clauses before (d ∷ others) last is =
     } in
     (is.others.0, is.others.1, put_last clauses (before ++ d.literal ∷ []) others last rest)
 
-closed_grown : (clauses more : List Clause) (before : List Lit) (l : Lit) (closed : Option ℕ) → IsClosedBy clauses before l closed → IsClosedBy (clauses ++ more) before l closed
+pub closed_grown : (clauses more : List Clause) (before : List Lit) (l : Lit) (closed : Option ℕ) → IsClosedBy clauses before l closed → IsClosedBy (clauses ++ more) before l closed
 closed_grown clauses more before l None is = tt
 closed_grown clauses more before l (Some number) is = get_grown clauses more number (map negation (before ++ negation l ∷ [])) is
 
@@ -58,7 +59,7 @@ decided_grown clauses more before (d ∷ others) all = (all.0, closed_grown clau
 
 all_front : {A : Type 0} (test : A → Bool) (xs ys : List A) → list_all test (xs ++ ys) ≡ true → list_all test xs ≡ true
 all_front test [] ys e = refl
-all_front test (x ∷ xs) ys e = let parts = both (test x) (list_all test (xs ++ ys)) e in both_true (test x) (list_all test xs) parts.0 (all_front test xs ys parts.1)
+all_front test (x ∷ xs) ys e = let parts = and_parts (test x) (list_all test (xs ++ ys)) e in and_from (test x) (list_all test xs) parts.0 (all_front test xs ys parts.1)
 
 -- the other side of an undecided literal is undecided
 turned_undecided : (before : List Lit) (l : Lit) → IsUndecided before l → IsUndecided before (negation l)

@@ -1,2 +1,2 @@
-pub use Rattle.df_derive.specs.Runs
+pub use Rattle.df_logbuild.specs.Runs
 pub mod Trail

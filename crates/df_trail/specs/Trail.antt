@@ -3,8 +3,8 @@ use Rattle.std.specs.Prelude.{◌≡◌, ℕ, true, false, List, [], ◌∷◌, 
 use Rattle.df_form.specs.declared.log.Lit.{Lit}
 use Rattle.df_form.specs.Sequent.{Sequent}
 use Rattle.df_form.specs.Clause.{Clause, negation, is_among, are_literals}
-use Rattle.df_derive.specs.declared.derivation.Derivation.{Derivation}
-use Rattle.df_derive.specs.Runs.{Runs}
+use Rattle.df_logbuild.specs.declared.derivation.Derivation.{Derivation}
+use Rattle.df_logbuild.specs.Runs.{Runs}
 use Rattle.df_trail.specs.declared.decision.Decision.{Decision}
 use Rattle.df_trail.specs.declared.trail.Trail.{Trail}
 use Rattle.df_trail.specs.declared.trail.Retreat.{Retreat}

@@ -3,8 +3,6 @@
 #![tactic(auto)]
 
 mod decision;
-#[cfg(test)]
-mod tests;
 mod trail;
 
 pub use decision::Decision;

@@ -3,12 +3,12 @@
 ghost use Rattle.std.specs.Prelude.{◌≡◌, ◌≤◌, ◌++◌, ◌∷◌, [], List, map, length, IfOk, OnOk, OnErr};
 ghost use Rattle.df_form.specs.declared.log.Lit.{Lit};
 ghost use Rattle.df_form.specs.Clause.{Clause, negation};
-ghost use Rattle.df_derive.specs.Front.{IsFront};
+ghost use Rattle.df_logbuild.specs.Front.{IsFront};
 ghost use Rattle.df_trail.specs.Trail.{branch_of, decided, turned, JoinsSides, RetreatsFrom, Turns};
 
 use crate::decision::Decision;
-use df_derive::Derivation;
 use df_form::Lit;
+use df_logbuild::Derivation;
 use std::alloc::{AllocError, Global};
 
 /// What is left after a branch was closed.
@@ -24,15 +24,6 @@ pub enum Retreat {
 #[derive(Debug, Drop)]
 pub struct Trail {
     pub decisions: Vec<Decision>,
-}
-
-fn negated(literal: Lit) -> Lit
-    ensures { result ≡ negation literal }
-{
-    Lit {
-        positive: !literal.positive,
-        node: literal.node,
-    }
 }
 
 impl Trail {
@@ -62,7 +53,7 @@ impl Trail {
     {
         let mut clause = Vec::new(alloc);
         for decision in &self.decisions {
-            clause.push(negated(decision.literal))?;
+            clause.push(decision.literal.negation())?;
         }
         Ok(clause)
     }
@@ -87,7 +78,7 @@ impl Trail {
         ensures err { OnErr result (self.new.decisions.items ≡ self.old.decisions.items) }
     {
         self.decisions.push(Decision {
-            literal: negated(literal),
+            literal: literal.negation(),
             closed: Some(closed),
         })?;
         Ok(())

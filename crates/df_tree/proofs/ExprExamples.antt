@@ -1,5 +1,5 @@
 -- The grammar of expressions, computed on small ones.
-use Rattle.std.proofs.Common.{◌≡◌, ℕ, true, false, [], ◌∷◌, refl, sym, ◌∙◌, arith}
+use Rattle.std.proofs.Common.{◌≡◌, ℕ, true, false, [], ◌∷◌, inl, inr, refl, sym, ◌∙◌, arith}
 use Rattle.df_base.specs.declared.pos.Pos.{Pos}
 use Rattle.df_tok.specs.declared.sign.Sign.TheVariants as signs
 use Rattle.df_tok.specs.declared.token.Kind.{Kind}
@@ -9,7 +9,7 @@ use Rattle.df_tree.specs.declared.expr.BinaryOperator.TheVariants as binary
 use Rattle.df_tree.specs.declared.expr.UnaryOperator.TheVariants as unary
 use Rattle.df_tree.specs.declared.expr.Group.TheVariants as groups
 use Rattle.df_tree.specs.Expr.{Expr, Number, Name, Unary, Operations, Leading, end, more}
-use Rattle.df_tree.specs.ExprSpelling.{Begins, spell, IsExpr, height}
+use Rattle.df_tree.specs.ExprSpelling.{Begins, spell, IsExpr, height, IsBarred}
 
 at : ℕ → Pos
 at col = record { line = 1; col = col }
@@ -60,3 +60,23 @@ sign_before_number = (tt, (omega arith, λ h. absurd cc))
 leading_height : height (Leading (more binary.And (at 1) (name 0 4) end)) ≡ 2
 unfolding name
 leading_height = refl
+
+-- `a && b` ends before `||`, and goes on with `==>` and with `+`
+both : Expr
+both = Operations (name 0 1) (more binary.And (at 3) (name 1 6) end)
+
+both_bars_or : IsBarred binary.Or both
+unfolding both
+both_bars_or = inl (refl, λ e. cc)
+
+both_goes_on : (IsBarred binary.Implies both → ⊥) × (IsBarred binary.And both → ⊥) × (IsBarred binary.Add both → ⊥)
+unfolding both name
+both_goes_on = (λ h. elim h [ inl k ↦ absurd cc | inr k ↦ k ], λ h. elim h [ inl k ↦ k.1 refl | inr k ↦ k ], λ h. elim h [ inl k ↦ absurd cc | inr k ↦ k ])
+
+-- so does `c ==> a && b`, which ends before `<==` too
+premise : Expr
+premise = Operations (name 2 1) (more binary.Implies (at 3) both end)
+
+premise_bars : IsBarred binary.Or premise × IsBarred binary.Explies premise
+unfolding premise both
+premise_bars = (inr (inl (refl, λ e. cc)), inl (refl, λ e. cc))

@@ -15,7 +15,7 @@ use Rattle.df_tree.proofs.Tokens.{name_sound, name_complete}
 use Rattle.df_tree.proofs.ExprOperands.{expression_sound}
 use Rattle.df_tree.proofs.ExprWhole.{expression_complete}
 
--- ---- places
+-- ---- indices
 
 Begins-drop : (pieces : List Piece) (tokens rest : List Token) → Begins pieces tokens rest → rest ≡ drop (length pieces) tokens
 Begins-drop [] tokens rest b = sym b
@@ -52,7 +52,7 @@ read_is_spelled tokens start e rest h =
       spelled = subst (λ (ts : List Token). Begins (spell e) (drop start tokens) ts) l w.eats;
       shape = w.is;
       low = w.low;
-      ends = subst IsEnd l w.ends;
+      ends = subst (IsEnd e) l w.ends;
     }
 
 pub spelled_is_read : (tokens : List Token) (start after : ℕ) (e : Expr) → IsExpressionAt tokens start e after → expression_at (drop start tokens) ≡ Some (e, drop after tokens)

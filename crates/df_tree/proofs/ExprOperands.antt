@@ -6,7 +6,6 @@ use Rattle.df_tok.specs.declared.sign.Sign.TheVariants as signs
 use Rattle.df_tok.specs.declared.token.Kind.{Kind}
 use Rattle.df_tok.specs.declared.token.Kind.TheVariants as kinds
 use Rattle.df_tok.specs.Token.{Token}
-use Rattle.df_tree.specs.declared.expr.BinaryOperator.{BinaryOperator}
 use Rattle.df_tree.specs.declared.expr.UnaryOperator.{UnaryOperator}
 use Rattle.df_tree.specs.declared.expr.UnaryOperator.TheVariants as unary
 use Rattle.df_tree.specs.declared.expr.Level.{Level}
@@ -15,10 +14,10 @@ use Rattle.df_tree.specs.Operator.{unary_sign_of, rank}
 use Rattle.df_tree.specs.Expr.{Expr, Number, Truth, Name, Parentheses, Unary}
 use Rattle.df_tree.specs.ExprSpelling.{Begins, spell, rank_of, IsUnsignedNumber, IsOperandOf, IsExpr, height, IsEnd}
 use Rattle.df_tree.specs.Reading.{◌>>=◌, Read, sign_at}
-use Rattle.df_tree.specs.ExprReading.{operator_at, number_by, optional_number, Reader, deeper, signed_by, negated_from, negated_by, parentheses_by, unary_from, unary_by, at_level, unary_at, if_end, expression_at}
-use Rattle.df_tree.proofs.Repeat.{bind_some, finish, pair, some_is, differ}
+use Rattle.df_tree.specs.ExprReading.{number_by, optional_number, Reader, deeper, signed_by, negated_from, negated_by, parentheses_by, unary_from, unary_by, at_level, unary_at, expression_at}
+use Rattle.df_tree.proofs.Repeat.{bind_some, got, finish, pair, some_is, differ}
 use Rattle.df_tree.proofs.Tokens.{sign_sound}
-use Rattle.df_tree.proofs.ExprTokens.{Begins-then, none_end}
+use Rattle.df_tree.proofs.ExprTokens.{Begins-then, operand_ends, ends_end}
 use Rattle.df_tree.proofs.ExprSound.{deeper_sound, IsRead, Sound, tower_sound}
 
 -- what was read, and its height
@@ -34,7 +33,7 @@ counted : (kind : Kind) (t : Token) (tokens : List Token) (n : ℕ) (rest : List
 counted (kinds.Number m) t tokens n rest e = (ap kinds.Number (some_is m n (ap (λ (z : Counted). z.0) e)), ap (λ (z : Counted). z.1) e)
 counted _ t tokens n rest e = absurd (differ n (ap (λ (z : Counted). z.0) e))
 
-pub number_found : (tokens : List Token) (n : ℕ) (rest : List Token) → optional_number tokens ≡ (Some n, rest) → Begins (record { kind = kinds.Number n; place = None } ∷ []) tokens rest
+pub number_found : (tokens : List Token) (n : ℕ) (rest : List Token) → optional_number tokens ≡ (Some n, rest) → Begins (record { kind = kinds.Number n; pos = None } ∷ []) tokens rest
 unfolding optional_number
 number_found [] n rest e = absurd (differ n (ap (λ (z : Counted). z.0) e))
 number_found (t ∷ tokens) n rest e = let p = counted t.kind t tokens n rest e in ((p.0, tt), p.1)
@@ -83,13 +82,13 @@ signed_sound inner s operator pos tokens x rest e =
 from_signed : (operator : UnaryOperator) (t : Token) (tokens : List Token) (x : Expr × ℕ) (rest : List Token) → t.kind ≡ kinds.Sign (unary_sign_of operator) → (s : IsSigned operator t.pos x tokens rest) → IsOperandOf operator s.operand → IsRead 5 x (t ∷ tokens) rest
 from_signed operator t tokens x rest k s o =
     subst (λ (y : Expr). IsRead 5 (y, x.1) (t ∷ tokens) rest) s.tree
-    (record { eats = ((k, refl), s.eats); is = (s.is, o); tight = omega arith; tall = s.tall; low = s.low })
+    (record { eats = ((k, refl), s.eats); is = (s.is, o); tight = omega arith; tall = s.tall; low = s.low; ends = operand_ends _ rest })
 
 negated_sound : (inner : Level → Reader) → Sound (inner levels.Unary) 5 → (o : Option ℕ × List Token) (t : Token) (tokens : List Token) → optional_number tokens ≡ o → t.kind ≡ kinds.Sign signs.Minus
     → (x : Expr × ℕ) (rest : List Token) → negated_from inner t.pos o ≡ Some (x, rest) → IsRead 5 x (t ∷ tokens) rest
 negated_sound inner s (Some n, after) t tokens h k x rest e =
     finish (λ (y : Expr × ℕ) (ts : List Token). IsRead 5 y (t ∷ tokens) ts) (Number (record { negative = true; magnitude = n; pos = t.pos }), 2) x after rest e
-    (record { eats = ((k, refl), number_found tokens n after h); is = tt; tight = omega arith; tall = refl; low = omega arith })
+    (record { eats = ((k, refl), number_found tokens n after h); is = tt; tight = omega arith; tall = refl; low = omega arith; ends = operand_ends _ after })
 negated_sound inner s (None, after) t tokens h k x rest e =
     let g = subst (λ (ts : List Token). IsSigned unary.Negate t.pos x ts rest) (sym (no_number tokens after h)) (signed_sound inner s unary.Negate t.pos after x rest e) in
     from_signed unary.Negate t tokens x rest k g (g.tight, not_unsigned g.operand tokens rest after h g.eats)
@@ -106,18 +105,19 @@ parentheses_sound inner s t tokens k x rest e =
     let close = sign_sound signs.CloseParenthesis a.0.1 b.0 b.1 in
     finish (λ (y : Expr × ℕ) (ts : List Token). IsRead 5 y (t ∷ tokens) ts) (Parentheses t.pos a.0.0.0, c.0) x b.0 rest c.2
     (record {
-      eats = ((k, refl), Begins-then (spell a.0.0.0) (record { kind = kinds.Sign signs.CloseParenthesis; place = None } ∷ []) tokens a.0.1 b.0 r.eats close);
+      eats = ((k, refl), Begins-then (spell a.0.0.0) (record { kind = kinds.Sign signs.CloseParenthesis; pos = None } ∷ []) tokens a.0.1 b.0 r.eats close);
       is = r.is;
       tight = omega arith;
       tall = d.0 ∙ ap (λ (n : ℕ). n + 1) r.tall;
       low = d.1;
+      ends = operand_ends _ b.0;
     })
 
 -- ---- operands
 
 atom : (e : Expr) (h : ℕ) (t : Token) (tokens : List Token) (x : Expr × ℕ) (rest : List Token) → read e h tokens ≡ Some (x, rest) → Begins (spell e) (t ∷ tokens) tokens → IsExpr e → 5 ≤ rank_of e → h ≡ height e → h ≤ 200 → IsRead 5 x (t ∷ tokens) rest
 atom e h t tokens x rest r eats is tight tall low =
-    finish (λ (y : Expr × ℕ) (ts : List Token). IsRead 5 y (t ∷ tokens) ts) (e, h) x tokens rest r (record { eats = eats; is = is; tight = tight; tall = tall; low = low })
+    finish (λ (y : Expr × ℕ) (ts : List Token). IsRead 5 y (t ∷ tokens) ts) (e, h) x tokens rest r (record { eats = eats; is = is; tight = tight; tall = tall; low = low; ends = operand_ends e tokens })
 
 unary_kind : (inner : Level → Reader) → Sound (inner levels.Unary) 5 → Sound (inner levels.Equivalence) 0 → (kind : Kind) (t : Token) (tokens : List Token) → t.kind ≡ kind → (x : Expr × ℕ) (rest : List Token)
     → unary_from inner kind t.pos tokens ≡ Some (x, rest) → IsRead 5 x (t ∷ tokens) rest
@@ -157,16 +157,12 @@ pub record IsWhole (e : Expr) (tokens rest : List Token) : Type 0 where
   pub eats : Begins (spell e) tokens rest
   pub is : IsExpr e
   pub low : height e ≤ 200
-  pub ends : IsEnd rest
-
-whole_by : (o : Option BinaryOperator) (x : Expr × ℕ) (between : List Token) (tokens : List Token) → operator_at between ≡ o → IsRead 0 x tokens between → (e : Expr) (rest : List Token) → if_end o (x, between) ≡ Some (e, rest) → IsWhole e tokens rest
-whole_by None x between tokens h r e rest q =
-    finish (λ (y : Expr) (ts : List Token). IsWhole y tokens ts) x.0 e between rest q
-    (record { eats = r.eats; is = r.is; low = subst (λ (n : ℕ). n ≤ 200) r.tall r.low; ends = none_end between h })
-whole_by (Some o) x between tokens h r e rest q = absurd (differ (pair e rest) q)
+  pub ends : IsEnd e rest
 
 pub expression_sound : (tokens : List Token) (e : Expr) (rest : List Token) → expression_at tokens ≡ Some (e, rest) → IsWhole e tokens rest
 unfolding expression_at
 expression_sound tokens e rest q =
-    let a = bind_some (at_level (unary_at 200) levels.Equivalence tokens) (λ y. if_end (operator_at y.1) y) (e, rest) q in
-    whole_by (operator_at a.0.1) a.0.0 a.0.1 tokens refl ((at_sound 200 levels.Equivalence).reads tokens a.0.0 a.0.1 a.1) e rest a.2
+    let a = bind_some (at_level (unary_at 200) levels.Equivalence tokens) (λ y. got y.0.0 y.1) (e, rest) q in
+    let r = (at_sound 200 levels.Equivalence).reads tokens a.0.0 a.0.1 a.1 in
+    finish (λ (y : Expr) (ts : List Token). IsWhole y tokens ts) a.0.0.0 e a.0.1 rest a.2
+    (record { eats = r.eats; is = r.is; low = subst (λ (n : ℕ). n ≤ 200) r.tall r.low; ends = ends_end a.0.0.0 a.0.1 r.ends })

@@ -1,5 +1,6 @@
 -- The tokens of expressions: what stands at the front.
-use Rattle.std.proofs.Common.{◌≡◌, ℕ, ◌+◌, ◌<◌, ◌≤◌, Bool, true, false, cond, List, [], ◌∷◌, ◌++◌, length, Option, Some, None, refl, sym, ap, subst, ◌∙◌, arith}
+use Rattle.std.proofs.Common.{◌≡◌, ℕ, zero, suc, ◌+◌, ◌<◌, ◌≤◌, nat_lt, Bool, true, false, cond, List, [], ◌∷◌, ◌++◌, length, Option, Some, None, inl, inr, ◌⊎◌, refl, sym, ap, subst, ◌∙◌, arith}
+use Rattle.std.proofs.lemmas.Bool.{ltb-true, ltb-false}
 use denote.Enum.Bare.{same_true, true_same}
 use Rattle.df_base.specs.declared.pos.Pos.{Pos}
 use Rattle.df_tok.specs.declared.sign.Sign.{Sign}
@@ -12,9 +13,12 @@ use Rattle.df_tree.specs.contracts.expr.Level as declared_level
 use Rattle.df_tree.specs.declared.expr.BinaryOperator.{BinaryOperator}
 use Rattle.df_tree.specs.declared.expr.BinaryOperator.TheVariants as binary
 use Rattle.df_tree.specs.declared.expr.Group.{Group}
+use Rattle.df_tree.specs.declared.expr.Group.TheVariants as groups
 use Rattle.df_tree.specs.declared.expr.Level.{Level}
+use Rattle.df_tree.specs.declared.expr.Level.TheVariants as levels
 use Rattle.df_tree.specs.Operator.{sign_of, group_of, level_of, rank}
-use Rattle.df_tree.specs.ExprSpelling.{Piece, sign_piece, Begins, IsEnd}
+use Rattle.df_tree.specs.Expr.{Expr, Number, Truth, Name, Parentheses, Unary, Operations, Leading, Members, end, more}
+use Rattle.df_tree.specs.ExprSpelling.{Piece, sign_piece, Begins, first_group, rank_of_group, rank_of, IsExpr, AreOf, Bars, AtEnd, IsBarred, IsBarredAfter, IsEnd}
 use Rattle.df_tree.specs.ExprReading.{operator_of, operator_by, operator_at, same_level, same_group, if_of_level, operator_in, if_of_group, optional_operator}
 use Rattle.df_tree.proofs.Repeat.{found, pair, some_is, differ, unwrapped}
 
@@ -88,36 +92,131 @@ none_by : (o : Option BinaryOperator) → ((x : BinaryOperator) → o ≡ Some x
 none_by None h = refl
 none_by (Some x) h = absurd (h x refl)
 
-pub end_none : (tokens : List Token) → IsEnd tokens → operator_at tokens ≡ None
+-- ---- the rank of a level
+
+pub low_group : (group : Group) → rank (level_of group) < 5
+low_group groups.Equivalence = omega arith
+low_group groups.Implication = omega arith
+low_group groups.Explication = omega arith
+low_group groups.Conjunction = omega arith
+low_group groups.Disjunction = omega arith
+low_group groups.Comparison = omega arith
+low_group groups.Sum = omega arith
+
+from_rank : ℕ → Level
+from_rank zero = levels.Equivalence
+from_rank (suc zero) = levels.Implication
+from_rank (suc (suc zero)) = levels.Junction
+from_rank (suc (suc (suc zero))) = levels.Comparison
+from_rank (suc (suc (suc (suc zero)))) = levels.Sum
+from_rank (suc (suc (suc (suc (suc n))))) = levels.Unary
+
+rank_back : (a : Level) → from_rank (rank a) ≡ a
+unfolding from_rank
+rank_back levels.Equivalence = refl
+rank_back levels.Implication = refl
+rank_back levels.Junction = refl
+rank_back levels.Comparison = refl
+rank_back levels.Sum = refl
+rank_back levels.Unary = refl
+
+pub rank_one : (a b : Level) → rank a ≡ rank b → a ≡ b
+rank_one a b e = sym (rank_back a) ∙ ap from_rank e ∙ rank_back b
+
+by_test : (t : Bool) (a b : ℕ) → a ≤ b → nat_lt a b ≡ t → (a ≡ b) ⊎ (a < b)
+by_test true a b l e = inr (ltb-true a b e)
+by_test false a b l e = let m = ltb-false a b e in inl (omega arith)
+
+pub same_or_less : (a b : ℕ) → a ≤ b → (a ≡ b) ⊎ (a < b)
+same_or_less a b l = by_test (nat_lt a b) a b l refl
+
+-- ---- what follows an expression
+
+-- an operator at the front is looser than this, or barred by what stands before it
+pub record Ends (n : ℕ) (e : Expr) (tokens : List Token) : Type 0 where
+  pub stops : (o : BinaryOperator) → operator_at tokens ≡ Some o → n ≤ rank (level_of (group_of o)) → IsBarred o e
+
+-- nothing binds tighter than an operand without operators
+pub operand_ends : (e : Expr) (tokens : List Token) → Ends 5 e tokens
+operand_ends e tokens = record { stops = λ o k l. let h = low_group (group_of o) in absurd (omega arith) }
+
+pub none_ends : (n : ℕ) (e : Expr) (tokens : List Token) → operator_at tokens ≡ None → Ends n e tokens
+none_ends n e tokens h = record { stops = λ o k l. absurd (differ o (sym h ∙ k)) }
+
+pub ends_more : (m n : ℕ) (e : Expr) (tokens : List Token) → m ≤ n → Ends m e tokens → Ends n e tokens
+ends_more m n e tokens h s = record { stops = λ o k l. s.stops o k (omega arith) }
+
+pub end_ends : (e : Expr) (tokens : List Token) → IsEnd e tokens → Ends 0 e tokens
 unfolding operator_at
-end_none [] h = refl
-end_none (t ∷ tokens) h = none_by (operator_by t.kind) (λ x e. h x (by_sound t.kind x e))
+end_ends e [] h = record { stops = λ o k l. absurd (differ o k) }
+end_ends e (t ∷ tokens) h = record { stops = λ o k l. h o (by_sound t.kind o k) }
 
-pub none_end : (tokens : List Token) → operator_at tokens ≡ None → IsEnd tokens
+pub ends_end : (e : Expr) (tokens : List Token) → Ends 0 e tokens → IsEnd e tokens
 unfolding operator_at
-none_end [] h = tt
-none_end (t ∷ tokens) h = λ o k. differ o (sym h ∙ by_complete t.kind o k)
+ends_end e [] h = tt
+ends_end e (t ∷ tokens) h = λ o k. h.stops o (by_complete t.kind o k) (omega arith)
 
--- an operator at the front is looser than this
-pub record Before (n : ℕ) (tokens : List Token) : Type 0 where
-  pub looser : (o : BinaryOperator) → operator_at tokens ≡ Some o → rank (level_of (group_of o)) < n
+at_end : (m : Members) (A B : Type 0) → AtEnd m A B → A ⊎ B
+at_end end A B h = inl h
+at_end (more o p e m) A B h = inr h
 
-pub before_end : (n : ℕ) (tokens : List Token) → operator_at tokens ≡ None → Before n tokens
-before_end n tokens h = record { looser = λ o e. absurd (differ o (sym h ∙ e)) }
+-- ---- what bars an operator is looser than it, or of its level
 
-pub before_more : (m n : ℕ) (tokens : List Token) → m ≤ n → Before m tokens → Before n tokens
-before_more m n tokens h b = record { looser = λ o e. let l = b.looser o e in omega arith }
+barred_last : (o x : BinaryOperator) (e : Expr) (m : Members) (group : Group) → group_of x ≡ group → rank (level_of group) < rank_of e → (IsBarred o e → rank_of e ≤ rank (level_of (group_of o))) → (IsBarredAfter o m → rank (level_of group) ≤ rank (level_of (group_of o)))
+    → AtEnd m (Bars (group_of x) o ⊎ IsBarred o e) (IsBarredAfter o m) → rank (level_of group) ≤ rank (level_of (group_of o))
+barred_last o x e m group same tight one others b = elim (at_end m (Bars (group_of x) o ⊎ IsBarred o e) (IsBarredAfter o m) b) [
+  | inl h ↦ elim h [
+    | inl k ↦ let r : rank (level_of (group_of o)) ≡ rank (level_of group) = ap rank k.0 ∙ ap (λ (g : Group). rank (level_of g)) same in omega arith
+    | inr k ↦ let r = one k in omega arith
+  ]
+  | inr h ↦ others h
+]
+
+mutual
+  pub barred_rank : (o : BinaryOperator) (e : Expr) → IsExpr e → IsBarred o e → rank_of e ≤ rank (level_of (group_of o))
+  barred_rank o (Operations first m) is b =
+      let l = barred_row o m is.0 is.4 b in
+      let same : rank_of_group (first_group m) ≡ rank (level_of is.0) = ap rank_of_group is.1 in
+      omega arith
+  barred_rank o (Leading m) is b =
+      let l = barred_row o m is.0 is.3 b in
+      let same : rank (level_of is.0) ≡ 2 = ap rank is.2 in
+      omega arith
+  barred_rank o (Number literal) is b = absurd b
+  barred_rank o (Truth value pos) is b = absurd b
+  barred_rank o (Name ident) is b = absurd b
+  barred_rank o (Parentheses pos inner) is b = absurd b
+  barred_rank o (Unary operator pos operand) is b = absurd b
+
+  pub barred_row : (o : BinaryOperator) (m : Members) (group : Group) → AreOf m group → IsBarredAfter o m → rank (level_of group) ≤ rank (level_of (group_of o))
+  barred_row o end group are b = absurd b
+  barred_row o (more x p e m) group are b = barred_last o x e m group are.0 are.2 (λ h. barred_rank o e are.1 h) (λ h. barred_row o m group are.3 h) b
+
+-- an operator of the row's own group is not barred
+pub not_barred : (o : BinaryOperator) (m : Members) (group : Group) → AreOf m group → group_of o ≡ group → IsBarredAfter o m → ⊥
+not_barred o end group are own b = b
+not_barred o (more x p e m) group are own b = elim (at_end m (Bars (group_of x) o ⊎ IsBarred o e) (IsBarredAfter o m) b) [
+  | inl h ↦ elim h [
+    | inl k ↦ k.1 (own ∙ sym are.0)
+    | inr k ↦
+        let r = barred_rank o e are.1 k in
+        let same : rank (level_of (group_of o)) ≡ rank (level_of group) = ap (λ (g : Group). rank (level_of g)) own in
+        let tight = are.2 in
+        absurd (omega arith)
+  ]
+  | inr h ↦ not_barred o m group are.3 own h
+]
 
 -- the sign of an operator at the front
-pub sign_there : (o : BinaryOperator) (p : Pos) (more : List Piece) (tokens rest : List Token) → Begins (sign_piece (sign_of o) p ∷ more) tokens rest → operator_at tokens ≡ Some o
+pub sign_there : (o : BinaryOperator) (p : Pos) (others : List Piece) (tokens rest : List Token) → Begins (sign_piece (sign_of o) p ∷ others) tokens rest → operator_at tokens ≡ Some o
 unfolding operator_at
-sign_there o p more [] rest b = absurd b
-sign_there o p more (t ∷ tokens) rest b = by_complete t.kind o b.0.0
+sign_there o p others [] rest b = absurd b
+sign_there o p others (t ∷ tokens) rest b = by_complete t.kind o b.0.0
 
-pub kind_there : (piece : Piece) (more : List Piece) (tokens rest : List Token) (o : Option BinaryOperator) → operator_by piece.kind ≡ o → Begins (piece ∷ more) tokens rest → operator_at tokens ≡ o
+pub kind_there : (piece : Piece) (others : List Piece) (tokens rest : List Token) (o : Option BinaryOperator) → operator_by piece.kind ≡ o → Begins (piece ∷ others) tokens rest → operator_at tokens ≡ o
 unfolding operator_at
-kind_there piece more [] rest o h b = absurd b
-kind_there piece more (t ∷ tokens) rest o h b = ap operator_by b.0.0 ∙ h
+kind_there piece others [] rest o h b = absurd b
+kind_there piece others (t ∷ tokens) rest o h b = ap operator_by b.0.0 ∙ h
 
 -- ---- levels and groups
 

@@ -55,15 +55,15 @@ clause_reads =
 
 clause_shows : (kind : ClauseKind) (e : Expr) (tokens rest : List Token) → StartsWith (a_word (clause_word kind) ∷ an_expression e) tokens rest → clause_stands tokens ≡ true
 clause_shows clauses.Requires e tokens rest starts =
-    let k = kind_there (record { kind = kinds.Word words.Requires; place = None }) (an_expression e) tokens rest starts in
+    let k = kind_there (record { kind = kinds.Word words.Requires; pos = None }) (an_expression e) tokens rest starts in
     ap (λ (o : Option Kind). cond (kind_is_word words.Requires o) true (kind_is_word words.Ensures o)) k
 clause_shows clauses.Ensures e tokens rest starts =
-    let k = kind_there (record { kind = kinds.Word words.Ensures; place = None }) (an_expression e) tokens rest starts in
+    let k = kind_there (record { kind = kinds.Word words.Ensures; pos = None }) (an_expression e) tokens rest starts in
     ap (λ (o : Option Kind). cond (kind_is_word words.Requires o) true (kind_is_word words.Ensures o)) k
 
 no_returns : (kind : ClauseKind) (e : Expr) (tokens rest : List Token) → StartsWith (a_word (clause_word kind) ∷ an_expression e) tokens rest → word_stands words.Returns tokens ≡ false
-no_returns clauses.Requires e tokens rest starts = word_shows words.Returns (record { kind = kinds.Word words.Requires; place = None }) (an_expression e) tokens rest false refl starts
-no_returns clauses.Ensures e tokens rest starts = word_shows words.Returns (record { kind = kinds.Word words.Ensures; place = None }) (an_expression e) tokens rest false refl starts
+no_returns clauses.Requires e tokens rest starts = word_shows words.Returns (record { kind = kinds.Word words.Requires; pos = None }) (an_expression e) tokens rest false refl starts
+no_returns clauses.Ensures e tokens rest starts = word_shows words.Returns (record { kind = kinds.Word words.Ensures; pos = None }) (an_expression e) tokens rest false refl starts
 
 pub clause_sibling : Sibling spell_clause IsClause NoOperator clause_stands
 clause_sibling = record {
@@ -75,7 +75,7 @@ clause_sibling = record {
 -- ---- methods
 
 brace_kind : (x : Block) (tokens rest : List Token) → StartsWith (spell_block x) tokens rest → kind_at tokens ≡ Some (kinds.Sign signs.OpenBrace)
-brace_kind x tokens rest starts = kind_there (record { kind = kinds.Sign signs.OpenBrace; place = Some x.pos }) (spell_statements x.statements ++ a_sign signs.CloseBrace ∷ []) tokens rest starts
+brace_kind x tokens rest starts = kind_there (record { kind = kinds.Sign signs.OpenBrace; pos = Some x.pos }) (spell_statements x.statements ++ a_sign signs.CloseBrace ∷ []) tokens rest starts
 
 before_body : Joins spell_block IsBody Any (NotThen clause_stands NoOperator)
 before_body x tokens rest starts is after =
@@ -106,7 +106,7 @@ results_reads : ReadsAs results_at (optional spell_results) (IsOption (Anything 
 unfolding results_at
 results_reads =
     option_reads (word_stands words.Returns) (after_word words.Returns parameters_at) spell_results (Anything {X = List Parameter}) Any (word_reads words.Returns parameters_at spell_parameters (Anything {X = List Parameter}) Any parameters_reads)
-    (λ x tokens rest starts is. word_shows words.Returns (record { kind = kinds.Word words.Returns; place = None }) (spell_parameters x) tokens rest true refl starts)
+    (λ x tokens rest starts is. word_shows words.Returns (record { kind = kinds.Word words.Returns; pos = None }) (spell_parameters x) tokens rest true refl starts)
 
 any_results : (o : Option (List Parameter)) → IsOption (Anything {X = List Parameter}) o
 any_results None = tt
@@ -173,7 +173,7 @@ typed_reads = record { sound = λ x tokens rest e. reads (sign_stands signs.Colo
 
     finds : (x : Bool) (tokens rest : List Token) → StartsWith (spell_typed x) tokens rest → Anything x → NoColon rest → typed_at tokens ≡ Some (x, rest)
     finds true tokens rest starts is after =
-        ap (λ (b : Bool). cond b (after_sign signs.Colon (after_word words.Int (given true)) tokens) (got false tokens)) (sign_shows signs.Colon (record { kind = kinds.Sign signs.Colon; place = None }) (a_word words.Int ∷ []) tokens rest true refl starts)
+        ap (λ (b : Bool). cond b (after_sign signs.Colon (after_word words.Int (given true)) tokens) (got false tokens)) (sign_shows signs.Colon (record { kind = kinds.Sign signs.Colon; pos = None }) (a_word words.Int ∷ []) tokens rest true refl starts)
         ∙ int_reads.complete true tokens rest starts refl tt
     finds false tokens rest starts is after =
         ap (λ (b : Bool). cond b (after_sign signs.Colon (after_word words.Int (given true)) tokens) (got false tokens)) (ap (λ (ts : List Token). sign_stands signs.Colon ts) starts ∙ after) ∙ ap (λ (ts : List Token). got false ts) starts
@@ -186,7 +186,7 @@ witness_reads : ReadsAs witness_at (optional spell_witness) (IsOption IsOuterExp
 unfolding witness_at
 witness_reads =
     option_reads (word_stands words.Witness) (after_word words.Witness (expression_within 200)) spell_witness IsOuterExpr NoOperator (word_reads words.Witness (expression_within 200) an_expression IsOuterExpr NoOperator (expression_reads 200 (omega arith)))
-    (λ x tokens rest starts is. word_shows words.Witness (record { kind = kinds.Word words.Witness; place = None }) (an_expression x) tokens rest true refl starts)
+    (λ x tokens rest starts is. word_shows words.Witness (record { kind = kinds.Word words.Witness; pos = None }) (an_expression x) tokens rest true refl starts)
 
 abbrev spell_predicate : Expr → List FilePiece
 spell_predicate e = a_sign signs.Bar ∷ an_expression e
@@ -209,7 +209,7 @@ abbrev IsRange : Range → Type 0
 IsRange x = IsOuterExpr x.0 × IsOption IsOuterExpr x.1
 
 before_range : Joins spell_range IsRange NoWitness NoColon
-before_range x tokens rest starts is after = sign_shows signs.Colon (record { kind = kinds.Sign signs.Bar; place = None }) (an_expression x.0 ++ optional spell_witness x.1) tokens rest false refl starts
+before_range x tokens rest starts is after = sign_shows signs.Colon (record { kind = kinds.Sign signs.Bar; pos = None }) (an_expression x.0 ++ optional spell_witness x.1) tokens rest false refl starts
 
 range_reads : ReadsAs (both predicate_at witness_at) spell_range IsRange NoWitness
 range_reads = both_reads predicate_at witness_at spell_predicate (optional spell_witness) IsOuterExpr (IsOption IsOuterExpr) NoOperator NoWitness predicate_reads witness_reads before_witness
@@ -261,11 +261,11 @@ declaration_sound_by _ x tokens rest e = absurd cc
 
 newtype_kind : (x : NewtypeDeclaration) (tokens rest : List Token) → StartsWith (spell_newtype x) tokens rest → kind_at tokens ≡ Some (kinds.Word words.Newtype)
 newtype_kind x tokens rest starts =
-    kind_there (record { kind = kinds.Word words.Newtype; place = None }) (a_name x.name ∷ a_sign signs.Define ∷ a_name x.variable ∷ (spell_typed x.is_typed ++ ((a_sign signs.Bar ∷ an_expression x.predicate) ++ optional spell_witness x.witness))) tokens rest starts
+    kind_there (record { kind = kinds.Word words.Newtype; pos = None }) (a_name x.name ∷ a_sign signs.Define ∷ a_name x.variable ∷ (spell_typed x.is_typed ++ ((a_sign signs.Bar ∷ an_expression x.predicate) ++ optional spell_witness x.witness))) tokens rest starts
 
 method_kind : (x : MethodDeclaration) (tokens rest : List Token) → StartsWith (spell_method x) tokens rest → kind_at tokens ≡ Some (kinds.Word words.Method)
 method_kind x tokens rest starts =
-    kind_there (record { kind = kinds.Word words.Method; place = None }) (a_name x.name ∷ (spell_parameters x.parameters ++ (optional spell_results x.results ++ (flat_map spell_clause x.clauses ++ spell_block x.body)))) tokens rest starts
+    kind_there (record { kind = kinds.Word words.Method; pos = None }) (a_name x.name ∷ (spell_parameters x.parameters ++ (optional spell_results x.results ++ (flat_map spell_clause x.clauses ++ spell_block x.body)))) tokens rest starts
 
 declaration_complete : (x : Declaration) (tokens rest : List Token) → StartsWith (spell_declaration x) tokens rest → IsDeclaration x → NoWitness rest → declaration_by (kind_at tokens) tokens ≡ Some (x, rest)
 declaration_complete (Newtype x) tokens rest starts is after =

@@ -47,22 +47,22 @@ otherwise_reads : (room : ℕ) (block : Reader Block) → ReadsAs block spell_bl
 unfolding otherwise_by
 otherwise_reads room block r =
     option_reads (word_stands words.Else) (after_word words.Else block) spell_else (IsBlock room) Any (word_reads words.Else block spell_block (IsBlock room) Any r)
-    (λ x tokens rest starts is. word_shows words.Else (record { kind = kinds.Word words.Else; place = None }) (spell_block x) tokens rest true refl starts)
+    (λ x tokens rest starts is. word_shows words.Else (record { kind = kinds.Word words.Else; pos = None }) (spell_block x) tokens rest true refl starts)
 
 else_if_shows : (x : Branch) (tokens rest : List Token) → StartsWith (spell_else_if x) tokens rest → else_if_stands tokens ≡ true
 else_if_shows x [] rest starts = absurd starts
 else_if_shows x (t ∷ []) rest starts = absurd starts.1
 else_if_shows x (t ∷ u ∷ tokens) rest starts =
-    let one = word_shows words.Else (record { kind = kinds.Word words.Else; place = None }) (a_word words.If ∷ spell_branch x) (t ∷ u ∷ tokens) rest true refl starts in
-    let two = word_shows words.If (record { kind = kinds.Word words.If; place = None }) (spell_branch x) (u ∷ tokens) rest true refl starts.1 in
+    let one = word_shows words.Else (record { kind = kinds.Word words.Else; pos = None }) (a_word words.If ∷ spell_branch x) (t ∷ u ∷ tokens) rest true refl starts in
+    let two = word_shows words.If (record { kind = kinds.Word words.If; pos = None }) (spell_branch x) (u ∷ tokens) rest true refl starts.1 in
     ap (λ (b : Bool). cond b (word_stands words.If (u ∷ tokens)) false) one ∙ two
 
 else_no_if : (x : Block) (tokens rest : List Token) → StartsWith (spell_else x) tokens rest → else_if_stands tokens ≡ false
 else_no_if x [] rest starts = absurd starts
 else_no_if x (t ∷ []) rest starts = absurd starts.1
 else_no_if x (t ∷ u ∷ tokens) rest starts =
-    let one = word_shows words.Else (record { kind = kinds.Word words.Else; place = None }) (spell_block x) (t ∷ u ∷ tokens) rest true refl starts in
-    let two = word_shows words.If (record { kind = kinds.Sign signs.OpenBrace; place = Some x.pos }) (spell_statements x.statements ++ a_sign signs.CloseBrace ∷ []) (u ∷ tokens) rest false refl starts.1 in
+    let one = word_shows words.Else (record { kind = kinds.Word words.Else; pos = None }) (spell_block x) (t ∷ u ∷ tokens) rest true refl starts in
+    let two = word_shows words.If (record { kind = kinds.Sign signs.OpenBrace; pos = Some x.pos }) (spell_statements x.statements ++ a_sign signs.CloseBrace ∷ []) (u ∷ tokens) rest false refl starts.1 in
     ap (λ (b : Bool). cond b (word_stands words.If (u ∷ tokens)) false) one ∙ two
 
 no_else_if : (tokens : List Token) → NotElse tokens → else_if_stands tokens ≡ false
@@ -215,22 +215,22 @@ statement_sound room small nested block n r _ x tokens rest e = absurd cc
 statement_complete : (room : ℕ) → room ≤ 200 → (nested block : Reader Block) → ReadsAs nested spell_block (IsBlock (suc room)) Any → ReadsAs block spell_block (IsBlock room) Any
     → (x : Statement) (tokens rest : List Token) → StartsWith (spell_statement x) tokens rest → IsWithin (suc room) x → NotElse rest → statement_by room nested block (kind_at tokens) tokens ≡ Some (x, rest)
 statement_complete room small nested block n r (Nested pos body) tokens rest starts is after =
-    ap (λ (k : Option Kind). statement_by room nested block k tokens) (kind_there (record { kind = kinds.Sign signs.OpenBrace; place = Some pos }) (spell_statements body ++ a_sign signs.CloseBrace ∷ []) tokens rest starts)
+    ap (λ (k : Option Kind). statement_by room nested block k tokens) (kind_there (record { kind = kinds.Sign signs.OpenBrace; pos = Some pos }) (spell_statements body ++ a_sign signs.CloseBrace ∷ []) tokens rest starts)
     ∙ nested_complete (suc room) nested n (record { pos = pos; statements = body }) tokens rest starts is
 statement_complete room small nested block n r (Var local ty value) tokens rest starts is after =
-    ap (λ (k : Option Kind). statement_by room nested block k tokens) (kind_there (record { kind = kinds.Word words.Var; place = None }) (a_name local ∷ a_sign signs.Colon ∷ (a_type ty ++ a_sign signs.Assign ∷ (an_expression value ++ a_sign signs.Semicolon ∷ []))) tokens rest starts)
+    ap (λ (k : Option Kind). statement_by room nested block k tokens) (kind_there (record { kind = kinds.Word words.Var; pos = None }) (a_name local ∷ a_sign signs.Colon ∷ (a_type ty ++ a_sign signs.Assign ∷ (an_expression value ++ a_sign signs.Semicolon ∷ []))) tokens rest starts)
     ∙ var_complete room small (record { name = local; ty = ty }) value tokens rest starts is
-statement_complete room small nested block n r (Assign place value) tokens rest starts is after =
-    ap (λ (k : Option Kind). statement_by room nested block k tokens) (kind_there (record { kind = kinds.Name place.name; place = Some place.pos }) (a_sign signs.Assign ∷ (an_expression value ++ a_sign signs.Semicolon ∷ [])) tokens rest starts)
-    ∙ assign_complete room small place value tokens rest starts is
+statement_complete room small nested block n r (Assign target value) tokens rest starts is after =
+    ap (λ (k : Option Kind). statement_by room nested block k tokens) (kind_there (record { kind = kinds.Name target.name; pos = Some target.pos }) (a_sign signs.Assign ∷ (an_expression value ++ a_sign signs.Semicolon ∷ [])) tokens rest starts)
+    ∙ assign_complete room small target value tokens rest starts is
 statement_complete room small nested block n r (If guard pos body others last) tokens rest starts is after =
-    ap (λ (k : Option Kind). statement_by room nested block k tokens) (kind_there (record { kind = kinds.Word words.If; place = None }) ((an_expression guard ++ braces pos (spell_statements body)) ++ (spell_branches others ++ spell_otherwise last)) tokens rest starts)
+    ap (λ (k : Option Kind). statement_by room nested block k tokens) (kind_there (record { kind = kinds.Word words.If; pos = None }) ((an_expression guard ++ braces pos (spell_statements body)) ++ (spell_branches others ++ spell_otherwise last)) tokens rest starts)
     ∙ if_complete room small block r guard pos body others last tokens rest starts is after
 statement_complete room small nested block n r (Assert pos condition) tokens rest starts is after =
-    ap (λ (k : Option Kind). statement_by room nested block k tokens) (kind_there (record { kind = kinds.Word words.Assert; place = Some pos }) (an_expression condition ++ a_sign signs.Semicolon ∷ []) tokens rest starts)
+    ap (λ (k : Option Kind). statement_by room nested block k tokens) (kind_there (record { kind = kinds.Word words.Assert; pos = Some pos }) (an_expression condition ++ a_sign signs.Semicolon ∷ []) tokens rest starts)
     ∙ assert_complete room small pos condition tokens rest starts is
 statement_complete room small nested block n r (Print operands) tokens rest starts is after =
-    ap (λ (k : Option Kind). statement_by room nested block k tokens) (kind_there (record { kind = kinds.Word words.Print; place = None }) (separated spell_operand operands ++ a_sign signs.Semicolon ∷ []) tokens rest starts)
+    ap (λ (k : Option Kind). statement_by room nested block k tokens) (kind_there (record { kind = kinds.Word words.Print; pos = None }) (separated spell_operand operands ++ a_sign signs.Semicolon ∷ []) tokens rest starts)
     ∙ print_complete room small operands tokens rest starts is
 
 statement_reads : (room : ℕ) → room ≤ 200 → (nested block : Reader Block) → ReadsAs nested spell_block (IsBlock (suc room)) Any → ReadsAs block spell_block (IsBlock room) Any
@@ -243,7 +243,7 @@ statement_reads room small nested block n r = record {
 tall : (x : Statement) → 1 ≤ statement_height x
 tall (Nested pos body) = omega arith
 tall (Var local ty value) = omega arith
-tall (Assign place value) = omega arith
+tall (Assign target value) = omega arith
 tall (If guard pos body others last) = omega arith
 tall (Assert pos condition) = omega arith
 tall (Print operands) = omega arith

@@ -1,7 +1,8 @@
 -- Names, types, expressions and rows of them: what is read is spelled so, and what is spelled so is read.
 use Rattle.std.proofs.Common.{◌≡◌, ◌≢◌, ℕ, ◌≤◌, nat_lt, Bool, true, false, not, cond, List, [], ◌∷◌, ◌++◌, Option, Some, None, refl, sym, ap, subst, ◌∙◌, arith}
 use Rattle.std.specs.List.{AllByRecursion, flat_map}
-use Rattle.std.proofs.lemmas.Bool.{ltb-true, ltb-false, lt-ltb}
+use Rattle.std.proofs.lemmas.Bool.{ltb-true, ltb-false, lt-ltb, le-ltb}
+use Rattle.std.proofs.lemmas.Option.{cond_some}
 use Rattle.df_base.specs.declared.pos.Pos.{Pos}
 use Rattle.df_tok.specs.declared.word.Word.{Word}
 use Rattle.df_tok.specs.declared.word.Word.TheVariants as words
@@ -20,11 +21,11 @@ use Rattle.df_tree.specs.Reading.{◌>>=◌, is_word, is_sign, name_at, characte
 use Rattle.df_tree.specs.ExprReading.{operator_of, operator_by, operator_at, expression_at, type_at}
 use Rattle.df_tree.specs.File.{PrintOperand, Text, Value}
 use Rattle.df_tree.specs.FileSpelling.{FilePiece, Plain, Characters, StartsWith, a_word, a_sign, word_there, sign_there, a_name, an_expression, a_type, separated, spell_more, spell_operand, operand_height, IsOperand, spell_parameter, spell_parameters}
-use Rattle.df_tree.specs.FileReading.{Reader, both, made, after_sign, kind_is_word, kind_is_sign, word_stands, sign_stands, parameter_stands, place_of_word, place_of_sign, if_low, expression_within, many, one_or_more, operand_by, operand_at, value_at, parameter_at, parameters_in, parameters_at}
+use Rattle.df_tree.specs.FileReading.{Reader, both, made, after_sign, kind_is_word, kind_is_sign, word_stands, sign_stands, parameter_stands, pos_of_word, pos_of_sign, if_low, expression_within, many, one_or_more, operand_by, operand_at, value_at, parameter_at, parameters_in, parameters_at}
 use Rattle.df_tree.proofs.Repeat.{bind_some, found, nothing, pair, got, finish, some_is, differ}
-use Rattle.df_tree.proofs.Tokens.{name_sound, name_complete, word_true, word_is, sign_true, sign_is, guard_some}
+use Rattle.df_tree.proofs.Tokens.{name_sound, name_complete, word_true, word_is, sign_true, sign_is}
 use Rattle.df_tree.proofs.Text.{characters_sound, characters_complete}
-use Rattle.df_tree.proofs.ExprTokens.{Begins-parts, none_end}
+use Rattle.df_tree.proofs.ExprTokens.{Begins-parts, none_ends, ends_end}
 use Rattle.df_tree.proofs.ExprOperands.{expression_sound}
 use Rattle.df_tree.proofs.ExprWhole.{expression_complete}
 use Rattle.df_tree.proofs.ExprLaw.{type_sound, type_complete}
@@ -48,21 +49,21 @@ no_operator piece others [] rest h starts = absurd starts
 no_operator piece others (t ∷ tokens) rest h starts = ap operator_by starts.0.0 ∙ h
 
 pub word_no_operator : (word : Word) (others : List FilePiece) (tokens rest : List Token) → StartsWith (a_word word ∷ others) tokens rest → NoOperator tokens
-word_no_operator word others tokens rest starts = no_operator (record { kind = kinds.Word word; place = None }) others tokens rest refl starts
+word_no_operator word others tokens rest starts = no_operator (record { kind = kinds.Word word; pos = None }) others tokens rest refl starts
 
 pub comma_no_operator : (others : List FilePiece) (tokens rest : List Token) → StartsWith (a_sign signs.Comma ∷ others) tokens rest → NoOperator tokens
 unfolding operator_of
-comma_no_operator others tokens rest starts = no_operator (record { kind = kinds.Sign signs.Comma; place = None }) others tokens rest refl starts
+comma_no_operator others tokens rest starts = no_operator (record { kind = kinds.Sign signs.Comma; pos = None }) others tokens rest refl starts
 
 pub semicolon_no_operator : (others : List FilePiece) (tokens rest : List Token) → StartsWith (a_sign signs.Semicolon ∷ others) tokens rest → NoOperator tokens
 unfolding operator_of
-semicolon_no_operator others tokens rest starts = no_operator (record { kind = kinds.Sign signs.Semicolon; place = None }) others tokens rest refl starts
+semicolon_no_operator others tokens rest starts = no_operator (record { kind = kinds.Sign signs.Semicolon; pos = None }) others tokens rest refl starts
 
 pub brace_no_operator : (pos : Pos) (others : List FilePiece) (tokens rest : List Token) → StartsWith (sign_there signs.OpenBrace pos ∷ others) tokens rest → NoOperator tokens
 unfolding operator_of
-brace_no_operator pos others tokens rest starts = no_operator (record { kind = kinds.Sign signs.OpenBrace; place = Some pos }) others tokens rest refl starts
+brace_no_operator pos others tokens rest starts = no_operator (record { kind = kinds.Sign signs.OpenBrace; pos = Some pos }) others tokens rest refl starts
 
--- ---- names, types and places
+-- ---- names, types and positions
 
 pub name_reads : ReadsAs name_at (λ (x : Ident). a_name x ∷ []) (Anything {X = Ident}) (Anything {X = List Token})
 name_reads = record {
@@ -76,31 +77,31 @@ type_reads = record {
   complete = λ x tokens rest starts is after. type_complete x tokens rest (to_begins (spell_type x) tokens rest starts);
 }
 
-pub word_place_reads : (word : Word) → ReadsAs (place_of_word word) (λ (pos : Pos). word_there word pos ∷ []) (Anything {X = Pos}) (Anything {X = List Token})
-unfolding place_of_word
-word_place_reads word = record { sound = reads; complete = finds }
+pub word_pos_reads : (word : Word) → ReadsAs (pos_of_word word) (λ (pos : Pos). word_there word pos ∷ []) (Anything {X = Pos}) (Anything {X = List Token})
+unfolding pos_of_word
+word_pos_reads word = record { sound = reads; complete = finds }
   where
-    reads : (x : Pos) (tokens rest : List Token) → place_of_word word tokens ≡ Some (x, rest) → StartsWith (word_there word x ∷ []) tokens rest × Anything x
+    reads : (x : Pos) (tokens rest : List Token) → pos_of_word word tokens ≡ Some (x, rest) → StartsWith (word_there word x ∷ []) tokens rest × Anything x
     reads x [] rest e = absurd cc
     reads x (t ∷ tokens) rest e =
-        let g = guard_some (is_word word t.kind) (pair t.pos tokens) (pair x rest) e in
+        let g = cond_some (is_word word t.kind) (pair t.pos tokens) (pair x rest) e in
         (((word_true word t.kind g.0, ap (λ (z : Pos × List Token). z.0) g.1), ap (λ (z : Pos × List Token). z.1) g.1), tt)
 
-    finds : (x : Pos) (tokens rest : List Token) → StartsWith (word_there word x ∷ []) tokens rest → Anything x → Anything rest → place_of_word word tokens ≡ Some (x, rest)
+    finds : (x : Pos) (tokens rest : List Token) → StartsWith (word_there word x ∷ []) tokens rest → Anything x → Anything rest → pos_of_word word tokens ≡ Some (x, rest)
     finds x [] rest starts is after = absurd starts
     finds x (t ∷ tokens) rest starts is after = rw (word_is word t.kind starts.0.0, starts.0.1, starts.1) refl
 
-pub sign_place_reads : (sign : Sign) → ReadsAs (place_of_sign sign) (λ (pos : Pos). sign_there sign pos ∷ []) (Anything {X = Pos}) (Anything {X = List Token})
-unfolding place_of_sign
-sign_place_reads sign = record { sound = reads; complete = finds }
+pub sign_pos_reads : (sign : Sign) → ReadsAs (pos_of_sign sign) (λ (pos : Pos). sign_there sign pos ∷ []) (Anything {X = Pos}) (Anything {X = List Token})
+unfolding pos_of_sign
+sign_pos_reads sign = record { sound = reads; complete = finds }
   where
-    reads : (x : Pos) (tokens rest : List Token) → place_of_sign sign tokens ≡ Some (x, rest) → StartsWith (sign_there sign x ∷ []) tokens rest × Anything x
+    reads : (x : Pos) (tokens rest : List Token) → pos_of_sign sign tokens ≡ Some (x, rest) → StartsWith (sign_there sign x ∷ []) tokens rest × Anything x
     reads x [] rest e = absurd cc
     reads x (t ∷ tokens) rest e =
-        let g = guard_some (is_sign sign t.kind) (pair t.pos tokens) (pair x rest) e in
+        let g = cond_some (is_sign sign t.kind) (pair t.pos tokens) (pair x rest) e in
         (((sign_true sign t.kind g.0, ap (λ (z : Pos × List Token). z.0) g.1), ap (λ (z : Pos × List Token). z.1) g.1), tt)
 
-    finds : (x : Pos) (tokens rest : List Token) → StartsWith (sign_there sign x ∷ []) tokens rest → Anything x → Anything rest → place_of_sign sign tokens ≡ Some (x, rest)
+    finds : (x : Pos) (tokens rest : List Token) → StartsWith (sign_there sign x ∷ []) tokens rest → Anything x → Anything rest → pos_of_sign sign tokens ≡ Some (x, rest)
     finds x [] rest starts is after = absurd starts
     finds x (t ∷ tokens) rest starts is after = rw (sign_is sign t.kind starts.0.0, starts.0.1, starts.1) refl
 
@@ -118,9 +119,6 @@ not_less_by : (t : Bool) (a b : ℕ) → b ≤ a → nat_lt a b ≡ t → t ≡ 
 not_less_by true a b l e = let m = ltb-true a b e in absurd (omega arith)
 not_less_by false a b l e = refl
 
-pub not_less : (a b : ℕ) → b ≤ a → nat_lt a b ≡ false
-not_less a b l = not_less_by (nat_lt a b) a b l refl
-
 pub expression_reads : (room : ℕ) → room ≤ 200 → ReadsAs (expression_within room) an_expression (IsLow room) NoOperator
 unfolding expression_within
 expression_reads room small = record {
@@ -133,9 +131,9 @@ expression_reads room small = record {
       (from_begins (spell p.0.0) tokens p.0.1 w.eats, (w.is, omega arith));
   complete = λ x tokens rest starts is after.
       let low : height x ≤ 200 = let l = is.1 in omega arith in
-      let one = expression_complete x tokens rest (record { eats = to_begins (spell x) tokens rest starts; is = is.0; low = low; ends = none_end rest after }) in
+      let one = expression_complete x tokens rest (record { eats = to_begins (spell x) tokens rest starts; is = is.0; low = low; ends = ends_end x rest (none_ends 0 x rest after) }) in
       ap (λ (o : Option (Expr × List Token)). o >>= if_low room) one
-      ∙ ap (λ (b : Bool). cond b (nothing (Expr × List Token)) (found (pair x rest))) (not_less room (height x) is.1);
+      ∙ ap (λ (b : Bool). cond b (nothing (Expr × List Token)) (found (pair x rest))) (le-ltb room (height x) is.1);
 }
 
 pub value_reads : (room : ℕ) → room ≤ 200 → ReadsAs (value_at room) (λ (e : Expr). a_sign signs.Assign ∷ (an_expression e ++ a_sign signs.Semicolon ∷ [])) (IsLow room) (Anything {X = List Token})
@@ -155,7 +153,7 @@ one_or_more_reads {X = X} read a A F r comma = record { sound = reads; complete 
     more_reads : ReadsAs (many (sign_stands signs.Comma) (after_sign signs.Comma read)) (flat_map (spell_more a)) (AllByRecursion A) (NotThen (sign_stands signs.Comma) F)
     more_reads = many_reads (sign_stands signs.Comma) (after_sign signs.Comma read) (spell_more a) A F (sign_reads signs.Comma read a A F r)
         (record {
-          shows = λ x tokens rest starts is. sign_shows signs.Comma (record { kind = kinds.Sign signs.Comma; place = None }) (a x) tokens rest true refl starts;
+          shows = λ x tokens rest starts is. sign_shows signs.Comma (record { kind = kinds.Sign signs.Comma; pos = None }) (a x) tokens rest true refl starts;
           begins = λ x tokens rest starts is. comma (a x) tokens rest starts;
           long = λ x. omega arith;
         })
@@ -201,23 +199,23 @@ no_text_there piece others [] rest h b e = b
 no_text_there piece others (t ∷ tokens) rest h b e = h (sym b.0.0 ∙ some_is t.kind kinds.Text e)
 
 number_no_text : (negative : Bool) (n : ℕ) (pos : Pos) (tokens rest : List Token) → Begins (spell (Number (record { negative = negative; magnitude = n; pos = pos }))) tokens rest → kind_at tokens ≡ Some kinds.Text → ⊥
-number_no_text true n pos tokens rest b e = no_text_there (record { kind = kinds.Sign signs.Minus; place = Some pos }) (record { kind = kinds.Number n; place = None } ∷ []) tokens rest (λ h. cc) b e
-number_no_text false n pos tokens rest b e = no_text_there (record { kind = kinds.Number n; place = Some pos }) [] tokens rest (λ h. cc) b e
+number_no_text true n pos tokens rest b e = no_text_there (record { kind = kinds.Sign signs.Minus; pos = Some pos }) (record { kind = kinds.Number n; pos = None } ∷ []) tokens rest (λ h. cc) b e
+number_no_text false n pos tokens rest b e = no_text_there (record { kind = kinds.Number n; pos = Some pos }) [] tokens rest (λ h. cc) b e
 
 truth_no_text : (value : Bool) (pos : Pos) (tokens rest : List Token) → Begins (spell (Truth value pos)) tokens rest → kind_at tokens ≡ Some kinds.Text → ⊥
-truth_no_text true pos tokens rest b e = no_text_there (record { kind = kinds.Word words.True; place = Some pos }) [] tokens rest (λ h. cc) b e
-truth_no_text false pos tokens rest b e = no_text_there (record { kind = kinds.Word words.False; place = Some pos }) [] tokens rest (λ h. cc) b e
+truth_no_text true pos tokens rest b e = no_text_there (record { kind = kinds.Word words.True; pos = Some pos }) [] tokens rest (λ h. cc) b e
+truth_no_text false pos tokens rest b e = no_text_there (record { kind = kinds.Word words.False; pos = Some pos }) [] tokens rest (λ h. cc) b e
 
 no_text : (e : Expr) (tokens rest : List Token) → IsExpr e → Begins (spell e) tokens rest → kind_at tokens ≡ Some kinds.Text → ⊥
 no_text (Number literal) tokens rest is b h = number_no_text literal.negative literal.magnitude literal.pos tokens rest b h
 no_text (Truth value pos) tokens rest is b h = truth_no_text value pos tokens rest b h
-no_text (Name ident) tokens rest is b h = no_text_there (record { kind = kinds.Name ident.name; place = Some ident.pos }) [] tokens rest (λ k. cc) b h
+no_text (Name ident) tokens rest is b h = no_text_there (record { kind = kinds.Name ident.name; pos = Some ident.pos }) [] tokens rest (λ k. cc) b h
 no_text (Parentheses pos inner) tokens rest is b h =
-    no_text_there (record { kind = kinds.Sign signs.OpenParenthesis; place = Some pos }) (spell inner ++ record { kind = kinds.Sign signs.CloseParenthesis; place = None } ∷ []) tokens rest (λ k. cc) b h
-no_text (Unary operator pos operand) tokens rest is b h = no_text_there (record { kind = kinds.Sign (unary_sign_of operator); place = Some pos }) (spell operand) tokens rest (λ k. cc) b h
+    no_text_there (record { kind = kinds.Sign signs.OpenParenthesis; pos = Some pos }) (spell inner ++ record { kind = kinds.Sign signs.CloseParenthesis; pos = None } ∷ []) tokens rest (λ k. cc) b h
+no_text (Unary operator pos operand) tokens rest is b h = no_text_there (record { kind = kinds.Sign (unary_sign_of operator); pos = Some pos }) (spell operand) tokens rest (λ k. cc) b h
 no_text (Operations first m) tokens rest is b h = let p = Begins-parts (spell first) (spell_members m) tokens rest b in no_text first tokens p.between is.2 p.first h
 no_text (Leading end) tokens rest is b h = differ is.0 is.1
-no_text (Leading (more o pos operand m)) tokens rest is b h = no_text_there (record { kind = kinds.Sign (sign_of o); place = Some pos }) (spell operand ++ spell_members m) tokens rest (λ k. cc) b h
+no_text (Leading (more o pos operand m)) tokens rest is b h = no_text_there (record { kind = kinds.Sign (sign_of o); pos = Some pos }) (spell operand ++ spell_members m) tokens rest (λ k. cc) b h
 
 -- an operand of at most this height
 abbrev pub IsLowOperand : ℕ → PrintOperand → Type 0
@@ -303,7 +301,7 @@ in_reads = record { sound = λ x tokens rest e. reads (parameter_stands tokens) 
         let closed : parameter_stands tokens ≡ false = ap (λ (ts : List Token). parameter_stands ts) starts ∙ ap (λ (k : Option Kind). not (kind_is_sign signs.CloseParenthesis k)) after in
         ap (λ (b : Bool). cond b (one_or_more parameter_at tokens) (got [] tokens)) closed ∙ ap (λ (ts : List Token). got {X = List Parameter} [] ts) starts
     finds (x ∷ xs) tokens rest starts is after =
-        let opened : parameter_stands tokens ≡ true = ap not (sign_shows signs.CloseParenthesis (record { kind = kinds.Name x.name.name; place = Some x.name.pos }) (a_sign signs.Colon ∷ a_type x.ty ++ flat_map (spell_more spell_parameter) xs) tokens rest false refl starts) in
+        let opened : parameter_stands tokens ≡ true = ap not (sign_shows signs.CloseParenthesis (record { kind = kinds.Name x.name.name; pos = Some x.name.pos }) (a_sign signs.Colon ∷ a_type x.ty ++ flat_map (spell_more spell_parameter) xs) tokens rest false refl starts) in
         ap (λ (b : Bool). cond b (one_or_more parameter_at tokens) (got [] tokens)) opened
         ∙ one_parameter_reads.complete (x ∷ xs) tokens rest starts ((λ h. cc), all_any (x ∷ xs)) (ap (kind_is_sign signs.Comma) after, tt)
 
@@ -311,4 +309,4 @@ pub parameters_reads : ReadsAs parameters_at spell_parameters (Anything {X = Lis
 unfolding parameters_at
 parameters_reads =
     sign_reads signs.OpenParenthesis _ (λ (xs : List Parameter). separated spell_parameter xs ++ a_sign signs.CloseParenthesis ∷ []) (Anything {X = List Parameter}) (Anything {X = List Token})
-    (before_reads signs.CloseParenthesis parameters_in (separated spell_parameter) (Anything {X = List Parameter}) Closes in_reads (λ tokens rest starts. kind_there (record { kind = kinds.Sign signs.CloseParenthesis; place = None }) [] tokens rest starts))
+    (before_reads signs.CloseParenthesis parameters_in (separated spell_parameter) (Anything {X = List Parameter}) Closes in_reads (λ tokens rest starts. kind_there (record { kind = kinds.Sign signs.CloseParenthesis; pos = None }) [] tokens rest starts))

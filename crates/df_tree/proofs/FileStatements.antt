@@ -14,10 +14,10 @@ use Rattle.df_tree.specs.Expr.{Expr}
 use Rattle.df_tree.specs.Reading.{name_at}
 use Rattle.df_tree.specs.File.{PrintOperand, Statement, Nested, Var, Assign, If, Assert, Print, Statements, done, next, Block, Branch, statements_of}
 use Rattle.df_tree.specs.FileSpelling.{FilePiece, StartsWith, a_word, a_sign, word_there, sign_there, a_name, an_expression, a_type, separated, braces, spell_operand, spell_statement, spell_statements, spell_branches, spell_otherwise, spell_block, spell_parameter, deepest_operand, statement_height, deepest, IsOperand, IsStatement, AreStatements}
-use Rattle.df_tree.specs.FileReading.{Reader, both, after_word, before_sign, kind_is_word, kind_is_sign, word_stands, sign_stands, statement_stands, place_of_word, place_of_sign, expression_within, many, one_or_more, operand_at, print_at, assert_at, value_at, assign_at, parameter_at, var_at, block_by}
+use Rattle.df_tree.specs.FileReading.{Reader, both, after_word, before_sign, kind_is_word, kind_is_sign, word_stands, sign_stands, statement_stands, pos_of_word, pos_of_sign, expression_within, many, one_or_more, operand_at, print_at, assert_at, value_at, assign_at, parameter_at, var_at, block_by}
 use Rattle.df_tree.proofs.ExprWhole.{tall}
 use Rattle.df_tree.proofs.FileTokens.{kind_there, ReadsAs, Anything, both_reads, word_reads, before_reads, made_sound, made_complete, made_reads, NotThen, Sibling, many_reads}
-use Rattle.df_tree.proofs.FileParts.{sign_shows, NoOperator, semicolon_no_operator, name_reads, word_place_reads, sign_place_reads, IsLow, expression_reads, value_reads, one_or_more_reads, comma_no_operator, IsLowOperand, operand_reads, parameter_reads}
+use Rattle.df_tree.proofs.FileParts.{sign_shows, NoOperator, semicolon_no_operator, name_reads, word_pos_reads, sign_pos_reads, IsLow, expression_reads, value_reads, one_or_more_reads, comma_no_operator, IsLowOperand, operand_reads, parameter_reads}
 
 abbrev pub Any : List Token → Type 0
 Any = Anything {X = List Token}
@@ -58,7 +58,7 @@ print_reads room small =
     word_reads words.Print _ (λ (xs : List PrintOperand). separated spell_operand xs ++ a_sign signs.Semicolon ∷ []) (AreLow room) Any
     (before_reads signs.Semicolon (one_or_more (operand_at room)) (separated spell_operand) (AreLow room) (NotThen (sign_stands signs.Comma) NoOperator)
     (one_or_more_reads (operand_at room) spell_operand (IsLowOperand room) NoOperator (operand_reads room small) comma_no_operator)
-    (λ tokens rest starts. (sign_shows signs.Comma (record { kind = kinds.Sign signs.Semicolon; place = None }) [] tokens rest false refl starts, semicolon_no_operator [] tokens rest starts)))
+    (λ tokens rest starts. (sign_shows signs.Comma (record { kind = kinds.Sign signs.Semicolon; pos = None }) [] tokens rest false refl starts, semicolon_no_operator [] tokens rest starts)))
 
 pub print_sound : (room : ℕ) → room ≤ 200 → (x : Statement) (tokens rest : List Token) → print_at room tokens ≡ Some (x, rest) → Found (suc room) x tokens rest
 unfolding print_at
@@ -77,9 +77,9 @@ print_complete room small xs tokens rest starts is =
 
 -- ---- assert
 
-assert_reads : (room : ℕ) → room ≤ 200 → ReadsAs (both (place_of_word words.Assert) (before_sign (expression_within room) signs.Semicolon)) (λ (x : Pos × Expr). (word_there words.Assert x.0 ∷ []) ++ (an_expression x.1 ++ a_sign signs.Semicolon ∷ [])) (λ (x : Pos × Expr). Anything x.0 × IsLow room x.1) Any
+assert_reads : (room : ℕ) → room ≤ 200 → ReadsAs (both (pos_of_word words.Assert) (before_sign (expression_within room) signs.Semicolon)) (λ (x : Pos × Expr). (word_there words.Assert x.0 ∷ []) ++ (an_expression x.1 ++ a_sign signs.Semicolon ∷ [])) (λ (x : Pos × Expr). Anything x.0 × IsLow room x.1) Any
 assert_reads room small =
-    both_reads (place_of_word words.Assert) (before_sign (expression_within room) signs.Semicolon) (λ (pos : Pos). word_there words.Assert pos ∷ []) (λ (e : Expr). an_expression e ++ a_sign signs.Semicolon ∷ []) (Anything {X = Pos}) (IsLow room) Any Any (word_place_reads words.Assert)
+    both_reads (pos_of_word words.Assert) (before_sign (expression_within room) signs.Semicolon) (λ (pos : Pos). word_there words.Assert pos ∷ []) (λ (e : Expr). an_expression e ++ a_sign signs.Semicolon ∷ []) (Anything {X = Pos}) (IsLow room) Any Any (word_pos_reads words.Assert)
     (before_reads signs.Semicolon (expression_within room) an_expression (IsLow room) NoOperator (expression_reads room small) (semicolon_no_operator [])) (λ _ _ _ _ _ _. tt)
 
 pub assert_sound : (room : ℕ) → room ≤ 200 → (x : Statement) (tokens rest : List Token) → assert_at room tokens ≡ Some (x, rest) → Found (suc room) x tokens rest
@@ -109,11 +109,11 @@ assign_sound room small x tokens rest e =
     let t = tall m.of.1 in
     subst (λ (y : Statement). Found (suc room) y tokens rest) m.same (m.starts, (m.is.1.0, omega arith))
 
-pub assign_complete : (room : ℕ) → room ≤ 200 → (place : Ident) (value : Expr) (tokens rest : List Token) → StartsWith (spell_statement (Assign place value)) tokens rest → IsWithin (suc room) (Assign place value) → assign_at room tokens ≡ Some (Assign place value, rest)
+pub assign_complete : (room : ℕ) → room ≤ 200 → (target : Ident) (value : Expr) (tokens rest : List Token) → StartsWith (spell_statement (Assign target value)) tokens rest → IsWithin (suc room) (Assign target value) → assign_at room tokens ≡ Some (Assign target value, rest)
 unfolding assign_at
-assign_complete room small place value tokens rest starts is =
+assign_complete room small target value tokens rest starts is =
     let low = is.1 in
-    made_complete (λ (y : Ident × Expr). Assign y.0 y.1) _ _ _ Any (assign_reads room small) (place, value) tokens rest starts (tt, (is.0, omega arith)) tt
+    made_complete (λ (y : Ident × Expr). Assign y.0 y.1) _ _ _ Any (assign_reads room small) (target, value) tokens rest starts (tt, (is.0, omega arith)) tt
 
 var_reads : (room : ℕ) → room ≤ 200 → ReadsAs (after_word words.Var (both parameter_at (value_at room))) (λ (x : Parameter × Expr). a_word words.Var ∷ (spell_parameter x.0 ++ a_sign signs.Assign ∷ (an_expression x.1 ++ a_sign signs.Semicolon ∷ []))) (λ (x : Parameter × Expr). Anything x.0 × IsLow room x.1) Any
 var_reads room small =
@@ -168,28 +168,28 @@ NotElse tokens = word_stands words.Else tokens ≡ false
 
 shown_by : (x : Statement) (tokens rest : List Token) → StartsWith (spell_statement x) tokens rest → (statement_stands tokens ≡ true) × NotElse tokens
 shown_by (Nested pos body) tokens rest starts =
-    let k = kind_there (record { kind = kinds.Sign signs.OpenBrace; place = Some pos }) (spell_statements body ++ a_sign signs.CloseBrace ∷ []) tokens rest starts in
+    let k = kind_there (record { kind = kinds.Sign signs.OpenBrace; pos = Some pos }) (spell_statements body ++ a_sign signs.CloseBrace ∷ []) tokens rest starts in
     (ap (λ (o : Option Kind). not (kind_is_sign signs.CloseBrace o)) k, ap (kind_is_word words.Else) k)
 shown_by (Var local ty value) tokens rest starts =
-    let k = kind_there (record { kind = kinds.Word words.Var; place = None }) (a_name local ∷ a_sign signs.Colon ∷ (a_type ty ++ a_sign signs.Assign ∷ (an_expression value ++ a_sign signs.Semicolon ∷ []))) tokens rest starts in
+    let k = kind_there (record { kind = kinds.Word words.Var; pos = None }) (a_name local ∷ a_sign signs.Colon ∷ (a_type ty ++ a_sign signs.Assign ∷ (an_expression value ++ a_sign signs.Semicolon ∷ []))) tokens rest starts in
     (ap (λ (o : Option Kind). not (kind_is_sign signs.CloseBrace o)) k, ap (kind_is_word words.Else) k)
-shown_by (Assign place value) tokens rest starts =
-    let k = kind_there (record { kind = kinds.Name place.name; place = Some place.pos }) (a_sign signs.Assign ∷ (an_expression value ++ a_sign signs.Semicolon ∷ [])) tokens rest starts in
+shown_by (Assign target value) tokens rest starts =
+    let k = kind_there (record { kind = kinds.Name target.name; pos = Some target.pos }) (a_sign signs.Assign ∷ (an_expression value ++ a_sign signs.Semicolon ∷ [])) tokens rest starts in
     (ap (λ (o : Option Kind). not (kind_is_sign signs.CloseBrace o)) k, ap (kind_is_word words.Else) k)
 shown_by (If guard pos body others last) tokens rest starts =
-    let k = kind_there (record { kind = kinds.Word words.If; place = None }) ((an_expression guard ++ braces pos (spell_statements body)) ++ (spell_branches others ++ spell_otherwise last)) tokens rest starts in
+    let k = kind_there (record { kind = kinds.Word words.If; pos = None }) ((an_expression guard ++ braces pos (spell_statements body)) ++ (spell_branches others ++ spell_otherwise last)) tokens rest starts in
     (ap (λ (o : Option Kind). not (kind_is_sign signs.CloseBrace o)) k, ap (kind_is_word words.Else) k)
 shown_by (Assert pos condition) tokens rest starts =
-    let k = kind_there (record { kind = kinds.Word words.Assert; place = Some pos }) (an_expression condition ++ a_sign signs.Semicolon ∷ []) tokens rest starts in
+    let k = kind_there (record { kind = kinds.Word words.Assert; pos = Some pos }) (an_expression condition ++ a_sign signs.Semicolon ∷ []) tokens rest starts in
     (ap (λ (o : Option Kind). not (kind_is_sign signs.CloseBrace o)) k, ap (kind_is_word words.Else) k)
 shown_by (Print operands) tokens rest starts =
-    let k = kind_there (record { kind = kinds.Word words.Print; place = None }) (separated spell_operand operands ++ a_sign signs.Semicolon ∷ []) tokens rest starts in
+    let k = kind_there (record { kind = kinds.Word words.Print; pos = None }) (separated spell_operand operands ++ a_sign signs.Semicolon ∷ []) tokens rest starts in
     (ap (λ (o : Option Kind). not (kind_is_sign signs.CloseBrace o)) k, ap (kind_is_word words.Else) k)
 
 long : (x : Statement) → 0 < length (spell_statement x)
 long (Nested pos body) = omega arith
 long (Var local ty value) = omega arith
-long (Assign place value) = omega arith
+long (Assign target value) = omega arith
 long (If guard pos body others last) = omega arith
 long (Assert pos condition) = omega arith
 long (Print operands) = omega arith
@@ -208,12 +208,12 @@ abbrev IsInside : ℕ → Pos × List Statement → Type 0
 IsInside room x = Anything x.0 × AllByRecursion (IsWithin room) x.1
 
 inside_reads : (room : ℕ) (statement : Reader Statement) → ReadsAs statement spell_statement (IsWithin room) NotElse
-    → ReadsAs (both (place_of_sign signs.OpenBrace) (before_sign (many statement_stands statement) signs.CloseBrace)) spell_inside (IsInside room) Any
+    → ReadsAs (both (pos_of_sign signs.OpenBrace) (before_sign (many statement_stands statement) signs.CloseBrace)) spell_inside (IsInside room) Any
 inside_reads room statement r =
-    both_reads (place_of_sign signs.OpenBrace) (before_sign (many statement_stands statement) signs.CloseBrace) (λ (pos : Pos). sign_there signs.OpenBrace pos ∷ []) (λ (xs : List Statement). flat_map spell_statement xs ++ a_sign signs.CloseBrace ∷ []) (Anything {X = Pos}) (AllByRecursion (IsWithin room)) Any Any (sign_place_reads signs.OpenBrace)
+    both_reads (pos_of_sign signs.OpenBrace) (before_sign (many statement_stands statement) signs.CloseBrace) (λ (pos : Pos). sign_there signs.OpenBrace pos ∷ []) (λ (xs : List Statement). flat_map spell_statement xs ++ a_sign signs.CloseBrace ∷ []) (Anything {X = Pos}) (AllByRecursion (IsWithin room)) Any Any (sign_pos_reads signs.OpenBrace)
     (before_reads signs.CloseBrace (many statement_stands statement) (flat_map spell_statement) (AllByRecursion (IsWithin room)) (NotThen statement_stands NotElse) (many_reads statement_stands statement spell_statement (IsWithin room) NotElse r (statement_sibling room))
     (λ tokens rest starts.
-    let k = kind_there (record { kind = kinds.Sign signs.CloseBrace; place = None }) [] tokens rest starts in
+    let k = kind_there (record { kind = kinds.Sign signs.CloseBrace; pos = None }) [] tokens rest starts in
     (ap (λ (o : Option Kind). not (kind_is_sign signs.CloseBrace o)) k, ap (kind_is_word words.Else) k)))
     (λ _ _ _ _ _ _. tt)
 

@@ -1,5 +1,5 @@
 -- A step that is made again and again up to the end.
-use Rattle.std.proofs.Common.{◌≡◌, ℕ, zero, suc, ◌<◌, Bool, true, false, cond, List, [], ◌∷◌, ◌++◌, length, Option, Some, None, inl, inr, ◌⊎◌, refl, sym, ap, subst, ◌∙◌, append_assoc, arith}
+use Rattle.std.proofs.Common.{◌≡◌, ℕ, zero, suc, ◌<◌, List, [], ◌∷◌, ◌++◌, length, Option, Some, None, inl, inr, ◌⊎◌, refl, sym, ap, subst, ◌∙◌, append_assoc, arith}
 use Rattle.std.proofs.lemmas.List.{append-nil}
 use Rattle.df_tree.specs.Reading.{◌>>=◌, in_front, some_of, all_of, whole}
 
@@ -161,10 +161,6 @@ no_find {S = S} {X = X} x r s e = differ x (sym (ap (λ (z : Option X × List S)
 
 pub bind_none : {A B : Type 0} (o : Option A) (f : A → Option B) → o ≡ None → (o >>= f) ≡ None
 bind_none o f e = rw e refl
-
-pub choice : {A : Type 0} (b : Bool) (x y z : A) → cond b x y ≡ z → ((b ≡ true) × (x ≡ z)) ⊎ ((b ≡ false) × (y ≡ z))
-choice true x y z e = inl (refl, e)
-choice false x y z e = inr (refl, e)
 
 pub whole_is : {S X : Type 0} (x : X) (rest : List S) (y : X) → whole (x, rest) ≡ Some y → (x ≡ y) × (rest ≡ [])
 whole_is x [] y e = (some_is x y e, refl)

@@ -1,10 +1,11 @@
 -- The characters that are read from a string literal are those that it stands for.
 use Rattle.std.proofs.Common.{◌≡◌, ℕ, ◌+◌, ◌<◌, ◌==◌, ◌&&◌, ◌||◌, not, nat_le, Bool, true, false, IsTrue, cond, List, [], ◌∷◌, ◌++◌, length, Option, Some, None, inl, inr, refl, sym, ap, subst, ◌∙◌, append_assoc, arith, length-append}
 use Rattle.std.proofs.lemmas.Bool.{eqb-true}
+use Rattle.df_lemmas.proofs.Truths.{choice}
 use Rattle.df_tok.specs.Byte.{is_plain_in_text, escaped}
 use Rattle.df_tok.specs.Lexeme.{Part, Plain, Escape, IsPart, AreParts, IsText}
 use Rattle.df_tree.specs.Reading.{◌>>=◌, escape_at, part_at, whole, characters_of, all_of}
-use Rattle.df_tree.proofs.Repeat.{Shrinks, Run, sound, complete, bind_some, some_is, got, finish_some, no_end, no_find, choice, whole_is}
+use Rattle.df_tree.proofs.Repeat.{Shrinks, Run, sound, complete, bind_some, some_is, got, finish_some, no_end, no_find, whole_is}
 
 -- a character from the front, and the quote at the end
 pub record One (c : ℕ) (bytes rest : List ℕ) : Type 0 where

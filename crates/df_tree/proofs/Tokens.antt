@@ -1,5 +1,6 @@
 -- One token at the front: what is read is spelled so, and what is spelled so is read.
-use Rattle.std.proofs.Common.{◌≡◌, Bool, true, false, cond, List, [], ◌∷◌, Option, Some, None, refl, sym, ap, subst}
+use Rattle.std.proofs.Common.{◌≡◌, true, List, [], ◌∷◌, Option, Some, None, refl, sym, ap, subst}
+use Rattle.std.proofs.lemmas.Option.{cond_some}
 use denote.Enum.Bare.{same_true, true_same}
 use Rattle.df_base.specs.declared.pos.Pos.{Pos}
 use Rattle.df_tok.specs.contracts.word.Word as declared_word
@@ -16,11 +17,11 @@ use Rattle.df_tree.proofs.Repeat.{got, finish}
 
 -- a word, wherever it stands
 abbrev pub plain_word : Word → Piece
-plain_word word = record { kind = kinds.Word word; place = None }
+plain_word word = record { kind = kinds.Word word; pos = None }
 
 -- a sign, wherever it stands
 abbrev pub plain_sign : Sign → Piece
-plain_sign sign = record { kind = kinds.Sign sign; place = None }
+plain_sign sign = record { kind = kinds.Sign sign; pos = None }
 
 -- ---- words and signs
 
@@ -38,14 +39,10 @@ sign_true sign _ e = absurd cc
 pub sign_is : (sign : Sign) (kind : Kind) → kind ≡ kinds.Sign sign → is_sign sign kind ≡ true
 sign_is sign kind e = subst (λ (k : Kind). is_sign sign k ≡ true) (sym e) (true_same declared_sign.the_type sign sign refl)
 
-pub guard_some : {A : Type 0} (b : Bool) (x y : A) → cond b (Some x) None ≡ Some y → (b ≡ true) × (x ≡ y)
-guard_some true x y e = (refl, cc)
-guard_some false x y e = absurd cc
-
 pub word_sound : (word : Word) (tokens rest : List Token) → word_at word tokens ≡ Some rest → Begins (plain_word word ∷ []) tokens rest
 unfolding word_at
 word_sound word [] rest e = absurd cc
-word_sound word (t ∷ tokens) rest e = let g = guard_some (is_word word t.kind) tokens rest e in ((word_true word t.kind g.0, tt), g.1)
+word_sound word (t ∷ tokens) rest e = let g = cond_some (is_word word t.kind) tokens rest e in ((word_true word t.kind g.0, tt), g.1)
 
 pub word_complete : (word : Word) (tokens rest : List Token) → Begins (plain_word word ∷ []) tokens rest → word_at word tokens ≡ Some rest
 unfolding word_at
@@ -55,7 +52,7 @@ word_complete word (t ∷ tokens) rest p = rw (word_is word t.kind p.0.0) (ap So
 pub sign_sound : (sign : Sign) (tokens rest : List Token) → sign_at sign tokens ≡ Some rest → Begins (plain_sign sign ∷ []) tokens rest
 unfolding sign_at
 sign_sound sign [] rest e = absurd cc
-sign_sound sign (t ∷ tokens) rest e = let g = guard_some (is_sign sign t.kind) tokens rest e in ((sign_true sign t.kind g.0, tt), g.1)
+sign_sound sign (t ∷ tokens) rest e = let g = cond_some (is_sign sign t.kind) tokens rest e in ((sign_true sign t.kind g.0, tt), g.1)
 
 pub sign_complete : (sign : Sign) (tokens rest : List Token) → Begins (plain_sign sign ∷ []) tokens rest → sign_at sign tokens ≡ Some rest
 unfolding sign_at

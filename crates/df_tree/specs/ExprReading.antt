@@ -72,7 +72,7 @@ abbrev pub if_of_group : Group → Option BinaryOperator → Token → List Toke
 if_of_group group None token rest = (None, token ∷ rest)
 if_of_group group (Some operator) token rest = if same_group (group_of operator) group then (Some (operator, token.pos), rest) else (None, token ∷ rest)
 
--- the operator and its place where one of the group stands there, and the tokens after it
+-- the operator and its position where one of the group stands there, and the tokens after it
 unfoldable pub optional_operator : Group → List Token → Option (BinaryOperator × Pos) × List Token
 optional_operator group [] = (None, [])
 optional_operator group (token ∷ rest) = if_of_group group (operator_by token.kind) token rest
@@ -211,13 +211,9 @@ unfoldable pub unary_at : ℕ → Reader
 unary_at zero tokens = None
 unary_at (suc depth) tokens = unary_by (at_level (unary_at depth)) tokens
 
-abbrev pub if_end : Option BinaryOperator → (Expr × ℕ) × List Token → Read Expr
-if_end None found = Some (found.0.0, found.1)
-if_end (Some operator) found = None
-
--- an expression that no operator follows
+-- an expression up to a token that does not continue it
 unfoldable pub expression_at : List Token → Read Expr
-expression_at tokens = at_level (unary_at 200) levels.Equivalence tokens >>= λ found. if_end (operator_at found.1) found
+expression_at tokens = at_level (unary_at 200) levels.Equivalence tokens >>= λ found. Some (found.0.0, found.1)
 
 unfoldable pub type_at : List Token → Read TreeType
 type_at tokens = name_at tokens >>= λ name. Some (types.Named name.0, name.1)

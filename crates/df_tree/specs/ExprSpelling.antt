@@ -1,5 +1,5 @@
 -- Which tokens spell an expression, and which expressions the grammar has.
-use Rattle.std.specs.Prelude.{◌≡◌, ℕ, ◌+◌, ◌<◌, ◌≤◌, max, Bool, true, false, List, [], ◌∷◌, ◌++◌, length, drop, Option, Some, None}
+use Rattle.std.specs.Prelude.{◌≡◌, ℕ, ◌+◌, ◌<◌, ◌≤◌, max, Bool, true, false, List, [], ◌∷◌, ◌++◌, length, drop, Option, Some, None, ◌⊎◌}
 use Rattle.df_base.specs.declared.pos.Pos.{Pos}
 use Rattle.df_tok.specs.declared.word.Word.TheVariants as words
 use Rattle.df_tok.specs.declared.sign.Sign.{Sign}
@@ -21,28 +21,28 @@ use Rattle.df_tree.specs.Expr.{Expr, Number, Truth, Name, Parentheses, Unary, Op
 
 -- ---- tokens
 
--- a token of an expression: what it is, and its place where the tree keeps one
+-- a token of an expression: what it is, and its position where the tree keeps one
 pub record Piece : Type 0 where
   pub kind : Kind
-  pub place : Option Pos
+  pub pos : Option Pos
 
 abbrev pub sign_piece : Sign → Pos → Piece
-sign_piece sign pos = record { kind = kinds.Sign sign; place = Some pos }
+sign_piece sign pos = record { kind = kinds.Sign sign; pos = Some pos }
 
 abbrev pub name_piece : Ident → Piece
-name_piece ident = record { kind = kinds.Name ident.name; place = Some ident.pos }
+name_piece ident = record { kind = kinds.Name ident.name; pos = Some ident.pos }
 
 abbrev pub truth_kind : Bool → Kind
 truth_kind true = kinds.Word words.True
 truth_kind false = kinds.Word words.False
 
 abbrev pub IsAt : Option Pos → Pos → Type 0
-IsAt None pos = Unit {0}
-IsAt (Some place) pos = pos ≡ place
+IsAt None at = Unit {0}
+IsAt (Some pos) at = at ≡ pos
 
 -- a token is the piece
 abbrev pub IsPiece : Piece → Token → Type 0
-IsPiece piece token = (token.kind ≡ piece.kind) × IsAt piece.place token.pos
+IsPiece piece token = (token.kind ≡ piece.kind) × IsAt piece.pos token.pos
 
 -- the tokens begin with these pieces, and then come the rest
 abbrev pub Begins : List Piece → List Token → List Token → Type 0
@@ -55,16 +55,16 @@ Begins (piece ∷ pieces) (token ∷ tokens) rest = IsPiece piece token × Begin
 -- number, with a minus before it or without
 abbrev pub spell_number : Literal → List Piece
 spell_number literal = elim literal.negative [
-  | true ↦ sign_piece signs.Minus literal.pos ∷ record { kind = kinds.Number literal.magnitude; place = None } ∷ []
-  | false ↦ record { kind = kinds.Number literal.magnitude; place = Some literal.pos } ∷ []
+  | true ↦ sign_piece signs.Minus literal.pos ∷ record { kind = kinds.Number literal.magnitude; pos = None } ∷ []
+  | false ↦ record { kind = kinds.Number literal.magnitude; pos = Some literal.pos } ∷ []
 ]
 
 abbrev mutual
   pub spell : Expr → List Piece
   spell (Number literal) = spell_number literal
-  spell (Truth value pos) = record { kind = truth_kind value; place = Some pos } ∷ []
+  spell (Truth value pos) = record { kind = truth_kind value; pos = Some pos } ∷ []
   spell (Name ident) = name_piece ident ∷ []
-  spell (Parentheses pos inner) = sign_piece signs.OpenParenthesis pos ∷ (spell inner ++ record { kind = kinds.Sign signs.CloseParenthesis; place = None } ∷ [])
+  spell (Parentheses pos inner) = sign_piece signs.OpenParenthesis pos ∷ (spell inner ++ record { kind = kinds.Sign signs.CloseParenthesis; pos = None } ∷ [])
   spell (Unary operator pos operand) = sign_piece (unary_sign_of operator) pos ∷ spell operand
   spell (Operations first rest) = spell first ++ spell_members rest
   spell (Leading operations) = spell_members operations
@@ -97,6 +97,7 @@ abbrev pub IsUnsignedNumber : Expr → Type 0
 IsUnsignedNumber (Number literal) = literal.negative ≡ false
 IsUnsignedNumber _ = ⊥
 
+-- The operand of a sign is of the unary level. That of a minus is no number without one: that would be one literal.
 abbrev pub IsOperandOf : UnaryOperator → Expr → Type 0
 IsOperandOf unary.Negate operand = (rank levels.Unary ≤ rank_of operand) × (IsUnsignedNumber operand → ⊥)
 IsOperandOf unary.Not operand = rank levels.Unary ≤ rank_of operand
@@ -148,18 +149,39 @@ abbrev mutual
 
 -- ---- parts of a text
 
--- No token that continues an expression stands there.
-abbrev pub IsEnd : List Token → Type 0
-IsEnd [] = Unit {0}
-IsEnd (token ∷ tokens) = (operator : BinaryOperator) → token.kind ≡ kinds.Sign (sign_of operator) → ⊥
+-- No row of operators of this group goes on with the operator: it is of their level, and of another group.
+abbrev pub Bars : Group → BinaryOperator → Type 0
+Bars group operator = (level_of (group_of operator) ≡ level_of group) × (group_of operator ≡ group → ⊥)
 
--- The expression is spelled from token `start` to before token `after`, and nothing there continues it.
+-- the first where there are no further members, and else the second
+abbrev pub AtEnd : Members → Type 0 → Type 0 → Type 0
+AtEnd end here later = here
+AtEnd (more operator pos operand rest) here later = later
+
+abbrev mutual
+  -- No expression goes on from this one with the operator: a row that ends with it bars that. As `a && b`
+  -- bars `||`, and `a ==> b && c` bars `||` and `<==`.
+  pub IsBarred : BinaryOperator → Expr → Type 0
+  IsBarred o (Operations first rest) = IsBarredAfter o rest
+  IsBarred o (Leading operations) = IsBarredAfter o operations
+  IsBarred o _ = ⊥
+
+  pub IsBarredAfter : BinaryOperator → Members → Type 0
+  IsBarredAfter o end = ⊥
+  IsBarredAfter o (more operator pos operand rest) = AtEnd rest (Bars (group_of operator) o ⊎ IsBarred o operand) (IsBarredAfter o rest)
+
+-- The token there does not continue the expression: it is no operator, or one that is barred.
+abbrev pub IsEnd : Expr → List Token → Type 0
+IsEnd e [] = Unit {0}
+IsEnd e (token ∷ tokens) = (operator : BinaryOperator) → token.kind ≡ kinds.Sign (sign_of operator) → IsBarred operator e
+
+-- The expression is spelled from token `start` to before token `after`, and the token there does not continue it.
 pub record IsExpressionAt (tokens : List Token) (start : ℕ) (e : Expr) (after : ℕ) : Type 0 where
   pub inside : after ≤ length tokens
   pub spelled : Begins (spell e) (drop start tokens) (drop after tokens)
   pub shape : IsExpr e
   pub low : height e ≤ 200
-  pub ends : IsEnd (drop after tokens)
+  pub ends : IsEnd e (drop after tokens)
 
 abbrev pub spell_type : TreeType → List Piece
 spell_type (types.Named ident) = name_piece ident ∷ []

@@ -32,7 +32,7 @@ mutual
     -- a block, and where it opens
     Nested : Pos → Statements → Statement
     Var : (local : Ident) (ty : TreeType) (value : Expr) → Statement
-    Assign : (place : Ident) (value : Expr) → Statement
+    Assign : (target : Ident) (value : Expr) → Statement
     -- the guard, its block, what an `else if` follows each, and the last `else`
     If : Expr → Pos → Statements → Branches → Otherwise → Statement
     Assert : Pos → Expr → Statement
@@ -113,7 +113,7 @@ branch_step x = record { guard = expr_of x.guard; body = x.body }
 abbrev pub statement_step : Statement-F Statement Block Branch → Statement
 statement_step (Statement-F.Block block) = Nested block.pos block.statements
 statement_step (Statement-F.Var local ty value) = Var local ty (expr_of value)
-statement_step (Statement-F.Assign place value) = Assign place (expr_of value)
+statement_step (Statement-F.Assign target value) = Assign target (expr_of value)
 statement_step (Statement-F.If first others last) = If first.guard first.body.pos first.body.statements (branches_of others.items) (otherwise_of last)
 statement_step (Statement-F.Assert pos condition) = Assert pos (expr_of condition)
 statement_step (Statement-F.Print all) = Print (map operand_of all.items)

@@ -92,15 +92,15 @@ some_stands (token ∷ rest) = true
 
 -- ---- parts
 
--- the place of a word
-unfoldable pub place_of_word : Word → Reader Pos
-place_of_word word [] = None
-place_of_word word (token ∷ rest) = if is_word word token.kind then Some (token.pos, rest) else None
+-- the position of a word
+unfoldable pub pos_of_word : Word → Reader Pos
+pos_of_word word [] = None
+pos_of_word word (token ∷ rest) = if is_word word token.kind then Some (token.pos, rest) else None
 
--- the place of a sign
-unfoldable pub place_of_sign : Sign → Reader Pos
-place_of_sign sign [] = None
-place_of_sign sign (token ∷ rest) = if is_sign sign token.kind then Some (token.pos, rest) else None
+-- the position of a sign
+unfoldable pub pos_of_sign : Sign → Reader Pos
+pos_of_sign sign [] = None
+pos_of_sign sign (token ∷ rest) = if is_sign sign token.kind then Some (token.pos, rest) else None
 
 abbrev pub if_low : ℕ → Expr × List Token → Read Expr
 if_low room found = if nat_lt room (height found.0) then None else Some found
@@ -128,7 +128,7 @@ unfoldable pub print_at : ℕ → Reader Statement
 print_at room tokens = made Print (after_word words.Print (before_sign (one_or_more (operand_at room)) signs.Semicolon)) tokens
 
 unfoldable pub assert_at : ℕ → Reader Statement
-assert_at room tokens = made (λ x. Assert x.0 x.1) (both (place_of_word words.Assert) (before_sign (expression_within room) signs.Semicolon)) tokens
+assert_at room tokens = made (λ x. Assert x.0 x.1) (both (pos_of_word words.Assert) (before_sign (expression_within room) signs.Semicolon)) tokens
 
 -- ":=" expression ";"
 unfoldable pub value_at : ℕ → Reader Expr
@@ -146,7 +146,7 @@ var_at room tokens = made (λ x. Var x.0.name x.0.ty x.1) (after_word words.Var 
 
 -- statements in braces
 unfoldable pub block_by : Reader Statement → Reader Block
-block_by statement tokens = made (λ x. record { pos = x.0; statements = statements_of x.1 }) (both (place_of_sign signs.OpenBrace) (before_sign (many statement_stands statement) signs.CloseBrace)) tokens
+block_by statement tokens = made (λ x. record { pos = x.0; statements = statements_of x.1 }) (both (pos_of_sign signs.OpenBrace) (before_sign (many statement_stands statement) signs.CloseBrace)) tokens
 
 -- a guard and its block
 unfoldable pub branch_by : ℕ → Reader Block → Reader Branch

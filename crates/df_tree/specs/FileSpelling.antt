@@ -37,14 +37,14 @@ StartsWith (piece ∷ pieces) [] rest = ⊥
 StartsWith (piece ∷ pieces) (token ∷ tokens) rest = IsFilePiece piece token × StartsWith pieces tokens rest
 
 abbrev pub a_word : Word → FilePiece
-a_word word = Plain (record { kind = kinds.Word word; place = None })
+a_word word = Plain (record { kind = kinds.Word word; pos = None })
 
 abbrev pub a_sign : Sign → FilePiece
-a_sign sign = Plain (record { kind = kinds.Sign sign; place = None })
+a_sign sign = Plain (record { kind = kinds.Sign sign; pos = None })
 
 -- a word where the tree has it
 abbrev pub word_there : Word → Pos → FilePiece
-word_there word pos = Plain (record { kind = kinds.Word word; place = Some pos })
+word_there word pos = Plain (record { kind = kinds.Word word; pos = Some pos })
 
 -- a sign where the tree has it
 abbrev pub sign_there : Sign → Pos → FilePiece
@@ -98,7 +98,7 @@ abbrev mutual
   spell_statement (Var local ty value) =
       a_word words.Var ∷ a_name local ∷ a_sign signs.Colon ∷ (a_type ty ++ a_sign signs.Assign ∷ (an_expression value ++ a_sign signs.Semicolon ∷ []))
   -- name ":=" expression ";"
-  spell_statement (Assign place value) = a_name place ∷ a_sign signs.Assign ∷ (an_expression value ++ a_sign signs.Semicolon ∷ [])
+  spell_statement (Assign target value) = a_name target ∷ a_sign signs.Assign ∷ (an_expression value ++ a_sign signs.Semicolon ∷ [])
   -- "if" expression block { "else" "if" expression block } [ "else" block ]
   spell_statement (If guard pos body others last) =
       a_word words.If ∷ ((an_expression guard ++ braces pos (spell_statements body)) ++ (spell_branches others ++ spell_otherwise last))
@@ -191,7 +191,7 @@ abbrev mutual
   pub statement_height : Statement → ℕ
   statement_height (Nested pos body) = deepest body + 1
   statement_height (Var local ty value) = max 1 (height value) + 1
-  statement_height (Assign place value) = max 1 (height value) + 1
+  statement_height (Assign target value) = max 1 (height value) + 1
   statement_height (If guard pos body others last) = max (max (height guard) (deepest body + 1)) (max (deepest_branch others) (otherwise_height last)) + 1
   statement_height (Assert pos condition) = height condition + 1
   statement_height (Print operands) = deepest_operand operands + 1
@@ -219,7 +219,7 @@ abbrev mutual
   pub IsStatement : Statement → Type 0
   IsStatement (Nested pos body) = AreStatements body
   IsStatement (Var local ty value) = IsExpr value
-  IsStatement (Assign place value) = IsExpr value
+  IsStatement (Assign target value) = IsExpr value
   IsStatement (If guard pos body others last) = IsExpr guard × AreStatements body × AreBranches others × IsOtherwise last
   IsStatement (Assert pos condition) = IsExpr condition
   IsStatement (Print operands) = (operands ≢ []) × AllByRecursion IsOperand operands

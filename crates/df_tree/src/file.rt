@@ -89,9 +89,9 @@ pub enum Statement {
         ty: TreeType,
         value: Expr,
     },
-    /// `place := value;`
+    /// `target := value;`
     Assign {
-        place: Ident,
+        target: Ident,
         value: Expr,
     },
     /// `if first else if .. else otherwise`: the branches of a run of `else if` are siblings.

@@ -1,5 +1,5 @@
 -- Newtypes as contracts see them.
-use Rattle.std.specs.Prelude.{ℕ, ℤ, List}
+use Rattle.std.specs.Prelude.{ℕ, ℤ, Bool, ◌&&◌, int_le, List}
 
 -- a newtype: its name and text, its interval, its default
 pub record Newtype : Type 0 where
@@ -8,3 +8,7 @@ pub record Newtype : Type 0 where
   pub low : ℤ
   pub high : ℤ
   pub default : ℤ
+
+-- the number lies in the newtype's interval
+abbrev pub holds : Newtype → ℤ → Bool
+holds newtype n = int_le newtype.low n && int_le n newtype.high

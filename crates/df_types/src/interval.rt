@@ -31,25 +31,3 @@ impl Interval {
         self.low <= number && number <= self.high
     }
 }
-
-#[cfg(test)]
-mod tests {
-    use super::Interval;
-    use std::test::Fail;
-
-    #[test]
-    fn holds_its_ends_and_nothing_beyond(rt: HostRuntime) -> Result<(), Fail> {
-        let interval = Interval::new(-3, 4).ok_or("ordered")?;
-        for (number, holds) in [(-4, false), (-3, true), (0, true), (4, true), (5, false)] {
-            assert_eq!(rt; interval.holds(number), holds, "at {number}");
-        }
-        Ok(())
-    }
-
-    #[test]
-    fn may_be_a_single_number_or_all_and_not_turned(rt: HostRuntime) {
-        assert!(rt; Interval::new(7, 7).is_some());
-        assert!(rt; Interval::new(i128::MIN, i128::MAX).is_some());
-        assert!(rt; Interval::new(8, 7).is_none());
-    }
-}

@@ -1,4 +1,4 @@
--- The first place where a test passes, looked for from the front.
+-- The first index where a test passes, looked for from the front.
 use Rattle.std.proofs.Common.{◌≡◌, ℕ, zero, suc, ◌+◌, ◌<◌, ◌≤◌, Bool, true, false, List, [], ◌∷◌, length, drop, None, Some, refl, sym, ap, ◌∙◌, add-one, arith}
 use Rattle.std.specs.List.{position, position_from, slice_get}
 use Rattle.std.specs.Option.{option_map_or}
@@ -8,7 +8,7 @@ use Rattle.std.proofs.lemmas.Iterator.Adapters.{position_from-zero}
 pub record IsFrom {X : Type 0} (test : X → Bool) (xs : List X) (i : ℕ) : Type 0 where
   pub is : position test xs ≡ position_from test i (drop i xs)
 
--- the test passes at a place
+-- the test passes at an index
 abbrev pub passes_at : {X : Type 0} → (X → Bool) → List X → ℕ → Bool
 passes_at test xs i = option_map_or test (slice_get xs i) false
 

@@ -5,6 +5,7 @@ ghost use Rattle.std.specs.List.{AllByRecursion};
 ghost use Rattle.df_form.specs.Arithmetic.{IsArithmeticSequent};
 ghost use Rattle.df_form.specs.Log.{step_of};
 ghost use Rattle.df_form.specs.SequentView.{sequent_of};
+ghost use Rattle.df_kern.specs.Accepted.{IsTaken};
 ghost use Rattle.df_kern.specs.Derivation.{Derives};
 ghost use Rattle.df_meaning.specs.Kind.{word_of};
 ghost use Rattle.df_program.specs.MethodView.{place_of};
@@ -16,7 +17,7 @@ ghost use Rattle.df_verdict.specs.Judging.{Finds, Adds};
 use crate::parameters::parameters;
 use df_enc::Obligation;
 use df_form::{Sequent, Step};
-use df_kern::{KernFault, check, logs_derive_or_are_refused};
+use df_kern::{Accepted, KernFault, check, logs_derive_or_are_refused};
 use df_program::Place;
 use df_report::{Evidence, Failure, Parameter};
 use df_search::{Budget, Found, search};
@@ -25,7 +26,7 @@ use std::alloc::{AllocError, Global};
 /// The method whose obligations are judged: its parameters, and the free terms that stand for them.
 #[derive(Clone, Copy)]
 pub(crate) struct Entry<'a> {
-    pub places: &'a [Place],
+    pub params: &'a [Place],
     pub frees: &'a [usize],
 }
 
@@ -37,12 +38,13 @@ pub(crate) struct Finding {
 }
 
 /// Has the kernel take the log that a search found.
-fn confirm(alloc: Global, sequent: &Sequent, log: &[Step]) -> Result<(), AllocError>
+fn confirm(alloc: Global, sequent: &Sequent, log: &[Step]) -> Result<Accepted, AllocError>
     requires { Derives (sequent_of sequent.now) (map step_of log.now) }
+    ensures { IfOk result (IsTaken (sequent_of sequent.now)) }
 {
     logs_derive_or_are_refused();
     match check(alloc, sequent, log) {
-        Ok(()) => Ok(()),
+        Ok(accepted) => Ok(accepted),
         Err(KernFault::Memory) => Err(AllocError),
         Err(KernFault::Refused { .. }) => unreachable!(),
     }
@@ -59,35 +61,36 @@ fn found(alloc: Global, evidence: Evidence) -> Finding
     }
 }
 
-/// Why there is no proof of the sequent, where none is found.
+/// Why there is no proof of the sequent, where none is found; else that the kernel took one is added.
 fn judge(
     alloc: Global,
     entry: &Entry,
     sequent: &Sequent,
+    accepted: &mut Vec<Accepted>,
     budget: Budget,
 ) -> Result<Option<Finding>, AllocError>
     requires arithmetic { IsArithmeticSequent (sequent_of sequent.now) }
     requires steps { 1 ≤ budget.steps }
-    ensures { IfOk result (Finds (map place_of entry.now.places.now) entry.now.frees.now (sequent_of sequent.now) budget.steps) }
+    ensures { IfOk result (Finds (map place_of entry.now.params.now) entry.now.frees.now (sequent_of sequent.now) budget.steps accepted.old.items accepted.new.items) }
 {
     match search(alloc, sequent, budget)? {
         Found::Proved(log) => {
-            confirm(alloc, sequent, log.as_slice())?;
+            accepted.push(confirm(alloc, sequent, log.as_slice())?)?;
             Ok(None)
         }
         Found::Modelled(table) => Ok(Some(Finding {
             evidence: Evidence::Model,
-            parameters: parameters(alloc, sequent, &table, entry.places, entry.frees)?,
+            parameters: parameters(alloc, sequent, &table, entry.params, entry.frees)?,
         })),
         Found::Spent(_) => Ok(Some(found(alloc, Evidence::Spent))),
-        Found::Wide => Ok(Some(found(alloc, Evidence::Wide))),
+        Found::Wide { .. } => Ok(Some(found(alloc, Evidence::Wide))),
         Found::Many(_) => Ok(Some(found(alloc, Evidence::Many))),
     }
 }
 
 /// The failure of an obligation.
 fn failure(alloc: Global, obligation: &Obligation, finding: Finding) -> Result<Failure, AllocError>
-    ensures place { IfOk result (λ f. f.pos ≡ obligation.now.pos) }
+    ensures pos { IfOk result (λ f. f.pos ≡ obligation.now.pos) }
     ensures kind { IfOk result (λ f. string_bytes f.kind ≡ word_of obligation.now.kind) }
     ensures evidence { IfOk result (λ f. f.evidence ≡ finding.evidence) }
     ensures parameters { IfOk result (λ f. f.parameters ≡ finding.parameters) }
@@ -100,38 +103,42 @@ fn failure(alloc: Global, obligation: &Obligation, finding: Finding) -> Result<F
     })
 }
 
-/// Judges an obligation, and adds its failure where it has no proof.
+/// Judges an obligation, and adds its failure where it has no proof, and else that the kernel took one.
 fn add(
     alloc: Global,
     entry: &Entry,
     failures: &mut Vec<Failure>,
+    accepted: &mut Vec<Accepted>,
     obligation: &Obligation,
     budget: Budget,
 ) -> Result<(), AllocError>
     requires arithmetic { IsArithmeticSequent (sequent_of obligation.now.sequent) }
     requires steps { 1 ≤ budget.steps }
-    ensures { OnOk result (Adds (map place_of entry.now.places.now) entry.now.frees.now budget.steps (obligation_of obligation.now) (map failure_of failures.old.items) (map failure_of failures.new.items)) }
+    ensures { OnOk result (Adds (map place_of entry.now.params.now) entry.now.frees.now budget.steps (obligation_of obligation.now) (map failure_of failures.old.items) (map failure_of failures.new.items) accepted.old.items accepted.new.items) }
 {
-    if let Some(finding) = judge(alloc, entry, &obligation.sequent, budget)? {
+    if let Some(finding) = judge(alloc, entry, &obligation.sequent, accepted, budget)? {
         failures.push(failure(alloc, obligation, finding)?)?;
     }
     Ok(())
 }
 
-/// The failures of obligations, in their order.
+/// The failures of obligations, in their order; for each of the others the kernel took a log, which is
+/// added.
 pub(crate) fn failures(
     alloc: Global,
     entry: &Entry,
     obligations: &[Obligation],
+    accepted: &mut Vec<Accepted>,
     budget: Budget,
 ) -> Result<Vec<Failure>, AllocError>
     requires arithmetic { AllByRecursion (λ obligation. IsArithmeticSequent obligation.sequent) (map obligation_of obligations.now) }
     requires steps { 1 ≤ budget.steps }
-    ensures { IfOk result (λ failures. Judges (map place_of entry.now.places.now) entry.now.frees.now budget.steps (map obligation_of obligations.now) (map failure_of failures.items)) }
+    requires none { accepted.old.items ≡ [] }
+    ensures { IfOk result (λ failures. Judges (map place_of entry.now.params.now) entry.now.frees.now budget.steps (map obligation_of obligations.now) (map failure_of failures.items) accepted.new.items) }
 {
     let mut failures = Vec::new(alloc);
     for obligation in obligations {
-        add(alloc, entry, &mut failures, obligation, budget)?;
+        add(alloc, entry, &mut failures, accepted, obligation, budget)?;
     }
     Ok(failures)
 }

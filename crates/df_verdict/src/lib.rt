@@ -6,4 +6,4 @@ mod judging;
 mod parameters;
 mod verdict;
 
-pub use verdict::{judged_is_safe, verdicts};
+pub use verdict::{Judged, judged_is_safe, verdicts};

@@ -59,13 +59,13 @@ fn parameter(
     alloc: Global,
     nodes: &Nodes,
     table: &Table,
-    place: &Place,
+    param: &Place,
     free: usize,
 ) -> Result<Parameter, AllocError>
-    ensures { IfOk result (λ parameter. parameter_of parameter ≡ record { name = (place_of place.now).text; value = number_of_free nodes.now table.now free }) }
+    ensures { IfOk result (λ parameter. parameter_of parameter ≡ record { name = (place_of param.now).text; value = number_of_free nodes.now table.now free }) }
 {
     Ok(Parameter {
-        name: String::from_str(alloc, place.declared.text.as_str())?,
+        name: String::from_str(alloc, param.declared.text.as_str())?,
         value: free_number(nodes, table, free),
     })
 }
@@ -75,14 +75,14 @@ pub(crate) fn parameters(
     alloc: Global,
     sequent: &Sequent,
     table: &Table,
-    places: &[Place],
+    params: &[Place],
     frees: &[usize],
 ) -> Result<Vec<Parameter>, AllocError>
-    ensures { IfOk result (λ parameters. map parameter_of parameters.items ≡ numbers_of (sequent_of sequent.now).nodes table.now (map place_of places.now) frees.now) }
+    ensures { IfOk result (λ parameters. map parameter_of parameters.items ≡ numbers_of (sequent_of sequent.now).nodes table.now (map place_of params.now) frees.now) }
 {
     let mut parameters = Vec::new(alloc);
-    for (place, free) in places.iter().zip(frees) {
-        let parameter = parameter(alloc, &sequent.nodes, table, place, *free)?;
+    for (param, free) in params.iter().zip(frees) {
+        let parameter = parameter(alloc, &sequent.nodes, table, param, *free)?;
         parameters.push(parameter)?;
     }
     Ok(parameters)

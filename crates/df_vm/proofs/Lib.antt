@@ -5,5 +5,3 @@ pub mod Begins
 pub mod Reached
 pub mod Ending
 pub mod Stays
-pub mod Tried
-pub mod Sampled

@@ -1,5 +1,6 @@
 -- Steps and runs, joined.
 use Rattle.std.proofs.Common.{◌≡◌, ℕ, ◌+◌, ◌<◌, List, [], ◌∷◌, ◌++◌, take, drop, length, Option, Some, None, Result, Ok, Err, refl, sym, ap, subst, ◌∙◌, append_assoc, append-nil, take-append-drop, arith}
+use Rattle.std.proofs.Math.Seq.{take-append_seam}
 use Rattle.df_base.specs.Outside.{Appends, AppendsPrefix}
 use Rattle.df_mach.specs.Value.{Value}
 use Rattle.df_mach.specs.State.{Code, Heap, Frame, State}
@@ -62,22 +63,18 @@ pub record Reached (code : Code) (start : State) (steps : ℕ) (state : State) (
   pub runs : machine_run code steps start ≡ On (with_front text state)
   pub puts : Appends before now text
 
-Appends-more : (old mid new : Option (List ℕ)) (t u : List ℕ) → Appends old mid t → Appends mid new u → Appends old new (t ++ u)
+pub Appends-more : (old mid new : Option (List ℕ)) (t u : List ℕ) → Appends old mid t → Appends mid new u → Appends old new (t ++ u)
 Appends-more None mid new t u a b = let P : Option (List ℕ) → Type 0 = λ m. Appends m new u in subst P a b
 Appends-more (Some x) mid new t u a b =
     let P : Option (List ℕ) → Type 0 = λ m. Appends m new u in
     subst P a b ∙ ap Some (append_assoc x t u)
-
-take_front : (x y : List ℕ) → take (length x) (x ++ y) ≡ x
-take_front [] y = refl
-take_front (a ∷ x) y = ap (λ r. a ∷ r) (take_front x y)
 
 -- a text, and a prefix of more
 prefix_more : (old mid new : Option (List ℕ)) (t u : List ℕ) → Appends old mid t → AppendsPrefix mid new u → AppendsPrefix old new (t ++ u)
 prefix_more old mid new t u a b =
     let part : List ℕ = take b.0 u in
     let whole : (t ++ part) ++ drop b.0 u ≡ t ++ u = append_assoc t part (drop b.0 u) ∙ ap (λ x. t ++ x) (take-append-drop b.0 u) in
-    let e : t ++ part ≡ take (length (t ++ part)) (t ++ u) = sym (take_front (t ++ part) (drop b.0 u)) ∙ ap (take (length (t ++ part))) whole in
+    let e : t ++ part ≡ take (length (t ++ part)) (t ++ u) = sym (take-append_seam (t ++ part) (drop b.0 u)) ∙ ap (take (length (t ++ part))) whole in
     (length (t ++ part), subst (λ (x : List ℕ). Appends old new x) e (Appends-more old mid new t part a b.1))
 
 -- nothing yet

@@ -14,4 +14,3 @@ pub mod Room
 pub mod Vm
 pub mod Runs
 pub mod Finishes
-pub mod Sample

@@ -8,8 +8,6 @@ mod law;
 mod operands;
 mod operators;
 mod printing;
-#[cfg(test)]
-mod tests;
 mod turn;
 mod vm;
 

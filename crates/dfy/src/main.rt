@@ -1,8 +1,8 @@
 //! `dfy`: hands the words, the files and the streams of the system to `top`, and ends with its status.
 #![tactic(auto)]
 
-use df_base::{HostFiles, HostSink, Sink, Status};
-use df_top::top;
+use df_base::{HostFiles, HostSink};
+use df_top::{tell_memory, top};
 use std::alloc::AllocError;
 use std::env;
 use std::io::ErrorKind;
@@ -29,9 +29,7 @@ fn words<R: Env + AllocGlobal>(rt: &R) -> Result<Vec<String>, AllocError> {
 fn main(rt: HostRuntime) -> ExitCode {
     let mut err = HostSink::new(rt.stderr());
     let Ok(words) = words(&rt) else {
-        // The status says so where this fails.
-        let _ = err.put(b"dfy: out of memory\n");
-        return ExitCode::from(Status::Memory.code());
+        return ExitCode::from(tell_memory(&mut err).code());
     };
     let alloc = rt.alloc();
     let mut out = HostSink::new(rt.stdout());

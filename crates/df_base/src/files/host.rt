@@ -1,10 +1,13 @@
 //! Files of the system.
 
 ghost use Rattle.std.specs.Prelude.{◌≡◌, ◌≢◌, ℕ, ◌+◌, ◌<◌, ◌≤◌, List, [], ◌∷◌, Some, None, Err, length, vec_len, IfOk, IfSome, OnOk, OnErr};
+ghost use Rattle.std.specs.Option.{option_map};
 ghost use Rattle.df_base.specs.Outside.{HasCause};
+ghost use Rattle.df_base.specs.Stored.{stored};
 ghost use Rattle.df_base.specs.declared.files.LoadFault.TheVariants.{Failed, Large};
 
 use super::read::{fault_of, read_all};
+use super::store::File;
 use super::{Files, LoadFault};
 use std::alloc::Global;
 use std::{fs, rt};
@@ -16,6 +19,8 @@ use std::{fs, rt};
 pub struct HostFiles<R> {
     rt: R,
     faults: u64,
+    /// The file that was given last.
+    given: Option<File>,
 }
 
 impl<R: rt::Files> HostFiles<R> {
@@ -23,7 +28,11 @@ impl<R: rt::Files> HostFiles<R> {
     pub fn new(rt: R) -> HostFiles<R>
         ensures { result.faults ≡ 0 }
     {
-        HostFiles { rt, faults: 0 }
+        HostFiles {
+            rt,
+            faults: 0,
+            given: None,
+        }
     }
 }
 
@@ -46,6 +55,8 @@ fn load_file<R: rt::Files>(
 impl<R: rt::Files> Files for HostFiles<R> {
     ghost holds = { λ _. None };
 
+    ghost given = { λ h. option_map stored h.given };
+
     ghost fault_count = { λ h. h.faults };
 
     ghost allowed = { λ _ _. Unit {0} };
@@ -55,6 +66,7 @@ impl<R: rt::Files> Files for HostFiles<R> {
     }
 
     fn load(&mut self, alloc: Global, name: &str, limit: u64) -> Result<Vec<u8>, LoadFault>
+        ensures given { IfOk result (λ bytes. option_map stored self.new.given ≡ Some (name.now, bytes.items)) }
         ensures within { IfOk result (λ bytes. vec_len bytes ≤ limit) }
         ensures large { (n : ℕ) → result ≡ Err (Large n) → n ≡ limit + 1 }
         // The count rises just at a failure.
@@ -62,8 +74,10 @@ impl<R: rt::Files> Files for HostFiles<R> {
         ensures quiet { result ≢ Err Failed → self.new.faults ≡ self.old.faults }
     {
         let result = load_file(&self.rt, alloc, name, limit);
-        if let Err(LoadFault::Failed) = &result {
-            self.faults = self.faults.saturating_add(1);
+        match &result {
+            Ok(bytes) => self.given = Some(File::new(alloc, name, bytes)?),
+            Err(LoadFault::Failed) => self.faults = self.faults.saturating_add(1),
+            Err(_) => {}
         }
         result
     }

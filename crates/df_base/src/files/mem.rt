@@ -5,7 +5,7 @@ ghost use Rattle.df_base.specs.Outside.{bytes_of, HasCause};
 ghost use Rattle.df_base.specs.Fakes.{FilesInMemory, is_failing, next_count};
 ghost use Rattle.df_base.specs.declared.files.LoadFault.TheVariants.{Failed, Large};
 
-use super::store::{Store, copy_within};
+use super::store::{File, Store, copy_within};
 use super::{Files, LoadFault};
 use crate::memory::Memory;
 use std::alloc::Global;
@@ -18,26 +18,30 @@ pub struct MemFiles {
     failing: Vec<u64>,
     calls: u64,
     faults: u64,
+    given: Option<File>,
 }
 
 impl Model for MemFiles {
+    ghost use Rattle.std.specs.Option.{option_map};
     ghost use Rattle.df_base.specs.Fakes.{FilesInMemory};
+    ghost use Rattle.df_base.specs.Stored.{stored};
 
     ghost Value = { FilesInMemory };
 
-    ghost view = { λ m. record { files = m.store; failing = m.failing.items; calls = m.calls; faults = m.faults } };
+    ghost view = { λ m. record { files = m.store; failing = m.failing.items; calls = m.calls; faults = m.faults; given = option_map stored m.given } };
 }
 
 impl MemFiles {
     /// No files, and no load that is to fail.
     pub fn new(alloc: Global) -> MemFiles
-        ensures { result ≡ record { files = []; failing = []; calls = 0; faults = 0 } }
+        ensures { result ≡ record { files = []; failing = []; calls = 0; faults = 0; given = None } }
     {
         MemFiles {
             store: Store::new(alloc),
             failing: Vec::new(alloc),
             calls: 0,
             faults: 0,
+            given: None,
         }
     }
 
@@ -81,6 +85,8 @@ impl MemFiles {
 impl Files for MemFiles {
     ghost holds = { λ m. Some m.files };
 
+    ghost given = { λ m. m.given };
+
     ghost fault_count = { λ m. m.faults };
 
     ghost allowed = { λ _ _. Unit {0} };
@@ -91,6 +97,7 @@ impl Files for MemFiles {
 
     fn load(&mut self, alloc: Global, name: &str, limit: u64) -> Result<Vec<u8>, LoadFault>
         ensures loaded { IfOk result (λ bytes. bytes_of self.old.files name.now ≡ Some bytes.items) }
+        ensures given { IfOk result (λ bytes. self.new.given ≡ Some (name.now, bytes.items)) }
         ensures within { IfOk result (λ bytes. vec_len bytes ≤ limit) }
         ensures large { (n : ℕ) → result ≡ Err (Large n) → n ≡ limit + 1 }
         ensures longer { (n : ℕ) → result ≡ Err (Large n) → IfSome (bytes_of self.old.files name.now) (λ bytes. limit < length bytes) }
@@ -105,8 +112,10 @@ impl Files for MemFiles {
     {
         let result = self.look_up(alloc, name, limit);
         self.calls = self.calls.saturating_add(1);
-        if let Err(LoadFault::Failed) = &result {
-            self.faults = self.faults.saturating_add(1);
+        match &result {
+            Ok(bytes) => self.given = Some(File::new(alloc, name, bytes)?),
+            Err(LoadFault::Failed) => self.faults = self.faults.saturating_add(1),
+            Err(_) => {}
         }
         result
     }

@@ -2,6 +2,7 @@
 
 ghost use Rattle.std.specs.Prelude.{◌≡◌, ◌≢◌, ℕ, ◌+◌, ◌<◌, ◌≤◌, List, [], ◌∷◌, Some, None, Err, length, vec_len, IfOk, IfSome, OnOk, OnErr, option_copied};
 ghost use Rattle.df_base.specs.Outside.{bytes_of};
+ghost use Rattle.df_base.specs.Stored.{stored};
 ghost use Rattle.df_base.specs.declared.files.LoadFault.TheVariants.{Failed, Large};
 
 use super::LoadFault;
@@ -11,9 +12,21 @@ use std::marker::Model;
 
 /// A file in memory.
 #[derive(Drop)]
-struct File {
+pub(super) struct File {
     name: String,
     bytes: Vec<u8>,
+}
+
+impl File {
+    /// A file of this name with a copy of the bytes.
+    pub(super) fn new(alloc: Global, name: &str, bytes: &[u8]) -> Result<File, AllocError>
+        ensures { IfOk result (λ file. stored file ≡ (name.now, bytes.now)) }
+    {
+        Ok(File {
+            name: String::from_str(alloc, name)?,
+            bytes: Vec::from_slice(alloc, bytes)?,
+        })
+    }
 }
 
 /// Files by their names. Where a name stands twice, the file that was added last counts.
@@ -47,11 +60,7 @@ impl Store {
         ensures ok { OnOk result (self.new ≡ (name.now, bytes.now) ∷ self.old) }
         ensures err { OnErr result (self.new ≡ self.old) }
     {
-        let file = File {
-            name: String::from_str(self.alloc, name)?,
-            bytes: Vec::from_slice(self.alloc, bytes)?,
-        };
-        self.files.insert(0, file)?;
+        self.files.insert(0, File::new(self.alloc, name, bytes)?)?;
         Ok(())
     }
 

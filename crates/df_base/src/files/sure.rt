@@ -5,7 +5,7 @@ ghost use Rattle.df_base.specs.Outside.{bytes_of, HasCause};
 ghost use Rattle.df_base.specs.Fakes.{bytes_or_none};
 ghost use Rattle.df_base.specs.declared.files.LoadFault.TheVariants.{Failed, Large};
 
-use super::store::{Store, copy_within};
+use super::store::{File, Store, copy_within};
 use super::{Files, LoadFault};
 use crate::memory::Memory;
 use std::alloc::Global;
@@ -15,30 +15,33 @@ use std::marker::Model;
 #[derive(Drop)]
 pub struct SureFiles {
     store: Store,
+    given: Option<File>,
 }
 
 impl Model for SureFiles {
-    ghost use Rattle.df_base.specs.Outside.{Contents};
-    ghost use Rattle.std.specs.Prelude.{ℕ, List};
+    ghost use Rattle.std.specs.Option.{option_map};
+    ghost use Rattle.df_base.specs.Fakes.{SureInMemory};
+    ghost use Rattle.df_base.specs.Stored.{stored};
 
-    ghost Value = { List (List ℕ × List ℕ) };
+    ghost Value = { SureInMemory };
 
-    ghost view = { λ s. s.store };
+    ghost view = { λ s. record { files = s.store; given = option_map stored s.given } };
 }
 
 impl SureFiles {
     /// No files.
     pub fn new(alloc: Global) -> SureFiles
-        ensures { result ≡ [] }
+        ensures { result ≡ record { files = []; given = None } }
     {
         SureFiles {
             store: Store::new(alloc),
+            given: None,
         }
     }
 
     /// Adds a file. A file of the same name that stood there before is no longer loaded.
     pub fn add(&mut self, name: &str, bytes: &[u8]) -> Result<(), Memory>
-        ensures ok { OnOk result (self.new ≡ (name.now, bytes.now) ∷ self.old) }
+        ensures ok { OnOk result (self.new ≡ record self.old { files = (name.now, bytes.now) ∷ self.old.files }) }
         ensures err { OnErr result (self.new ≡ self.old) }
     {
         self.store.add(name, bytes)
@@ -48,6 +51,8 @@ impl SureFiles {
 impl Files for SureFiles {
     // A name that has no file gives bytes too, so what it holds is told by clauses of its own.
     ghost holds = { λ _. None };
+
+    ghost given = { λ s. s.given };
 
     ghost fault_count = { λ _. 0 };
 
@@ -60,14 +65,17 @@ impl Files for SureFiles {
     }
 
     fn load(&mut self, alloc: Global, name: &str, limit: u64) -> Result<Vec<u8>, LoadFault>
-        ensures given { IfOk result (λ bytes. bytes.items ≡ bytes_or_none self.old name.now) }
+        ensures text { IfOk result (λ bytes. bytes.items ≡ bytes_or_none self.old.files name.now) }
+        ensures given { IfOk result (λ bytes. self.new.given ≡ Some (name.now, bytes.items)) }
         ensures within { IfOk result (λ bytes. vec_len bytes ≤ limit) }
         ensures large { (n : ℕ) → result ≡ Err (Large n) → n ≡ limit + 1 }
-        ensures over { (n : ℕ) → result ≡ Err (Large n) → limit < length (bytes_or_none self.old name.now) }
+        ensures over { (n : ℕ) → result ≡ Err (Large n) → limit < length (bytes_or_none self.old.files name.now) }
         ensures sure { result ≢ Err Failed }
-        ensures kept { self.new ≡ self.old }
+        ensures kept { self.new.files ≡ self.old.files }
     {
         let bytes = self.store.find(name).unwrap_or(&[]);
-        copy_within(alloc, bytes, limit)
+        let bytes = copy_within(alloc, bytes, limit)?;
+        self.given = Some(File::new(alloc, name, &bytes)?);
+        Ok(bytes)
     }
 }

@@ -1,7 +1,7 @@
 use Rattle.std.proofs.Common.{◌≡◌, length, to_z, of_z, rules}
 use Rattle.std.proofs.lemmas.Int.{to_z-of_z}
 use Rattle.std.specs.Int.{w128}
-use Rattle.df_lin.specs.Row.{function_row}
+use Rattle.df_level.specs.Row.{function_row}
 use Rattle.df_back.specs.BackView.{numbers_of}
 use Rattle.df_back.proofs.Bounds.{tells_none, tells_some, stands_below}
 use Rattle.df_back.proofs.range.bound.Goals as goal

@@ -1,5 +1,5 @@
 use Rattle.std.proofs.Common.{length}
-use Rattle.df_lin.specs.Levels.{rows_of}
+use Rattle.df_level.specs.Levels.{rows_of}
 use Rattle.df_back.specs.BackView.{numbers_of}
 use Rattle.df_back.proofs.Narrowing.{chosen}
 use Rattle.df_back.proofs.range.choose.Goals as goal

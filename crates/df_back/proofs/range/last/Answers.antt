@@ -1,7 +1,7 @@
 use Rattle.std.proofs.Common.{◌≡◌, neg_ℤ, rules}
 use Rattle.std.specs.Int.{int_div_euclid}
 use Rattle.std.proofs.lemmas.Int.{to_z-of_z}
-use Rattle.df_linear.specs.RowView.{narrow}
+use Rattle.df_row.specs.RowView.{narrow}
 use Rattle.df_back.proofs.Bounds.{tells_last}
 use Rattle.df_back.proofs.range.last.Goals as goal
 

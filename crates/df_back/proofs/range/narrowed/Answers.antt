@@ -1,7 +1,7 @@
 use Rattle.std.proofs.Common.{◌≡◌, ◌<ℤ◌, ℤ, Option, Some, to_z, of_z, pos, length, refl, ap, subst, rules, arith}
 use Rattle.std.proofs.lemmas.Int.{to_z-of_z, ints}
 use Rattle.std.specs.Int.{w128}
-use Rattle.df_lin.specs.Row.{function_row}
+use Rattle.df_level.specs.Row.{function_row}
 use Rattle.df_back.specs.BackView.{numbers_of}
 use Rattle.df_back.specs.Ranges.{IsRowBound, TellsRowBound, IsGreater, IsLesser}
 use Rattle.df_back.proofs.Narrowing.{narrows_none, narrows_low, narrows_high, narrowed_none}

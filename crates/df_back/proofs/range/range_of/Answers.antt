@@ -1,7 +1,7 @@
 use Rattle.std.proofs.Common.{◌+◌, length, take}
-use Rattle.df_lin.specs.Row.{function_row}
-use Rattle.df_lin.specs.Levels.{rows_of}
-use Rattle.df_lin.proofs.Sets.{next_rows, stands_at}
+use Rattle.df_level.specs.Row.{function_row}
+use Rattle.df_level.specs.Levels.{rows_of}
+use Rattle.df_level.proofs.Sets.{next_rows, stands_at}
 use Rattle.df_back.specs.BackView.{numbers_of}
 use Rattle.df_back.proofs.Narrowing.{range_goes, range_stops}
 use Rattle.df_back.proofs.range.range_of.Goals as goal

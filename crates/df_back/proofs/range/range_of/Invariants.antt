@@ -1,5 +1,5 @@
 use Rattle.std.proofs.Common.{length, take}
-use Rattle.df_lin.specs.Levels.{rows_of}
+use Rattle.df_level.specs.Levels.{rows_of}
 use Rattle.df_back.specs.BackView.{numbers_of}
 use Rattle.df_back.specs.Ranges.{IsRange}
 use Rattle.df_back.proofs.range.range_of.Given as goal

@@ -2,8 +2,8 @@ use Rattle.std.proofs.Common.{◌≡◌, ℤ, suc, ◌-◌, ◌<◌, List, lengt
 use Rattle.std.specs.Int.{w128}
 use Rattle.std.proofs.lemmas.Int.{to_z-of_z}
 use Rattle.std.proofs.lemmas.List.{length-map}
-use Rattle.df_linear.specs.Row.{Row}
-use Rattle.df_lin.specs.Levels.{level_rows, rows_of}
+use Rattle.df_row.specs.Row.{Row}
+use Rattle.df_level.specs.Levels.{level_rows, rows_of}
 use Rattle.df_back.specs.BackView.{numbers_of, IsGap}
 use Rattle.df_back.specs.BackSubstitution.{IsNearest}
 use Rattle.df_back.specs.Ranges.{level_at}

@@ -1,5 +1,5 @@
 use Rattle.std.proofs.Common.{map}
-use Rattle.df_lin.specs.Levels.{level_rows}
+use Rattle.df_level.specs.Levels.{level_rows}
 use Rattle.df_back.proofs.Steps.{IsBack}
 use Rattle.df_back.proofs.substitution.back.Given as goal
 

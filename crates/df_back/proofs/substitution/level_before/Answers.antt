@@ -1,5 +1,5 @@
 use Rattle.std.proofs.Common.{arith}
-use Rattle.df_lin.specs.Levels.{level_rows}
+use Rattle.df_level.specs.Levels.{level_rows}
 use Rattle.df_back.proofs.Levels.{level_before}
 use Rattle.df_back.proofs.substitution.level_before.Goals as goal
 

@@ -1,8 +1,8 @@
 use Rattle.std.proofs.Common.{◌≡◌, ◌<◌, ℤ, ◌+ℤ◌, ◌*ℤ◌, pos, length, get_or, drop, subst, ◌∙◌, to_z, of_z, rules}
 use Rattle.std.proofs.lemmas.Int.{to_z-of_z}
 use Rattle.std.specs.Int.{w128}
-use Rattle.df_linear.specs.RowView.{narrow}
-use Rattle.df_lin.specs.Row.{function_row}
+use Rattle.df_row.specs.RowView.{narrow}
+use Rattle.df_level.specs.Row.{function_row}
 use Rattle.df_back.specs.BackView.{numbers_of}
 use Rattle.df_back.proofs.Additions.{IsAdding, adding_begins, below_at, goes_at, product_wide_at, sum_wide_at, done_at, not_narrow, narrowed, tells_wide}
 use Rattle.df_back.proofs.value.value.Goals as goal

@@ -1,5 +1,5 @@
 use Rattle.std.proofs.Common.{length, drop}
-use Rattle.df_lin.specs.Row.{function_row}
+use Rattle.df_level.specs.Row.{function_row}
 use Rattle.df_back.specs.BackView.{numbers_of}
 use Rattle.df_back.proofs.Additions.{IsAdding}
 use Rattle.df_back.proofs.value.value.Given as goal

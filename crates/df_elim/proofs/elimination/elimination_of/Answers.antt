@@ -1,5 +1,5 @@
 use Rattle.std.proofs.lemmas.Result.{err_from_is_err_and}
-use Rattle.df_lin.specs.Levels.{rows_of, level_rows}
+use Rattle.df_level.specs.Levels.{rows_of, level_rows}
 use Rattle.df_elim.specs.Elimination.{low_after}
 use Rattle.df_elim.proofs.Growing.{begins, is_refuted, is_whole, goes_on, stops}
 use Rattle.df_elim.proofs.elimination.elimination_of.Goals as goal
@@ -20,4 +20,4 @@ returns-in_err-eliminate-in-Variable c =
     rw (p.1, p.2) (stops (rows_of c.args.rows.now) c.loop-levels.levels (low_after c.loop-levels.last) (level_rows c.last.result.now) c.last.ensures c.loop-levels.invariant c.in-Variable.node c.eliminate.new.self c.in_err-eliminate-in-Variable.field-0.0 c.in-Variable.ensures.0 c.in-Variable.ensures.1 c.in_err-eliminate-in-Variable.ensures)
 
 pub loop-levels-preserved : goal.loop-levels-preserved
-loop-levels-preserved c = goes_on (rows_of c.args.rows.now) c.loop-levels.levels (low_after c.loop-levels.last) (level_rows c.last.result.now) c.last.ensures c.loop-levels.invariant c.in-Variable.node c.eliminate.new.self c.in-Variable.ensures.0 c.in-Variable.ensures.1 c.in_ok-eliminate-in-Variable.ensures
+loop-levels-preserved c = goes_on (rows_of c.args.rows.now) c.loop-levels.levels (low_after c.loop-levels.last) (level_rows c.last.result.now) c.last.ensures c.loop-levels.invariant c.in-Variable.node c.eliminate.new.self c.in-Variable.ensures.1 c.in_ok-eliminate-in-Variable.ensures

@@ -1,5 +1,5 @@
 use Rattle.std.proofs.Common.{◌-◌, ◌^◌}
-use Rattle.df_lin.specs.Levels.{rows_of}
+use Rattle.df_level.specs.Levels.{rows_of}
 use Rattle.df_elim.specs.Elimination.{low_after}
 use Rattle.df_elim.proofs.Growing.{AreSoFar}
 use Rattle.df_elim.proofs.elimination.elimination_of.Given as goal

@@ -1,7 +1,7 @@
 use Rattle.std.proofs.Common.{◌+◌, take}
-use Rattle.df_lin.specs.Row.{function_row}
-use Rattle.df_lin.specs.Levels.{rows_of}
-use Rattle.df_lin.proofs.Sets.{next_rows, taken_all}
+use Rattle.df_level.specs.Row.{function_row}
+use Rattle.df_level.specs.Levels.{rows_of}
+use Rattle.df_level.proofs.Sets.{next_rows, taken_all}
 use Rattle.df_elim.specs.Elimination.{low_after}
 use Rattle.df_elim.proofs.Variables.{tells_none, tells_more, tells_all}
 use Rattle.df_elim.proofs.variable.next_variable.Goals as goal

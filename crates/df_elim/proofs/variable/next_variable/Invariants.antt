@@ -1,5 +1,5 @@
 use Rattle.std.proofs.Common.{take}
-use Rattle.df_lin.specs.Levels.{rows_of}
+use Rattle.df_level.specs.Levels.{rows_of}
 use Rattle.df_elim.specs.Elimination.{low_after, TellsVariable}
 use Rattle.df_elim.proofs.variable.next_variable.Given as goal
 

@@ -1,5 +1,5 @@
 use Rattle.std.proofs.Common.{get_or, pos}
-use Rattle.df_lin.specs.Row.{function_row}
+use Rattle.df_level.specs.Row.{function_row}
 use Rattle.df_elim.specs.Elimination.{low_after}
 use Rattle.df_elim.proofs.Variables.{passing_begins, passing_next, passing_ends, found, is_before}
 use Rattle.df_elim.proofs.variable.variable_of.Goals as goal

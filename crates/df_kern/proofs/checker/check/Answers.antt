@@ -1,8 +1,8 @@
-use Rattle.std.proofs.Common.{map, ◌≤◌, length, arith}
+use Rattle.std.proofs.Common.{◌≡◌, map, ◌≤◌, length, arith}
 use Rattle.std.proofs.lemmas.List.{length-map}
 use Rattle.df_form.specs.Log.{step_of}
 use Rattle.df_form.specs.SequentView.{sequent_of}
-use Rattle.df_kern.proofs.Checks.{takes, fails, finishes, derives, proves, step-at}
+use Rattle.df_kern.proofs.Checks.{takes, fails, finishes, derives, is_taken, proves, step-at}
 use Rattle.df_kern.proofs.checker.check.Goals as goal
 
 pub returns-in-Err-clause-answers : goal.returns-in-Err-clause-answers
@@ -39,3 +39,10 @@ returns-clause-answers c =
     let log = c.args.log.now in
     let past : length (map step_of log) ≤ c.loop-step.step-index = omega (arith, length-map log step_of) in
     finishes s (map step_of log) c.loop-step.step-index c.loop-step.checker c.loop-step.invariant c.finish.result past c.finish.ensures.finishes
+
+pub returns-clause-taken : goal.returns-clause-taken
+returns-clause-taken c =
+    let s = sequent_of c.args.sequent.now in
+    let log = c.args.log.now in
+    let all : length (map step_of log) ≡ c.loop-step.step-index = omega (arith, length-map log step_of) in
+    is_taken s (map step_of log) c.loop-step.step-index c.loop-step.checker c.loop-step.invariant c.finish.result all c.finish.ensures.finishes

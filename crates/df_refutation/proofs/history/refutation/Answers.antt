@@ -1,9 +1,9 @@
 use Rattle.std.proofs.Common.{◌≡◌, ◌+◌, ◌<◌, ◌^◌, length, map, drop, ap, sym, subst, ◌∙◌, arith, [], ◌∷◌, List}
 use Rattle.std.proofs.lemmas.List.{length-map, map-append}
 use Rattle.df_form.specs.Log.{Combination, combination_of}
-use Rattle.df_lin.specs.Row.{function_row}
-use Rattle.df_lin.specs.Levels.{rows_of, level_ways}
-use Rattle.df_lin.proofs.Falsehood.{row_of_code}
+use Rattle.df_level.specs.Row.{function_row}
+use Rattle.df_level.specs.Levels.{rows_of, level_ways}
+use Rattle.df_level.proofs.Falsehood.{row_of_code}
 use Rattle.df_refutation.proofs.Histories.{IsHistory, history_begins, history_goes, history_ends, false_within, at_level, ways_extend, next_is}
 use Rattle.df_refutation.proofs.history.refutation.Goals as goal
 

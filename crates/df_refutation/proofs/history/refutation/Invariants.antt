@@ -1,6 +1,6 @@
 use Rattle.std.proofs.Common.{drop, map}
 use Rattle.df_form.specs.Log.{combination_of}
-use Rattle.df_lin.specs.Levels.{rows_of}
+use Rattle.df_level.specs.Levels.{rows_of}
 use Rattle.df_refutation.proofs.Histories.{IsHistory}
 use Rattle.df_refutation.proofs.history.refutation.Given as goal
 

@@ -1,7 +1,7 @@
 use Rattle.std.proofs.Common.{◌≡◌, pos, List, [], subst, sym, rules}
 use Rattle.std.proofs.lemmas.Int.{to_z-of_z}
 use Rattle.df_form.specs.declared.log.Multiple.{Multiple}
-use Rattle.df_linear.proofs.Rows.{passed}
+use Rattle.df_row.proofs.Rows.{passed}
 use Rattle.df_refutation.specs.History.{AreShifted}
 use Rattle.df_refutation.proofs.Histories.{shifted_next, shifted_ends}
 use Rattle.df_refutation.proofs.history.shifted.Goals as goal

@@ -1,6 +1,6 @@
 use Rattle.std.proofs.Common.{◌≡◌, pos, get_or, rules}
 use Rattle.std.proofs.lemmas.Int.{to_z-of_z}
-use Rattle.df_linear.proofs.Rows.{passed}
+use Rattle.df_row.proofs.Rows.{passed}
 use Rattle.df_refutation.proofs.Keeping.{renumbered_next}
 use Rattle.df_refutation.proofs.kept.renumbered.Goals as goal
 

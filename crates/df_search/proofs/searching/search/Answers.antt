@@ -1,6 +1,8 @@
-use Rattle.std.proofs.Common.{subst}
+use Rattle.std.proofs.Common.{List, sym, subst}
+use Rattle.df_form.specs.declared.log.Lit.{Lit}
 use Rattle.df_form.specs.SequentView.{sequent_of}
-use Rattle.df_search.specs.Searching.{Comes}
+use Rattle.df_search.specs.Found.{IsTooWide, HasManyRows}
+use Rattle.df_search.specs.Searching.{branches_of, Comes}
 use Rattle.df_search.proofs.Beginning.{as_many_lines}
 use Rattle.df_search.proofs.searching.search.Goals as goal
 
@@ -34,9 +36,13 @@ returns-in-Modelled c =
 pub returns-in-Wide : goal.returns-in-Wide
 returns-in-Wide c =
     let s = sequent_of c.args.sequent.now in
-    subst (Comes s c.args.budget.steps c.turn.new.self) c.in-Wide.is (c.in_ok-turn.ensures.turns s c.loop-search.invariant.searches c.loop-search.invariant.few)
+    let state = c.turn.new.self in
+    let comes = subst (Comes s c.args.budget.steps state) c.in-Wide.is (c.in_ok-turn.ensures.turns s c.loop-search.invariant.searches c.loop-search.invariant.few) in
+    subst (λ (branch : List Lit). IsTooWide s (branches_of state) branch) (sym c.in_ok-branch-in-Wide.ensures) comes
 
 pub returns-in-Many : goal.returns-in-Many
 returns-in-Many c =
     let s = sequent_of c.args.sequent.now in
-    subst (Comes s c.args.budget.steps c.turn.new.self) c.in-Many.is (c.in_ok-turn.ensures.turns s c.loop-search.invariant.searches c.loop-search.invariant.few)
+    let state = c.turn.new.self in
+    let comes = subst (Comes s c.args.budget.steps state) c.in-Many.is (c.in_ok-turn.ensures.turns s c.loop-search.invariant.searches c.loop-search.invariant.few) in
+    subst (λ (branch : List Lit). HasManyRows s (branches_of state) branch c.in-Many.count) (sym c.in_ok-branch-in-Many.ensures) comes

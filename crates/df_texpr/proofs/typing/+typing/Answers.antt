@@ -88,5 +88,5 @@ parts-loop-operation-preserved t c =
           (member_faults context c.args.own c.args.group c.args.left all) c.loop-operation-test.true c.operation-item.is c.in_ok-typed.ensures.0 (ap (λ x. x.ty) c.in_ok-typed.ensures.1)
           (sym c.fits.ensures ∙ c.if-not-fits.false) c.loop-operation.invariant.0,
       next_rows context c.args.own c.args.group c.args.rest.now c.loop-operation.operation-index c.operation-item.result (record { operator = c.operation-item.result.operator; pos = c.operation-item.result.pos; typed = c.in_ok-typed.typed }) c.loop-operation.parts.items c.push.new.self.items
-          (rows_of context c.args.own all) c.loop-operation-test.true c.operation-item.is (λ i. record { operator = c.operation-item.result.operator; place = c.operation-item.result.pos; typed = c.in_ok-typed.ensures.1 i }) c.in_ok-push.ensures.items c.loop-operation.invariant.1,
+          (rows_of context c.args.own all) c.loop-operation-test.true c.operation-item.is (λ i. record { operator = c.operation-item.result.operator; pos = c.operation-item.result.pos; typed = c.in_ok-typed.ensures.1 i }) c.in_ok-push.ensures.items c.loop-operation.invariant.1,
     )

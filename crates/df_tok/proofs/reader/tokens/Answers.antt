@@ -33,7 +33,7 @@ loop-rest-preserved c =
     let n = c.in_ok-len.len in
     let left : length (take (length rest - n) (drop n rest)) + n ≡ length rest = omega (arith, ap length (take_rest rest n), length-drop n rest, f.within) in
     record {
-      progress = rw (f.items, take_rest, c.after-pos.ensures.place) p;
+      progress = rw (f.items, take_rest, c.after-pos.ensures.pos) p;
       few = c.in_ok-len.ensures.few;
       within = omega (arith, left, c.loop-rest.invariant.within);
       line = omega (arith, left, c.after-pos.ensures.line, length-take-le n rest f.within, c.loop-rest.invariant.line);

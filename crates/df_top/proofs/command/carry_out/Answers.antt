@@ -1,34 +1,52 @@
 use Rattle.std.proofs.Common.{map, string_bytes}
 use Rattle.df_cmd.specs.View.{command_of}
-use Rattle.df_top.specs.Ending.{Streams}
-use Rattle.df_top.proofs.Commands.{unwritten, fuel_end, told_end, memory_end}
+use Rattle.df_top.specs.Call.{store, streams}
+use Rattle.df_top.proofs.Commands.{done, unproved, unwritten, fuel_end, told_end, memory_end}
 use Rattle.df_top.proofs.Counted.{steps_are_some}
 use Rattle.df_top.proofs.command.carry_out.Goals as goal
 
 pub end_command-requires-clause-steps : goal.end_command-requires-clause-steps
 end_command-requires-clause-steps g c = steps_are_some (map string_bytes c.args.words.now) (command_of c.args.command.now) c.requires.line
 
+pub returns-in-Done-clause-answers : goal.returns-in-Done-clause-answers
+returns-in-Done-clause-answers g c =
+    let words = map string_bytes c.args.words.now in
+    let files = store g.F.Files c.args.files.now c.end_command.new.files in
+    let s = streams g.O.Sink c.args.out.now c.end_command.new.out g.E.Sink c.args.err.now c.end_command.new.err in
+    done words files (λ program budget outcomes judged verified. c.safe_methods_are_right.ensures program (c.judged_is_safe.ensures program budget.steps outcomes judged verified)) (command_of c.args.command.now) c.requires.line s c.in-Done.ensures.ends
+
+pub returns-in-Unproved-clause-answers : goal.returns-in-Unproved-clause-answers
+returns-in-Unproved-clause-answers g c =
+    let words = map string_bytes c.args.words.now in
+    let files = store g.F.Files c.args.files.now c.end_command.new.files in
+    let s = streams g.O.Sink c.args.out.now c.end_command.new.out g.E.Sink c.args.err.now c.end_command.new.err in
+    unproved words files (λ program budget outcomes judged verified. c.safe_methods_are_right.ensures program (c.judged_is_safe.ensures program budget.steps outcomes judged verified)) (command_of c.args.command.now) c.requires.line s c.in-Unproved.ensures.ends
+
 pub returns-in-FuelSpent-clause-answers : goal.returns-in-FuelSpent-clause-answers
 returns-in-FuelSpent-clause-answers g c =
-    let old : Streams = record { out = g.O.Sink.taken c.args.out.now; err = g.E.Sink.taken c.args.err.now; out_faults = g.O.Sink.fault_count c.args.out.now; err_faults = g.E.Sink.fault_count c.args.err.now } in
-    let new : Streams = record { out = g.O.Sink.taken c.end_command.new.out; err = g.E.Sink.taken c.end_command.new.err; out_faults = g.O.Sink.fault_count c.end_command.new.out; err_faults = g.E.Sink.fault_count c.end_command.new.err } in
-    fuel_end (map string_bytes c.args.words.now) (g.F.Files.holds c.args.files.now) (g.F.Files.fault_count c.args.files.now) (g.F.Files.fault_count c.end_command.new.files) old new (g.E.Sink.taken c.tell_fuel.new.err) (g.E.Sink.fault_count c.tell_fuel.new.err) c.end_command.ensures.counts.2 (command_of c.args.command.now) c.requires.line c.tell_fuel.result c.in-FuelSpent.ensures.ends c.tell_fuel.ensures.tells
+    let words = map string_bytes c.args.words.now in
+    let files = store g.F.Files c.args.files.now c.end_command.new.files in
+    let s = streams g.O.Sink c.args.out.now c.end_command.new.out g.E.Sink c.args.err.now c.end_command.new.err in
+    fuel_end words files (λ program budget outcomes judged verified. c.safe_methods_are_right.ensures program (c.judged_is_safe.ensures program budget.steps outcomes judged verified)) s (g.E.Sink.taken c.tell_fuel.new.err) (g.E.Sink.fault_count c.tell_fuel.new.err) c.end_command.ensures.counts.2 (command_of c.args.command.now) c.requires.line c.tell_fuel.result c.in-FuelSpent.ensures.ends c.tell_fuel.ensures.tells
 
 pub returns-in-Told-clause-answers : goal.returns-in-Told-clause-answers
 returns-in-Told-clause-answers g c =
-    let old : Streams = record { out = g.O.Sink.taken c.args.out.now; err = g.E.Sink.taken c.args.err.now; out_faults = g.O.Sink.fault_count c.args.out.now; err_faults = g.E.Sink.fault_count c.args.err.now } in
-    let new : Streams = record { out = g.O.Sink.taken c.end_command.new.out; err = g.E.Sink.taken c.end_command.new.err; out_faults = g.O.Sink.fault_count c.end_command.new.out; err_faults = g.E.Sink.fault_count c.end_command.new.err } in
+    let words = map string_bytes c.args.words.now in
+    let files = store g.F.Files c.args.files.now c.end_command.new.files in
+    let s = streams g.O.Sink c.args.out.now c.end_command.new.out g.E.Sink c.args.err.now c.end_command.new.err in
     let ends = c.in-Told.ensures.ends in
-    told_end (map string_bytes c.args.words.now) (g.F.Files.holds c.args.files.now) (g.F.Files.fault_count c.args.files.now) (g.F.Files.fault_count c.end_command.new.files) old new (g.E.Sink.taken c.tell.new.err) (g.E.Sink.fault_count c.tell.new.err) c.end_command.ensures.counts.2 (command_of c.args.command.now) c.requires.line c.as_slice.result.now c.in-Told.status c.tell.result (rw c.as_slice.ensures.value ends.0) ends.1.0 ends.1.1 c.tell.ensures.tells
+    told_end words files s (g.E.Sink.taken c.tell.new.err) (g.E.Sink.fault_count c.tell.new.err) c.end_command.ensures.counts.2 (command_of c.args.command.now) c.requires.line c.as_slice.result.now c.in-Told.status c.tell.result (rw c.as_slice.ensures.value ends.0) ends.1.0 ends.1.1 c.tell.ensures.tells
 
 pub returns-in-Unwritten-clause-answers : goal.returns-in-Unwritten-clause-answers
 returns-in-Unwritten-clause-answers g c =
-    let old : Streams = record { out = g.O.Sink.taken c.args.out.now; err = g.E.Sink.taken c.args.err.now; out_faults = g.O.Sink.fault_count c.args.out.now; err_faults = g.E.Sink.fault_count c.args.err.now } in
-    let new : Streams = record { out = g.O.Sink.taken c.end_command.new.out; err = g.E.Sink.taken c.end_command.new.err; out_faults = g.O.Sink.fault_count c.end_command.new.out; err_faults = g.E.Sink.fault_count c.end_command.new.err } in
-    unwritten (map string_bytes c.args.words.now) (command_of c.args.command.now) (g.F.Files.holds c.args.files.now) (g.F.Files.fault_count c.args.files.now) (g.F.Files.fault_count c.end_command.new.files) old c.requires.line new c.in-Unwritten.ensures.ends
+    let words = map string_bytes c.args.words.now in
+    let files = store g.F.Files c.args.files.now c.end_command.new.files in
+    let s = streams g.O.Sink c.args.out.now c.end_command.new.out g.E.Sink c.args.err.now c.end_command.new.err in
+    unwritten words files (λ program budget outcomes judged verified. c.safe_methods_are_right.ensures program (c.judged_is_safe.ensures program budget.steps outcomes judged verified)) (command_of c.args.command.now) c.requires.line s c.in-Unwritten.ensures.ends
 
 pub returns-in-Memory-clause-answers : goal.returns-in-Memory-clause-answers
 returns-in-Memory-clause-answers g c =
-    let old : Streams = record { out = g.O.Sink.taken c.args.out.now; err = g.E.Sink.taken c.args.err.now; out_faults = g.O.Sink.fault_count c.args.out.now; err_faults = g.E.Sink.fault_count c.args.err.now } in
-    let new : Streams = record { out = g.O.Sink.taken c.end_command.new.out; err = g.E.Sink.taken c.end_command.new.err; out_faults = g.O.Sink.fault_count c.end_command.new.out; err_faults = g.E.Sink.fault_count c.end_command.new.err } in
-    memory_end (map string_bytes c.args.words.now) (g.F.Files.holds c.args.files.now) (g.F.Files.fault_count c.args.files.now) (g.F.Files.fault_count c.end_command.new.files) old new (g.E.Sink.taken c.tell_memory.new.err) (g.E.Sink.fault_count c.tell_memory.new.err) c.end_command.ensures.counts.2 (command_of c.args.command.now) c.requires.line c.tell_memory.result c.in-Memory.ensures.ends c.tell_memory.ensures.tells
+    let words = map string_bytes c.args.words.now in
+    let files = store g.F.Files c.args.files.now c.end_command.new.files in
+    let s = streams g.O.Sink c.args.out.now c.end_command.new.out g.E.Sink c.args.err.now c.end_command.new.err in
+    memory_end words files (λ program budget outcomes judged verified. c.safe_methods_are_right.ensures program (c.judged_is_safe.ensures program budget.steps outcomes judged verified)) s (g.E.Sink.taken c.tell_memory.new.err) (g.E.Sink.fault_count c.tell_memory.new.err) c.end_command.ensures.counts.2 (command_of c.args.command.now) c.requires.line c.tell_memory.result c.in-Memory.ensures.ends c.tell_memory.ensures.tells

@@ -2,7 +2,7 @@ use Rattle.std.proofs.Common.{◌∙◌, refl}
 use Rattle.df_cmd.specs.View.{command_of}
 use Rattle.df_program.specs.View.{program_of}
 use Rattle.df_main.specs.declared.run.Ran.TheVariants as rans
-use Rattle.df_top.specs.Ending.{Streams}
+use Rattle.df_top.specs.Call.{streams}
 use Rattle.df_top.proofs.Programs.{main_ends}
 use Rattle.df_top.proofs.running.prove_and_run.Goals as goal
 
@@ -11,6 +11,5 @@ run_main-requires-clause-safe g c = c.judged_is_safe.ensures (program_of c.args.
 
 pub returns-clause-ends : goal.returns-clause-ends
 returns-clause-ends g c =
-    let old : Streams = record { out = g.O.Sink.taken c.args.out.now; err = g.E.Sink.taken c.args.err.now; out_faults = g.O.Sink.fault_count c.args.out.now; err_faults = g.E.Sink.fault_count c.args.err.now } in
-    let new : Streams = record { out = g.O.Sink.taken c.run_main.new.sink; err = g.E.Sink.taken c.args.err.now; out_faults = g.O.Sink.fault_count c.run_main.new.sink; err_faults = g.E.Sink.fault_count c.args.err.now } in
-    main_ends (program_of c.args.program.now) old new (command_of c.args.command.now) c.args.fuel c.budget.result.steps c.in-Ok.report.verified c.in-Ok.report.text.items c.requires.run c.budget.ensures c.in-Ok.ensures c.requires.native c.args.number rans.Memory c.if-not-report.false c.in-Memory.ensures.runs (λ e. absurd cc) refl
+    let s = streams g.O.Sink c.args.out.now c.run_main.new.sink g.E.Sink c.args.err.now c.args.err.now in
+    main_ends (program_of c.args.program.now) s (command_of c.args.command.now) c.args.fuel (record { steps = c.budget.result.steps; rounds = c.budget.result.rounds }) c.in-Ok.report.verified c.in-Ok.report.text.items c.requires.run c.budget.ensures c.in-Ok.ensures c.requires.native c.args.number rans.Memory c.if-not-report.false c.in-Memory.ensures.runs (λ e. absurd cc) refl

@@ -7,4 +7,4 @@ use Rattle.df_verdict.proofs.judging.failures.Given as goal
 
 abbrev pub invariant-loop-obligation : goal.invariant-loop-obligation
 invariant-loop-obligation l =
-    Judges (map place_of l.entry.places.now) l.entry.frees.now l.budget.steps (map obligation_of (take l.obligation-index l.obligations)) (map failure_of l.failures.items)
+    Judges (map place_of l.entry.params.now) l.entry.frees.now l.budget.steps (map obligation_of (take l.obligation-index l.obligations)) (map failure_of l.failures.items) l.accepted.items

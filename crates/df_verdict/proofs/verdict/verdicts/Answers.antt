@@ -13,5 +13,5 @@ outcome-requires-clause-typed c =
 
 pub loop-method-preserved : goal.loop-method-preserved
 loop-method-preserved c =
-    let judged = subst (λ (newtypes : List Newtype). IsJudgedMethod (newtypes_of newtypes) c.args.budget.steps (method_of c.method-item.result) (outcome_of c.in_ok-outcome.outcome)) c.deref.ensures.value c.in_ok-outcome.ensures in
-    methods_more (newtypes_of c.args.program.now.newtypes.items) c.args.budget.steps c.deref-method-items.result.now c.loop-method.method-index c.method-item.result c.loop-method.outcomes.items c.in_ok-outcome.outcome _ c.loop-method-test.true c.method-item.is c.loop-method.invariant judged c.in_ok-push.ensures.items
+    let judged = subst (λ (newtypes : List Newtype). IsJudgedMethod (newtypes_of newtypes) c.args.budget.steps (method_of c.method-item.result) (outcome_of c.in_ok-outcome.outcome) c.outcome.new.accepted.items) c.deref.ensures.value c.in_ok-outcome.ensures in
+    methods_more (newtypes_of c.args.program.now.newtypes.items) c.args.budget.steps c.deref-method-items.result.now c.loop-method.method-index c.method-item.result c.loop-method.outcomes.items c.in_ok-outcome.outcome _ c.loop-method.accepted.items c.outcome.new.accepted _ c.loop-method-test.true c.method-item.is c.loop-method.invariant judged c.in_ok-push.ensures.items c.in_ok-push-2.ensures.items

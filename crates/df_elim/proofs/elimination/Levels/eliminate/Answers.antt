@@ -1,5 +1,5 @@
 use Rattle.std.proofs.Common.{refl}
-use Rattle.df_lin.specs.Levels.{level_rows}
+use Rattle.df_level.specs.Levels.{level_rows}
 use Rattle.df_elim.proofs.Growing.{has_grown}
 use Rattle.df_elim.proofs.elimination.Levels.eliminate.Goals as goal
 

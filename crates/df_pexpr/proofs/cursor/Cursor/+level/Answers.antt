@@ -1,11 +1,12 @@
 use Rattle.std.proofs.Common.{ap, map, refl, sym, option_map, Some, None}
 use Rattle.std.proofs.lemmas.Result.{err_from_is_err_and}
 use Rattle.std.proofs.lemmas.List.{map_push}
+use Rattle.df_lemmas.proofs.Options.{none_left}
 use Rattle.df_tree.specs.Expr.{operation_of}
 use Rattle.df_tree.specs.ExprReading.{operations_at, unary_at}
 use Rattle.df_pexpr.specs.Rest.{rest_of}
 use Rattle.df_pexpr.specs.Parts.{found_of}
-use Rattle.df_pexpr.proofs.Loop.{fails, goes_on, is_done, none_left, seen}
+use Rattle.df_pexpr.proofs.Loop.{fails, goes_on, is_done, seen}
 use Rattle.df_pexpr.proofs.Readers.{level_is, unary_level, no_depth, depth_is, operand_of, row_step, row_shrinks, row_begins}
 use Rattle.df_pexpr.proofs.cursor.Cursor.+level.Goals as goal
 

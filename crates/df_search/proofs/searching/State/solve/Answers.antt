@@ -1,11 +1,11 @@
 use Rattle.std.proofs.Common.{◌≡◌, ℕ, ◌++◌, ◌∷◌, [], Some, List, length, map, subst, sym, ap, ◌∙◌}
 use Rattle.df_form.specs.Clause.{Clause, negation}
 use Rattle.df_form.specs.Log.{combination_of}
-use Rattle.df_linear.specs.Linear.{linear_line}
+use Rattle.df_row.specs.Linear.{linear_line}
 use Rattle.df_kern.specs.Propagation.{propagation_line}
-use Rattle.df_derive.specs.Runs.{Runs}
+use Rattle.df_logbuild.specs.Runs.{Runs}
 use Rattle.df_trail.specs.Trail.{branch_of}
-use Rattle.df_leaf.specs.Evidence.{IsShut}
+use Rattle.df_branch.specs.Evidence.{IsShut}
 use Rattle.df_search.specs.Searching.{clauses_of}
 use Rattle.df_kern.proofs.Growth.{if_ok}
 use Rattle.df_search.proofs.Refuting.{one_more_clause, linear_is, unsolvable_shut, solved_line}

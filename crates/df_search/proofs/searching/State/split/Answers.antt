@@ -5,7 +5,7 @@ use Rattle.df_form.specs.declared.node.Op.TheVariants as ops
 use Rattle.df_form.specs.Made.{made}
 use Rattle.df_form.specs.Sorting.{is_well_sorted}
 use Rattle.df_kern.specs.Bound.{number, at_most}
-use Rattle.df_derive.proofs.Added.{ok_weaker}
+use Rattle.df_logbuild.proofs.Added.{ok_weaker}
 use Rattle.df_search.proofs.Splitting.{comparison_sorted, splits}
 use Rattle.df_search.proofs.searching.State.split.Goals as goal
 

@@ -1,7 +1,7 @@
 use Rattle.std.proofs.Common.{◌<◌, List, length, sym, subst, ap, arith}
 use Rattle.df_form.specs.declared.log.Lit.{Lit}
-use Rattle.df_leaf.specs.Evidence.{by_clauses}
-use Rattle.df_leaf.specs.Leaf.{IsUnsolvable}
+use Rattle.df_branch.specs.Evidence.{by_clauses}
+use Rattle.df_branch.specs.Leaf.{IsUnsolvable}
 use Rattle.df_trail.specs.Trail.{branch_of}
 use Rattle.df_search.specs.Searching.{clauses_of, Tells, Finishes}
 use Rattle.df_kern.proofs.Growth.{if_ok}

@@ -1,8 +1,8 @@
 use Rattle.std.proofs.Common.{◌∙◌, ◌∷◌, ◌++◌, [], Some, sym, ap, subst}
 use Rattle.df_form.specs.Clause.{Clause}
 use Rattle.df_kern.specs.Propagation.{propagation_line}
-use Rattle.df_derive.specs.Runs.{Runs}
-use Rattle.df_derive.proofs.Added.{ok_weaker}
+use Rattle.df_logbuild.specs.Runs.{Runs}
+use Rattle.df_logbuild.proofs.Added.{ok_weaker}
 use Rattle.df_trail.specs.Trail.{branch_of}
 use Rattle.df_trail.proofs.Joined.{join_is_line}
 use Rattle.df_trail.proofs.trail.Trail.join.Goals as goal

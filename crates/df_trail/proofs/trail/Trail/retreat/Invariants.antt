@@ -1,5 +1,5 @@
 use Rattle.std.proofs.Common.{◌≡◌, ◌≤◌, length}
-use Rattle.df_derive.specs.Front.{IsFront}
+use Rattle.df_logbuild.specs.Front.{IsFront}
 use Rattle.df_trail.proofs.Retreated.{IsRetreating}
 use Rattle.df_trail.proofs.Shorter.{IsShorter}
 use Rattle.df_trail.proofs.trail.Trail.retreat.Given as goal

@@ -1,0 +1,98 @@
+-- What comes next at a branch.
+use Rattle.std.specs.Prelude.{◌≡◌, ℕ, ℤ, ◌+ℤ◌, pos, true, false, List, map, take, length, slice_get, Some}
+use Rattle.std.specs.List.{list_all}
+use Rattle.df_types.specs.Newtype.{Newtype}
+use Rattle.df_form.specs.declared.log.Lit.{Lit}
+use Rattle.df_form.specs.Node.{Node}
+use Rattle.df_form.specs.Sorting.{IsTable}
+use Rattle.df_form.specs.Arithmetic.{IsArithmeticSequent}
+use Rattle.df_form.specs.Clause.{yes, no, is_among, are_literals}
+use Rattle.df_form.specs.Log.{combination_of}
+use Rattle.df_form.specs.Sequent.{Sequent, IsSequent}
+use Rattle.df_row.specs.Row.{Row, fits}
+use Rattle.df_row.specs.RowView.{IsWithin}
+use Rattle.df_row.specs.Linear.{rows_of, refutes}
+use Rattle.df_kern.specs.Bound.{number, at_most}
+use Rattle.df_kern.specs.Derivation.{is_number}
+use Rattle.df_ground.specs.declared.set.Ground.{Ground}
+use Rattle.df_ground.specs.GroundView.{IsGroundOf, state_of}
+use Rattle.df_table.specs.TableModel.{IsTableModel}
+use Rattle.df_closure.specs.Closure.{GroundClause, ground_of, after, IsClosed, IsRefuted}
+use Rattle.df_closure.specs.Full.{IsConsistent}
+use Rattle.df_closure.specs.Filled.{IsFilled, AreComparing}
+use Rattle.df_level.specs.Levels.{Stands, row_limit}
+use Rattle.df_level.specs.Elimination.{AreRefuted, AreMany}
+use Rattle.df_back.specs.BackSubstitution.{IsBetween}
+use Rattle.df_branch.specs.declared.leaf.Leaf.{Leaf}
+use Rattle.df_branch.specs.declared.leaf.Leaf.TheVariants as leaves
+use Rattle.df_branch.specs.Evidence.{IsUnshut}
+use Rattle.df_branch.specs.Filling.{IsOpenMember}
+use Rattle.df_branch.specs.Overflow.{Overflows}
+
+-- A search stands at a place: nodes that begin with those of the ground set, and only numbers and comparisons after the
+-- sequent's; the literals of clauses and of the branch are of formulas, and no two of the branch contradict each other.
+pub record IsPlace (set : List Node) (clauses : List GroundClause) (nodes : List Node) (branch : List Lit) : Type 0 where
+  pub table : IsTable nodes
+  pub begins : take (length set) nodes ≡ set
+  pub made : AreComparing (length set) nodes
+  pub formulas : are_literals nodes branch ≡ true
+  pub consistent : IsConsistent branch
+  pub clause_formulas : list_all (λ (clause : GroundClause). are_literals set clause.literals) clauses ≡ true
+
+-- combinations refute the rows of the closed list
+pub record IsUnsolvable (clauses : List GroundClause) (nodes : List Node) (branch : List Lit) (leaf_reasons : List ℕ) (facts : List Lit) (rows : List Row) : Type 0 where
+  pub learned : List Lit
+  pub closed : IsClosed clauses branch leaf_reasons learned
+  pub facts_are : facts ≡ after branch learned
+  pub formulas : are_literals nodes facts ≡ true
+  pub rows_are : rows_of nodes facts ≡ Some rows
+  pub refuted : AreRefuted rows
+
+-- an undecided literal of an open clause, beside a list that is not shut
+pub record IsOpenLeaf (clauses : List GroundClause) (nodes : List Node) (branch : List Lit) (literal : Lit) : Type 0 where
+  pub learned : List Lit
+  pub unshut : IsUnshut nodes clauses branch learned
+  pub member : IsOpenMember clauses (after branch learned) literal
+
+-- No clause is open, and the rows put a number strictly between a bound and the next number; no comparison that is known says more.
+pub record IsBetweenLeaf (clauses : List GroundClause) (nodes : List Node) (branch : List Lit) (term : ℕ) (bound : ℤ) : Type 0 where
+  pub learned : List Lit
+  pub unshut : IsUnshut nodes clauses branch learned
+  pub filled : IsFilled clauses (after branch learned)
+  pub count : ℕ
+  pub within : (row : Row) → Stands row unshut.first → IsWithin count row
+  pub between : IsBetween count unshut.first unshut.variables unshut.levels term bound
+  pub next_fits : fits (bound +ℤ pos 1) ≡ true
+  pub of_number : is_number nodes term ≡ true
+  pub not_true : (place m : ℕ) → slice_get nodes place ≡ Some (number bound) → slice_get nodes m ≡ Some (at_most term place) → is_among (after branch learned) (yes m) ≡ false
+  pub not_false : (place m : ℕ) → slice_get nodes place ≡ Some (number bound) → slice_get nodes m ≡ Some (at_most term place) → is_among (after branch learned) (no m) ≡ false
+
+-- a number on the way is past 128 bits, beside a list whose closed list stands
+pub record IsWideLeaf (newtypes : List Newtype) (set : List Node) (clauses : List GroundClause) (nodes : List Node) (branch : List Lit) : Type 0 where
+  pub reasons : List ℕ
+  pub learned : List Lit
+  pub closed : IsClosed clauses branch reasons learned
+  pub overflows : Overflows newtypes set nodes (after branch learned)
+
+-- a level of the rows comes to so many rows
+pub record IsManyLeaf (clauses : List GroundClause) (nodes : List Node) (branch : List Lit) (count : ℕ) : Type 0 where
+  pub is : count ≡ row_limit
+  pub reasons : List ℕ
+  pub learned : List Lit
+  pub closed : IsClosed clauses branch reasons learned
+  pub rows : List Row
+  pub rows_are : rows_of nodes (after branch learned) ≡ Some rows
+  pub many : AreMany rows
+
+-- the table is a model of the ground set of each arithmetic sequent that has these clauses
+abbrev pub IsModelOf : List Newtype → List Node → List GroundClause → List ℤ → Type 0
+IsModelOf newtypes set clauses table = (s : Sequent) (g : Ground) → IsSequent s → IsGroundOf s g → IsArithmeticSequent s → s.newtypes ≡ newtypes → g.nodes ≡ set → map ground_of g.clauses.items ≡ clauses → IsTableModel (state_of g) table
+
+abbrev pub TellsLeaf : List Newtype → List Node → List GroundClause → List Node → List Lit → Leaf → Type 0
+TellsLeaf newtypes set clauses nodes branch (leaves.Refuted numbers) = IsRefuted clauses branch numbers.items
+TellsLeaf newtypes set clauses nodes branch (leaves.Unsolvable reasons facts combinations) = (rows : List Row) × IsUnsolvable clauses nodes branch reasons.items facts.items rows × ((count : ℕ) → refutes count rows (map combination_of combinations.items) ≡ true)
+TellsLeaf newtypes set clauses nodes branch (leaves.Open literal) = IsOpenLeaf clauses nodes branch literal
+TellsLeaf newtypes set clauses nodes branch (leaves.Between term bound) = IsBetweenLeaf clauses nodes branch term bound
+TellsLeaf newtypes set clauses nodes branch (leaves.Modelled table) = IsModelOf newtypes set clauses table
+TellsLeaf newtypes set clauses nodes branch leaves.Wide = IsWideLeaf newtypes set clauses nodes branch
+TellsLeaf newtypes set clauses nodes branch (leaves.Many count) = IsManyLeaf clauses nodes branch count

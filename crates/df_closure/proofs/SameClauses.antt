@@ -1,0 +1,171 @@
+-- A clause is the same among nodes that hold all that it made.
+use Rattle.std.proofs.Common.{◌≡◌, ℕ, zero, suc, ℤ, List, [], ◌∷◌, Option, Some, None, slice_get, refl, sym, ap, ◌∙◌, subst}
+use Rattle.std.specs.Option.{option_map, option_and_then}
+use Rattle.std.proofs.lemmas.Option.{same_Some}
+use Rattle.df_lemmas.proofs.Options.{then_some, map_some}
+use Rattle.df_types.specs.declared.newtype.Ty.{Ty}
+use Rattle.df_types.specs.declared.newtype.Ty.TheVariants as types
+use Rattle.df_types.specs.Newtype.{Newtype}
+use Rattle.df_form.specs.declared.node.Sort.{Sort}
+use Rattle.df_form.specs.declared.node.Sort.TheVariants as sorts
+use Rattle.df_form.specs.declared.node.Op.{Op}
+use Rattle.df_form.specs.declared.node.Op.TheVariants as ops
+use Rattle.df_form.specs.Node.{Node}
+use Rattle.df_form.specs.Sorting.{IsTable, sort_at}
+use Rattle.df_form.specs.Made.{Made, made}
+use Rattle.df_form.specs.Clause.{Clause, yes, no}
+use Rattle.df_form.proofs.Values.{Grows, grows_twice, grown_get}
+use Rattle.df_form.proofs.Tables.{made_old, number_of_at}
+use Rattle.df_kern.specs.Bound.{number, at_most, made_at_least, made_at_most}
+use Rattle.df_kern.specs.Connective.{Added, chosen, not_clauses, and_clauses, or_clauses, implies_clauses, iff_clauses, equal_clause, equal_by_sort, connective_clause}
+use Rattle.df_kern.specs.Schema.{newtype_clause, type_clause, is_clause}
+use Rattle.df_kern.proofs.Growth.{made-at}
+use Rattle.df_closure.proofs.KeptNodes.{made_grows}
+
+module _ (nodes : List Node) (table : IsTable nodes) where
+  -- the clause, with nothing made
+  abbrev pub again : Added → Added
+  again added = record { nodes = nodes; clause = added.clause }
+
+  -- what was made stands
+  made_again : (before : List Node) (node : Node) → Grows (made before node).nodes nodes → made nodes node ≡ record { nodes = nodes; number = (made before node).number }
+  made_again before node g =
+      let m = made before node in
+      let there = grown_get m.nodes nodes g m.number node (made-at before node m refl) in
+      made_old nodes node m.number (number_of_at nodes node m.number table.distinct there)
+
+  at_least_again : (before : List Node) (k : ℤ) (n : ℕ) → Grows (made_at_least before k n).nodes nodes → made_at_least nodes k n ≡ record { nodes = nodes; number = (made_at_least before k n).number }
+  at_least_again before k n g =
+      let low = made before (number k) in
+      let from = grows_twice low.nodes (made_at_least before k n).nodes nodes (made_grows low.nodes (at_most low.number n)) g in
+      ap (λ (m : Made). made m.nodes (at_most m.number n)) (made_again before (number k) from) ∙ made_again low.nodes (at_most low.number n) g
+
+  at_most_again : (before : List Node) (n : ℕ) (k : ℤ) → Grows (made_at_most before n k).nodes nodes → made_at_most nodes n k ≡ record { nodes = nodes; number = (made_at_most before n k).number }
+  at_most_again before n k g =
+      let high = made before (number k) in
+      let from = grows_twice high.nodes (made_at_most before n k).nodes nodes (made_grows high.nodes (at_most n high.number)) g in
+      ap (λ (m : Made). made m.nodes (at_most n m.number)) (made_again before (number k) from) ∙ made_again high.nodes (at_most n high.number) g
+
+  at_most_grows : (before : List Node) (n : ℕ) (k : ℤ) → Grows before (made_at_most before n k).nodes
+  at_most_grows before n k = let high = made before (number k) in grows_twice before high.nodes (made_at_most before n k).nodes (made_grows before (number k)) (made_grows high.nodes (at_most n high.number))
+
+  chosen_again : (before : List Node) (clauses : List Clause) (k : ℕ) (added : Added) → chosen before clauses k ≡ Some added → chosen nodes clauses k ≡ Some (again added)
+  chosen_again before clauses k added e =
+      let found = map_some (λ (clause : Clause). record { nodes = before; clause = clause }) (slice_get clauses k) added e in
+      ap (option_map (λ (clause : Clause). record { nodes = nodes; clause = clause })) found.1 ∙ ap (λ (x : Added). Some (again x)) found.2
+
+  equal_again : (before : List Node) (n a b k : ℕ) (added : Added) → equal_clause before n a b k ≡ Some added → Grows added.nodes nodes → equal_clause nodes n a b k ≡ Some (again added)
+  equal_again before n a b zero added e g =
+      let same = same_Some _ added e in
+      let up = made before (at_most a b) in
+      let from : Grows up.nodes nodes = subst (λ (x : Added). Grows x.nodes nodes) (sym same) g in
+      ap (λ (m : Made). Some (record { nodes = m.nodes; clause = no n ∷ yes m.number ∷ [] })) (made_again before (at_most a b) from) ∙ ap (λ (x : Added). Some (again x)) same
+  equal_again before n a b (suc zero) added e g =
+      let same = same_Some _ added e in
+      let down = made before (at_most b a) in
+      let from : Grows down.nodes nodes = subst (λ (x : Added). Grows x.nodes nodes) (sym same) g in
+      ap (λ (m : Made). Some (record { nodes = m.nodes; clause = no n ∷ yes m.number ∷ [] })) (made_again before (at_most b a) from) ∙ ap (λ (x : Added). Some (again x)) same
+  equal_again before n a b (suc (suc zero)) added e g =
+      let same = same_Some _ added e in
+      let up = made before (at_most a b) in
+      let down = made up.nodes (at_most b a) in
+      let from : Grows down.nodes nodes = subst (λ (x : Added). Grows x.nodes nodes) (sym same) g in
+      let first = made_again before (at_most a b) (grows_twice up.nodes down.nodes nodes (made_grows up.nodes (at_most b a)) from) in
+      let second = made_again up.nodes (at_most b a) from in
+      ap (λ (m : Made). Some (record { nodes = (made m.nodes (at_most b a)).nodes; clause = yes n ∷ no m.number ∷ no (made m.nodes (at_most b a)).number ∷ [] })) first
+      ∙ ap (λ (m : Made). Some (record { nodes = m.nodes; clause = yes n ∷ no up.number ∷ no m.number ∷ [] })) second
+      ∙ ap (λ (x : Added). Some (again x)) same
+  equal_again before n a b (suc (suc (suc k))) added e g = absurd cc
+
+  sides_again : (sort : Sort) (before : List Node) (n a b k : ℕ) (added : Added) → equal_by_sort sort before n a b k ≡ Some added → Grows added.nodes nodes → equal_by_sort sort nodes n a b k ≡ Some (again added)
+  sides_again sorts.Number before n a b k added e g = equal_again before n a b k added e g
+  sides_again sorts.Truth before n a b k added e g = absurd cc
+
+  -- the first part is of the same sort
+  abbrev pub FirstAlike : List Node → List ℕ → Type 0
+  FirstAlike before parts = (a : ℕ) (others : List ℕ) → parts ≡ a ∷ others → sort_at nodes a ≡ sort_at before a
+
+  pub connective_again : (before : List Node) (n k : ℕ) (op : Op) (parts : List ℕ) (added : Added) → FirstAlike before parts → connective_clause before n k op parts ≡ Some added → Grows added.nodes nodes → connective_clause nodes n k op parts ≡ Some (again added)
+  connective_again before n k ops.Not (p ∷ []) added alike e g = chosen_again before (not_clauses n p) k added e
+  connective_again before n k ops.And parts added alike e g = chosen_again before (and_clauses n parts) k added e
+  connective_again before n k ops.Or parts added alike e g = chosen_again before (or_clauses n parts) k added e
+  connective_again before n k ops.Implies (a ∷ b ∷ []) added alike e g = chosen_again before (implies_clauses n a b) k added e
+  connective_again before n k ops.Iff (a ∷ b ∷ []) added alike e g = chosen_again before (iff_clauses n a b) k added e
+  connective_again before n k ops.Equal (a ∷ b ∷ []) added alike e g =
+      ap (λ (sort : Sort). equal_by_sort sort nodes n a b k) (alike a (b ∷ []) refl) ∙ sides_again (sort_at before a) before n a b k added e g
+  connective_again before n k op parts added alike e g = absurd cc
+
+  newtype_again : (newtype : Newtype) (before : List Node) (n x k : ℕ) (added : Added) → newtype_clause newtype before n x k ≡ Some added → Grows added.nodes nodes → newtype_clause newtype nodes n x k ≡ Some (again added)
+  newtype_again newtype before n x zero added e g =
+      let same = same_Some _ added e in
+      let low = made_at_least before newtype.low x in
+      let from : Grows low.nodes nodes = subst (λ (x : Added). Grows x.nodes nodes) (sym same) g in
+      ap (λ (m : Made). Some (record { nodes = m.nodes; clause = no n ∷ yes m.number ∷ [] })) (at_least_again before newtype.low x from) ∙ ap (λ (x : Added). Some (again x)) same
+  newtype_again newtype before n x (suc zero) added e g =
+      let same = same_Some _ added e in
+      let high = made_at_most before x newtype.high in
+      let from : Grows high.nodes nodes = subst (λ (x : Added). Grows x.nodes nodes) (sym same) g in
+      ap (λ (m : Made). Some (record { nodes = m.nodes; clause = no n ∷ yes m.number ∷ [] })) (at_most_again before x newtype.high from) ∙ ap (λ (x : Added). Some (again x)) same
+  newtype_again newtype before n x (suc (suc zero)) added e g =
+      let same = same_Some _ added e in
+      let low = made_at_least before newtype.low x in
+      let high = made_at_most low.nodes x newtype.high in
+      let from : Grows high.nodes nodes = subst (λ (x : Added). Grows x.nodes nodes) (sym same) g in
+      let first = at_least_again before newtype.low x (grows_twice low.nodes high.nodes nodes (at_most_grows low.nodes x newtype.high) from) in
+      let second = at_most_again low.nodes x newtype.high from in
+      ap (λ (m : Made). Some (record { nodes = (made_at_most m.nodes x newtype.high).nodes; clause = yes n ∷ no m.number ∷ no (made_at_most m.nodes x newtype.high).number ∷ [] })) first
+      ∙ ap (λ (m : Made). Some (record { nodes = m.nodes; clause = yes n ∷ no low.number ∷ no m.number ∷ [] })) second
+      ∙ ap (λ (x : Added). Some (again x)) same
+  newtype_again newtype before n x (suc (suc (suc k))) added e g = absurd cc
+
+  type_again : (newtypes : List Newtype) (before : List Node) (n x k : ℕ) (ty : Ty) (added : Added) → type_clause newtypes before n x ty k ≡ Some added → Grows added.nodes nodes → type_clause newtypes nodes n x ty k ≡ Some (again added)
+  type_again newtypes before n x k (types.Newtype t) added e g =
+      let found = then_some (λ (newtype : Newtype). newtype_clause newtype before n x k) (slice_get newtypes t) added e in
+      ap (λ (o : Option Newtype). option_and_then (λ (newtype : Newtype). newtype_clause newtype nodes n x k) o) found.1 ∙ newtype_again found.0 before n x k added found.2 g
+
+  pub schema_again : (newtypes : List Newtype) (before : List Node) (n k : ℕ) (op : Op) (parts : List ℕ) (added : Added) → is_clause newtypes before n k op parts ≡ Some added → Grows added.nodes nodes → is_clause newtypes nodes n k op parts ≡ Some (again added)
+  schema_again newtypes before n k (ops.Is ty) (x ∷ []) added e g = type_again newtypes before n x k ty added e g
+  schema_again newtypes before n k op parts added e g = absurd cc
+
+-- a clause that is one among some nodes is one among others
+chosen_too : (nodes before : List Node) (clauses : List Clause) (k : ℕ) (added : Added) → chosen nodes clauses k ≡ Some added → chosen before clauses k ≡ None → ⊥
+chosen_too nodes before clauses k added e none =
+    let found = map_some (λ (clause : Clause). record { nodes = nodes; clause = clause }) (slice_get clauses k) added e in
+    let there : chosen before clauses k ≡ Some (record { nodes = before; clause = found.0 }) = ap (option_map (λ (clause : Clause). record { nodes = before; clause = clause })) found.1 in
+    cc
+
+equal_too : (nodes before : List Node) (n a b k : ℕ) (added : Added) → equal_clause nodes n a b k ≡ Some added → equal_clause before n a b k ≡ None → ⊥
+equal_too nodes before n a b zero added e none = cc
+equal_too nodes before n a b (suc zero) added e none = cc
+equal_too nodes before n a b (suc (suc zero)) added e none = cc
+equal_too nodes before n a b (suc (suc (suc k))) added e none = cc
+
+sides_too : (sort : Sort) (nodes before : List Node) (n a b k : ℕ) (added : Added) → equal_by_sort sort nodes n a b k ≡ Some added → equal_by_sort sort before n a b k ≡ None → ⊥
+sides_too sorts.Number nodes before n a b k added e none = equal_too nodes before n a b k added e none
+sides_too sorts.Truth nodes before n a b k added e none = cc
+
+pub connective_too : (nodes before : List Node) (n k : ℕ) (op : Op) (parts : List ℕ) (added : Added) → ((a : ℕ) (others : List ℕ) → parts ≡ a ∷ others → sort_at nodes a ≡ sort_at before a) → connective_clause nodes n k op parts ≡ Some added → connective_clause before n k op parts ≡ None → ⊥
+connective_too nodes before n k ops.Not (p ∷ []) added alike e none = chosen_too nodes before (not_clauses n p) k added e none
+connective_too nodes before n k ops.And parts added alike e none = chosen_too nodes before (and_clauses n parts) k added e none
+connective_too nodes before n k ops.Or parts added alike e none = chosen_too nodes before (or_clauses n parts) k added e none
+connective_too nodes before n k ops.Implies (a ∷ b ∷ []) added alike e none = chosen_too nodes before (implies_clauses n a b) k added e none
+connective_too nodes before n k ops.Iff (a ∷ b ∷ []) added alike e none = chosen_too nodes before (iff_clauses n a b) k added e none
+connective_too nodes before n k ops.Equal (a ∷ b ∷ []) added alike e none =
+    let same = alike a (b ∷ []) refl in
+    sides_too (sort_at before a) nodes before n a b k added (ap (λ (sort : Sort). equal_by_sort sort nodes n a b k) (sym same) ∙ e) none
+connective_too nodes before n k op parts added alike e none = cc
+
+newtype_too : (newtype : Newtype) (nodes before : List Node) (n x k : ℕ) (added : Added) → newtype_clause newtype nodes n x k ≡ Some added → newtype_clause newtype before n x k ≡ None → ⊥
+newtype_too newtype nodes before n x zero added e none = cc
+newtype_too newtype nodes before n x (suc zero) added e none = cc
+newtype_too newtype nodes before n x (suc (suc zero)) added e none = cc
+newtype_too newtype nodes before n x (suc (suc (suc k))) added e none = cc
+
+type_too : (newtypes : List Newtype) (nodes before : List Node) (n x k : ℕ) (ty : Ty) (added : Added) → type_clause newtypes nodes n x ty k ≡ Some added → type_clause newtypes before n x ty k ≡ None → ⊥
+type_too newtypes nodes before n x k (types.Newtype t) added e none =
+    let found = then_some (λ (newtype : Newtype). newtype_clause newtype nodes n x k) (slice_get newtypes t) added e in
+    newtype_too found.0 nodes before n x k added found.2 (ap (λ (o : Option Newtype). option_and_then (λ (newtype : Newtype). newtype_clause newtype before n x k) o) (sym found.1) ∙ none)
+
+pub schema_too : (newtypes : List Newtype) (nodes before : List Node) (n k : ℕ) (op : Op) (parts : List ℕ) (added : Added) → is_clause newtypes nodes n k op parts ≡ Some added → is_clause newtypes before n k op parts ≡ None → ⊥
+schema_too newtypes nodes before n k (ops.Is ty) (x ∷ []) added e none = type_too newtypes nodes before n x k ty added e none
+schema_too newtypes nodes before n k op parts added e none = cc

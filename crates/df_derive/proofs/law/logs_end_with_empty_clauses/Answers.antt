@@ -1,5 +1,0 @@
-use Rattle.df_derive.proofs.Added.{finished}
-use Rattle.df_derive.proofs.law.logs_end_with_empty_clauses.Goals as goal
-
-pub returns : goal.returns
-returns c = λ s d clauses runs. finished s d clauses runs

@@ -1,8 +1,0 @@
--- Tests of sorts.
-use Rattle.std.proofs.Common.{◌≡◌, Bool, List, map}
-use Rattle.std.specs.List.{list_all}
-use Rattle.std.proofs.lemmas.List.Folds.{list_all-map}
-
--- a test of mapped elements is a test of the elements
-pub all_mapped : {A B : Type 0} (test : B → Bool) (f : A → B) (xs : List A) → list_all test (map f xs) ≡ list_all (λ x. test (f x)) xs
-all_mapped test f xs = list_all-map test f xs

@@ -1,0 +1,6 @@
+pub mod Truths
+pub mod Options
+pub mod Lists
+pub mod Alls
+pub mod Numbers
+pub mod Integers

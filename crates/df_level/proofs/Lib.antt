@@ -1,0 +1,14 @@
+pub mod Halves
+pub mod Ascending
+pub mod Nonzero
+pub mod Merging
+pub mod Combining
+pub mod Contents
+pub mod Rows
+pub mod Sets
+pub mod Eliminating
+pub mod Falsehood
+pub mod Lines
+pub mod Multiples
+pub mod Ways
+pub mod Fitting

@@ -1,6 +1,0 @@
-use Rattle.std.proofs.Common.{◌≡◌, map, take}
-use Rattle.df_lin.specs.Division.{quotient_entry}
-use Rattle.df_lin.proofs.division.quotients.Given as goal
-
-abbrev pub invariant-loop-entry : goal.invariant-loop-entry
-invariant-loop-entry l = l.quotients.items ≡ map (quotient_entry l.divisor) (take l.entry-index l.entries)

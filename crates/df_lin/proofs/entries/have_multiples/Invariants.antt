@@ -1,6 +1,0 @@
-use Rattle.std.proofs.Common.{drop}
-use Rattle.df_lin.proofs.Multiples.{IsTesting, IsFitting}
-use Rattle.df_lin.proofs.entries.have_multiples.Given as goal
-
-abbrev pub invariant-loop-entry : goal.invariant-loop-entry
-invariant-loop-entry l = IsTesting (IsFitting l.factor) l.entries (drop l.entry-index l.entries)

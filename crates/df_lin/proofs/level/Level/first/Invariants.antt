@@ -1,6 +1,0 @@
-use Rattle.std.proofs.Common.{take}
-use Rattle.df_lin.specs.Levels.{rows_of, level_rows, IsFirstLevel, AreWays}
-use Rattle.df_lin.proofs.level.Level.first.Given as goal
-
-abbrev pub invariant-loop-number : goal.invariant-loop-number
-invariant-loop-number l = IsFirstLevel (rows_of (take l.number l.rows)) (level_rows l.level) × AreWays (rows_of l.rows) l.level

@@ -1,6 +1,0 @@
-use Rattle.std.proofs.Common.{take}
-use Rattle.df_lin.specs.Levels.{rows_of, HasFalse}
-use Rattle.df_lin.proofs.level.false_among.Given as goal
-
-abbrev pub invariant-loop-number : goal.invariant-loop-number
-invariant-loop-number l = HasFalse (rows_of (take l.number l.rows)) → ⊥

@@ -1,6 +1,0 @@
-use Rattle.df_linear.proofs.RowFold.{IsMaking}
-use Rattle.df_linear.proofs.RowNarrow.{narrow_step}
-use Rattle.df_linear.proofs.expansion.Expansion.narrowed.Given as goal
-
-abbrev pub invariant-loop-node : goal.invariant-loop-node
-invariant-loop-node l = IsMaking narrow_step l.self.coefficients.entries l.node-iterator l.coefficients.entries

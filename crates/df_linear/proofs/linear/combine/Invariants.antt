@@ -1,8 +1,0 @@
-use Rattle.std.proofs.Common.{ℕ, map}
-use Rattle.df_linear.specs.RowView.{row_of}
-use Rattle.df_linear.specs.LinearView.{AreWithin}
-use Rattle.df_linear.proofs.LinearSums.{IsCombining}
-use Rattle.df_linear.proofs.linear.combine.Given as goal
-
-abbrev pub invariant-loop-multiple : goal.invariant-loop-multiple
-invariant-loop-multiple l = (count : ℕ) → AreWithin count (map row_of l.rows) → IsCombining count (map row_of l.rows) l.combination.members.items l.multiple-index (row_of l.sum)

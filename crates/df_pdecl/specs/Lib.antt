@@ -1,0 +1,3 @@
+pub use Rattle.df_tree.specs.File
+pub use Rattle.df_tree.specs.FileSpelling
+pub mod Refusing

@@ -1,4 +1,0 @@
-mod Loop
-mod Fronts
-mod Rows
-mod Refusals

@@ -1,0 +1,407 @@
+//! The kernel: which logs it accepts, and where it refuses the others.
+
+use df_cases::{
+    I8, Line, P, Q, Signed, Terms, UNDECLARED, X, Y, Z, literals, newtypes, sequent, step, steps,
+};
+use df_form::{Op, Sequent};
+use df_kern::{AxiomFault, Checker, KernFault, check, connective, instance};
+use std::alloc::Global;
+use std::process::Abort;
+use std::test::Fail;
+
+/// The last lines of a log, and the number of the step and the row that refuse it, or none.
+type Case<'a> = (&'a [Line<'a>], Option<(u64, u8)>);
+
+/// A sequent's hypotheses and goal, the first lines of its logs, and the logs.
+type Sheet<'a> = (&'a [Terms<'a>], Terms<'a>, &'a [Line<'a>], &'a [Case<'a>]);
+
+/// Lines over p alone, which is 0.
+const PLACES: [Case; 13] = [
+    (&[Line::H(0)], Some((1, 1))),
+    (&[Line::X(0, 0)], Some((1, 2))),
+    (&[Line::A(74, 0, &[0])], Some((1, 5))),
+    (&[Line::U(&[0], &[(true, 0)])], Some((1, 6))),
+    (&[Line::L(&[], &[])], Some((1, 8))),
+    (&[Line::S(0, 1)], Some((1, 9))),
+    (&[Line::N(P, &[])], Some((1, 10))),
+    (&[Line::N(X, &[])], Some((1, 10))),
+    (
+        &[Line::N(Op::Number(5), &[]), Line::N(Op::Number(5), &[])],
+        Some((2, 10)),
+    ),
+    (&[Line::G], Some((2, 0))),
+    (&[Line::G, Line::N(Op::Number(5), &[])], Some((3, 0))),
+    (&[Line::G, Line::H(0)], Some((2, 1))),
+    (&[], Some((1, 0))),
+];
+
+/// The terms of the `and` of not p, p and q, p or q, p implies q, p iff q, x = y, x is i8, and p = q.
+/// Their nodes: p 0, not p 1, q 2, then 3 to 6, x 7, y 8, then 9 to 12.
+const EACH: [(Op, usize); 23] = [
+    (P, 0),
+    (Op::Not, 1),
+    (P, 0),
+    (Q, 0),
+    (Op::And, 2),
+    (P, 0),
+    (Q, 0),
+    (Op::Or, 2),
+    (P, 0),
+    (Q, 0),
+    (Op::Implies, 2),
+    (P, 0),
+    (Q, 0),
+    (Op::Iff, 2),
+    (X, 0),
+    (Y, 0),
+    (Op::Equal, 2),
+    (X, 0),
+    (I8, 1),
+    (P, 0),
+    (Q, 0),
+    (Op::Equal, 2),
+    (Op::And, 8),
+];
+
+/// Lines over these terms, one after another, with the clauses that they add.
+const ADDED: [(Line, &[Signed]); 27] = [
+    (Line::G, &[(false, 12)]),
+    (Line::X(1, 0), &[(false, 1), (false, 0)]),
+    (Line::X(1, 1), &[(true, 1), (true, 0)]),
+    (Line::X(3, 0), &[(false, 3), (true, 0)]),
+    (Line::X(3, 1), &[(false, 3), (true, 2)]),
+    (Line::X(3, 2), &[(true, 3), (false, 0), (false, 2)]),
+    (Line::X(4, 0), &[(false, 4), (true, 0), (true, 2)]),
+    (Line::X(4, 1), &[(true, 4), (false, 0)]),
+    (Line::X(4, 2), &[(true, 4), (false, 2)]),
+    (Line::X(5, 0), &[(false, 5), (false, 0), (true, 2)]),
+    (Line::X(5, 1), &[(true, 5), (true, 0)]),
+    (Line::X(5, 2), &[(true, 5), (false, 2)]),
+    (Line::X(6, 0), &[(false, 6), (false, 0), (true, 2)]),
+    (Line::X(6, 1), &[(false, 6), (true, 0), (false, 2)]),
+    (Line::X(6, 2), &[(true, 6), (true, 0), (true, 2)]),
+    (Line::X(6, 3), &[(true, 6), (false, 0), (false, 2)]),
+    // x <= y becomes 13, and y <= x 14
+    (Line::X(9, 0), &[(false, 9), (true, 13)]),
+    (Line::X(9, 1), &[(false, 9), (true, 14)]),
+    (Line::X(9, 2), &[(true, 9), (false, 13), (false, 14)]),
+    // -128 becomes 15, -128 <= x 16, 127 17, and x <= 127 18
+    (Line::A(74, 0, &[10]), &[(false, 10), (true, 16)]),
+    (Line::A(74, 1, &[10]), &[(false, 10), (true, 18)]),
+    (
+        Line::A(74, 2, &[10]),
+        &[(true, 10), (false, 16), (false, 18)],
+    ),
+    // 3 becomes 19, x <= 3 20, 4 21, and 4 <= x 22
+    (Line::S(7, 3), &[(true, 20), (true, 22)]),
+    // x <= 4 becomes 23, 5 24, and 5 <= x 25
+    (Line::S(7, 4), &[(true, 23), (true, 25)]),
+    (
+        Line::U(&[2], &[(true, 0), (true, 1)]),
+        &[(true, 0), (true, 1)],
+    ),
+    (
+        Line::L(&[(false, 20), (false, 25)], &[(1, &[(1, 0), (1, 1)])]),
+        &[(false, 20), (false, 25)],
+    ),
+    (
+        Line::L(&[(false, 25), (false, 20)], &[(2, &[(1, 0), (1, 1)])]),
+        &[(false, 25), (false, 20)],
+    ),
+];
+
+/// Lines over the same terms, beside the hypotheses p and not p.
+const KINDS: [Case; 47] = [
+    (&[Line::H(0)], Some((2, 0))),
+    (&[Line::H(1)], Some((2, 0))),
+    (&[Line::H(2)], Some((1, 1))),
+    (&[Line::X(1, 2)], Some((1, 2))),
+    (&[Line::X(3, 3)], Some((1, 2))),
+    (&[Line::X(4, 3)], Some((1, 2))),
+    (&[Line::X(5, 3)], Some((1, 2))),
+    (&[Line::X(6, 4)], Some((1, 2))),
+    (&[Line::X(9, 3)], Some((1, 2))),
+    // an equality of truths, a free term, a type, a number that no node has
+    (&[Line::X(11, 0)], Some((1, 2))),
+    (&[Line::X(0, 0)], Some((1, 2))),
+    (&[Line::X(10, 0)], Some((1, 2))),
+    (&[Line::X(13, 0)], Some((1, 2))),
+    (&[Line::A(74, 3, &[10])], Some((1, 5))),
+    (&[Line::A(73, 0, &[10])], Some((1, 5))),
+    (&[Line::A(74, 0, &[10, 10])], Some((1, 5))),
+    (&[Line::A(74, 0, &[])], Some((1, 5))),
+    (&[Line::A(74, 0, &[7])], Some((1, 5))),
+    (&[Line::A(74, 0, &[13])], Some((1, 5))),
+    // a newtype that is not declared
+    (
+        &[Line::N(UNDECLARED, &[7]), Line::A(74, 0, &[13])],
+        Some((2, 5)),
+    ),
+    (&[Line::N(I8, &[8]), Line::A(74, 0, &[13])], Some((3, 0))),
+    // x - 5 and x - 4, by a factor below 0
+    (
+        &[
+            Line::S(7, 3),
+            Line::S(7, 4),
+            Line::L(&[(false, 19), (false, 16)], &[(1, &[(1, 0), (-1, 1)])]),
+        ],
+        Some((3, 8)),
+    ),
+    (&[Line::S(7, i128::MIN)], Some((2, 0))),
+    (&[Line::S(7, i128::MAX - 1)], Some((2, 0))),
+    (&[Line::S(7, i128::MAX)], Some((1, 9))),
+    (&[Line::S(0, 3)], Some((1, 9))),
+    (&[Line::S(13, 3)], Some((1, 9))),
+    (&[Line::N(Op::Plus, &[7, 8])], Some((2, 0))),
+    (&[Line::N(Op::Plus, &[7, 8]), Line::S(13, 0)], Some((3, 0))),
+    (&[Line::N(Op::Plus, &[7, 0])], Some((1, 10))),
+    (&[Line::N(Op::Plus, &[7, 13])], Some((1, 10))),
+    (&[Line::N(Op::Plus, &[7])], Some((1, 10))),
+    (&[Line::N(Op::Times, &[8, 8])], Some((2, 0))),
+    (&[Line::N(Op::Number(5), &[7])], Some((1, 10))),
+    (&[Line::N(I8, &[0])], Some((1, 10))),
+    (&[Line::N(I8, &[7])], Some((1, 10))),
+    (&[Line::N(Op::Equal, &[0, 7])], Some((1, 10))),
+    (&[Line::N(Op::Equal, &[7, 8])], Some((1, 10))),
+    (&[Line::N(Op::Equal, &[8, 7])], Some((2, 0))),
+    (&[Line::N(Op::AtMost, &[0, 2])], Some((1, 10))),
+    (&[Line::N(Op::Not, &[2])], Some((2, 0))),
+    (&[Line::N(Op::Not, &[7])], Some((1, 10))),
+    (&[Line::N(Op::Or, &[])], Some((2, 0))),
+    (&[Line::N(Op::And, &[0, 2])], Some((1, 10))),
+    (&[Line::N(Op::And, &[0, 8])], Some((1, 10))),
+    (&[Line::N(Op::Implies, &[0, 2, 2])], Some((1, 10))),
+    (
+        &[Line::N(Op::Or, &[]), Line::X(13, 0), Line::X(13, 1)],
+        Some((3, 2)),
+    ),
+];
+
+/// p (0), and p implies q (2), whose clauses are 0 to 3 with the negation of q (1).
+const FIRST: &[Line] = &[Line::H(0), Line::H(1), Line::X(2, 0), Line::G];
+
+/// Numbers of clauses and conclusions that follow, and then others.
+const PROPAGATIONS: [Case; 19] = [
+    (&[Line::U(&[0, 1, 2, 3], &[])], None),
+    (&[Line::U(&[3, 0, 1, 2], &[])], None),
+    (&[Line::U(&[0, 3, 2, 1], &[])], None),
+    (&[Line::U(&[0, 0, 1, 2, 3], &[])], None),
+    (&[Line::U(&[0, 1, 2], &[(true, 1)])], Some((6, 0))),
+    (
+        &[Line::U(&[2], &[(false, 2), (true, 1), (false, 0)])],
+        Some((6, 0)),
+    ),
+    // two literals are left on the way
+    (&[Line::U(&[1, 2, 3], &[])], Some((5, 6))),
+    (&[Line::U(&[0, 2, 3], &[])], Some((5, 6))),
+    (&[Line::U(&[3, 2, 1, 0], &[])], Some((5, 6))),
+    // and at the end one or two
+    (&[Line::U(&[0, 1, 2], &[])], Some((5, 6))),
+    (&[Line::U(&[0, 1, 3], &[])], Some((5, 6))),
+    (&[Line::U(&[0, 2], &[])], Some((5, 6))),
+    // none on the way
+    (&[Line::U(&[0, 1, 2, 3, 3], &[])], Some((5, 6))),
+    (&[Line::U(&[0, 1, 2, 2], &[(true, 1)])], Some((5, 6))),
+    (&[Line::U(&[0, 1, 4], &[])], Some((5, 6))),
+    (&[Line::U(&[4, 0, 1, 2, 3], &[])], Some((5, 6))),
+    (&[Line::U(&[], &[])], Some((5, 6))),
+    (&[Line::U(&[], &[(true, 1)])], Some((5, 6))),
+    // no formula
+    (
+        &[Line::U(&[0, 1, 2], &[(true, 1), (true, 3)])],
+        Some((5, 6)),
+    ),
+];
+
+/// p, p implies q
+const MODUS_PONENS: &[Terms] = &[&[(P, 0)], &[(P, 0), (Q, 0), (Op::Implies, 2)]];
+
+/// 2 * x <= 2 * y + 1, y <= z |- x <= z, whose formulas are 7, 9 and 10. The rows are 2y + 1 - 2x, z - y and
+/// x - z - 1; halved, the first is y - x.
+const LINEAR: Sheet = (
+    &[
+        &[
+            (Op::Number(2), 0),
+            (X, 0),
+            (Op::Times, 2),
+            (Op::Number(2), 0),
+            (Y, 0),
+            (Op::Times, 2),
+            (Op::Number(1), 0),
+            (Op::Plus, 2),
+            (Op::AtMost, 2),
+        ],
+        &[(Y, 0), (Z, 0), (Op::AtMost, 2)],
+    ],
+    &[(X, 0), (Z, 0), (Op::AtMost, 2)],
+    &[Line::H(0), Line::H(1), Line::G],
+    &[
+        (
+            &[
+                Line::L(
+                    &[(false, 7), (false, 9), (true, 10)],
+                    &[(2, &[(1, 0)]), (1, &[(1, 3), (1, 1), (1, 2)])],
+                ),
+                Line::U(&[0, 1, 2, 3], &[]),
+            ],
+            None,
+        ),
+        // twice the other rows do as well
+        (
+            &[Line::L(
+                &[(false, 7), (false, 9), (true, 10)],
+                &[(1, &[(1, 0), (2, 1), (2, 2)])],
+            )],
+            Some((5, 0)),
+        ),
+    ],
+);
+
+/// x <= 3 implies p, 7 <= 2 * x implies p |- p. The formulas: x <= 3 is 2, p 3, the first hypothesis 4,
+/// 7 <= 2 * x 8, the second hypothesis 9, and 4 <= x becomes 11. The rows are x - 4 and 6 - 2x.
+const SPLITTING: Sheet = (
+    &[
+        &[
+            (X, 0),
+            (Op::Number(3), 0),
+            (Op::AtMost, 2),
+            (P, 0),
+            (Op::Implies, 2),
+        ],
+        &[
+            (Op::Number(7), 0),
+            (Op::Number(2), 0),
+            (X, 0),
+            (Op::Times, 2),
+            (Op::AtMost, 2),
+            (P, 0),
+            (Op::Implies, 2),
+        ],
+    ],
+    &[(P, 0)],
+    &[Line::H(0), Line::H(1), Line::G, Line::S(0, 3)],
+    &[(
+        &[
+            Line::X(4, 0),
+            Line::X(9, 0),
+            Line::L(&[(false, 11), (true, 8)], &[(1, &[(2, 0), (1, 1)])]),
+            Line::U(&[0, 1, 2, 4, 5, 6, 3], &[]),
+        ],
+        None,
+    )],
+);
+
+/// x is i8, 127 <= x |- x = 127, whose formulas are 1, 3 and 4; x <= 127 becomes 5.
+const TYPED: Sheet = (
+    &[
+        &[(X, 0), (I8, 1)],
+        &[(Op::Number(127), 0), (X, 0), (Op::AtMost, 2)],
+    ],
+    &[(X, 0), (Op::Number(127), 0), (Op::Equal, 2)],
+    &[Line::H(0), Line::H(1), Line::G],
+    &[(
+        &[
+            Line::A(74, 1, &[1]),
+            Line::X(4, 2),
+            Line::U(&[0, 3, 1, 2, 4], &[]),
+        ],
+        None,
+    )],
+);
+
+const SHEETS: [Sheet; 6] = [
+    (&[], &[(P, 0)], &[], &PLACES),
+    (&[&[(P, 0)], &[(P, 0), (Op::Not, 1)]], &EACH, &[], &KINDS),
+    (MODUS_PONENS, &[(Q, 0)], FIRST, &PROPAGATIONS),
+    LINEAR,
+    SPLITTING,
+    TYPED,
+];
+
+/// Each log is accepted, or refused at its place.
+fn checks_each(
+    rt: &impl Abort,
+    alloc: Global,
+    sequent: &Sequent,
+    first: &[Line],
+    cases: &[Case],
+) -> Result<(), Fail> {
+    for (number, (last, refused)) in cases.iter().enumerate() {
+        let log = steps(alloc, first, *last)?;
+        let wanted = match *refused {
+            Some((at, broken)) => Some(KernFault::Refused { at, broken }),
+            None => None,
+        };
+        assert_eq!(rt; check(alloc, sequent, &log).err(), wanted, "at {number}");
+    }
+    Ok(())
+}
+
+#[test]
+fn accepts_logs_or_tells_where_they_are_refused(rt: HostRuntime) -> Result<(), Fail> {
+    let alloc = rt.alloc();
+    let newtypes = newtypes(alloc)?;
+    for (hypotheses, goal, first, cases) in SHEETS.iter() {
+        let sequent = sequent(alloc, newtypes.as_slice(), *hypotheses, *goal)?;
+        checks_each(&rt, alloc, &sequent, *first, *cases)?;
+    }
+    Ok(())
+}
+
+#[test]
+fn adds_clauses(rt: HostRuntime) -> Result<(), Fail> {
+    let alloc = rt.alloc();
+    let newtypes = newtypes(alloc)?;
+    let sequent = sequent(alloc, newtypes.as_slice(), &[], &EACH)?;
+    let mut checker = Checker::new(alloc, &sequent)?;
+    for (number, (line, added)) in ADDED.iter().enumerate() {
+        let step = step(alloc, *line)?;
+        assert_eq!(rt; checker.take(&step), Ok(()), "at {number}");
+        let expected = literals(alloc, *added)?;
+        let clause = checker.clauses.last().ok_or("a clause")?;
+        assert_eq!(rt; clause.as_slice(), expected.as_slice(), "at {number}");
+    }
+    assert_eq!(rt; checker.nodes.len(), 26);
+    Ok(())
+}
+
+#[test]
+fn takes_twenty_thousand_lines(rt: HostRuntime) -> Result<(), Fail> {
+    let alloc = rt.alloc();
+    let newtypes = newtypes(alloc)?;
+    let sequent = sequent(alloc, newtypes.as_slice(), MODUS_PONENS, &[(Q, 0)])?;
+    let hypothesis = step(alloc, Line::H(0))?;
+    let propagation = step(alloc, Line::U(&[0], &[(true, 0)]))?;
+    let mut checker = Checker::new(alloc, &sequent)?;
+    for _ in 0..10_000 {
+        assert_eq!(rt; checker.take(&hypothesis), Ok(()));
+        assert_eq!(rt; checker.take(&propagation), Ok(()));
+    }
+    let unfinished = KernFault::Refused {
+        at: 20_001,
+        broken: 0,
+    };
+    assert_eq!(rt; checker.finish(), Err(unfinished));
+    Ok(())
+}
+
+/// x is i8 is 1, and its negation 2. -128 becomes 3, -128 <= x 4, 127 5, and x <= 127 6.
+#[test]
+fn gives_clauses_of_types_and_connectives(rt: HostRuntime) -> Result<(), Fail> {
+    let alloc = rt.alloc();
+    let newtypes = newtypes(alloc)?;
+    let goal = [(X, 0), (I8, 1), (Op::Not, 1)];
+    let sequent = sequent(alloc, newtypes.as_slice(), &[], &goal)?;
+    let mut nodes = sequent.nodes.copy(alloc)?;
+    let clause = instance(alloc, newtypes.as_slice(), &mut nodes, 74, 2, &[1])?;
+    let expected = literals(alloc, &[(true, 1), (false, 4), (false, 6)])?;
+    assert_eq!(rt; clause.as_slice(), expected.as_slice());
+    let other = instance(alloc, newtypes.as_slice(), &mut nodes, 74, 3, &[1]);
+    assert_eq!(rt; (other.err(), nodes.len()), (Some(AxiomFault::NoSuch), 7));
+    let clause = connective(alloc, &mut nodes, 2, 1)?;
+    let expected = literals(alloc, &[(true, 2), (true, 1)])?;
+    assert_eq!(rt; clause.as_slice(), expected.as_slice());
+    let other = connective(alloc, &mut nodes, 2, 2);
+    assert_eq!(rt; (other.err(), nodes.len()), (Some(AxiomFault::NoSuch), 7));
+    Ok(())
+}

@@ -1,0 +1,18 @@
+//! Tests of sequents, the kernel, linear arithmetic and logs, as tables against their public calls. The crate
+//! holds nothing else.
+#![tactic(auto)]
+
+#[cfg(test)]
+mod eliminations;
+#[cfg(test)]
+mod integers;
+#[cfg(test)]
+mod kernel;
+#[cfg(test)]
+mod levels;
+#[cfg(test)]
+mod logs;
+#[cfg(test)]
+mod rows;
+#[cfg(test)]
+mod sequents;

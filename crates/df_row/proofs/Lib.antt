@@ -1,0 +1,11 @@
+pub mod Rows
+pub mod RowEntries
+pub mod RowFold
+pub mod RowSums
+pub mod RowQuotients
+pub mod RowNarrow
+pub mod LinearRows
+pub mod LinearSums
+pub mod LinearWithin
+pub mod LinearRefutes
+pub mod Sums

@@ -1,0 +1,3 @@
+mod Tried
+mod Sampled
+mod Faults

@@ -1,0 +1,3 @@
+pub mod Counting
+pub mod First
+pub mod Edges

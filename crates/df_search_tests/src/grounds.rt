@@ -1,0 +1,206 @@
+//! Ground sets that are listed by hand.
+
+use df_cases::{
+    BYTE, I8, P, Q, Signed, Terms, UNDECLARED, X, Y, assume, conclude, newtypes, sequent,
+};
+use df_form::{Draft, Op, Sequent};
+use df_ground::{Ground, GroundClause, GroundFault};
+use df_kern::Checker;
+use std::alloc::Global;
+use std::process::Abort;
+use std::test::Fail;
+
+/// The literals of a clause, and what it is bound to.
+type Listed<'a> = (&'a [Signed], Option<usize>);
+
+/// A sequent's hypotheses and goal, its clauses, how many nodes there are with those that these make, and
+/// some nodes that are numbers.
+type Sheet<'a> = (
+    &'a [Terms<'a>],
+    Terms<'a>,
+    &'a [Listed<'a>],
+    usize,
+    &'a [(usize, i128)],
+);
+
+const SHEETS: [Sheet; 5] = [
+    // x is 0, 3 is 1, x <= 3 is 2, 1 is 3, x + 1 is 4, 4 is 5, and x + 1 <= 4 is 6
+    (
+        &[&[(X, 0), (Op::Number(3), 0), (Op::AtMost, 2)]],
+        &[
+            (X, 0),
+            (Op::Number(1), 0),
+            (Op::Plus, 2),
+            (Op::Number(4), 0),
+            (Op::AtMost, 2),
+        ],
+        &[(&[(true, 2)], None), (&[(false, 6)], None)],
+        7,
+        &[(1, 3), (3, 1), (5, 4)],
+    ),
+    // x is 0, "x is of i8" is 1, and of a newtype that is not declared 2; -128 becomes 3, -128 <= x 4, 127 5,
+    // and x <= 127 6
+    (
+        &[&[(X, 0), (I8, 1)]],
+        &[(X, 0), (UNDECLARED, 1)],
+        &[
+            (&[(true, 1)], None),
+            (&[(false, 2)], None),
+            (&[(false, 1), (true, 4)], None),
+            (&[(false, 1), (true, 6)], None),
+            (&[(true, 1), (false, 4), (false, 6)], None),
+        ],
+        7,
+        &[(3, -128), (5, 127)],
+    ),
+    // of byte 2; 0 becomes 7, 0 <= x 8, 255 9, and x <= 255 10
+    (
+        &[&[(X, 0), (I8, 1)]],
+        &[(X, 0), (BYTE, 1)],
+        &[
+            (&[(true, 1)], None),
+            (&[(false, 2)], None),
+            (&[(false, 1), (true, 4)], None),
+            (&[(false, 1), (true, 6)], None),
+            (&[(true, 1), (false, 4), (false, 6)], None),
+            (&[(false, 2), (true, 8)], None),
+            (&[(false, 2), (true, 10)], None),
+            (&[(true, 2), (false, 8), (false, 10)], None),
+        ],
+        11,
+        &[(3, -128), (5, 127), (7, 0), (9, 255)],
+    ),
+    // x is 0, y 1, x = y 2, and x <= y 3; y <= x becomes 7; an equality of truths, 6, has no clauses
+    (
+        &[
+            &[(X, 0), (Y, 0), (Op::Equal, 2)],
+            &[(X, 0), (Y, 0), (Op::AtMost, 2)],
+        ],
+        &[(P, 0), (Q, 0), (Op::Equal, 2)],
+        &[
+            (&[(true, 2)], None),
+            (&[(true, 3)], None),
+            (&[(false, 6)], None),
+            (&[(false, 2), (true, 3)], Some(2)),
+            (&[(false, 2), (true, 7)], Some(2)),
+            (&[(true, 2), (false, 3), (false, 7)], Some(2)),
+        ],
+        8,
+        &[],
+    ),
+    // p is 0, q 1, and then come their connectives from 2 to 6
+    (
+        &[
+            &[(P, 0), (Q, 0), (Op::And, 2)],
+            &[(P, 0), (Q, 0), (Op::Or, 2)],
+            &[(P, 0), (Q, 0), (Op::Implies, 2)],
+            &[(P, 0), (Q, 0), (Op::Iff, 2)],
+        ],
+        &[(P, 0), (Op::Not, 1)],
+        &[
+            (&[(true, 2)], None),
+            (&[(true, 3)], None),
+            (&[(true, 4)], None),
+            (&[(true, 5)], None),
+            (&[(false, 6)], None),
+            (&[(false, 2), (true, 0)], None),
+            (&[(false, 2), (true, 1)], None),
+            (&[(true, 2), (false, 0), (false, 1)], None),
+            (&[(false, 3), (true, 0), (true, 1)], None),
+            (&[(true, 3), (false, 0)], None),
+            (&[(true, 3), (false, 1)], None),
+            (&[(false, 4), (false, 0), (true, 1)], None),
+            (&[(true, 4), (true, 0)], None),
+            (&[(true, 4), (false, 1)], None),
+            (&[(false, 5), (false, 0), (true, 1)], None),
+            (&[(false, 5), (true, 0), (false, 1)], None),
+            (&[(true, 5), (true, 0), (true, 1)], None),
+            (&[(true, 5), (false, 0), (false, 1)], None),
+            (&[(false, 6), (false, 0)], None),
+            (&[(true, 6), (true, 0)], None),
+        ],
+        7,
+        &[],
+    ),
+];
+
+fn is_listed(clause: &GroundClause, listed: Listed) -> bool {
+    let (literals, bound) = listed;
+    clause.bound == bound
+        && clause.literals.len() == literals.len()
+        && literals.iter().zip(clause.literals.iter()).all(|(signed, literal)| signed.0
+            == literal.positive
+            && signed.1 == literal.node)
+}
+
+/// The kernel takes the lines of a ground set, and makes so many nodes.
+fn are_lines(
+    rt: &impl Abort,
+    alloc: Global,
+    sequent: &Sequent,
+    count: usize,
+    made: usize,
+) -> Result<(), Fail> {
+    let set = Ground::new(alloc, sequent).map_err(|_| "refused")?;
+    assert_eq!(rt; set.lines.len(), count);
+    let mut checker = Checker::new(alloc, sequent)?;
+    for line in &set.lines {
+        assert_eq!(rt; checker.take(line), Ok(()));
+    }
+    assert_eq!(rt; checker.nodes.len(), made);
+    Ok(())
+}
+
+fn is_as_listed(
+    rt: &impl Abort,
+    alloc: Global,
+    sequent: &Sequent,
+    sheet: Sheet,
+) -> Result<(), Fail> {
+    let (_, _, clauses, made, numbers) = sheet;
+    let set = Ground::new(alloc, sequent).map_err(|_| "refused")?;
+    assert_eq!(rt; set.nodes.len(), made);
+    assert_eq!(rt; set.clauses.len(), clauses.len());
+    for (number, (clause, listed)) in set.clauses.iter().zip(clauses).enumerate() {
+        assert!(rt; is_listed(clause, *listed), "at {number}");
+    }
+    for (node, value) in numbers {
+        let made = set.nodes.get(*node).ok_or("a number")?;
+        assert!(rt; made.op == Op::Number(*value), "at {node}");
+    }
+    are_lines(rt, alloc, sequent, clauses.len(), made)
+}
+
+#[test]
+fn lists_clauses(rt: HostRuntime) -> Result<(), Fail> {
+    let alloc = rt.alloc();
+    let newtypes = newtypes(alloc)?;
+    for sheet in SHEETS.iter() {
+        let (hypotheses, goal, ..) = *sheet;
+        let sequent = sequent(alloc, newtypes.as_slice(), hypotheses, goal)?;
+        is_as_listed(&rt, alloc, &sequent, *sheet)?;
+    }
+    Ok(())
+}
+
+/// The answer for the hypothesis p so many times, and the goal q.
+fn repeated(rt: &impl Abort, alloc: Global, count: usize) -> Result<Option<GroundFault>, Fail> {
+    let newtypes = newtypes(alloc)?;
+    let mut draft = Draft::new(alloc, newtypes.as_slice());
+    for _ in 0..count {
+        assume(&mut draft, &[(P, 0)])?;
+    }
+    let sequent = conclude(alloc, &mut draft, &[(Q, 0)])?;
+    Ok(Ground::new(alloc, &sequent).err())
+}
+
+#[test]
+fn refuses_too_many(rt: HostRuntime) -> Result<(), Fail> {
+    let alloc = rt.alloc();
+    assert_eq!(rt; repeated(&rt, alloc, 199_998)?, None);
+    assert_eq!(rt;
+        repeated(&rt, alloc, 199_999)?,
+        Some(GroundFault::Many(200_000))
+    );
+    Ok(())
+}

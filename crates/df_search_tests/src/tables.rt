@@ -1,0 +1,203 @@
+//! Tables by hand: those that are models of ground sets and those that are not, and those of assignments.
+
+use df_cases::{I8, P, Plain, Q, Terms, UNDECLARED, X, Y, Z, newtypes, nodes, sequent};
+use df_form::{Lit, Op, Sequent};
+use df_ground::Ground;
+use df_kern::Known;
+use df_model::{Valuation, valuation};
+use df_table::{Table, is_model};
+use std::alloc::Global;
+use std::process::Abort;
+use std::test::Fail;
+
+/// A sequent's hypotheses and goal, and tables: whether they are models of its ground set.
+type Sheet<'a> = (&'a [Terms<'a>], Terms<'a>, &'a [(&'a [i128], bool)]);
+
+const SHEETS: [Sheet; 3] = [
+    // x <= 3 does not make x + 1 <= 3: x is 0, 3 is 1, x <= 3 is 2, 1 is 3, x + 1 is 4, and x + 1 <= 3 is 5
+    (
+        &[&[(X, 0), (Op::Number(3), 0), (Op::AtMost, 2)]],
+        &[
+            (X, 0),
+            (Op::Number(1), 0),
+            (Op::Plus, 2),
+            (Op::Number(3), 0),
+            (Op::AtMost, 2),
+        ],
+        &[
+            (&[3, 3, 1, 1, 4, 0], true),
+            // a truth may have any number of at least 1, and a falsehood any below
+            (&[3, 3, 7, 1, 4, -5], true),
+            // a node without a number, or a number without a node
+            (&[3, 3, 1, 1, 4], false),
+            (&[3, 3, 1, 1, 4, 0, 0], false),
+            // a literal that is wrong
+            (&[3, 4, 1, 1, 5, 0], false),
+            // a sum that is wrong
+            (&[3, 3, 1, 1, 5, 0], false),
+            // a sum that does not fit
+            (&[i128::MAX, 3, 1, 1, i128::MIN, 0], false),
+            // a comparison that is true and said to be false
+            (&[2, 3, 1, 1, 3, 0], false),
+            // a hypothesis that is false
+            (&[4, 3, 0, 1, 5, 0], false),
+        ],
+    ),
+    // x * y differs from y * x: x is 0, y 1, x * y 2, y * x 3, and x * y = y * x 4; 2 <= 3 becomes 5, and
+    // 3 <= 2 6
+    (
+        &[],
+        &[
+            (X, 0),
+            (Y, 0),
+            (Op::Times, 2),
+            (Y, 0),
+            (X, 0),
+            (Op::Times, 2),
+            (Op::Equal, 2),
+        ],
+        &[
+            // other products are not looked into
+            (&[2, 3, 6, 7, 0, 1, 0], true),
+            // equal arguments with other results
+            (&[2, 2, 6, 7, 0, 1, 0], false),
+            // an equality of different numbers that is true
+            (&[2, 3, 6, 7, 1, 1, 0], false),
+            // the goal is true
+            (&[2, 3, 6, 6, 1, 1, 1], false),
+            // a clause of an equality is false, where its comparisons are not those of the numbers
+            (&[2, 3, 6, 6, 0, 1, 1], false),
+        ],
+    ),
+    // 2 * x <= 7 or p: 2 is 0, x 1, 2 * x 2, 7 is 3, 2 * x <= 7 is 4, p 5, and the `or` 6
+    (
+        &[],
+        &[
+            (Op::Number(2), 0),
+            (X, 0),
+            (Op::Times, 2),
+            (Op::Number(7), 0),
+            (Op::AtMost, 2),
+            (P, 0),
+            (Op::Or, 2),
+        ],
+        &[
+            (&[2, 4, 8, 7, 0, 0, 0], true),
+            // a multiple that is wrong
+            (&[2, 4, 9, 7, 0, 0, 0], false),
+            // a part of a false `or` that is true
+            (&[2, 4, 8, 7, 0, 1, 0], false),
+            // the goal is true
+            (&[2, 4, 8, 7, 0, 1, 1], false),
+        ],
+    ),
+];
+
+/// Whether each table is a model of the sequent's ground set.
+fn are_models(
+    rt: &impl Abort,
+    alloc: Global,
+    sequent: &Sequent,
+    tables: &[(&[i128], bool)],
+) -> Result<(), Fail> {
+    let set = Ground::new(alloc, sequent).map_err(|_| "refused")?;
+    for (number, (numbers, expected)) in tables.iter().enumerate() {
+        let table = Table::new(Vec::from_slice(alloc, numbers)?);
+        assert_eq!(rt; is_model(&set, &table), *expected, "at {number}");
+    }
+    Ok(())
+}
+
+#[test]
+fn tells_models(rt: HostRuntime) -> Result<(), Fail> {
+    let alloc = rt.alloc();
+    let newtypes = newtypes(alloc)?;
+    for (hypotheses, goal, tables) in SHEETS.iter() {
+        let sequent = sequent(alloc, newtypes.as_slice(), *hypotheses, *goal)?;
+        are_models(&rt, alloc, &sequent, *tables)?;
+    }
+    Ok(())
+}
+
+/// Nodes with their numbers, where the first two free numbers are 5 and -3, and node 2 alone is known
+/// to be true.
+const TABLE: [(Plain, i128); 27] = [
+    ((X, &[]), 5),
+    ((Y, &[]), -3),
+    ((P, &[]), 1),
+    ((Q, &[]), 0),
+    // past the end of the numbers
+    ((Z, &[]), 0),
+    ((Op::Number(2), &[]), 2),
+    ((Op::Plus, &[0, 1]), 2),
+    ((Op::Times, &[0, 1]), -15),
+    ((Op::Times, &[7, 7]), 225),
+    ((I8, &[7]), 1),
+    ((I8, &[8]), 0),
+    ((UNDECLARED, &[7]), 0),
+    ((Op::Equal, &[5, 6]), 1),
+    ((Op::Equal, &[0, 1]), 0),
+    // an equality of truths
+    ((Op::Equal, &[3, 13]), 1),
+    ((Op::AtMost, &[5, 6]), 1),
+    ((Op::AtMost, &[0, 1]), 0),
+    ((Op::Not, &[2]), 0),
+    ((Op::Not, &[3]), 1),
+    ((Op::And, &[]), 1),
+    ((Op::And, &[2, 3]), 0),
+    ((Op::Or, &[]), 0),
+    ((Op::Or, &[3, 2]), 1),
+    ((Op::Implies, &[2, 3]), 0),
+    ((Op::Implies, &[3, 3]), 1),
+    ((Op::Iff, &[2, 3]), 0),
+    ((Op::Iff, &[3, 3]), 1),
+];
+
+#[test]
+fn tabulates_each_operation(rt: HostRuntime) -> Result<(), Fail> {
+    let alloc = rt.alloc();
+    let newtypes = newtypes(alloc)?;
+    let mut plain = Vec::new(alloc);
+    for (node, _) in TABLE.iter() {
+        plain.push(*node)?;
+    }
+    let nodes = nodes(alloc, &plain)?;
+    let mut known = Known::new(alloc);
+    known.insert(Lit {
+        positive: true,
+        node: 2,
+    })?;
+    let Valuation::Table(table) = valuation(alloc, newtypes.as_slice(), &nodes, &[5, -3], &known)?
+    else {
+        return Err(Fail::new("wide"));
+    };
+    assert_eq!(rt; table.len(), TABLE.len());
+    for (node, (_, wanted)) in TABLE.iter().enumerate() {
+        assert_eq!(rt; table.number(node), *wanted, "at {node}");
+    }
+    Ok(())
+}
+
+/// Operations on two numbers, and whether the result is past 128 bits.
+const WIDE: [(Op, [i128; 2], bool); 7] = [
+    (Op::Plus, [i128::MAX, 0], false),
+    (Op::Plus, [i128::MAX, 1], true),
+    (Op::Plus, [i128::MIN, -1], true),
+    (Op::Times, [1 << 126, 1], false),
+    (Op::Times, [1 << 126, 2], true),
+    (Op::Times, [1 << 126, -2], false),
+    (Op::Times, [i128::MIN, -1], true),
+];
+
+#[test]
+fn tells_of_wide_numbers(rt: HostRuntime) -> Result<(), Fail> {
+    let alloc = rt.alloc();
+    let newtypes = newtypes(alloc)?;
+    let known = Known::new(alloc);
+    for (case, (op, numbers, wide)) in WIDE.iter().enumerate() {
+        let nodes = nodes(alloc, &[(X, &[]), (Y, &[]), (*op, &[0, 1])])?;
+        let valuation = valuation(alloc, newtypes.as_slice(), &nodes, numbers, &known)?;
+        assert!(rt; matches!(valuation, Valuation::Wide) == *wide, "at {case}");
+    }
+    Ok(())
+}
