@@ -1,0 +1,4 @@
+mod Measure
+pub mod Loop
+mod Readers
+mod Parts

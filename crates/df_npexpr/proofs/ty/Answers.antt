@@ -1,0 +1,25 @@
+use Rattle.std.proofs.Common.{map, length, sym, ap, ◌∙◌}
+use Rattle.std.proofs.lemmas.List.{length-map}
+use Rattle.std.proofs.lemmas.Result.{err_from_is_err_and}
+use Rattle.df_tok.specs.Token.{view}
+use Rattle.df_ntree.specs.mirror.ExprReading.{type_at}
+use Rattle.df_npexpr.specs.Rest.{rest_of}
+use Rattle.df_npexpr.proofs.Parts.{front, is_none, whole_type, type_fits, no_type}
+use Rattle.df_npexpr.proofs.ty.Goals as goal
+
+pub returns-in_err-ty-clause-refused : goal.returns-in_err-ty-clause-refused
+returns-in_err-ty-clause-refused c = λ r e tree after x.
+    let p = err_from_is_err_and c.from_residual.result c.from_residual.ensures.1 in
+    let f = front c.args.tokens.now.all.items c.as_slice-all.result.now c.new-cursor.result.rest.now c.args.start c.as_slice-all.ensures.value c.new-cursor.ensures in
+    let none = is_none c.from_residual.result p.0 c.in_err-ty.field-0.0 r (type_at (rest_of c.new-cursor.result)) c.in_err-ty.ensures p.1 p.2 e in
+    no_type (map view c.args.tokens.now.all.items) (rest_of c.new-cursor.result) c.args.start f none tree after x
+
+pub overflow_sub-result : goal.overflow_sub-result
+overflow_sub-result c =
+    let f = front c.args.tokens.now.all.items c.as_slice-all.result.now c.new-cursor.result.rest.now c.args.start c.as_slice-all.ensures.value c.new-cursor.ensures in
+    type_fits (map view c.args.tokens.now.all.items) (rest_of c.new-cursor.result) (rest_of c.ty.new.self) c.args.start (length c.as_slice-all.result.now) c.len.result c.in_ok-ty.ty f c.in_ok-ty.ensures (ap length c.as_slice-all.ensures.value ∙ sym (length-map c.args.tokens.now.all.items view)) c.len.ensures
+
+pub returns-clause-ty : goal.returns-clause-ty
+returns-clause-ty c =
+    let f = front c.args.tokens.now.all.items c.as_slice-all.result.now c.new-cursor.result.rest.now c.args.start c.as_slice-all.ensures.value c.new-cursor.ensures in
+    whole_type (map view c.args.tokens.now.all.items) (rest_of c.new-cursor.result) (rest_of c.ty.new.self) c.args.start (length c.as_slice-all.result.now) c.len.result c.in_ok-ty.ty f c.in_ok-ty.ensures (ap length c.as_slice-all.ensures.value ∙ sym (length-map c.args.tokens.now.all.items view)) c.len.ensures

@@ -1,0 +1,10 @@
+pub use Rattle.df_tok.specs.Token
+pub use Rattle.df_tok.specs.Lexeme
+pub use Rattle.df_tok.specs.Division
+pub mod Spelling
+pub mod Operator
+pub mod Expr
+pub mod ExprSpelling
+pub mod File
+pub mod FileSpelling
+pub mod mirror
