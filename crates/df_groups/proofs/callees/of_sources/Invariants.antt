@@ -1,0 +1,8 @@
+use Rattle.std.proofs.Common.{◌≡◌, ◌++◌, drop, map, flat_map}
+use Rattle.df_lang.specs.StmtView.{source_of}
+use Rattle.df_lang.specs.Groups.{callees_of_source}
+use Rattle.df_groups.proofs.callees.of_sources.Given as goal
+
+-- the calls so far, in front of those of what is left, are those of all
+abbrev pub invariant-loop-source : goal.invariant-loop-source
+invariant-loop-source l = l.callees.items ++ flat_map callees_of_source (map source_of (drop l.source-index l.sources)) ≡ l.fn.callees.items ++ flat_map callees_of_source (map source_of l.sources)
