@@ -14,22 +14,23 @@ use Rattle.df_mean.specs.State.{Store, State, begin, value_at}
 use Rattle.df_mean.specs.Meaning.{Meaning, Flow, Returned}
 use Rattle.df_mean.specs.Meaning as flows
 use Rattle.df_mean.specs.Execution.{check_all, evaluate_all, execute_all}
-use Rattle.df_mean.specs.Whole.{check_call, values_from, results_of, end_of, run_body, run_method, whole}
+use Rattle.df_mean.specs.Whole.{check_call, values_from, results_of, end_of, run_body, run_method}
 use Rattle.df_mean.specs.Modular.{Running, plain_meaning, modular, IsModularlySafe}
-use Rattle.df_mean.specs.Correct.{MeetsPreconditions}
 use Rattle.df_mean.specs.Growing.{◌⊑◌, Below}
 use Rattle.df_mean.proofs.Outcomes.{after_grows, same_grows}
 use Rattle.df_mean.proofs.Executing.{checks_grow}
+use Rattle.df_mean.proofs.Counting.{not_dismissed, has_choice}
+use Rattle.df_mean.proofs.Definite.{AreResults}
 use Rattle.df_mean.proofs.Shallow.{not_deep, all_shallow}
 use Rattle.df_mean.proofs.Stating.{within_front}
 use Rattle.df_mean.proofs.Wholes.{all_types, both_within, begin_typed, body_typed, method_typed}
 use Rattle.df_mean.proofs.Modulars.{modulars_grow}
 use Rattle.df_hoare.specs.Measured.{measured_method, measured}
-use Rattle.df_hoare.specs.Total.{NeverDismissed}
 use Rattle.df_hoare.proofs.Running.{Runs}
 use Rattle.df_hoare.proofs.Simulating.{IsSafe, Follows, Simulates, simulates_dismissed, simulates_after}
 use Rattle.df_hoare.proofs.Sides.{hand_store, hand_state, hand_flow, all_same, checks_simulate}
 use Rattle.df_hoare.proofs.Clauses.{IsMet, seen_alike, met_by_met, call_by_met}
+use Rattle.df_hoare.proofs.Counted.{EachCounts}
 use Rattle.df_hoare.proofs.Measuring.{program_of_measured, measureds_typed, measureds_keep}
 use Rattle.df_hoare.proofs.Loops.{sides_of, loops_simulate}
 use Rattle.df_hoare.proofs.Sources.{AllAllowed}
@@ -71,9 +72,6 @@ module _ (program : Program) (method : Method) (arguments : List Value) (store :
   abbrev plain : Meaning
   plain = plain_meaning program
 
-  pub meets : MeetsPreconditions program method arguments store
-  meets = record { depth = 0; met = call_by_met plain (whole program 0) start start start method.declared.pos method.preconditions (seen_alike plain (whole program 0) start start (record { program = refl; locals = λ local. refl }) method.preconditions) met }
-
   checks_out : (n : ℕ) (at : Pos) → check_call (measured program n) start at method.preconditions ≡ Gives start
   checks_out n at =
       call_by_met plain (measured program n) start start start at method.preconditions
@@ -98,9 +96,9 @@ module _ (program : Program) (method : Method) (arguments : List Value) (store :
       ∙ ap (λ o. after o (λ t. after (results_of method t) (λ vs. Gives (record { values = vs; store = t.store })))) f
 
   -- its measure has values
-  pub with_entry : {P : Type 0} (groups : List ℕ) (number : ℕ) → method_at program number ≡ Some method → have_types program (types_of method.parameters) arguments ≡ true → NeverDismissed program
+  pub with_entry : {P : Type 0} (groups : List ℕ) (number : ℕ) → method_at program number ≡ Some method → have_types program (types_of method.parameters) arguments ≡ true → EachCounts program
       → IsModularlySafe program groups number method → ((entry : List Value) → evaluate_all plain start (measure_of method) ≡ Gives entry → P) → P
-  with_entry {P} groups number there typed never safe goes = by_measure (evaluate_all plain start (measure_of method)) refl
+  with_entry {P} groups number there typed counts safe goes = by_measure (evaluate_all plain start (measure_of method)) refl
     where
       by_measure : (o : Outcome (List Value)) → evaluate_all plain start (measure_of method) ≡ o → P
       by_measure (Gives entry) e = goes entry e
@@ -115,10 +113,10 @@ module _ (program : Program) (method : Method) (arguments : List Value) (store :
                 ∙ ap (λ o. after o (λ entry. run_body (modular (record { program = program; groups = groups; number = number; entry = entry }) 0) method start)) e;
           }))
       by_measure TooDeep e = absurd (not_deep (evaluate_all plain start (measure_of method)) (all_shallow plain start (measure_of method)) e)
-      by_measure NoChoice e = absurd (never.chooses number method arguments store 0 there typed meets (entered 0 method.declared.pos NoChoice e))
-      by_measure Dismissed e = absurd (never.counts number method arguments store 0 there typed meets (entered 0 method.declared.pos Dismissed e))
+      by_measure NoChoice e = absurd (has_choice (AreResults method) _ (counts number method arguments store 0 there typed) (entered 0 method.declared.pos NoChoice e))
+      by_measure Dismissed e = absurd (not_dismissed (AreResults method) _ (counts number method arguments store 0 there typed) (entered 0 method.declared.pos Dismissed e))
 
-module _ (run : Running) (well : is_well_typed run.program ≡ true) (groups_are : AreGroups run.program run.groups) (known : CalleesCome run) (never : NeverDismissed run.program)
+module _ (run : Running) (well : is_well_typed run.program ≡ true) (groups_are : AreGroups run.program run.groups) (known : CalleesCome run) (counts : EachCounts run.program)
     (method : Method) (there : method_at run.program run.number ≡ Some method) (safe : IsModularlySafe run.program run.groups run.number method)
     (arguments : List Value) (store : Store) (typed : have_types run.program (types_of method.parameters) arguments ≡ true) (met : IsMet run.program (begin arguments store) method.preconditions)
     (entry_is : evaluate_all (plain_meaning run.program) (begin arguments store) (measure_of method) ≡ Gives run.entry) where
@@ -174,7 +172,7 @@ module _ (run : Running) (well : is_well_typed run.program ≡ true) (groups_are
 
       by_results : (t : State) → run_body (measured run.program k) method first ≡ Gives t → (results_of method t ≡ Dismissed) ⊎ ((vs : List Value) × (results_of method t ≡ Gives vs)) → Comes run.program method arguments store
       by_results t e (inl none) =
-          absurd (never.counts run.number method arguments store k there typed (meets run.program method arguments store met)
+          absurd (not_dismissed (AreResults method) _ (counts run.number method arguments store k there typed)
           (run_out run.program method arguments store met k method.declared.pos run.entry (Gives t) entry_is e ∙ ap (λ o. after o (λ vs. Gives (record { values = vs; store = t.store }))) none))
       by_results t e (inr given) = record {
         depth = k;
@@ -187,6 +185,6 @@ module _ (run : Running) (well : is_well_typed run.program ≡ true) (groups_are
       by_end (Wrong at kind) e = absurd (r.right k at kind e)
       by_end TooDeep e = absurd (r.ends.not_too_deep e)
       by_end NoChoice e =
-          absurd (never.chooses run.number method arguments store k there typed (meets run.program method arguments store met) (run_out run.program method arguments store met k method.declared.pos run.entry NoChoice entry_is e))
+          absurd (has_choice (AreResults method) _ (counts run.number method arguments store k there typed) (run_out run.program method arguments store met k method.declared.pos run.entry NoChoice entry_is e))
       by_end Dismissed e =
-          absurd (never.counts run.number method arguments store k there typed (meets run.program method arguments store met) (run_out run.program method arguments store met k method.declared.pos run.entry Dismissed entry_is e))
+          absurd (not_dismissed (AreResults method) _ (counts run.number method arguments store k there typed) (run_out run.program method arguments store met k method.declared.pos run.entry Dismissed entry_is e))

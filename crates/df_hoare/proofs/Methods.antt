@@ -18,11 +18,12 @@ use Rattle.df_mean.specs.Modular.{Running, plain_meaning, AreModularlySafe}
 use Rattle.df_mean.specs.Correct.{MeetsPreconditions, Completes, AreCorrect}
 use Rattle.df_mean.proofs.Executing.{method_grows, wholes_grow}
 use Rattle.df_mean.proofs.Wholes.{program_of_whole}
-use Rattle.df_hoare.specs.Total.{NeverDismissed, SafeIsCorrect}
+use Rattle.df_hoare.specs.Total.{SafeIsCorrect}
 use Rattle.df_hoare.proofs.Running.{stays, stays_wrong}
 use Rattle.df_hoare.proofs.Clauses.{IsMet, seen_alike, met_by_call}
 use Rattle.df_hoare.proofs.Order.{FallsBelow, lists_end}
 use Rattle.df_hoare.proofs.Measuring.{whole_gives}
+use Rattle.df_hoare.proofs.Counted.{EachCounts, each_counts}
 use Rattle.df_hoare.proofs.Loops.{values_length}
 use Rattle.df_hoare.proofs.Calls.{measure_of, Comes, CalleesCome}
 use Rattle.df_hoare.proofs.Bodies.{with_entry, body_comes}
@@ -43,7 +44,7 @@ no_longer (MethodDecl own ∷ others) zero method e =
     subst (λ (x : Method). length (measure_of x) ≤ max (length (measure_of own)) (longest others)) same (omega arith)
 no_longer (MethodDecl own ∷ others) (suc id) method e = let le = no_longer others id method e in omega arith
 
-module _ (program : Program) (groups : List ℕ) (well : is_well_typed program ≡ true) (groups_are : AreGroups program groups) (never : NeverDismissed program) (safe : AreModularlySafe program groups) where
+module _ (program : Program) (groups : List ℕ) (well : is_well_typed program ≡ true) (groups_are : AreGroups program groups) (counts : EachCounts program) (safe : AreModularlySafe program groups) where
   -- it is no longer than the longest
   short : (number : ℕ) (method : Method) (arguments : List Value) (store : Store) (now : List Value) → method_at program number ≡ Some method
       → evaluate_all (plain_meaning program) (begin arguments store) (measure_of method) ≡ Gives now → length now ≤ longest program.decls
@@ -72,12 +73,12 @@ module _ (program : Program) (groups : List ℕ) (well : is_well_typed program �
               callee other values at other_there other_typed other_met (omega (arith, same, le)) both.1.is_now
         ];
       } in
-      body_comes run well groups_are known never method there (safe number method there) arguments store typed met entry_is
+      body_comes run well groups_are known counts method there (safe number method there) arguments store typed met entry_is
 
   by_group : (bound : ℕ) → Earlier bound
   by_group zero number method arguments store there typed met less = absurd (omega (arith, less))
   by_group (suc bound) number method arguments store there typed met less =
-      with_entry program method arguments store met groups number there typed never (safe number method there) (λ entry e.
+      with_entry program method arguments store met groups number there typed counts (safe number method there) (λ entry e.
       by_measure bound (by_group bound) entry (lists_end (longest program.decls) entry (short number method arguments store entry there e)) number method arguments store there typed met (omega (arith, less)) e)
 
   comes : (number : ℕ) (method : Method) (arguments : List Value) (store : Store) → method_at program number ≡ Some method → have_types program (types_of method.parameters) arguments ≡ true
@@ -112,4 +113,4 @@ module _ (program : Program) (groups : List ℕ) (well : is_well_typed program �
   }
 
 pub safe_is_correct : SafeIsCorrect
-safe_is_correct program well never safe = are_correct program safe.groups well safe.are_groups never safe.methods
+safe_is_correct program well definite safe = are_correct program safe.groups well safe.are_groups (each_counts program well definite) safe.methods

@@ -5,7 +5,7 @@ use Rattle.df_lang.specs.declared.expr.Junction.TheVariants as junctions
 use Rattle.df_lang.specs.Expr.{Expr, Junction, no_member, member}
 use Rattle.df_lang.specs.Stmt.{Text, Value, Single, Variable, Stmt, Block, Var, Assign, CallOf, If, While, Break, Return, Assert, Print, Stmts, done, next, no_branch, branch}
 use Rattle.df_lang.specs.Assignment.{Use, unassigned_in}
-use Rattle.df_lang.proofs.Samples.{at, N, param_of, num, loc, truth_expr, compared, clause_of, target_at, give, called, method_with, counting, when, giving}
+use Rattle.df_lang.proofs.Samples.{at, N, param_of, num, loc, truth_expr, compared, clause_of, target_at, give, called, method_with, parity, below, counting, when, giving, telling, tallying, owing}
 
 abbrev missing : Stmts → List Use
 missing body = unassigned_in (method_with (param_of N ∷ []) (param_of N ∷ []) [] [] None body)
@@ -111,6 +111,22 @@ in_the_next_turn = refl
 
 read_by_an_invariant : missing (next (While (at 14) (is_zero 0) (clause_of (is_zero 1) ∷ []) (Some (record { ty = N; value = loc 1 } ∷ [])) done) (next gives done)) ≡ used 1 3 ∷ used 1 3 ∷ []
 read_by_an_invariant = refl
+
+-- of a measure alone, which whole runs don't evaluate
+read_by_a_measure : missing (next gives (next (Var (at 9) (variable ∷ []) None) (next (While (at 14) (truth_expr true) [] (Some (record { ty = N; value = loc 2 } ∷ [])) done) done))) ≡ used 2 3 ∷ []
+read_by_a_measure = refl
+
+parity_is_definite : unassigned_in (parity true 2 below) ≡ []
+parity_is_definite = refl
+
+telling_is_definite : unassigned_in telling ≡ []
+telling_is_definite = refl
+
+tallying_is_definite : unassigned_in (tallying (num (pos 3))) ≡ []
+tallying_is_definite = refl
+
+owing_is_definite : unassigned_in (owing (num (pos 1))) ≡ []
+owing_is_definite = refl
 
 counting_is_definite : unassigned_in counting ≡ []
 counting_is_definite = refl

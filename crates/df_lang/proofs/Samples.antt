@@ -8,7 +8,7 @@ use Rattle.df_lang.specs.declared.expr.FactorOperator.{FactorOperator}
 use Rattle.df_lang.specs.declared.expr.Comparison.{Comparison}
 use Rattle.df_lang.specs.declared.expr.Comparison.TheVariants as comparisons
 use Rattle.df_lang.specs.Expr.{Expr, Number, Truth, Character, Local, Sum, Product, Chain, no_addend, addend, no_factor, factor, no_link, link}
-use Rattle.df_lang.specs.Stmt.{Text, Value, Target, Call, Conversion, Source, Single, Results, Clause, Measure, Stmt, Assign, If, While, Break, Return, Assert, Print, Stmts, done, next, no_branch, branch}
+use Rattle.df_lang.specs.Stmt.{Text, Value, Target, Call, Conversion, Source, Single, Results, Variable, Clause, Measure, Stmt, Var, Assign, CallOf, If, While, Break, Return, Assert, Print, Stmts, done, next, no_branch, branch}
 use Rattle.df_lang.specs.Newtype.{Declared}
 use Rattle.df_lang.specs.Program.{Param, Method, Decl, NewtypeDecl, MethodDecl, Program}
 
@@ -188,3 +188,38 @@ abbrev pub keeping : Method
 keeping = method_with (param_of N ∷ []) (param_of N ∷ []) [] [] None
     (next (give 1 N (num (pos 0))) (next (While (at 14) (compared (loc 1) comparisons.Less (loc 0)) [] None (next giving done))
     (next (Assert (at 15) (compared (loc 1) comparisons.Equal (num (pos 0)))) done)))
+
+abbrev pub variable_at : ℕ → Ty → Variable
+variable_at k ty = record { name = 0; pos = at 8; ty = ty; is_ghost = false; local = k }
+
+abbrev pub declare : ℕ → Ty → Source → Stmt
+declare k ty source = Var (at 18) (variable_at k ty ∷ []) (Some (record { targets = target_at k ty ∷ []; sources = source ∷ [] }))
+
+-- `var b := Even(7); print b, "\n";` beside `Even` and `Odd`
+abbrev pub telling : Method
+telling = method_with [] [] [] [] None
+    (next (declare 0 types.Bool (Results (called 1 (num (pos 7) ∷ [])) (keep types.Bool ∷ []))) (next (Print (at 9) (Value types.Bool (loc 0) ∷ Text (10 ∷ []) ∷ [])) done))
+
+abbrev pub told : Expr → Program
+told argument = record { decls = small ∷ MethodDecl (parity true 2 argument) ∷ MethodDecl (parity false 1 argument) ∷ MethodDecl telling ∷ [] }
+
+-- `var i := 0; while i < 3 invariant 0 <= i <= bound { print i; i := i + 1; }`
+abbrev pub tallying : Expr → Method
+tallying bound = method_with [] [] [] [] None
+    (next (declare 0 N (Single N (num (pos 0))))
+    (next (While (at 14) (compared (loc 0) comparisons.Less (num (pos 3))) (clause_of (Chain N (num (pos 0)) (link comparisons.AtMost (at 5) (loc 0) (link comparisons.AtMost (at 5) bound no_link))) ∷ []) None
+    (next (Print (at 9) (Value N (loc 0) ∷ [])) (next (give 0 N (plus (loc 0) (num (pos 1)))) done))) done))
+
+-- it calls itself forever
+abbrev pub calling : Method
+calling = method_with [] [] [] [] None (next (CallOf (called 1 [])) done)
+
+-- it owes the result 1, gives this, and returns behind what it printed
+abbrev pub owing : Expr → Method
+owing e = method_with [] (param_of N ∷ []) [] (clause_of (compared (loc 0) comparisons.Equal (num (pos 1))) ∷ []) None
+    (next (Print (at 9) (Text (97 ∷ []) ∷ [])) (next (Return (at 16) (Some (record { targets = target_at 0 N ∷ []; sources = Single N e ∷ [] }))) done))
+
+-- one place after the other
+abbrev pub in_turn : Method
+in_turn = method_with [] (param_of N ∷ param_of N ∷ []) [] [] None
+    (next (give 0 N (num (pos 1))) (next (give 1 N (num (pos 2))) (next (give 0 N (loc 1)) (next (give 1 N (loc 0)) done))))

@@ -1,8 +1,8 @@
 -- What is well typed, and what is not, by computation.
-use Rattle.std.proofs.Common.{◌≡◌, true, false, refl}
+use Rattle.std.proofs.Common.{◌≡◌, pos, true, false, refl}
 use Rattle.df_lang.specs.declared.ty.Ty.TheVariants as types
 use Rattle.df_lang.specs.Typing.{is_well_typed}
-use Rattle.df_lang.proofs.Samples.{parities, below, alone, counting, leaving, giving, giving_away, cheating, unmeasured, measured, keep, narrow, taking, twos, bytes}
+use Rattle.df_lang.proofs.Samples.{parities, below, alone, counting, leaving, giving, giving_away, cheating, unmeasured, measured, keep, narrow, taking, twos, bytes, told, num, tallying, calling, owing, in_turn}
 
 typed_parities : is_well_typed (parities below) ≡ true
 typed_parities = refl
@@ -33,3 +33,18 @@ untyped_two = refl
 
 no_characters : is_well_typed (alone bytes) ≡ false
 no_characters = refl
+
+typed_told : is_well_typed (told below) ≡ true
+typed_told = refl
+
+typed_tallying : is_well_typed (alone (tallying (num (pos 3)))) ≡ true
+typed_tallying = refl
+
+typed_calling : is_well_typed (alone calling) ≡ true
+typed_calling = refl
+
+typed_owing : is_well_typed (alone (owing (num (pos 1)))) ≡ true
+typed_owing = refl
+
+typed_in_turn : is_well_typed (alone in_turn) ≡ true
+typed_in_turn = refl

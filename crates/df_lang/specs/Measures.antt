@@ -1,5 +1,6 @@
 -- Measures of loops and methods: their own, or those by default.
 use Rattle.std.specs.Prelude.{ℕ, suc, List, [], ◌∷◌, Option, None, Some}
+use Rattle.std.specs.Option.{unwrap_or}
 use Rattle.df_base.specs.declared.pos.Pos.{Pos}
 use Rattle.df_lang.specs.declared.ty.Ty.{Ty}
 use Rattle.df_lang.specs.declared.ty.Ty.TheVariants as types
@@ -31,14 +32,14 @@ guard_measure (Chain ty first (link comparison pos operand no_link)) = compariso
 guard_measure (Junction junctions.And first rest) = guard_measure first
 guard_measure e = None
 
+-- of the number, where there is one
+abbrev pub measure_of_number : Option Expr → List Measure
+measure_of_number None = []
+measure_of_number (Some value) = record { ty = types.Int; value = value } ∷ []
+
 -- the measure of a loop: its clause, or that of its guard
 abbrev pub loop_measure : Expr → Option (List Measure) → List Measure
-loop_measure guard (Some measures) = measures
-loop_measure guard None = by_default (guard_measure guard)
-  where
-    by_default : Option Expr → List Measure
-    by_default None = []
-    by_default (Some value) = record { ty = types.Int; value = value } ∷ []
+loop_measure guard decreases = unwrap_or decreases (measure_of_number (guard_measure guard))
 
 -- the parameters in order, by their numbers
 abbrev pub parameters_from : ℕ → List Param → List Measure
@@ -47,8 +48,4 @@ parameters_from from (param ∷ others) = record { ty = param.ty; value = Local 
 
 -- the measure of a method: its clause, or its parameters in order
 abbrev pub method_measure : Method → List Measure
-method_measure m = measure_or m.decreases
-  where
-    measure_or : Option (List Measure) → List Measure
-    measure_or None = parameters_from 0 m.parameters
-    measure_or (Some measures) = measures
+method_measure m = unwrap_or m.decreases (parameters_from 0 m.parameters)

@@ -15,7 +15,15 @@ pub mod Changing
 pub mod Modulars
 pub mod Texts
 pub mod Laws
+pub mod Endless
+pub mod Simultaneous
+pub mod Division
+pub mod Counting
+pub mod Assigning
+pub mod Definite
+pub mod DefiniteRuns
 mod RowStates
 mod CallRows
 mod LoopRows
 mod ValueRows
+mod EndlessRows

@@ -1,15 +1,26 @@
 -- Runs of loops, by computation.
-use Rattle.std.proofs.Common.{◌≡◌, pos, negsuc, [], ◌∷◌, None, refl}
+use Rattle.std.proofs.Common.{◌≡◌, pos, negsuc, [], ◌∷◌, None, codes, refl}
+use Rattle.std.specs.Fmt.{digits}
 use Rattle.df_lang.specs.Stmt.{Break, Return}
-use Rattle.df_lang.proofs.Samples.{at, alone, counting, bounded, forgetting, standing, leaving, giving, broken, staying, returning, keeping}
+use Rattle.df_lang.proofs.Samples.{at, alone, counting, bounded, forgetting, standing, leaving, giving, broken, staying, returning, keeping, num, tallying}
 use Rattle.df_meaning.specs.declared.kind.Kind.TheVariants as kinds
 use Rattle.df_mean.specs.Outcome.{Gives, Wrong, TooDeep, Dismissed}
 use Rattle.df_mean.specs.Whole.{whole, run_method}
 use Rattle.df_mean.specs.Modular.{modular_run}
-use Rattle.df_mean.proofs.RowStates.{empty, handing, n, counter, text_then}
+use Rattle.df_mean.proofs.RowStates.{empty, handing, n, counter, text_then, text_left}
 
 counts : run_method (whole (alone counting) 4) (at 1) counting (n (pos 4) ∷ []) empty ≡ Gives (record { values = n (pos 4) ∷ []; store = empty })
 counts = refl
+
+tallies : text_left (run_method (whole (alone (tallying (num (pos 3)))) 3) (at 1) (tallying (num (pos 3))) [] empty) ≡ Gives (codes "012")
+unfolding digits
+tallies = refl
+
+tally_is_deep : run_method (whole (alone (tallying (num (pos 3)))) 2) (at 1) (tallying (num (pos 3))) [] empty ≡ TooDeep
+tally_is_deep = refl
+
+tallies_too_far : run_method (whole (alone (tallying (num (pos 2)))) 3) (at 1) (tallying (num (pos 2))) [] empty ≡ Wrong (at 7) kinds.Turn
+tallies_too_far = refl
 
 count_is_deep : run_method (whole (alone counting) 3) (at 1) counting (n (pos 4) ∷ []) empty ≡ TooDeep
 count_is_deep = refl
@@ -26,7 +37,7 @@ one_turn = refl
 not_invariant : modular_run (alone counting) (0 ∷ 1 ∷ []) 1 1 counting (n (pos 4) ∷ []) (handing (counter (pos 5) ∷ [])) ≡ Dismissed
 not_invariant = refl
 
-not_of_the_type : modular_run (alone counting) (0 ∷ 1 ∷ []) 1 1 counting (n (pos 4) ∷ []) (handing (counter (pos 500) ∷ [])) ≡ Dismissed
+not_of_the_type : modular_run (alone forgetting) (0 ∷ 1 ∷ []) 1 1 forgetting (n (pos 4) ∷ []) (handing (counter (pos 500) ∷ [])) ≡ Dismissed
 not_of_the_type = refl
 
 assigned_is_unknown : modular_run (alone forgetting) (0 ∷ 1 ∷ []) 1 1 forgetting (n (pos 4) ∷ []) (handing (counter (pos 9) ∷ [])) ≡ Wrong (at 15) kinds.Assert
@@ -52,6 +63,13 @@ entry_first = refl
 
 turn_checked : modular_run (alone bounded) (0 ∷ 1 ∷ []) 1 1 bounded (n (pos 5) ∷ []) (handing (counter (pos 2) ∷ [])) ≡ Wrong (at 7) kinds.Turn
 turn_checked = refl
+
+-- also behind the last turn
+last_turn_checked : modular_run (alone bounded) (0 ∷ 1 ∷ []) 1 1 bounded (n (pos 3) ∷ []) (handing (counter (pos 2) ∷ [])) ≡ Wrong (at 7) kinds.Turn
+last_turn_checked = refl
+
+last_turn_checked_too : run_method (whole (alone bounded) 9) (at 1) bounded (n (pos 3) ∷ []) empty ≡ Wrong (at 7) kinds.Turn
+last_turn_checked_too = refl
 
 turn_before_decrease : modular_run (alone bounded) (0 ∷ 1 ∷ []) 1 1 bounded (n (pos 5) ∷ []) (handing (counter (pos 1) ∷ [])) ≡ Dismissed
 turn_before_decrease = refl

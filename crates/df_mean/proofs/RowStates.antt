@@ -1,10 +1,12 @@
 -- States, values and what is handed in, for the rows.
-use Rattle.std.proofs.Common.{ℕ, ℤ, pos, negsuc, Bool, List, [], ◌∷◌, Some}
+use Rattle.std.proofs.Common.{ℕ, ℤ, pos, negsuc, Bool, false, List, [], ◌∷◌, Some}
+use Rattle.std.specs.Ordering.{int_eq}
 use Rattle.df_lang.specs.Expr.{Expr}
 use Rattle.df_lang.proofs.Samples.{alone, counting}
 use Rattle.df_mean.specs.Value as values
 use Rattle.df_mean.specs.Outcome.{Outcome, Gives, after}
 use Rattle.df_mean.specs.State.{Handed, Turned, Store, State, begin}
+use Rattle.df_mean.specs.Meaning.{Returned}
 use Rattle.df_mean.specs.Evaluation.{evaluate}
 use Rattle.df_mean.specs.Whole.{whole}
 
@@ -36,3 +38,12 @@ worth e = evaluate (whole (alone counting) 0) here e
 -- the text that a run ends with
 abbrev pub text_then : Outcome State → Outcome (List ℕ)
 text_then o = after o (λ s. Gives s.store.text)
+
+-- the text that a run of a method leaves
+abbrev pub text_left : Outcome Returned → Outcome (List ℕ)
+text_left o = after o (λ r. Gives r.store.text)
+
+-- that it gives the number, as a test, so that another value refutes it
+abbrev pub gives_number : ℤ → Outcome values.Value → Bool
+gives_number z (Gives (values.Number w)) = int_eq z w
+gives_number z o = false

@@ -5,16 +5,20 @@ use Rattle.df_lang.specs.declared.expr.FactorOperator.TheVariants as factors
 use Rattle.df_lang.specs.declared.expr.Junction.TheVariants as junctions
 use Rattle.df_lang.specs.declared.expr.Comparison.TheVariants as comparisons
 use Rattle.df_lang.specs.Expr.{Character, Junction, Chain, As, Convert, no_member, member, no_link, link}
-use Rattle.df_lang.proofs.Samples.{at, N, num, loc, truth_expr, compared, minus, plus, over, alone, swapping, meeting, printing}
+use Rattle.df_lang.proofs.Samples.{at, N, num, loc, truth_expr, compared, minus, plus, over, alone, swapping, in_turn, meeting, printing}
 use Rattle.df_meaning.specs.declared.kind.Kind.TheVariants as kinds
 use Rattle.df_mean.specs.Outcome.{Gives, Wrong}
 use Rattle.df_mean.specs.Whole.{whole, run_method}
 use Rattle.df_mean.specs.Modular.{modular_run}
 use Rattle.df_mean.specs.Order.{are_below}
-use Rattle.df_mean.proofs.RowStates.{empty, n, t, text_then, worth}
+use Rattle.df_mean.proofs.RowStates.{empty, n, t, text_then, worth, gives_number}
 
 swaps : run_method (whole (alone swapping) 0) (at 1) swapping [] empty ≡ Gives (record { values = n (pos 2) ∷ n (pos 1) ∷ []; store = empty })
 swaps = refl
+
+-- one after the other is no swap
+no_swap : run_method (whole (alone in_turn) 0) (at 1) in_turn [] empty ≡ Gives (record { values = n (pos 2) ∷ n (pos 2) ∷ []; store = empty })
+no_swap = refl
 
 places_meet : run_method (whole (alone (meeting (loc 0))) 0) (at 1) (meeting (loc 0)) [] empty ≡ Wrong (at 20) kinds.Distinct
 places_meet = refl
@@ -35,6 +39,29 @@ quotient_by_less = refl
 
 remainder_by_less : worth (over factors.Modulo (loc 0) (loc 2)) ≡ Gives (n (pos 1))
 remainder_by_less = refl
+
+-- toward zero it would be -3, and the remainder -1
+not_toward_zero : gives_number (negsuc 2) (worth (over factors.Divide (loc 0) (loc 1))) ≡ false
+not_toward_zero = refl
+
+no_negative_remainder : gives_number (negsuc 0) (worth (over factors.Modulo (loc 0) (loc 1))) ≡ false
+no_negative_remainder = refl
+
+of_more : worth (over factors.Divide (num (pos 7)) (loc 1)) ≡ Gives (n (pos 3))
+of_more = refl
+
+remainder_of_more : worth (over factors.Modulo (num (pos 7)) (loc 1)) ≡ Gives (n (pos 1))
+remainder_of_more = refl
+
+of_more_by_less : worth (over factors.Divide (num (pos 7)) (loc 2)) ≡ Gives (n (negsuc 2))
+of_more_by_less = refl
+
+remainder_of_more_by_less : worth (over factors.Modulo (num (pos 7)) (loc 2)) ≡ Gives (n (pos 1))
+remainder_of_more_by_less = refl
+
+-- below it would be -4
+not_down : gives_number (negsuc 3) (worth (over factors.Divide (num (pos 7)) (loc 2))) ≡ false
+not_down = refl
 
 by_zero : worth (over factors.Divide (loc 0) (loc 3)) ≡ Wrong (at 6) kinds.Divisor
 by_zero = refl

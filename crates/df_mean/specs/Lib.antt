@@ -13,3 +13,7 @@ pub mod Growing
 pub mod Typed
 pub mod Texts
 pub mod Agreement
+pub mod Definite
+pub mod Endless
+pub mod Simultaneous
+pub mod Division

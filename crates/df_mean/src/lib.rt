@@ -3,7 +3,11 @@
 #![tactic(auto)]
 
 ghost use Rattle.df_mean.specs.Agreement.{StatementsAgree, ParametersStay};
+ghost use Rattle.df_mean.specs.Definite.{StatementsCount, MethodsCount};
+ghost use Rattle.df_mean.specs.Division.{DivisionsAreEuclidean};
+ghost use Rattle.df_mean.specs.Endless.{LoopsNeverEnd, MethodsNeverEnd};
 ghost use Rattle.df_mean.specs.Growing.{ExpressionsGrow, StatementsGrow, WholesGrow, MethodsGrow};
+ghost use Rattle.df_mean.specs.Simultaneous.{AssignmentsAreSimultaneous};
 ghost use Rattle.df_mean.specs.Texts.{StatementsKeepText, MethodsKeepText};
 ghost use Rattle.df_mean.specs.Typed.{ExpressionsAreTyped, LocalsKeepTypes, ResultsAreTyped};
 
@@ -60,4 +64,35 @@ pub fn statements_agree()
 /// The body of a method leaves its parameters.
 pub fn parameters_stay()
     ensures { ParametersStay }
+{}
+
+/// In a well-typed program that obeys definite assignment a whole run of a statement counts, and locals have values
+/// wherever the flow says so.
+pub fn statements_count()
+    ensures { StatementsCount }
+{}
+
+/// And so does one of a method.
+pub fn methods_count()
+    ensures { MethodsCount }
+{}
+
+/// A loop whose turns always go on to another is too deep at every depth.
+pub fn loops_never_end()
+    ensures { LoopsNeverEnd }
+{}
+
+/// And so is a method that cannot end before it calls itself.
+pub fn methods_never_end()
+    ensures { MethodsNeverEnd }
+{}
+
+/// Division and its remainder are Euclidean.
+pub fn divisions_are_euclidean()
+    ensures { DivisionsAreEuclidean }
+{}
+
+/// An assignment evaluates all its right sides before any place takes a value.
+pub fn assignments_are_simultaneous()
+    ensures { AssignmentsAreSimultaneous }
 {}
