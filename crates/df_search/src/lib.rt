@@ -2,7 +2,8 @@
 #![tactic(auto)]
 
 mod found;
+mod proposed;
 mod searching;
 
 pub use found::{Budget, Found, What};
-pub use searching::search;
+pub use proposed::search;

@@ -276,10 +276,8 @@ fn without_ground(fault: GroundFault) -> Result<Found, AllocError>
     }
 }
 
-/// Searches for a log that derives the sequent, which is arithmetic. Where it stops without one, it
-/// gives evidence: a table model of the ground set, as many closed branches as it may close, a number past
-/// 128 bits, or too many ground clauses or rows.
-pub fn search(alloc: Global, sequent: &Sequent, budget: Budget) -> Result<Found, AllocError>
+/// Closes branch after branch, until all are closed or one gives evidence.
+pub(crate) fn exhaust(alloc: Global, sequent: &Sequent, budget: Budget) -> Result<Found, AllocError>
     requires arithmetic { IsArithmeticSequent (sequent_of sequent.now) }
     requires steps { 1 ≤ budget.steps }
     ensures { IfOk result (Finds (sequent_of sequent.now) budget.steps) }

@@ -102,7 +102,7 @@ const SEARCHES: [(Required, u64, End); 5] = [
     (Required::Nothing, 1000, End::Modelled),
     (Required::Unmet, 1, End::Proved),
     // one of the two is true, and then the other
-    (Required::Either, 1, End::Spent(1)),
+    (Required::Either, 1, End::Proved),
     (Required::Either, 2, End::Proved),
 ];
 

@@ -4,7 +4,7 @@ use Rattle.df_form.specs.SequentView.{sequent_of}
 use Rattle.df_search.specs.Found.{IsTooWide, HasManyRows}
 use Rattle.df_search.specs.Searching.{branches_of, Comes}
 use Rattle.df_search.proofs.Beginning.{as_many_lines}
-use Rattle.df_search.proofs.searching.search.Goals as goal
+use Rattle.df_search.proofs.searching.exhaust.Goals as goal
 
 pub returns-in-Err : goal.returns-in-Err
 returns-in-Err c = c.without_ground.ensures (sequent_of c.args.sequent.now) c.args.budget.steps c.in-Err.ensures.ground_set

@@ -1,7 +1,7 @@
 use Rattle.std.proofs.Common.{◌-◌, ◌+◌, ◌*◌, ◌^◌, ◌<◌, length}
 use Rattle.df_form.specs.SequentView.{sequent_of}
 use Rattle.df_search.specs.Searching.{Searches}
-use Rattle.df_search.proofs.searching.search.Given as goal
+use Rattle.df_search.proofs.searching.exhaust.Given as goal
 
 abbrev pub invariant-loop-search : goal.invariant-loop-search
 invariant-loop-search l = record { searches : Searches (sequent_of l.sequent) l.search; few : length l.search.closed.items < l.budget.steps }

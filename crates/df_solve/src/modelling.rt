@@ -1,0 +1,82 @@
+//! Tables: the numbers of all nodes where the free terms are what the engine has found.
+
+use crate::engine::Engine;
+use crate::forms::Column;
+use crate::tableau::Fraction;
+use df_form::{Lit, Sequent};
+use df_ground::{Ground, GroundFault};
+use df_kern::Known;
+use df_model::{Valuation, valuation};
+use df_table::Table;
+use std::alloc::{AllocError, Global};
+
+/// The nearest whole number.
+fn rounded(value: Fraction) -> Option<i128> {
+    let below = value.numerator.checked_div_euclid(value.denominator)?;
+    let rest = value.numerator.checked_rem_euclid(value.denominator)?;
+    if rest < value.denominator.checked_sub(rest)? {
+        Some(below)
+    } else {
+        below.checked_add(1)
+    }
+}
+
+/// The numbers of nodes that are columns; 0 for other nodes.
+fn numbers(alloc: Global, engine: &Engine, nodes: usize) -> Result<Vec<i128>, AllocError> {
+    let mut numbers = vec![in alloc; 0i128; nodes]?;
+    for column in 0..engine.theory.forms.len() {
+        if let Some(Column::Node(node)) = engine.theory.forms.column(column) {
+            let value = engine.theory.tableau.fraction(column);
+            if let Some(slot) = numbers.get_mut(node) {
+                *slot = rounded(value).unwrap_or(0);
+            }
+        }
+    }
+    Ok(numbers)
+}
+
+/// The formulas that are true.
+fn truths(alloc: Global, engine: &Engine) -> Result<Known, AllocError> {
+    let mut known = Known::new(alloc);
+    for variable in 0..engine.variables.len() {
+        if let (Some(node), Some(assignment)) = (
+            engine.variables.node(variable),
+            engine.trail.assignment(variable),
+        ) {
+            known.insert(Lit {
+                positive: assignment.positive,
+                node,
+            })?;
+        }
+    }
+    Ok(known)
+}
+
+/// Whether the hypotheses are true and the goal is false.
+fn is_counterexample(sequent: &Sequent, table: &Table) -> bool {
+    for hypothesis in sequent.hypotheses.iter() {
+        if !table.is_true(*hypothesis) {
+            return false;
+        }
+    }
+    !table.is_true(sequent.goal)
+}
+
+/// The table of what the engine has found, if it is a counterexample.
+pub(crate) fn counterexample(
+    alloc: Global,
+    engine: &Engine,
+    sequent: &Sequent,
+) -> Result<Option<Table>, AllocError> {
+    let ground = match Ground::new(alloc, sequent) {
+        Ok(ground) => ground,
+        Err(GroundFault::Many(_)) => return Ok(None),
+        Err(GroundFault::Memory) => return Err(AllocError),
+    };
+    let numbers = numbers(alloc, engine, sequent.nodes.len())?;
+    let known = truths(alloc, engine)?;
+    match valuation(alloc, sequent.newtypes, &ground.nodes, &numbers, &known)? {
+        Valuation::Table(table) if is_counterexample(sequent, &table) => Ok(Some(table)),
+        Valuation::Table(_) | Valuation::Wide => Ok(None),
+    }
+}

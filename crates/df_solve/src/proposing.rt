@@ -1,0 +1,55 @@
+//! What the engine proposes.
+
+use crate::logging::log_of;
+use crate::modelling::counterexample;
+use crate::searching::{Search, Turn};
+use df_form::{Sequent, Step};
+use df_table::Table;
+use std::alloc::{AllocError, Global};
+
+/// A proof or a counterexample, to be checked.
+#[derive(Drop)]
+pub enum Proposal {
+    /// A log, which is to derive the sequent.
+    Proved(Vec<Step>),
+    /// A table, which is to be a model of its ground set.
+    Modelled(Table),
+    GaveUp,
+}
+
+/// How much work each step of a budget is worth,
+const WORK: u64 = 1_000;
+
+/// and how much comes on top.
+const BASE: u64 = 10_000_000;
+
+/// Looks for a log that derives the sequent, or for a table model of its ground set. Nothing is promised
+/// of either. The more steps, the longer it looks.
+pub fn propose(alloc: Global, sequent: &Sequent, steps: u64) -> Result<Proposal, AllocError> {
+    let fuel = steps.saturating_mul(WORK).saturating_add(BASE);
+    let mut search = Search::new(alloc, sequent, fuel)?;
+    let mut turn = search.begin()?;
+    for _ in 0..fuel {
+        if turn != Turn::On {
+            break;
+        }
+        turn = search.turn()?;
+    }
+    match turn {
+        Turn::Refuted(clause) => Ok(Proposal::Proved(log_of(
+            alloc,
+            &search.engine,
+            sequent.nodes.len(),
+            clause,
+        )?)),
+        Turn::Complete => proposed(counterexample(alloc, &search.engine, sequent)?),
+        Turn::On | Turn::GaveUp => Ok(Proposal::GaveUp),
+    }
+}
+
+fn proposed(table: Option<Table>) -> Result<Proposal, AllocError> {
+    match table {
+        Some(table) => Ok(Proposal::Modelled(table)),
+        None => Ok(Proposal::GaveUp),
+    }
+}
