@@ -25,7 +25,7 @@ use Rattle.df_mean.proofs.Shallow.{not_deep, all_shallow}
 use Rattle.df_mean.proofs.Stating.{within_front}
 use Rattle.df_mean.proofs.Wholes.{all_types, both_within, begin_typed, body_typed, method_typed}
 use Rattle.df_mean.proofs.Modulars.{modulars_grow}
-use Rattle.df_hoare.specs.Measured.{measured_method, measured}
+use Rattle.df_hoare.proofs.Measured.{measured_method, measured}
 use Rattle.df_hoare.proofs.Running.{Runs}
 use Rattle.df_hoare.proofs.Simulating.{IsSafe, Follows, Simulates, simulates_dismissed, simulates_after}
 use Rattle.df_hoare.proofs.Sides.{hand_store, hand_state, hand_flow, all_same, checks_simulate}

@@ -25,7 +25,7 @@ use Rattle.df_mean.proofs.Cases.{given}
 use Rattle.df_mean.proofs.Stating.{IsMeaningTyped}
 use Rattle.df_mean.proofs.Wholes.{method_typed, owed_same}
 use Rattle.df_mean.proofs.Kept.{KeepsTurns}
-use Rattle.df_hoare.specs.Measured.{measured_method, measured}
+use Rattle.df_hoare.proofs.Measured.{measured_method, measured}
 use Rattle.df_hoare.proofs.Running.{Runs, stays, stays_wrong, given_is, one_answer, later, runs_later, runs_after}
 use Rattle.df_hoare.proofs.Simulating.{IsSafe, Follows, Simulates, keep, simulates_same, read_safe, behind_safe}
 use Rattle.df_hoare.proofs.Sides.{hand_store, hand_state, hand_returned, AreSides, all_same, values_simulate, values_free, owed_simulate}

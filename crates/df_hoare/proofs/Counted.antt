@@ -19,7 +19,7 @@ use Rattle.df_mean.proofs.Kept.{KeepsTurns}
 use Rattle.df_mean.proofs.Counting.{AreValues, after_counts, owed_counts, measures_count, loop_measure_counts}
 use Rattle.df_mean.proofs.Definite.{AreLeft, AreResults, IsLoopAssigned, MeaningCounts, types_have, turn_counts}
 use Rattle.df_mean.proofs.DefiniteRuns.{first_locals, begun_assigned, preconditions_read, measure_reads, method_counts, by_depth_counts}
-use Rattle.df_hoare.specs.Measured.{measured_method, measured_call, measured_turn, measured}
+use Rattle.df_hoare.proofs.Measured.{measured_method, measured_call, measured_turn, measured}
 use Rattle.df_hoare.proofs.Measuring.{measureds_keep}
 
 method_counted : (program : Program) (m : Meaning) → MeaningCounts program m → KeepsTurns m → (method : Method) → is_method program method ≡ true → unassigned_in method ≡ [] → (at : Pos) (arguments : List Value) (store : Store)

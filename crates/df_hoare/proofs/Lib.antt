@@ -1,3 +1,4 @@
+pub mod Measured
 pub mod Running
 pub mod Simulating
 pub mod Sides

@@ -30,7 +30,7 @@ use Rattle.df_mean.proofs.Stating.{Within, FlowTyped, IsMeaningTyped, checked_sa
 use Rattle.df_mean.proofs.Kept.{AgreesBut, FlowAgrees, Covers, KeepsTurns, all_kept, then_agrees}
 use Rattle.df_mean.specs.Agreement.{is_changed}
 use Rattle.df_mean.proofs.Changing.{are_there, anything, body_included, all_there}
-use Rattle.df_hoare.specs.Measured.{measured_turn, measured}
+use Rattle.df_hoare.proofs.Measured.{measured_turn, measured}
 use Rattle.df_hoare.proofs.Running.{Reaches, Runs, given_is, runs_steady, runs_same, later, runs_later, runs_after}
 use Rattle.df_hoare.proofs.Simulating.{IsSafe, Follows, Simulates, keep, first_safe, then_safe, then_follows, read_safe, behind_safe, read_follows}
 use Rattle.df_hoare.proofs.Sides.{hand_state, hand_flow, AreSides, value_simulates, value_free, values_simulate, values_free, checks_simulate}

@@ -26,7 +26,7 @@ use Rattle.df_mean.proofs.Same.{evaluate_same}
 use Rattle.df_mean.proofs.Stating.{FlowTyped, IsLoopTyped, IsMeaningTyped}
 use Rattle.df_mean.proofs.Wholes.{method_typed, returned_typed, turn_typed, program_of_depth, by_depth_typed}
 use Rattle.df_mean.proofs.Kept.{FlowAgrees, Covers, KeepsTurns, all_within, turn_kept, by_depth_keeps}
-use Rattle.df_hoare.specs.Measured.{measured_method, measured_call, measured_turn, measured}
+use Rattle.df_hoare.proofs.Measured.{measured_method, measured_call, measured_turn, measured}
 
 pub program_of_measured : (program : Program) (depth : ℕ) → (measured program depth).program ≡ program
 program_of_measured program depth = program_of_depth measured_call measured_turn program depth

@@ -1,3 +1,2 @@
-pub mod Measured
 pub mod Total
 pub mod Ends

@@ -26,4 +26,7 @@ mod RowStates
 mod CallRows
 mod LoopRows
 mod ValueRows
+mod OperatorRows
+mod UpdateRows
+mod ModularRows
 mod EndlessRows

@@ -1,8 +1,9 @@
 -- Runs of loops, by computation.
-use Rattle.std.proofs.Common.{◌≡◌, pos, negsuc, [], ◌∷◌, None, codes, refl}
+use Rattle.std.proofs.Common.{◌≡◌, pos, negsuc, true, [], ◌∷◌, None, Some, codes, refl}
 use Rattle.std.specs.Fmt.{digits}
-use Rattle.df_lang.specs.Stmt.{Break, Return}
-use Rattle.df_lang.proofs.Samples.{at, alone, counting, bounded, forgetting, standing, leaving, giving, broken, staying, returning, keeping, num, tallying}
+use Rattle.df_lang.specs.Stmt.{Stmts, While, Break, Return, done, next}
+use Rattle.df_lang.specs.Program.{Method}
+use Rattle.df_lang.proofs.Samples.{at, N, loc, truth_expr, plus, give, count, step, alone, counting, bounded, forgetting, standing, leaving, giving, broken, staying, returning, keeping, num, tallying}
 use Rattle.df_meaning.specs.declared.kind.Kind.TheVariants as kinds
 use Rattle.df_mean.specs.Outcome.{Gives, Wrong, TooDeep, Dismissed}
 use Rattle.df_mean.specs.Whole.{whole, run_method}
@@ -71,8 +72,8 @@ last_turn_checked = refl
 last_turn_checked_too : run_method (whole (alone bounded) 9) (at 1) bounded (n (pos 3) ∷ []) empty ≡ Wrong (at 7) kinds.Turn
 last_turn_checked_too = refl
 
-turn_before_decrease : modular_run (alone bounded) (0 ∷ 1 ∷ []) 1 1 bounded (n (pos 5) ∷ []) (handing (counter (pos 1) ∷ [])) ≡ Dismissed
-turn_before_decrease = refl
+turn_ends : modular_run (alone bounded) (0 ∷ 1 ∷ []) 1 1 bounded (n (pos 5) ∷ []) (handing (counter (pos 1) ∷ [])) ≡ Dismissed
+turn_ends = refl
 
 behind_the_loop : text_then (modular_run (alone counting) (0 ∷ 1 ∷ []) 1 1 counting (n (pos 4) ∷ []) (handing (counter (pos 4) ∷ []))) ≡ Gives []
 behind_the_loop = refl
@@ -95,3 +96,15 @@ owes_at_a_return = refl
 -- what a `return` in a loop gives reaches nothing behind it
 given_by_a_return : text_then (modular_run (alone keeping) (0 ∷ 1 ∷ []) 1 1 keeping (n (pos 0) ∷ []) (handing (counter (pos 9) ∷ []))) ≡ Gives []
 given_by_a_return = refl
+
+-- ---- a `break` ends the inner loop alone
+
+-- `r := 0; while r < n { while true { break; } .. } r := r + 50;`
+abbrev nested : Stmts → Method
+nested rest = count [] (next (While (at 19) (truth_expr true) [] (Some []) (next (Break (at 16)) done)) rest) (next (give 1 N (plus (loc 1) (num (pos 50)))) done)
+
+breaks_the_inner_loop : run_method (whole (alone (nested (next step done))) 9) (at 1) (nested (next step done)) (n (pos 2) ∷ []) empty ≡ Gives (record { values = n (pos 52) ∷ []; store = empty })
+breaks_the_inner_loop = refl
+
+breaks_both_loops : run_method (whole (alone (nested (next (Break (at 16)) (next step done)))) 9) (at 1) (nested (next (Break (at 16)) (next step done))) (n (pos 2) ∷ []) empty ≡ Gives (record { values = n (pos 50) ∷ []; store = empty })
+breaks_both_loops = refl

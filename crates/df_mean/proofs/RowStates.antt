@@ -1,14 +1,19 @@
--- States, values and what is handed in, for the rows.
+-- Programs of two methods, states, values and what is handed in, for the rows.
 use Rattle.std.proofs.Common.{ℕ, ℤ, pos, negsuc, Bool, false, List, [], ◌∷◌, Some}
 use Rattle.std.specs.Ordering.{int_eq}
 use Rattle.df_lang.specs.Expr.{Expr}
-use Rattle.df_lang.proofs.Samples.{alone, counting}
+use Rattle.df_lang.specs.Program.{Method, MethodDecl, Program}
+use Rattle.df_lang.proofs.Samples.{small, alone, counting}
 use Rattle.df_mean.specs.Value as values
 use Rattle.df_mean.specs.Outcome.{Outcome, Gives, after}
 use Rattle.df_mean.specs.State.{Handed, Turned, Store, State, begin}
 use Rattle.df_mean.specs.Meaning.{Returned}
 use Rattle.df_mean.specs.Evaluation.{evaluate}
 use Rattle.df_mean.specs.Whole.{whole}
+
+-- a method before another one that may call it
+abbrev pub beside : Method → Method → Program
+beside callee m = record { decls = small ∷ MethodDecl callee ∷ MethodDecl m ∷ [] }
 
 abbrev pub empty : Store
 empty = record { text = []; handed = [] }

@@ -12,7 +12,7 @@ use Rattle.df_meaning.specs.declared.kind.Kind.TheVariants as kinds
 use Rattle.df_mean.specs.Value.{Value, truth_of}
 use Rattle.df_mean.specs.Types.{has_type, have_types}
 use Rattle.df_mean.specs.Outcome.{Outcome, Gives, Wrong, TooDeep, NoChoice, Dismissed, after}
-use Rattle.df_mean.specs.State.{Handed, Given, Turned, Store, State, Locals, begin, set_local, with_locals, with_store}
+use Rattle.df_mean.specs.State.{Handed, Given, Turned, Store, State, Locals, begin, set_local, with_locals, with_store, store_with}
 use Rattle.df_mean.specs.Meaning.{Meaning, Flow, Returned, Loop}
 use Rattle.df_mean.specs.Meaning as flows
 use Rattle.df_mean.specs.Evaluation.{evaluate}
@@ -95,14 +95,14 @@ turned program (changed ∷ others) handed s =
 abbrev pub handed_turn : Program → List Changed → State → List Handed → Outcome State
 handed_turn program changed s [] = Dismissed
 handed_turn program changed s (Given values text ∷ rest) = Dismissed
-handed_turn program changed s (Turned locals text ∷ rest) = turned program changed locals (with_store s (record { text = text; handed = rest }))
+handed_turn program changed s (Turned locals text ∷ rest) = turned program changed locals (with_store s (store_with text rest))
 
 -- what a call gave
 abbrev pub handed_results : Program → Method → List Handed → Outcome Returned
 handed_results program method [] = Dismissed
 handed_results program method (Turned locals text ∷ rest) = Dismissed
 handed_results program method (Given values text ∷ rest) =
-    if have_types program (types_of method.results) values then Gives (record { values = values; store = record { text = text; handed = rest } }) else Dismissed
+    if have_types program (types_of method.results) values then Gives (record { values = values; store = store_with text rest }) else Dismissed
 
 -- ---- The run.
 

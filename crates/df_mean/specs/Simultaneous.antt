@@ -1,25 +1,30 @@
--- That an assignment evaluates all its right sides before any place takes a value.
-use Rattle.std.specs.Prelude.{◌≡◌, Bool, true, false, List, [], ◌∷◌}
-use Rattle.df_lang.specs.Expr.{Expr}
+-- That an assignment evaluates all its right sides, calls among them, before any place takes a value.
+use Rattle.std.specs.Prelude.{◌≡◌, List, [], ◌∷◌, ◌++◌}
 use Rattle.df_lang.specs.Stmt.{Source, Single, Results, Update}
-use Rattle.df_mean.specs.Outcome.{after}
-use Rattle.df_mean.specs.State.{State}
-use Rattle.df_mean.specs.Meaning.{Meaning}
-use Rattle.df_mean.specs.Execution.{evaluate_all, give_all, execute_update}
+use Rattle.df_mean.specs.Outcome.{Outcome, Gives, after}
+use Rattle.df_mean.specs.State.{Store, State, with_store}
+use Rattle.df_mean.specs.Meaning.{Meaning, Returned}
+use Rattle.df_mean.specs.Evaluation.{evaluate}
+use Rattle.df_mean.specs.Execution.{evaluate_all, convert_all, give_all, execute_update}
 
--- no right side is a call
-abbrev pub are_single : List Source → Bool
-are_single [] = true
-are_single (Single ty value ∷ others) = are_single others
-are_single (Results call results ∷ others) = false
+-- the values of a right side over the locals of the state, and the store behind it
+abbrev pub given_by : Meaning → State → Source → Outcome Returned
+given_by m s (Single ty value) = after (evaluate m s value) (λ v. Gives (record { values = v ∷ []; store = s.store }))
+given_by m s (Results call results) =
+    after (evaluate_all m s call.arguments) (λ arguments.
+    after (m.call call.pos call.callee arguments s.store) (λ returned.
+    after (convert_all m call.pos results returned.values) (λ vs.
+    Gives (record { values = vs; store = returned.store }))))
 
--- the right sides that are no calls
-abbrev pub single_values : List Source → List Expr
-single_values [] = []
-single_values (Single ty value ∷ others) = value ∷ single_values others
-single_values (Results call results ∷ others) = single_values others
+-- the right sides in order, all over the same locals: each takes the store that the one before left
+abbrev pub given_by_all : Meaning → State → Store → List Source → Outcome Returned
+given_by_all m s store [] = Gives (record { values = []; store = store })
+given_by_all m s store (source ∷ others) =
+    after (given_by m (with_store s store) source) (λ first.
+    after (given_by_all m s first.store others) (λ more.
+    Gives (record { values = first.values ++ more.values; store = more.store })))
 
--- Without calls the right sides are evaluated in the state before, and then the places take their values.
+-- All right sides are evaluated over the locals before, in order, and then the places take their values.
 abbrev pub AssignmentsAreSimultaneous : Type 0
-AssignmentsAreSimultaneous = (m : Meaning) (s : State) (update : Update) → are_single update.sources ≡ true
-    → execute_update m s update ≡ after (evaluate_all m s (single_values update.sources)) (λ vs. give_all s [] update.targets vs)
+AssignmentsAreSimultaneous = (m : Meaning) (s : State) (update : Update)
+    → execute_update m s update ≡ after (given_by_all m s s.store update.sources) (λ given. give_all (with_store s given.store) [] update.targets given.values)

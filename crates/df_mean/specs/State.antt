@@ -40,8 +40,11 @@ with_local state local value = with_locals state (set_local state.locals local (
 abbrev pub without_local : State → ℕ → State
 without_local state local = with_locals state (set_local state.locals local None)
 
+abbrev pub store_with : List ℕ → List Handed → Store
+store_with text handed = record { text = text; handed = handed }
+
 abbrev pub with_text : Store → List ℕ → Store
-with_text store text = record { text = text; handed = store.handed }
+with_text store text = store_with text store.handed
 
 -- the text of a value behind what is printed
 abbrev pub printed : State → Value → State

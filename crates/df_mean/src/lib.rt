@@ -92,7 +92,7 @@ pub fn divisions_are_euclidean()
     ensures { DivisionsAreEuclidean }
 {}
 
-/// An assignment evaluates all its right sides before any place takes a value.
+/// An assignment evaluates all its right sides, calls among them, before any place takes a value.
 pub fn assignments_are_simultaneous()
     ensures { AssignmentsAreSimultaneous }
 {}
