@@ -1,0 +1,28 @@
+-- Logs one after another.
+use Rattle.std.proofs.Common.{◌≡◌, ℕ, suc, ◌+◌, ◌<◌, List, [], ◌∷◌, ◌++◌, map, length, take, get_or, sym, ap, ◌∙◌, append_assoc, add-zero, arith}
+use Rattle.std.proofs.lemmas.Grind.{flat_map-append}
+use Rattle.std.proofs.lemmas.List.{append-nil, take_more, length-take-le, map-append, length-map}
+use Rattle.df_form.specs.Log.{Step}
+use Rattle.df_logtext.specs.LogText.{ended, part_lines, parts_lines, text_of_lines}
+
+-- one more log
+pub parts-more : (names : List (List ℕ)) (number : ℕ) (logs : List (List Step)) (log : List Step) → parts_lines names number (logs ++ log ∷ []) ≡ parts_lines names number logs ++ part_lines names (number + length logs) log
+parts-more names number [] log = append-nil (part_lines names number log) ∙ ap (λ n. part_lines names n log) (sym (add-zero number))
+parts-more names number (first ∷ others) log =
+    let e : suc number + length others ≡ number + suc (length others) = omega arith in
+    ap (λ lines. part_lines names number first ++ lines) (parts-more names (suc number) others log) ∙ sym (append_assoc (part_lines names number first) _ _)
+    ∙ ap (λ n. (part_lines names number first ++ parts_lines names (suc number) others) ++ part_lines names n log) e
+
+-- its text
+pub parts_text_more : (names : List (List ℕ)) (number next : ℕ) (logs : List (List Step)) (log : List Step) → number + length logs ≡ next → text_of_lines (parts_lines names number (logs ++ log ∷ [])) ≡ text_of_lines (parts_lines names number logs) ++ text_of_lines (part_lines names next log)
+parts_text_more names number next logs log e =
+    ap text_of_lines (parts-more names number logs log) ∙ flat_map-append ended (parts_lines names number logs) _ ∙ ap (λ n. text_of_lines (parts_lines names number logs) ++ text_of_lines (part_lines names n log)) e
+
+-- in a loop
+pub parts_step : {X : Type 0} (names : List (List ℕ)) (view : X → List Step) (logs : List X) (n : ℕ) (x : X) → n < length logs → x ≡ get_or logs n x
+    → text_of_lines (parts_lines names 1 (map view (take (n + 1) logs))) ≡ text_of_lines (parts_lines names 1 (map view (take n logs))) ++ text_of_lines (part_lines names (n + 1) (view x))
+parts_step names view logs n x h is =
+    let t : take (n + 1) logs ≡ take n logs ++ x ∷ [] = take_more logs n x h ∙ ap (λ y. take n logs ++ y ∷ []) (sym is) in
+    let m : map view (take (n + 1) logs) ≡ map view (take n logs) ++ view x ∷ [] = ap (map view) t ∙ map-append view (take n logs) (x ∷ []) in
+    let len : 1 + length (map view (take n logs)) ≡ n + 1 = omega (arith, length-map (take n logs) view, length-take-le n logs (omega arith)) in
+    ap (λ ls. text_of_lines (parts_lines names 1 ls)) m ∙ parts_text_more names 1 (n + 1) (map view (take n logs)) (view x) len

@@ -1,0 +1,8 @@
+use Rattle.std.proofs.Common.{◌≡◌, ◌++◌, map, take}
+use Rattle.df_logtext.specs.StepText.{step_line}
+use Rattle.df_logtext.specs.LogText.{text_of_lines}
+use Rattle.df_logtext.specs.View.{names_of, log_of}
+use Rattle.df_logtext.proofs.writing.push_steps.Given as goal
+
+abbrev pub invariant-loop-step : goal.invariant-loop-step
+invariant-loop-step l = l.text.items ≡ l.initial.text.items ++ text_of_lines (map (step_line (names_of l.names)) (log_of (take l.step-index l.steps)))

@@ -1,0 +1,65 @@
+-- Which logs have a text: their numbers fit, and their types have names.
+use Rattle.std.specs.Prelude.{◌≡◌, ◌≢◌, ℕ, ℤ, pos, negsuc, ◌<◌, ◌^◌, List, slice_get, Some}
+use Rattle.std.specs.List.{AllByRecursion}
+use Rattle.df_types.specs.declared.newtype.Ty.{Ty}
+use Rattle.df_types.specs.declared.newtype.Ty.TheVariants as types
+use Rattle.df_form.specs.declared.log.Lit.{Lit}
+use Rattle.df_form.specs.declared.log.Multiple.{Multiple}
+use Rattle.df_form.specs.declared.node.Op.{Op}
+use Rattle.df_form.specs.declared.node.Op.TheVariants as ops
+use Rattle.df_form.specs.Log.{Combination, Step, Hypothesis, Goal, Connective, Schema, Propagation, Linear, Split, Make}
+
+-- the number of a node, a clause, a row or a hypothesis
+abbrev pub IsIndex : ℕ → Type 0
+IsIndex n = n < 2 ^ 64
+
+-- a whole number of 128 bits
+abbrev pub IsWide : ℤ → Type 0
+IsWide (pos n) = n < 2 ^ 127
+IsWide (negsuc n) = n < 2 ^ 127
+
+-- no blank (32) and no line feed (10)
+abbrev pub IsPlain : ℕ → Type 0
+IsPlain b = (b ≢ 32) × (b ≢ 10)
+
+abbrev pub IsWord : List ℕ → Type 0
+IsWord word = AllByRecursion IsPlain word
+
+-- the newtype of a number has a name, which is a word, and none before it has that name
+pub record IsNamed (names : List (List ℕ)) (number : ℕ) : Type 0 where
+  pub name : List ℕ
+  pub here : slice_get names number ≡ Some name
+  pub first : (other : ℕ) → other < number → slice_get names other ≢ Some name
+  pub word : IsWord name
+
+abbrev pub HasName : List (List ℕ) → Ty → Type 0
+HasName names (types.Newtype number) = IsNamed names number
+
+-- no line makes a free term
+abbrev pub HasWord : List (List ℕ) → Op → Type 0
+HasWord names (ops.Number number) = IsWide number
+HasWord names (ops.Free free) = ⊥
+HasWord names (ops.Is ty) = HasName names ty
+HasWord names op = Unit {0}
+
+abbrev pub HasLiteral : Lit → Type 0
+HasLiteral l = IsIndex l.node
+
+abbrev pub HasMultiple : Multiple → Type 0
+HasMultiple m = IsWide m.factor × IsIndex m.row
+
+abbrev pub HasCombination : Combination → Type 0
+HasCombination c = IsWide c.divisor × AllByRecursion HasMultiple c.members
+
+abbrev pub HasLine : List (List ℕ) → Step → Type 0
+HasLine names (Hypothesis number) = IsIndex number
+HasLine names Goal = Unit {0}
+HasLine names (Connective node clause) = IsIndex node × IsIndex clause
+HasLine names (Schema schema clause terms) = (schema < 2 ^ 8) × (clause < 2 ^ 32) × AllByRecursion IsIndex terms
+HasLine names (Propagation clauses conclusion) = AllByRecursion IsIndex clauses × AllByRecursion HasLiteral conclusion
+HasLine names (Linear conclusion combinations) = AllByRecursion HasLiteral conclusion × AllByRecursion HasCombination combinations
+HasLine names (Split node bound) = IsIndex node × IsWide bound
+HasLine names (Make node) = HasWord names node.op × AllByRecursion IsIndex node.parts
+
+abbrev pub HaveText : List (List ℕ) → List (List Step) → Type 0
+HaveText names logs = AllByRecursion (λ log. AllByRecursion (HasLine names) log) logs

@@ -1,0 +1,12 @@
+pub mod Joined
+pub mod StepText
+pub mod LogText
+pub mod Numeral
+pub mod Parting
+pub mod View
+pub mod Words
+pub mod Arguments
+pub mod Reading
+pub mod ReaderView
+pub mod HasText
+pub mod BadLog

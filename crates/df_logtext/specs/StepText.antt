@@ -1,0 +1,86 @@
+-- The words of a step: a letter, and what follows it.
+use Rattle.std.specs.Prelude.{ℕ, Bool, true, false, List, [], ◌∷◌, ◌++◌, map, slice_get, codes, unwrap_or}
+use Rattle.std.specs.List.{flat_map}
+use Rattle.std.specs.Fmt.{decimal, signed_decimal}
+use Rattle.df_types.specs.declared.newtype.Ty.{Ty}
+use Rattle.df_types.specs.declared.newtype.Ty.TheVariants as types
+use Rattle.df_form.specs.declared.log.Lit.{Lit}
+use Rattle.df_form.specs.declared.log.Multiple.{Multiple}
+use Rattle.df_form.specs.declared.node.Op.{Op}
+use Rattle.df_form.specs.declared.node.Op.TheVariants as ops
+use Rattle.df_form.specs.Log.{Combination, Step, Hypothesis, Goal, Connective, Schema, Propagation, Linear, Split, Make}
+use Rattle.df_form.specs.Node.{Node}
+use Rattle.df_logtext.specs.Joined.{joined}
+
+-- the name of a type: that of its newtype; the newtypes' names stand by their numbers
+abbrev pub type_name : List (List ℕ) → Ty → List ℕ
+type_name names (types.Newtype number) = unwrap_or (slice_get names number) []
+
+-- the word of an operation; no line makes a free term, which has none
+abbrev pub op_word : List (List ℕ) → Op → List ℕ
+op_word names (ops.Number number) = codes "num"
+op_word names (ops.Free free) = []
+op_word names ops.Plus = codes "plus"
+op_word names ops.Times = codes "times"
+op_word names (ops.Is ty) = codes "is:" ++ type_name names ty
+op_word names ops.Equal = codes "eq"
+op_word names ops.AtMost = codes "le"
+op_word names ops.Not = codes "not"
+op_word names ops.And = codes "and"
+op_word names ops.Or = codes "or"
+op_word names ops.Implies = codes "imp"
+op_word names ops.Iff = codes "iff"
+
+-- a number stands behind its word
+abbrev pub op_number : Op → List (List ℕ)
+op_number (ops.Number number) = signed_decimal number ∷ []
+op_number op = []
+
+abbrev pub node_words : List (List ℕ) → Node → List (List ℕ)
+node_words names node = op_word names node.op ∷ (op_number node.op ++ map decimal node.parts)
+
+-- 43 is `+` and 45 is `-`
+abbrev pub sign : Bool → ℕ
+sign true = 43
+sign false = 45
+
+abbrev pub literal_word : Lit → List ℕ
+literal_word l = sign l.positive ∷ decimal l.node
+
+-- `M*I`, with `*` 42
+abbrev pub multiple_text : Multiple → List ℕ
+multiple_text m = signed_decimal m.factor ++ 42 ∷ decimal m.row
+
+-- `M*I+M*I`; a sum without members has no word
+abbrev pub sum_words : List Multiple → List (List ℕ)
+sum_words [] = []
+sum_words (first ∷ others) = joined 43 (map multiple_text (first ∷ others)) ∷ []
+
+-- the divisor, and the sum
+abbrev pub combination_words : Combination → List (List ℕ)
+combination_words c = signed_decimal c.divisor ∷ sum_words c.members
+
+abbrev pub letter : Step → List ℕ
+letter (Hypothesis number) = codes "h"
+letter Goal = codes "g"
+letter (Connective node clause) = codes "x"
+letter (Schema schema clause terms) = codes "a"
+letter (Propagation clauses conclusion) = codes "u"
+letter (Linear conclusion combinations) = codes "l"
+letter (Split node bound) = codes "s"
+letter (Make node) = codes "n"
+
+-- the words behind the letter
+abbrev pub arguments : List (List ℕ) → Step → List (List ℕ)
+arguments names (Hypothesis number) = decimal number ∷ []
+arguments names Goal = []
+arguments names (Connective node clause) = decimal node ∷ decimal clause ∷ []
+arguments names (Schema schema clause terms) = decimal schema ∷ decimal clause ∷ map decimal terms
+arguments names (Propagation clauses conclusion) = map decimal clauses ++ codes ":" ∷ map literal_word conclusion
+arguments names (Linear conclusion combinations) = map literal_word conclusion ++ codes ":" ∷ flat_map combination_words combinations
+arguments names (Split node bound) = decimal node ∷ signed_decimal bound ∷ []
+arguments names (Make node) = node_words names node
+
+-- one blank (32) between words
+abbrev pub step_line : List (List ℕ) → Step → List ℕ
+step_line names step = joined 32 (letter step ∷ arguments names step)

@@ -1,0 +1,167 @@
+//! Lines of steps that are written.
+
+ghost use Rattle.std.specs.Prelude.{◌≡◌, ◌++◌, ◌∷◌, [], map, codes, OnOk};
+ghost use Rattle.std.specs.List.{flat_map};
+ghost use Rattle.std.specs.Fmt.{decimal, signed_decimal};
+ghost use Rattle.df_form.specs.Log.{step_of, combination_of};
+ghost use Rattle.df_form.specs.Node.{node_of};
+ghost use Rattle.df_logtext.specs.Joined.{behind};
+ghost use Rattle.df_logtext.specs.StepText.{literal_word, combination_words, type_name, op_word, op_number, node_words, letter as letter_of, arguments, step_line};
+ghost use Rattle.df_logtext.specs.LogText.{ended};
+ghost use Rattle.df_logtext.specs.View.{names_of};
+
+use crate::word::{
+    push_combinations, push_integer, push_literals, push_number, push_numbers, push_word,
+};
+use df_form::{Combination, Lit, Node, Op, Step};
+use df_types::Ty;
+use std::alloc::AllocError;
+
+/// The name of a type, or an empty one where there is no newtype of its number.
+fn type_name(names: &[String], ty: Ty) -> &str
+    ensures { result.now ≡ type_name (names_of names.now) ty }
+{
+    let Ty::Newtype(number) = ty;
+    match names.get(number) {
+        Some(name) => name.as_str(),
+        None => "",
+    }
+}
+
+fn push_type(text: &mut Vec<u8>, names: &[String], ty: Ty) -> Result<(), AllocError>
+    ensures { OnOk result (text.new.items ≡ text.old.items ++ behind 32 (op_word (names_of names.now) (Op.Is ty) ∷ [])) }
+{
+    text.extend_from_slice(b" is:")?;
+    text.extend_from_slice(type_name(names, ty).as_bytes())?;
+    Ok(())
+}
+
+fn push_op(text: &mut Vec<u8>, names: &[String], op: Op) -> Result<(), AllocError>
+    ensures { OnOk result (text.new.items ≡ text.old.items ++ behind 32 (op_word (names_of names.now) op ∷ op_number op)) }
+{
+    match op {
+        Op::Number(number) => {
+            push_word(text, b"num")?;
+            push_integer(text, number)
+        }
+        Op::Free(_) => push_word(text, b""),
+        Op::Plus => push_word(text, b"plus"),
+        Op::Times => push_word(text, b"times"),
+        Op::Is(ty) => push_type(text, names, ty),
+        Op::Equal => push_word(text, b"eq"),
+        Op::AtMost => push_word(text, b"le"),
+        Op::Not => push_word(text, b"not"),
+        Op::And => push_word(text, b"and"),
+        Op::Or => push_word(text, b"or"),
+        Op::Implies => push_word(text, b"imp"),
+        Op::Iff => push_word(text, b"iff"),
+    }
+}
+
+fn push_node(text: &mut Vec<u8>, names: &[String], node: &Node) -> Result<(), AllocError>
+    ensures { OnOk result (text.new.items ≡ text.old.items ++ behind 32 (node_words (names_of names.now) (node_of node.now))) }
+{
+    push_op(text, names, node.op)?;
+    push_numbers(text, &node.parts)
+}
+
+fn push_schema(
+    text: &mut Vec<u8>,
+    schema: u8,
+    clause: u32,
+    terms: &[usize],
+) -> Result<(), AllocError>
+    ensures { OnOk result (text.new.items ≡ text.old.items ++ behind 32 (decimal schema ∷ decimal clause ∷ map decimal terms.now)) }
+{
+    push_number(text, schema.into())?;
+    push_number(text, clause.into())?;
+    push_numbers(text, terms)
+}
+
+fn push_propagation(
+    text: &mut Vec<u8>,
+    clauses: &[usize],
+    conclusion: &[Lit],
+) -> Result<(), AllocError>
+    ensures { OnOk result (text.new.items ≡ text.old.items ++ behind 32 (map decimal clauses.now ++ codes ":" ∷ map literal_word conclusion.now)) }
+{
+    push_numbers(text, clauses)?;
+    push_word(text, b":")?;
+    push_literals(text, conclusion)
+}
+
+fn push_linear(
+    text: &mut Vec<u8>,
+    conclusion: &[Lit],
+    combinations: &[Combination],
+) -> Result<(), AllocError>
+    ensures { OnOk result (text.new.items ≡ text.old.items ++ behind 32 (map literal_word conclusion.now ++ codes ":" ∷ flat_map combination_words (map combination_of combinations.now))) }
+{
+    push_literals(text, conclusion)?;
+    push_word(text, b":")?;
+    push_combinations(text, combinations)
+}
+
+fn push_two(text: &mut Vec<u8>, first: usize, second: usize) -> Result<(), AllocError>
+    ensures { OnOk result (text.new.items ≡ text.old.items ++ behind 32 (decimal first ∷ decimal second ∷ [])) }
+{
+    push_number(text, first as u64)?;
+    push_number(text, second as u64)
+}
+
+fn push_split(text: &mut Vec<u8>, node: usize, bound: i128) -> Result<(), AllocError>
+    ensures { OnOk result (text.new.items ≡ text.old.items ++ behind 32 (decimal node ∷ signed_decimal bound ∷ [])) }
+{
+    push_number(text, node as u64)?;
+    push_integer(text, bound)
+}
+
+fn letter(step: &Step) -> &'static [u8]
+    ensures { result.now ≡ letter_of (step_of step.now) }
+{
+    match step {
+        Step::Hypothesis(_) => b"h",
+        Step::Goal => b"g",
+        Step::Connective { .. } => b"x",
+        Step::Schema { .. } => b"a",
+        Step::Propagation { .. } => b"u",
+        Step::Linear { .. } => b"l",
+        Step::Split { .. } => b"s",
+        Step::Make(_) => b"n",
+    }
+}
+
+fn push_arguments(text: &mut Vec<u8>, names: &[String], step: &Step) -> Result<(), AllocError>
+    ensures { OnOk result (text.new.items ≡ text.old.items ++ behind 32 (arguments (names_of names.now) (step_of step.now))) }
+{
+    match step {
+        Step::Hypothesis(number) => push_number(text, *number as u64),
+        Step::Goal => Ok(()),
+        Step::Connective { node, clause } => push_two(text, *node, *clause),
+        Step::Schema {
+            schema,
+            clause,
+            terms,
+        } => push_schema(text, *schema, *clause, terms),
+        Step::Propagation {
+            clauses,
+            conclusion,
+        } => push_propagation(text, clauses, conclusion),
+        Step::Linear {
+            conclusion,
+            combinations,
+        } => push_linear(text, conclusion, combinations),
+        Step::Split { node, bound } => push_split(text, *node, *bound),
+        Step::Make(node) => push_node(text, names, node),
+    }
+}
+
+/// The line of a step.
+pub fn push_step(text: &mut Vec<u8>, names: &[String], step: &Step) -> Result<(), AllocError>
+    ensures { OnOk result (text.new.items ≡ text.old.items ++ ended (step_line (names_of names.now) (step_of step.now))) }
+{
+    text.extend_from_slice(letter(step))?;
+    push_arguments(text, names, step)?;
+    text.extend_from_slice(b"\n")?;
+    Ok(())
+}
