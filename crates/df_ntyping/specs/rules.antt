@@ -1,0 +1,9 @@
+pub mod Names
+pub mod Values
+pub mod Operands
+pub mod Comparisons
+pub mod Truths
+pub mod Calls
+pub mod Assignments
+pub mod Loops
+pub mod Newtypes
