@@ -2,7 +2,9 @@
 //! and rows by their entries.
 #![tactic(auto)]
 
-use df_form::{Combination, Draft, Free, Lit, Multiple, Node, Nodes, Op, Sequent, Sort, Step};
+use df_form::{
+    Combination, Draft, Free, Lit, Multiple, Node, Nodes, Op, Pair, Sequent, Sort, Step,
+};
 use df_level::Row;
 use df_types::{Declared, Interval, Newtype, Ty};
 use std::alloc::Global;
@@ -31,6 +33,7 @@ pub enum Line<'a> {
     X(usize, usize),
     A(u8, u32, &'a [usize]),
     U(&'a [usize], &'a [Signed]),
+    E(&'a [Signed], &'a [(usize, usize)]),
     L(&'a [Signed], &'a [Sum<'a>]),
     S(usize, i128),
     N(Op, &'a [usize]),
@@ -177,6 +180,15 @@ pub fn literals(alloc: Global, signed: &[Signed]) -> Result<Vec<Lit>, Fail> {
     Ok(literals)
 }
 
+/// Pairs in this order.
+fn pairs(alloc: Global, named: &[(usize, usize)]) -> Result<Vec<Pair>, Fail> {
+    let mut pairs = Vec::new(alloc);
+    for &(left, right) in named {
+        pairs.push(Pair { left, right })?;
+    }
+    Ok(pairs)
+}
+
 fn combination(alloc: Global, sum: &Sum) -> Result<Combination, Fail> {
     let (divisor, multiples) = *sum;
     let mut members = Vec::new(alloc);
@@ -207,6 +219,10 @@ pub fn step(alloc: Global, line: Line) -> Result<Step, Fail> {
         Line::U(clauses, conclusion) => Step::Propagation {
             clauses: Vec::from_slice(alloc, clauses)?,
             conclusion: literals(alloc, conclusion)?,
+        },
+        Line::E(conclusion, named) => Step::Congruence {
+            conclusion: literals(alloc, conclusion)?,
+            pairs: pairs(alloc, named)?,
         },
         Line::L(conclusion, sums) => Step::Linear {
             conclusion: literals(alloc, conclusion)?,

@@ -16,7 +16,7 @@ use Rattle.df_form.specs.Sorting.{sort_at}
 use Rattle.df_form.specs.Made.{made, made_where}
 use Rattle.df_form.specs.Sequent.{Sequent}
 use Rattle.df_form.specs.Clause.{Clause, yes, no}
-use Rattle.df_form.specs.Log.{Step, Hypothesis, Goal, Connective, Schema, Propagation, Linear, Split, Make}
+use Rattle.df_form.specs.Log.{Step, Hypothesis, Goal, Connective, Schema, Propagation, Congruence, Linear, Split, Make}
 use Rattle.df_form.proofs.Values.{Grows, grows_not, grows_by, grows_twice}
 use Rattle.df_kern.specs.Bound.{number, at_most, made_at_least, made_at_most}
 use Rattle.df_kern.specs.Connective.{Added, of_one, not_clauses, and_clauses, or_clauses, implies_clauses, iff_clauses, equal_clause, equal_by_sort, connective_clause}
@@ -95,6 +95,7 @@ line_keeps s P keeps nodes (Connective n k) added h e =
     op_kept s.newtypes P keeps nodes n k found.0.op found.0.parts added h found.2
 line_keeps s P keeps nodes (Schema schema k terms) added h e = terms_kept s.newtypes P keeps nodes k terms added h (test_some (schema == 74) (of_one (schema_74 s.newtypes nodes k) terms) added e).1
 line_keeps s P keeps nodes (Propagation numbers conclusion) added h e = absurd cc
+line_keeps s P keeps nodes (Congruence conclusion pairs) added h e = absurd cc
 line_keeps s P keeps nodes (Linear conclusion combinations) added h e = absurd cc
 line_keeps s P keeps nodes (Split n k) added h e = absurd cc
 line_keeps s P keeps nodes (Make node) added h e = absurd cc

@@ -2,6 +2,7 @@
 use Rattle.std.specs.Prelude.{ℕ, ℤ, List, map}
 use Rattle.df_form.specs.declared.log.Lit.{Lit}
 use Rattle.df_form.specs.declared.log.Multiple.{Multiple}
+use Rattle.df_form.specs.declared.log.Pair.{Pair}
 use Rattle.df_form.specs.declared.log.Combination as declared_combination
 use Rattle.df_form.specs.declared.log.Step as declared
 use Rattle.df_form.specs.declared.log.Step.TheVariants as lines
@@ -18,6 +19,7 @@ pub data Step : Type 0 where
   Connective : (node clause : ℕ) → Step
   Schema : (schema clause : ℕ) (terms : List ℕ) → Step
   Propagation : (clauses : List ℕ) (conclusion : List Lit) → Step
+  Congruence : (conclusion : List Lit) (pairs : List Pair) → Step
   Linear : (conclusion : List Lit) (combinations : List Combination) → Step
   Split : (node : ℕ) (bound : ℤ) → Step
   Make : Node → Step
@@ -32,6 +34,7 @@ step_of lines.Goal = Goal
 step_of (lines.Connective node clause) = Connective node clause
 step_of (lines.Schema schema clause terms) = Schema schema clause terms.items
 step_of (lines.Propagation clauses conclusion) = Propagation clauses.items conclusion.items
+step_of (lines.Congruence conclusion pairs) = Congruence conclusion.items pairs.items
 step_of (lines.Linear conclusion combinations) = Linear conclusion.items (map combination_of combinations.items)
 step_of (lines.Split node bound) = Split node bound
 step_of (lines.Make node) = Make (node_of node)

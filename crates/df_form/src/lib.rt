@@ -13,7 +13,7 @@ mod sorting;
 pub use df_meaning::Kind;
 pub use draft::Draft;
 pub use law::{one_numbering, one_sequent};
-pub use log::{Combination, Lit, Multiple, Step};
+pub use log::{Combination, Lit, Multiple, Pair, Step};
 pub use node::{Formula, Free, Node, Op, Sort, Term};
 pub use nodes::Nodes;
 pub use sequent::Sequent;

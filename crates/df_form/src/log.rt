@@ -38,6 +38,13 @@ pub struct Combination {
     pub members: Vec<Multiple>,
 }
 
+/// Two terms by the numbers of their nodes, as of an equality.
+#[derive(Clone, Copy, Debug, PartialEq, Eq)]
+pub struct Pair {
+    pub left: Term,
+    pub right: Term,
+}
+
 /// A line of a log.
 #[derive(Debug, Drop)]
 pub enum Step {
@@ -60,6 +67,12 @@ pub enum Step {
     Propagation {
         clauses: Vec<usize>,
         conclusion: Vec<Lit>,
+    },
+    /// `e L.. : N M ..`: a clause whose negation is refuted by congruence: its equalities, and then in
+    /// turn each pair of one operation on arguments that are equal by those before it.
+    Congruence {
+        conclusion: Vec<Lit>,
+        pairs: Vec<Pair>,
     },
     /// `l L.. : R..`: a clause whose negation is refuted by linear arithmetic.
     Linear {

@@ -16,7 +16,7 @@ use Rattle.df_form.specs.Made.{made}
 use Rattle.df_form.specs.Arithmetic.{IsArithmetic}
 use Rattle.df_form.specs.Sequent.{Sequent, IsSequent}
 use Rattle.df_form.specs.Clause.{Clause, yes, no}
-use Rattle.df_form.specs.Log.{Step, Hypothesis, Goal, Connective, Schema, Propagation, Linear, Split, Make}
+use Rattle.df_form.specs.Log.{Step, Hypothesis, Goal, Connective, Schema, Propagation, Congruence, Linear, Split, Make}
 use Rattle.df_form.proofs.Arithmetic.{AreArithmetic, is_plain, plain_fits, made_stay, are_arithmetic, all_fit}
 use Rattle.df_kern.specs.Bound.{number, at_most, made_at_least, made_at_most}
 use Rattle.df_kern.specs.Connective.{Added, chosen, of_one, not_clauses, and_clauses, or_clauses, implies_clauses, iff_clauses, equal_clause, equal_by_sort, connective_clause}
@@ -104,6 +104,7 @@ line_stays s nodes (Connective n k) added h e =
     op_stay s.newtypes nodes n k found.0.op found.0.parts added h found.2
 line_stays s nodes (Schema schema k terms) added h e = terms_stay s.newtypes nodes k terms added h (test_some (schema == 74) (of_one (schema_74 s.newtypes nodes k) terms) added e).1
 line_stays s nodes (Propagation numbers conclusion) added h e = absurd cc
+line_stays s nodes (Congruence conclusion pairs) added h e = absurd cc
 line_stays s nodes (Linear conclusion combinations) added h e = absurd cc
 line_stays s nodes (Split n k) added h e = absurd cc
 line_stays s nodes (Make node) added h e = absurd cc

@@ -21,7 +21,7 @@ use Rattle.df_form.specs.Sorting.{sort_at, sort_of, is_formula}
 use Rattle.df_form.specs.Made.{made}
 use Rattle.df_form.specs.Sequent.{Sequent, IsSequent}
 use Rattle.df_form.specs.Clause.{Clause, yes, no, are_literals}
-use Rattle.df_form.specs.Log.{Step, Hypothesis, Goal, Connective, Schema, Propagation, Linear, Split, Make}
+use Rattle.df_form.specs.Log.{Step, Hypothesis, Goal, Connective, Schema, Propagation, Congruence, Linear, Split, Make}
 use Rattle.df_form.proofs.Same.{same_sort_equal}
 use Rattle.df_form.proofs.Values.{Grows, grown_sort, grown_below, AreSorted, parts_below, parts_taken}
 use Rattle.df_form.proofs.Making.{IsNumber, grown_number, made_stands}
@@ -232,6 +232,7 @@ added_fits s nodes (Connective n k) added is sorted g e =
     op_fits nodes n k found.0.op found.0.parts added sorted found.1 found.2
 added_fits s nodes (Schema schema k terms) added is sorted g e = one_term s.newtypes nodes k terms added sorted (test_some (schema == 74) (of_one (schema_74 s.newtypes nodes k) terms) added e).1
 added_fits s nodes (Propagation numbers conclusion) added is sorted g e = absurd cc
+added_fits s nodes (Congruence conclusion pairs) added is sorted g e = absurd cc
 added_fits s nodes (Linear conclusion combinations) added is sorted g e = absurd cc
 added_fits s nodes (Split n k) added is sorted g e = absurd cc
 added_fits s nodes (Make node) added is sorted g e = absurd cc

@@ -17,7 +17,7 @@ use Rattle.df_form.specs.Truth.{Assignment, has_sort}
 use Rattle.df_form.specs.Sequent.{Sequent, IsSequent}
 use Rattle.df_form.specs.Sorting.{IsTable}
 use Rattle.df_form.specs.Clause.{Clause, yes, no, are_literals}
-use Rattle.df_form.specs.Log.{Step, Hypothesis, Goal, Connective, Schema, Propagation, Linear, Split, Make}
+use Rattle.df_form.specs.Log.{Step, Hypothesis, Goal, Connective, Schema, Propagation, Congruence, Linear, Split, Make}
 use Rattle.df_form.proofs.Values.{Grows, grows_not, grows_twice, AreSorted}
 use Rattle.df_kern.specs.Connective.{Added}
 use Rattle.df_kern.specs.Derivation.{State, begin, only_clause, with_clause, after, after_all}
@@ -54,6 +54,7 @@ added_grows s nodes Goal added sorted e = only_grows nodes (Some (no s.goal ∷ 
 added_grows s nodes (Connective n k) added sorted e = (connective_is_line 0 s.newtypes some_assignment nodes n k added sorted e).grows
 added_grows s nodes (Schema schema k terms) added sorted e = (schema_is_line 0 s.newtypes some_assignment nodes schema k terms added sorted e).grows
 added_grows s nodes (Propagation numbers conclusion) added sorted e = absurd cc
+added_grows s nodes (Congruence conclusion pairs) added sorted e = absurd cc
 added_grows s nodes (Linear conclusion combinations) added sorted e = absurd cc
 added_grows s nodes (Split n k) added sorted e = absurd cc
 added_grows s nodes (Make node) added sorted e = absurd cc
@@ -65,6 +66,7 @@ added_after s state Goal added e = ap (option_map (with_clause state)) e
 added_after s state (Connective n k) added e = ap (option_map (with_clause state)) e
 added_after s state (Schema schema k terms) added e = ap (option_map (with_clause state)) e
 added_after s state (Propagation numbers conclusion) added e = absurd cc
+added_after s state (Congruence conclusion pairs) added e = absurd cc
 added_after s state (Linear conclusion combinations) added e = absurd cc
 added_after s state (Split n k) added e = absurd cc
 added_after s state (Make node) added e = absurd cc

@@ -10,7 +10,7 @@ use Rattle.df_types.specs.Newtype.{Newtype}
 use Rattle.df_form.specs.Node.{Node}
 use Rattle.df_form.specs.Sequent.{Sequent}
 use Rattle.df_form.specs.Clause.{Clause}
-use Rattle.df_form.specs.Log.{Step, Hypothesis, Goal, Connective, Schema, Propagation, Linear, Split, Make}
+use Rattle.df_form.specs.Log.{Step, Hypothesis, Goal, Connective, Schema, Propagation, Congruence, Linear, Split, Make}
 use Rattle.df_kern.specs.Connective.{Added}
 use Rattle.df_kern.specs.Derivation.{State, with_clause, after, after_all}
 use Rattle.df_ground.specs.Lines.{connective_count, schema_count, node_lines, lines_at, ground_lines}
@@ -24,6 +24,7 @@ is_ground Goal = true
 is_ground (Connective n k) = true
 is_ground (Schema schema k terms) = true
 is_ground (Propagation numbers conclusion) = false
+is_ground (Congruence conclusion pairs) = false
 is_ground (Linear conclusion combinations) = false
 is_ground (Split n k) = false
 is_ground (Make node) = false
@@ -74,6 +75,7 @@ line_adds s state Goal next ground_step e = adds_some s state Goal next e
 line_adds s state (Connective n k) next ground_step e = adds_some s state (Connective n k) next e
 line_adds s state (Schema schema k terms) next ground_step e = adds_some s state (Schema schema k terms) next e
 line_adds s state (Propagation numbers conclusion) next ground_step e = absurd cc
+line_adds s state (Congruence conclusion pairs) next ground_step e = absurd cc
 line_adds s state (Linear conclusion combinations) next ground_step e = absurd cc
 line_adds s state (Split n k) next ground_step e = absurd cc
 line_adds s state (Make node) next ground_step e = absurd cc

@@ -110,7 +110,10 @@ pub(crate) fn clause_of(
             clause,
             terms,
         } => instance_of(alloc, sequent.newtypes, nodes, *schema, *clause, terms),
-        Step::Propagation { .. } | Step::Linear { .. } | Step::Split { .. } | Step::Make(_) =>
-            unreachable!(),
+        Step::Propagation { .. }
+        | Step::Congruence { .. }
+        | Step::Linear { .. }
+        | Step::Split { .. }
+        | Step::Make(_) => unreachable!(),
     }
 }

@@ -173,6 +173,7 @@ pub(crate) fn bound_of(nodes: &Nodes, line: &Step) -> Option<Formula>
         | Step::Goal
         | Step::Schema { .. }
         | Step::Propagation { .. }
+        | Step::Congruence { .. }
         | Step::Linear { .. }
         | Step::Split { .. }
         | Step::Make(_) => None,

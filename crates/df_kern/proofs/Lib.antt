@@ -11,4 +11,11 @@ pub mod SoundRows
 pub mod Learning
 pub mod Ends
 pub mod Checks
+pub mod Links
+pub mod Joining
+pub mod Scans
+pub mod OneClass
+pub mod Congruences
+mod CongruenceRows
+pub mod SoundCongruence
 pub mod Refusals

@@ -7,7 +7,7 @@ use Rattle.std.proofs.lemmas.Bool.{or_cases, or_left, or_right, cases_Bool, and_
 use Rattle.df_lemmas.proofs.Alls.{all_joined}
 use Rattle.df_lemmas.proofs.Lists.{all_parts}
 use Rattle.df_lemmas.proofs.Options.{then_some, map_some, test_some}
-use Rattle.df_form.specs.Log.{Step, Hypothesis, Goal, Connective, Schema, Propagation, Linear, Split, Make}
+use Rattle.df_form.specs.Log.{Step, Hypothesis, Goal, Connective, Schema, Propagation, Congruence, Linear, Split, Make}
 use Rattle.df_form.specs.declared.node.Sort.TheVariants as sorts
 use Rattle.df_form.specs.Node.{Node, number_of, same_sort}
 use Rattle.df_form.specs.Sorting.{IsTable, is_formula, is_well_sorted, sort_at}
@@ -25,6 +25,8 @@ use Rattle.df_form.proofs.Values.{Grows, grows_not, grows_by, grows_twice, AreSo
 use Rattle.df_kern.proofs.SoundClauses.{Holds, holds_grown, propagation_holds, IsLine}
 use Rattle.df_kern.proofs.SoundConnectives.{connective_is_line}
 use Rattle.df_kern.proofs.SoundBounds.{schema_is_line, split_is_line}
+use Rattle.df_kern.specs.CongruenceLine.{congruence_line}
+use Rattle.df_kern.proofs.SoundCongruence.{congruence_holds}
 use Rattle.df_kern.proofs.SoundLinear.{linear_holds}
 
 -- each formula of a list stands among the nodes
@@ -123,6 +125,9 @@ module _ (depth : ℕ) (assignment : Assignment) (s : Sequent) (is : IsSequent s
       line_keeps state next (only_clause state.nodes (propagation_line state.nodes state.clauses numbers conclusion)) keeps
       (λ added. clause_line state.nodes (propagation_line state.nodes state.clauses numbers conclusion) added keeps.sorted
       (λ clause. propagation_holds depth s.newtypes assignment state.nodes state.clauses numbers conclusion clause keeps.hold)) e
+  after_keeps state next (Congruence conclusion pairs) keeps e =
+      line_keeps state next (only_clause state.nodes (congruence_line state.nodes conclusion pairs)) keeps
+      (λ added. clause_line state.nodes (congruence_line state.nodes conclusion pairs) added keeps.sorted (λ clause. congruence_holds depth s.newtypes assignment state.nodes keeps.sorted conclusion clause pairs)) e
   after_keeps state next (Linear conclusion combinations) keeps e =
       line_keeps state next (only_clause state.nodes (linear_line state.nodes conclusion combinations)) keeps
       (λ added. clause_line state.nodes (linear_line state.nodes conclusion combinations) added keeps.sorted (λ clause. linear_holds depth s.newtypes assignment state.nodes keeps.sorted conclusion clause combinations)) e

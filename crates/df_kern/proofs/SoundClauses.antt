@@ -18,7 +18,7 @@ use Rattle.df_kern.specs.Connective.{Added}
 use Rattle.df_kern.specs.Propagation.{left, only, is_empty, if_some, propagates, clauses_at, propagation_of, propagation_line}
 use Rattle.df_form.proofs.Values.{Grows, grown_below, grown_value, AreSorted}
 
-same_truth_is : (a b : Bool) → same_truth a b ≡ true → a ≡ b
+pub same_truth_is : (a b : Bool) → same_truth a b ≡ true → a ≡ b
 same_truth_is true true e = refl
 same_truth_is true false e = absurd cc
 same_truth_is false true e = absurd cc

@@ -4,7 +4,7 @@ use Rattle.std.specs.Option.{option_and_then, option_map}
 use Rattle.df_form.specs.declared.node.Sort.TheVariants as sorts
 use Rattle.df_form.specs.declared.node.Op.{Op}
 use Rattle.df_form.specs.declared.node.Op.TheVariants as ops
-use Rattle.df_form.specs.Log.{Step, Hypothesis, Goal, Connective, Schema, Propagation, Linear, Split, Make}
+use Rattle.df_form.specs.Log.{Step, Hypothesis, Goal, Connective, Schema, Propagation, Congruence, Linear, Split, Make}
 use Rattle.df_form.specs.Node.{Node, number_of, same_sort}
 use Rattle.df_form.specs.Sorting.{is_well_sorted, sort_at}
 use Rattle.df_form.specs.Sequent.{Sequent}
@@ -13,6 +13,7 @@ use Rattle.df_kern.specs.Bound.{made_at_least, made_at_most}
 use Rattle.df_kern.specs.Connective.{Added, connective_line}
 use Rattle.df_kern.specs.Schema.{schema_line}
 use Rattle.df_kern.specs.Propagation.{propagation_line}
+use Rattle.df_kern.specs.CongruenceLine.{congruence_line}
 use Rattle.df_row.specs.Row.{fits}
 use Rattle.df_row.specs.Linear.{linear_line}
 
@@ -69,6 +70,7 @@ after s state Goal = adds state (only_clause state.nodes (Some (no s.goal ∷ []
 after s state (Connective n k) = adds state (connective_line state.nodes n k)
 after s state (Schema schema k terms) = adds state (schema_line s.newtypes state.nodes schema k terms)
 after s state (Propagation numbers conclusion) = adds state (only_clause state.nodes (propagation_line state.nodes state.clauses numbers conclusion))
+after s state (Congruence conclusion pairs) = adds state (only_clause state.nodes (congruence_line state.nodes conclusion pairs))
 after s state (Linear conclusion combinations) = adds state (only_clause state.nodes (linear_line state.nodes conclusion combinations))
 after s state (Split n k) = adds state (split_line state.nodes n k)
 after s state (Make node) = option_map (λ nodes. record { nodes = nodes; clauses = state.clauses }) (made_line state.nodes node)
@@ -96,6 +98,7 @@ kind_row Goal = 1
 kind_row (Connective n k) = 2
 kind_row (Schema schema k terms) = 5
 kind_row (Propagation numbers conclusion) = 6
+kind_row (Congruence conclusion pairs) = 7
 kind_row (Linear conclusion combinations) = 8
 kind_row (Split n k) = 9
 kind_row (Make node) = 10

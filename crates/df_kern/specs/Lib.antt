@@ -3,6 +3,12 @@ pub mod Connective
 pub mod Schema
 pub mod Truth
 pub mod Propagation
+pub mod Classes
+pub mod Links
+pub mod Congruence
+pub mod CongruenceLine
+pub mod ClassesView
+pub mod Closing
 pub mod Growth
 pub mod Typed
 pub mod Known

@@ -4,13 +4,14 @@ use Rattle.std.specs.Option.{option_map}
 use Rattle.std.specs.declared.alloc.Global.{Global}
 use Rattle.std.specs.declared.alloc.AllocError.{AllocError}
 use Rattle.df_form.specs.declared.log.Lit.{Lit}
-use Rattle.df_form.specs.Log.{Step, Hypothesis, Goal, Connective, Schema, Propagation, Linear, Split, Make}
+use Rattle.df_form.specs.Log.{Step, Hypothesis, Goal, Connective, Schema, Propagation, Congruence, Linear, Split, Make}
 use Rattle.df_form.specs.Node.{Node}
 use Rattle.df_form.specs.Sequent.{Sequent}
 use Rattle.df_form.specs.Clause.{yes, no}
 use Rattle.df_kern.specs.Connective.{Added, connective_line}
 use Rattle.df_kern.specs.Schema.{schema_line}
 use Rattle.df_kern.specs.Propagation.{propagation_line}
+use Rattle.df_kern.specs.CongruenceLine.{congruence_line}
 use Rattle.df_row.specs.Linear.{linear_line}
 use Rattle.df_kern.specs.Derivation.{State, only_clause, split_line}
 
@@ -24,6 +25,7 @@ line_of s state Goal = only_clause state.nodes (Some (no s.goal ∷ []))
 line_of s state (Connective n k) = connective_line state.nodes n k
 line_of s state (Schema schema k terms) = schema_line s.newtypes state.nodes schema k terms
 line_of s state (Propagation numbers conclusion) = only_clause state.nodes (propagation_line state.nodes state.clauses numbers conclusion)
+line_of s state (Congruence conclusion pairs) = only_clause state.nodes (congruence_line state.nodes conclusion pairs)
 line_of s state (Linear conclusion combinations) = only_clause state.nodes (linear_line state.nodes conclusion combinations)
 line_of s state (Split n k) = split_line state.nodes n k
 line_of s state (Make node) = None

@@ -6,6 +6,10 @@ ghost use Rattle.df_form.specs.Node as pure;
 ghost use Rattle.df_form.specs.Sorting.{IsTable};
 ghost use Rattle.df_form.specs.Log.{Step};
 ghost use Rattle.df_form.specs.Sequent.{Sequent, IsSequent, IsValid};
+ghost use Rattle.df_form.specs.declared.log.Pair.{Pair};
+ghost use Rattle.df_form.specs.Clause.{Clause};
+ghost use Rattle.df_kern.specs.Congruence.{IsCongruence};
+ghost use Rattle.df_kern.specs.CongruenceLine.{congruence_line};
 ghost use Rattle.df_kern.specs.Derivation.{Derives};
 ghost use Rattle.df_kern.specs.Connective.{Added, connective_line};
 ghost use Rattle.df_kern.specs.Refusal.{refusal};
@@ -21,6 +25,12 @@ pub fn derivations_are_valid()
 pub fn clauses_are_true()
     ensures schemas { (newtypes : List types.Newtype) (nodes : List pure.Node) (schema clause : ℕ) (terms : List ℕ) (added : Added) → IsTable nodes → schema_line newtypes nodes schema clause terms ≡ Some added → IsTrue newtypes added }
     ensures connectives { (newtypes : List types.Newtype) (nodes : List pure.Node) (node clause : ℕ) (added : Added) → IsTable nodes → connective_line nodes node clause ≡ Some added → IsTrue newtypes added }
+{}
+
+/// A line of congruence adds its clause exactly where the clause holds by congruence, and no other clause.
+pub fn congruence_lines_are_exact()
+    ensures there { (nodes : List pure.Node) (clause : Clause) (pairs : List Pair) → IsCongruence nodes clause pairs → congruence_line nodes clause pairs ≡ Some clause }
+    ensures only { (nodes : List pure.Node) (clause other : Clause) (pairs : List Pair) → congruence_line nodes clause pairs ≡ Some other → (other ≡ clause) × IsCongruence nodes clause pairs }
 {}
 
 /// A log derives its sequent exactly where it is refused nowhere.

@@ -5,13 +5,18 @@
 mod accepted;
 mod bound;
 mod checker;
+mod classes;
+mod congruence;
 mod connecting;
+mod equality;
 mod fault;
 mod instances;
 mod known;
 mod law;
 mod line;
 mod literal;
+mod number;
+mod opposite;
 mod propagation;
 mod schema;
 mod step;
@@ -21,4 +26,6 @@ pub use checker::{Checker, check};
 pub use fault::KernFault;
 pub use instances::{AxiomFault, connective, instance};
 pub use known::Known;
-pub use law::{clauses_are_true, derivations_are_valid, logs_derive_or_are_refused};
+pub use law::{
+    clauses_are_true, congruence_lines_are_exact, derivations_are_valid, logs_derive_or_are_refused,
+};

@@ -8,14 +8,16 @@ ghost use Rattle.df_kern.specs.Derivation.{after, kind_row};
 ghost use Rattle.df_kern.specs.Lines.{state, line_of, Takes};
 ghost use Rattle.df_kern.specs.Answers.{Gives, Adds};
 ghost use Rattle.df_kern.specs.Propagation.{propagation_line};
+ghost use Rattle.df_kern.specs.CongruenceLine.{congruence_line};
 ghost use Rattle.df_row.specs.Linear.{linear_line};
 ghost use Rattle.df_form.specs.Log.{combination_of};
 
+use crate::congruence::is_congruence;
 use crate::connecting::connective_clause_of;
 use crate::propagation::is_propagation;
 use crate::schema::schema_clause_of;
 use crate::step::{goal_clause, hypothesis_clause, make, split_clause};
-use df_form::{Combination, Lit, Nodes, Sequent, Step};
+use df_form::{Combination, Lit, Nodes, Pair, Sequent, Step};
 use df_row::is_linear;
 use std::alloc::{AllocError, Global};
 
@@ -28,6 +30,7 @@ pub(crate) fn kind_of(step: &Step) -> u8
         Step::Connective { .. } => 2,
         Step::Schema { .. } => 5,
         Step::Propagation { .. } => 6,
+        Step::Congruence { .. } => 7,
         Step::Linear { .. } => 8,
         Step::Split { .. } => 9,
         Step::Make(_) => 10,
@@ -44,6 +47,21 @@ fn propagation_clause(
     ensures { Gives result (propagation_line nodes.now (map (λ clause. clause.items) clauses.now) numbers.now conclusion.now) }
 {
     if is_propagation(alloc, nodes, clauses, numbers, conclusion)? {
+        Ok(Some(Vec::from_slice(alloc, conclusion)?))
+    } else {
+        Ok(None)
+    }
+}
+
+fn congruence_clause(
+    alloc: Global,
+    nodes: &Nodes,
+    conclusion: &[Lit],
+    pairs: &[Pair],
+) -> Result<Option<Vec<Lit>>, AllocError>
+    ensures { Gives result (congruence_line nodes.now conclusion.now pairs.now) }
+{
+    if is_congruence(alloc, nodes, conclusion, pairs)? {
         Ok(Some(Vec::from_slice(alloc, conclusion)?))
     } else {
         Ok(None)
@@ -89,6 +107,9 @@ fn clause_of(
             clauses: numbers,
             conclusion,
         } => propagation_clause(alloc, nodes, clauses, numbers, conclusion),
+        Step::Congruence { conclusion, pairs } => congruence_clause(
+            alloc, nodes, conclusion, pairs,
+        ),
         Step::Linear {
             conclusion,
             combinations,
@@ -116,6 +137,7 @@ pub(crate) fn add_line(
         | Step::Connective { .. }
         | Step::Schema { .. }
         | Step::Propagation { .. }
+        | Step::Congruence { .. }
         | Step::Linear { .. }
         | Step::Split { .. } => {
             // With this room the push cannot fail.

@@ -15,3 +15,4 @@ pub mod TextRead
 pub mod TextWritten
 pub mod WordsRead
 pub mod WordsWritten
+mod PairsLeft

@@ -21,7 +21,7 @@ use Rattle.df_logtext.specs.HasText.{IsPlain, IsWord, HasLine}
 use Rattle.df_logtext.specs.BadLog.{AreWithin}
 use Rattle.df_logtext.proofs.Placed.{parts_join}
 use Rattle.df_logtext.proofs.WordsRead.{integer_read, indices_read}
-use Rattle.df_logtext.proofs.StepsRead.{IsRead, hypothesis_read, goal_read, connective_read, schema_read, propagation_read, linear_read, split_read}
+use Rattle.df_logtext.proofs.StepsRead.{IsRead, hypothesis_read, goal_read, connective_read, schema_read, propagation_read, congruence_read, linear_read, split_read}
 use Rattle.df_logtext.proofs.OpsRead.{op_read}
 
 number_made_read : (names : List (List ℕ)) (words : List (List ℕ)) (step : Step) → number_made_of words ≡ Some step → IsRead names (codes "n") (codes "num" ∷ words) step
@@ -78,10 +78,11 @@ letter_read names b words step plain e =
     (of_letter names b 120 words step _ _ (connective_read names words step)
     (of_letter names b 97 words step _ _ (schema_read names words step)
     (of_letter names b 117 words step _ _ (propagation_read names words step)
+    (of_letter names b 101 words step _ _ (congruence_read names words step)
     (of_letter names b 108 words step _ _ (linear_read names words step)
     (of_letter names b 115 words step _ _ (split_read names words step)
     (of_letter names b 110 words step _ _ (make_read names words step plain)
-    (λ n. absurd cc)))))))) e
+    (λ n. absurd cc))))))))) e
 
 words_read : (names : List (List ℕ)) (words : List (List ℕ)) (step : Step) → AllByRecursion IsWord words → step_of_words names words ≡ Some step → IsLine names words step
 words_read names [] step plain e = absurd cc

@@ -6,15 +6,15 @@ use Rattle.std.proofs.lemmas.Option.{same_Some}
 use Rattle.df_lemmas.proofs.Options.{then_some, map_some}
 use Rattle.df_base.specs.Names.{same_text}
 use Rattle.df_base.proofs.NamesLemmas.{same_text-equal}
-use Rattle.df_form.specs.Log.{Step, Hypothesis, Goal, Connective, Schema, Propagation, Linear, Split}
+use Rattle.df_form.specs.Log.{Step, Hypothesis, Goal, Connective, Schema, Propagation, Congruence, Linear, Split}
 use Rattle.df_logtext.specs.Numeral.{number_of, integer_of}
-use Rattle.df_logtext.specs.Words.{index_of, indices_of, literals_of, combinations_from}
-use Rattle.df_logtext.specs.Arguments.{hypothesis_of, goal_of, connective_of, schema_of, colon, propagated_of, propagation_of, combined_of, linear_of, split_of}
+use Rattle.df_logtext.specs.Words.{index_of, indices_of, literals_of, pairs_from, combinations_from}
+use Rattle.df_logtext.specs.Arguments.{hypothesis_of, goal_of, connective_of, schema_of, colon, propagated_of, propagation_of, joined_of, congruence_of, combined_of, linear_of, split_of}
 use Rattle.df_logtext.specs.StepText.{literal_word, letter, arguments}
 use Rattle.df_logtext.specs.HasText.{HasLine}
 use Rattle.df_logtext.proofs.Numerals.{number_read}
 use Rattle.df_logtext.proofs.Placed.{placed, around}
-use Rattle.df_logtext.proofs.WordsRead.{index_read, integer_read, indices_read, literals_read}
+use Rattle.df_logtext.proofs.WordsRead.{index_read, integer_read, indices_read, literals_read, pairs_read}
 use Rattle.df_logtext.proofs.SumsRead.{combinations_read}
 
 -- the words are those of a step with this letter
@@ -96,6 +96,21 @@ module _ (names : List (List ℕ)) where
       let t = then_some (λ at. propagated_of (take at words) (drop (at + 1) words)) (colon words) step e in
       let P : List (List ℕ) → Type 0 = λ ws. IsRead names (codes "u") ws step in
       subst P (sym (colon_read words t.0 t.1)) (propagated_read (take t.0 words) (drop (t.0 + 1) words) step t.2)
+
+  joined_read : (conclusion named : List (List ℕ)) (step : Step) → joined_of conclusion named ≡ Some step → IsRead names (codes "e") (conclusion ++ codes ":" ∷ named) step
+  joined_read conclusion named step e =
+      let t = then_some (λ ls. option_map (Congruence ls) (pairs_from [] named)) (literals_of conclusion) step e in
+      let u = map_some (Congruence t.0) (pairs_from [] named) step t.2 in
+      let i = literals_read conclusion t.0 t.1 in
+      let j = pairs_read named u.0 u.1 in
+      let P : Step → Type 0 = λ s. IsRead names (codes "e") (conclusion ++ codes ":" ∷ named) s in
+      subst P u.2 (record { same = refl; texts = ap (λ x. x ++ codes ":" ∷ named) i.0 ∙ ap (λ x. map literal_word t.0 ++ codes ":" ∷ x) j.0; has = (i.1, j.1) })
+
+  pub congruence_read : (words : List (List ℕ)) (step : Step) → congruence_of words ≡ Some step → IsRead names (codes "e") words step
+  congruence_read words step e =
+      let t = then_some (λ at. joined_of (take at words) (drop (at + 1) words)) (colon words) step e in
+      let P : List (List ℕ) → Type 0 = λ ws. IsRead names (codes "e") ws step in
+      subst P (sym (colon_read words t.0 t.1)) (joined_read (take t.0 words) (drop (t.0 + 1) words) step t.2)
 
   combined_read : (conclusion sums : List (List ℕ)) (step : Step) → combined_of conclusion sums ≡ Some step → IsRead names (codes "l") (conclusion ++ codes ":" ∷ sums) step
   combined_read conclusion sums step e =

@@ -12,18 +12,19 @@ use Rattle.df_base.proofs.NamesLemmas.{same_text-equal, same_text-refl}
 use Rattle.df_types.specs.declared.newtype.Ty.TheVariants as types
 use Rattle.df_form.specs.declared.log.Lit.{Lit}
 use Rattle.df_form.specs.declared.log.Multiple.{Multiple}
+use Rattle.df_form.specs.declared.log.Pair.{Pair}
 use Rattle.df_form.specs.declared.node.Op.{Op}
 use Rattle.df_form.specs.declared.node.Op.TheVariants as ops
-use Rattle.df_form.specs.Log.{Combination, Step, Hypothesis, Goal, Connective, Schema, Propagation, Linear, Split, Make}
+use Rattle.df_form.specs.Log.{Combination, Step, Hypothesis, Goal, Connective, Schema, Propagation, Congruence, Linear, Split, Make}
 use Rattle.df_logtext.specs.Joined.{behind}
 use Rattle.df_logtext.specs.Numeral.{number_of, integer_of}
-use Rattle.df_logtext.specs.Words.{place_from, index_of, indices_of, literals_of, combinations_from, type_of, plain_op_of, typed_op_of, op_of}
-use Rattle.df_logtext.specs.Arguments.{colon, propagated_of, combined_of, made_of, make_of, step_of_words, read_step}
-use Rattle.df_logtext.specs.StepText.{sign, literal_word, multiple_text, sum_words, combination_words, op_word, op_number, letter, arguments, step_line}
-use Rattle.df_logtext.specs.HasText.{IsIndex, IsWide, IsPlain, IsWord, IsNamed, HasWord, HasLiteral, HasMultiple, HasCombination, HasLine}
+use Rattle.df_logtext.specs.Words.{place_from, index_of, indices_of, literals_of, pairs_from, combinations_from, type_of, plain_op_of, typed_op_of, op_of}
+use Rattle.df_logtext.specs.Arguments.{colon, propagated_of, joined_of, combined_of, made_of, make_of, step_of_words, read_step}
+use Rattle.df_logtext.specs.StepText.{sign, literal_word, pair_words, multiple_text, sum_words, combination_words, op_word, op_number, letter, arguments, step_line}
+use Rattle.df_logtext.specs.HasText.{IsIndex, IsWide, IsPlain, IsWord, IsNamed, HasWord, HasLiteral, HasPair, HasMultiple, HasCombination, HasLine}
 use Rattle.df_logtext.specs.BadLog.{AreWithin}
 use Rattle.df_logtext.proofs.Numbered.{IsDigit, canonical, number_written}
-use Rattle.df_logtext.proofs.WordsWritten.{weaker, IsNumeric, decimal_numeric, signed_numeric, index_written, integer_written, indices_written, literals_written, place_written, sides_written, parts_written, combinations_written}
+use Rattle.df_logtext.proofs.WordsWritten.{weaker, IsNumeric, decimal_numeric, signed_numeric, index_written, integer_written, indices_written, literals_written, pairs_written, place_written, sides_written, parts_written, combinations_written}
 
 -- ---- the words
 
@@ -108,6 +109,9 @@ words_written names (Schema s k ts) has =
 words_written names (Propagation cs ls) has =
     colon_written propagated_of (map decimal cs) (map literal_word ls) (numbers_no_colon cs has.0)
     ∙ ap (option_and_then (λ a. option_map (Propagation a) (literals_of (map literal_word ls)))) (indices_written cs has.0) ∙ ap (option_map (Propagation cs)) (literals_written ls has.1)
+words_written names (Congruence ls ps) has =
+    colon_written joined_of (map literal_word ls) (flat_map pair_words ps) (literals_no_colon ls)
+    ∙ ap (option_and_then (λ a. option_map (Congruence a) (pairs_from [] (flat_map pair_words ps)))) (literals_written ls has.0) ∙ ap (option_map (Congruence ls)) (pairs_written ps has.1)
 words_written names (Linear ls cs) has =
     colon_written combined_of (map literal_word ls) (flat_map combination_words cs) (literals_no_colon ls)
     ∙ ap (option_and_then (λ a. option_map (Linear a) (combinations_from [] None (flat_map combination_words cs)))) (literals_written ls has.0) ∙ ap (option_map (Linear ls)) (combinations_written cs has.1)
@@ -149,6 +153,10 @@ literals_words : (ls : List Lit) → AllByRecursion HasLiteral ls → AllByRecur
 literals_words [] has = tt
 literals_words (l ∷ ls) has = (literal_word_plain l.positive l.node has.0, literals_words ls has.1)
 
+pairs_plain : (ps : List Pair) → AllByRecursion HasPair ps → AllByRecursion IsWord (flat_map pair_words ps)
+pairs_plain [] has = tt
+pairs_plain (p ∷ ps) has = (index_word p.left has.0.0, (index_word p.right has.0.1, pairs_plain ps has.1))
+
 multiple_word : (m : Multiple) → HasMultiple m → IsWord (multiple_text m)
 multiple_word m has = all_joined IsPlain (signed_decimal m.factor) (42 ∷ decimal m.row) (signed_word m.factor has.0) (all_joined IsPlain (codes "*") (decimal m.row) (tested (codes "*") refl) (index_word m.row has.1))
 
@@ -186,6 +194,7 @@ words_plain names Goal has = (tested (codes "g") refl, tt)
 words_plain names (Connective n k) has = (tested (codes "x") refl, (index_word n has.0, (index_word k has.1, tt)))
 words_plain names (Schema s k ts) has = (tested (codes "a") refl, (decimal_word s (omega (arith, has.0)), (decimal_word k (omega (arith, has.1)), indices_words ts has.2)))
 words_plain names (Propagation cs ls) has = (tested (codes "u") refl, all_joined IsWord (map decimal cs) (codes ":" ∷ map literal_word ls) (indices_words cs has.0) (tested (codes ":") refl, literals_words ls has.1))
+words_plain names (Congruence ls ps) has = (tested (codes "e") refl, all_joined IsWord (map literal_word ls) (codes ":" ∷ flat_map pair_words ps) (literals_words ls has.0) (tested (codes ":") refl, pairs_plain ps has.1))
 words_plain names (Linear ls cs) has = (tested (codes "l") refl, all_joined IsWord (map literal_word ls) (codes ":" ∷ flat_map combination_words cs) (literals_words ls has.0) (tested (codes ":") refl, combinations_plain cs has.1))
 words_plain names (Split n z) has = (tested (codes "s") refl, (index_word n has.0, (signed_word z has.1, tt)))
 words_plain names (Make node) has = (tested (codes "n") refl, op_plain names node.op node.parts has.0 has.1)

@@ -15,7 +15,7 @@ use Rattle.df_lemmas.proofs.Alls.{all_joined}
 use Rattle.df_base.specs.Names.{same_text}
 use Rattle.df_base.proofs.NamesLemmas.{same_text-refl}
 use Rattle.df_form.specs.declared.log.Step as declared
-use Rattle.df_form.specs.Log.{Step, Hypothesis, Goal, Connective, Schema, Propagation, Linear, Split, Make}
+use Rattle.df_form.specs.Log.{Step, Hypothesis, Goal, Connective, Schema, Propagation, Congruence, Linear, Split, Make}
 use Rattle.df_logtext.specs.LogText.{first_line, part_line, dot_line, last_line, part_lines, parts_lines, log_lines, ended, text_of_lines, log_text}
 use Rattle.df_logtext.specs.StepText.{step_line}
 use Rattle.df_logtext.specs.HasText.{HasLine, HaveText}
@@ -90,6 +90,7 @@ no_dot names Goal = refl
 no_dot names (Connective n k) = refl
 no_dot names (Schema s k ts) = refl
 no_dot names (Propagation cs ls) = refl
+no_dot names (Congruence ls ps) = refl
 no_dot names (Linear ls cs) = refl
 no_dot names (Split n z) = refl
 no_dot names (Make node) = refl

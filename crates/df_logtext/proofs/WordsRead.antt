@@ -2,7 +2,7 @@
 use Rattle.std.proofs.Common.{◌≡◌, ℕ, ℤ, zero, suc, pos, negsuc, ◌+◌, ◌^◌, ◌<◌, cond, List, [], ◌∷◌, ◌++◌, map, Some, None, Option, refl, sym, ap, ◌∙◌, append_assoc, subst, inl, inr, arith, lit≤}
 use Rattle.std.specs.Prelude.{nat_eq}
 use Rattle.std.specs.Option.{option_and_then, option_map}
-use Rattle.std.specs.List.{AllByRecursion}
+use Rattle.std.specs.List.{AllByRecursion, flat_map}
 use Rattle.std.specs.Fmt.{decimal, signed_decimal}
 use Rattle.std.proofs.lemmas.List.{append-nil}
 use Rattle.std.proofs.lemmas.Bool.{eqb-true}
@@ -10,11 +10,12 @@ use Rattle.std.proofs.lemmas.Option.{same_Some}
 use Rattle.df_lemmas.proofs.Options.{then_some, map_some, test_some}
 use Rattle.df_lemmas.proofs.Truths.{choice}
 use Rattle.df_form.specs.declared.log.Lit.{Lit}
+use Rattle.df_form.specs.declared.log.Pair.{Pair}
 use Rattle.df_form.specs.Clause.{yes, no}
 use Rattle.df_logtext.specs.Numeral.{number_of, negative_of, integer_of}
-use Rattle.df_logtext.specs.Words.{each_from, index_of, indices_of, literal_of, literals_of}
-use Rattle.df_logtext.specs.StepText.{literal_word}
-use Rattle.df_logtext.specs.HasText.{IsIndex, IsWide, HasLiteral}
+use Rattle.df_logtext.specs.Words.{each_from, index_of, indices_of, literal_of, literals_of, pair_of, pairs_from}
+use Rattle.df_logtext.specs.StepText.{literal_word, pair_words}
+use Rattle.df_logtext.specs.HasText.{IsIndex, IsWide, HasLiteral, HasPair}
 use Rattle.df_logtext.proofs.Numerals.{number_read}
 
 pub index_read : (word : List ℕ) (n : ℕ) → index_of word ≡ Some n → (word ≡ decimal n) × IsIndex n
@@ -103,3 +104,38 @@ indices_read words ns e = all_read index_of decimal IsIndex index_read words ns 
 
 pub literals_read : (words : List (List ℕ)) (ls : List Lit) → literals_of words ≡ Some ls → (words ≡ map literal_word ls) × AllByRecursion HasLiteral ls
 literals_read words ls e = all_read literal_of literal_word HasLiteral literal_read words ls e
+
+pair_read : (left right : List ℕ) (p : Pair) → pair_of (index_of left) (index_of right) ≡ Some p → (left ∷ right ∷ [] ≡ pair_words p) × HasPair p
+pair_read left right p e =
+    let t = then_some (λ l. option_map (λ r. record { left = l; right = r }) (index_of right)) (index_of left) p e in
+    let u = map_some (λ r. record { left = t.0; right = r }) (index_of right) p t.2 in
+    let i = index_read left t.0 t.1 in
+    let j = index_read right u.0 u.1 in
+    let P : Pair → Type 0 = λ q. (left ∷ right ∷ [] ≡ pair_words q) × HasPair q in
+    subst P u.2 (ap (λ w. w ∷ right ∷ []) i.0 ∙ ap (λ w. decimal t.0 ∷ w ∷ []) j.0, (i.1, j.1))
+
+record PairsRead (before : List Pair) (words : List (List ℕ)) (ps : List Pair) : Type 0 where
+  more : List Pair
+  list : ps ≡ before ++ more
+  texts : words ≡ flat_map pair_words more
+  has : AllByRecursion HasPair more
+
+pairs_more : (before : List Pair) (words : List (List ℕ)) (ps : List Pair) → pairs_from before words ≡ Some ps → PairsRead before words ps
+pairs_more before [] ps e = record { more = []; list = sym (same_Some before ps e) ∙ sym (append-nil before); texts = refl; has = tt }
+pairs_more before (left ∷ []) ps e = absurd cc
+pairs_more before (left ∷ right ∷ words) ps e =
+    let t = then_some (λ p. pairs_from (before ++ p ∷ []) words) (pair_of (index_of left) (index_of right)) ps e in
+    let first = pair_read left right t.0 t.1 in
+    let others = pairs_more (before ++ t.0 ∷ []) words ps t.2 in
+    record {
+      more = t.0 ∷ others.more;
+      list = others.list ∙ append_assoc before (t.0 ∷ []) others.more;
+      texts = ap (λ ws. ws ++ words) first.0 ∙ ap (λ ws. pair_words t.0 ++ ws) others.texts;
+      has = (first.1, others.has);
+    }
+
+pub pairs_read : (words : List (List ℕ)) (ps : List Pair) → pairs_from [] words ≡ Some ps → (words ≡ flat_map pair_words ps) × AllByRecursion HasPair ps
+pairs_read words ps e =
+    let r = pairs_more [] words ps e in
+    let P : List Pair → Type 0 = λ qs. (words ≡ flat_map pair_words qs) × AllByRecursion HasPair qs in
+    subst P (sym r.list) (r.texts, r.has)

@@ -10,14 +10,15 @@ use Rattle.df_lemmas.proofs.Options.{none_left}
 use Rattle.df_lemmas.proofs.Alls.{all_joined, all_there}
 use Rattle.df_form.specs.declared.log.Lit.{Lit}
 use Rattle.df_form.specs.declared.log.Multiple.{Multiple}
+use Rattle.df_form.specs.declared.log.Pair.{Pair}
 use Rattle.df_form.specs.Clause.{yes, no}
 use Rattle.df_form.specs.Log.{Combination}
 use Rattle.df_logtext.specs.Joined.{behind, joined}
 use Rattle.df_logtext.specs.Numeral.{number_of, negative_of, integer_of}
 use Rattle.df_logtext.specs.Parting.{parted_from, parted}
-use Rattle.df_logtext.specs.Words.{each_from, index_of, indices_of, literal_of, literals_of, place_from, product_of, multiple_of, sum_of, with_combination, with_divisor, found_or, combinations_from}
-use Rattle.df_logtext.specs.StepText.{sign, literal_word, multiple_text, sum_words, combination_words}
-use Rattle.df_logtext.specs.HasText.{IsIndex, IsWide, HasLiteral, HasMultiple, HasCombination}
+use Rattle.df_logtext.specs.Words.{each_from, index_of, indices_of, literal_of, literals_of, pair_of, pairs_from, place_from, product_of, multiple_of, sum_of, with_combination, with_divisor, found_or, combinations_from}
+use Rattle.df_logtext.specs.StepText.{sign, literal_word, pair_words, multiple_text, sum_words, combination_words}
+use Rattle.df_logtext.specs.HasText.{IsIndex, IsWide, HasLiteral, HasPair, HasMultiple, HasCombination}
 use Rattle.df_logtext.proofs.Numbered.{IsDigit, IsCanonical, canonical, number_written}
 use Rattle.df_logtext.proofs.WordsRead.{integer_read}
 
@@ -75,6 +76,16 @@ indices_written ns has = each_written index_of decimal IsIndex index_written [] 
 
 pub literals_written : (ls : List Lit) → AllByRecursion HasLiteral ls → literals_of (map literal_word ls) ≡ Some ls
 literals_written ls has = each_written literal_of literal_word HasLiteral literal_written [] ls has
+
+pairs_next : (before ps : List Pair) → AllByRecursion HasPair ps → pairs_from before (flat_map pair_words ps) ≡ Some (before ++ ps)
+pairs_next before [] has = ap (λ qs. Some qs) (sym (append-nil before))
+pairs_next before (p ∷ ps) has =
+    let go : Option Pair → Option (List Pair) = option_and_then (λ q. pairs_from (before ++ q ∷ []) (flat_map pair_words ps)) in
+    ap (λ l. go (pair_of l (index_of (decimal p.right)))) (index_written p.left has.0.0) ∙ ap (λ r. go (pair_of (Some p.left) r)) (index_written p.right has.0.1)
+    ∙ pairs_next (before ++ p ∷ []) ps has.1 ∙ ap (λ qs. Some qs) (append_assoc before (p ∷ []) ps)
+
+pub pairs_written : (ps : List Pair) → AllByRecursion HasPair ps → pairs_from [] (flat_map pair_words ps) ≡ Some ps
+pairs_written ps has = pairs_next [] ps has
 
 pub place_written : {A : Type 0} (test : A → Bool) (number : ℕ) (front : List A) (x : A) (back : List A) → AllByRecursion (λ y. test y ≡ false) front → test x ≡ true → place_from test number (front ++ x ∷ back) ≡ Some (number + length front)
 place_written test number [] x back fail passes = let e : number ≡ number + 0 = omega arith in ap (λ t. cond t (Some number) (place_from test (number + 1) back)) passes ∙ ap (λ n. Some n) e

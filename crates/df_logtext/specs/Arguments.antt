@@ -4,10 +4,10 @@ use Rattle.std.specs.Option.{option_map, option_and_then}
 use Rattle.df_base.specs.Names.{same_text}
 use Rattle.df_form.specs.declared.node.Op.{Op}
 use Rattle.df_form.specs.declared.node.Op.TheVariants as ops
-use Rattle.df_form.specs.Log.{Step, Hypothesis, Goal, Connective, Schema, Propagation, Linear, Split, Make}
+use Rattle.df_form.specs.Log.{Step, Hypothesis, Goal, Connective, Schema, Propagation, Congruence, Linear, Split, Make}
 use Rattle.df_logtext.specs.Numeral.{number_of, integer_of}
 use Rattle.df_logtext.specs.Parting.{parted}
-use Rattle.df_logtext.specs.Words.{place_from, index_of, indices_of, literals_of, combinations_from, op_of}
+use Rattle.df_logtext.specs.Words.{place_from, index_of, indices_of, literals_of, pairs_from, combinations_from, op_of}
 
 abbrev pub hypothesis_of : List (List ℕ) → Option Step
 hypothesis_of (number ∷ []) = option_map Hypothesis (index_of number)
@@ -35,6 +35,12 @@ propagated_of clauses conclusion = option_and_then (λ cs. option_map (Propagati
 abbrev pub propagation_of : List (List ℕ) → Option Step
 propagation_of words = option_and_then (λ at. propagated_of (take at words) (drop (at + 1) words)) (colon words)
 
+abbrev pub joined_of : List (List ℕ) → List (List ℕ) → Option Step
+joined_of conclusion pairs = option_and_then (λ ls. option_map (Congruence ls) (pairs_from [] pairs)) (literals_of conclusion)
+
+abbrev pub congruence_of : List (List ℕ) → Option Step
+congruence_of words = option_and_then (λ at. joined_of (take at words) (drop (at + 1) words)) (colon words)
+
 abbrev pub combined_of : List (List ℕ) → List (List ℕ) → Option Step
 combined_of conclusion sums = option_and_then (λ ls. option_map (Linear ls) (combinations_from [] None sums)) (literals_of conclusion)
 
@@ -56,7 +62,7 @@ abbrev pub make_of : List (List ℕ) → List (List ℕ) → Option Step
 make_of names [] = None
 make_of names (word ∷ words) = if same_text word (codes "num") then number_made_of words else made_of (op_of names word) words
 
--- the letters `h g x a u l s n`
+-- the letters `h g x a u e l s n`
 abbrev pub by_letter : List (List ℕ) → ℕ → List (List ℕ) → Option Step
 by_letter names letter words =
     if letter == 104 then hypothesis_of words
@@ -64,9 +70,10 @@ by_letter names letter words =
     else (if letter == 120 then connective_of words
     else (if letter == 97 then schema_of words
     else (if letter == 117 then propagation_of words
+    else (if letter == 101 then congruence_of words
     else (if letter == 108 then linear_of words
     else (if letter == 115 then split_of words
-    else (if letter == 110 then make_of names words else None)))))))
+    else (if letter == 110 then make_of names words else None))))))))
 
 abbrev pub step_of_words : List (List ℕ) → List (List ℕ) → Option Step
 step_of_words names ((letter ∷ []) ∷ words) = by_letter names letter words

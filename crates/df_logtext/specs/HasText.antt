@@ -5,9 +5,10 @@ use Rattle.df_types.specs.declared.newtype.Ty.{Ty}
 use Rattle.df_types.specs.declared.newtype.Ty.TheVariants as types
 use Rattle.df_form.specs.declared.log.Lit.{Lit}
 use Rattle.df_form.specs.declared.log.Multiple.{Multiple}
+use Rattle.df_form.specs.declared.log.Pair.{Pair}
 use Rattle.df_form.specs.declared.node.Op.{Op}
 use Rattle.df_form.specs.declared.node.Op.TheVariants as ops
-use Rattle.df_form.specs.Log.{Combination, Step, Hypothesis, Goal, Connective, Schema, Propagation, Linear, Split, Make}
+use Rattle.df_form.specs.Log.{Combination, Step, Hypothesis, Goal, Connective, Schema, Propagation, Congruence, Linear, Split, Make}
 
 -- the number of a node, a clause, a row or a hypothesis
 abbrev pub IsIndex : ℕ → Type 0
@@ -48,6 +49,9 @@ HasLiteral l = IsIndex l.node
 abbrev pub HasMultiple : Multiple → Type 0
 HasMultiple m = IsWide m.factor × IsIndex m.row
 
+abbrev pub HasPair : Pair → Type 0
+HasPair p = IsIndex p.left × IsIndex p.right
+
 abbrev pub HasCombination : Combination → Type 0
 HasCombination c = IsWide c.divisor × AllByRecursion HasMultiple c.members
 
@@ -57,6 +61,7 @@ HasLine names Goal = Unit {0}
 HasLine names (Connective node clause) = IsIndex node × IsIndex clause
 HasLine names (Schema schema clause terms) = (schema < 2 ^ 8) × (clause < 2 ^ 32) × AllByRecursion IsIndex terms
 HasLine names (Propagation clauses conclusion) = AllByRecursion IsIndex clauses × AllByRecursion HasLiteral conclusion
+HasLine names (Congruence conclusion pairs) = AllByRecursion HasLiteral conclusion × AllByRecursion HasPair pairs
 HasLine names (Linear conclusion combinations) = AllByRecursion HasLiteral conclusion × AllByRecursion HasCombination combinations
 HasLine names (Split node bound) = IsIndex node × IsWide bound
 HasLine names (Make node) = HasWord names node.op × AllByRecursion IsIndex node.parts

@@ -6,9 +6,10 @@ use Rattle.df_types.specs.declared.newtype.Ty.{Ty}
 use Rattle.df_types.specs.declared.newtype.Ty.TheVariants as types
 use Rattle.df_form.specs.declared.log.Lit.{Lit}
 use Rattle.df_form.specs.declared.log.Multiple.{Multiple}
+use Rattle.df_form.specs.declared.log.Pair.{Pair}
 use Rattle.df_form.specs.declared.node.Op.{Op}
 use Rattle.df_form.specs.declared.node.Op.TheVariants as ops
-use Rattle.df_form.specs.Log.{Combination, Step, Hypothesis, Goal, Connective, Schema, Propagation, Linear, Split, Make}
+use Rattle.df_form.specs.Log.{Combination, Step, Hypothesis, Goal, Connective, Schema, Propagation, Congruence, Linear, Split, Make}
 use Rattle.df_form.specs.Node.{Node}
 use Rattle.df_logtext.specs.Joined.{joined}
 
@@ -60,12 +61,17 @@ sum_words (first ∷ others) = joined 43 (map multiple_text (first ∷ others)) 
 abbrev pub combination_words : Combination → List (List ℕ)
 combination_words c = signed_decimal c.divisor ∷ sum_words c.members
 
+-- `N M`
+abbrev pub pair_words : Pair → List (List ℕ)
+pair_words p = decimal p.left ∷ decimal p.right ∷ []
+
 abbrev pub letter : Step → List ℕ
 letter (Hypothesis number) = codes "h"
 letter Goal = codes "g"
 letter (Connective node clause) = codes "x"
 letter (Schema schema clause terms) = codes "a"
 letter (Propagation clauses conclusion) = codes "u"
+letter (Congruence conclusion pairs) = codes "e"
 letter (Linear conclusion combinations) = codes "l"
 letter (Split node bound) = codes "s"
 letter (Make node) = codes "n"
@@ -77,6 +83,7 @@ arguments names Goal = []
 arguments names (Connective node clause) = decimal node ∷ decimal clause ∷ []
 arguments names (Schema schema clause terms) = decimal schema ∷ decimal clause ∷ map decimal terms
 arguments names (Propagation clauses conclusion) = map decimal clauses ++ codes ":" ∷ map literal_word conclusion
+arguments names (Congruence conclusion pairs) = map literal_word conclusion ++ codes ":" ∷ flat_map pair_words pairs
 arguments names (Linear conclusion combinations) = map literal_word conclusion ++ codes ":" ∷ flat_map combination_words combinations
 arguments names (Split node bound) = decimal node ∷ signed_decimal bound ∷ []
 arguments names (Make node) = node_words names node

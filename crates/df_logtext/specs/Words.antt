@@ -6,6 +6,7 @@ use Rattle.df_base.specs.Names.{same_text}
 use Rattle.df_types.specs.declared.newtype.Ty.TheVariants as types
 use Rattle.df_form.specs.declared.log.Lit.{Lit}
 use Rattle.df_form.specs.declared.log.Multiple.{Multiple}
+use Rattle.df_form.specs.declared.log.Pair.{Pair}
 use Rattle.df_form.specs.declared.node.Op.{Op}
 use Rattle.df_form.specs.declared.node.Op.TheVariants as ops
 use Rattle.df_form.specs.Clause.{yes, no}
@@ -32,6 +33,15 @@ literal_of (b ∷ bs) = if b == 43 then option_map yes (index_of bs) else (if b 
 
 abbrev pub literals_of : List (List ℕ) → Option (List Lit)
 literals_of words = each_from literal_of [] words
+
+abbrev pub pair_of : Option ℕ → Option ℕ → Option Pair
+pair_of left right = option_and_then (λ l. option_map (λ r. record { left = l; right = r }) right) left
+
+-- pairs behind those before
+abbrev pub pairs_from : List Pair → List (List ℕ) → Option (List Pair)
+pairs_from before [] = Some before
+pairs_from before (left ∷ []) = None
+pairs_from before (left ∷ right ∷ words) = option_and_then (λ p. pairs_from (before ++ p ∷ []) words) (pair_of (index_of left) (index_of right))
 
 -- where the first one stands that passes the test; they are numbered from a number on
 abbrev pub place_from : {A : Type 0} → (A → Bool) → ℕ → List A → Option ℕ

@@ -10,7 +10,7 @@ ghost use Rattle.df_logtext.specs.View.{names_of};
 
 use crate::number::{integer, number};
 use crate::parting::parts;
-use crate::words::{combinations, index, indices, literals, op};
+use crate::words::{combinations, index, indices, literals, op, pairs};
 use df_form::{Node, Op, Step};
 use std::alloc::{AllocError, Global};
 
@@ -119,6 +119,27 @@ fn propagation(alloc: Global, words: &[&[u8]]) -> Result<Option<Step>, AllocErro
     }
 }
 
+fn joined(alloc: Global, conclusion: &[&[u8]], named: &[&[u8]]) -> Result<Option<Step>, AllocError>
+    ensures { IfOk result (λ step. option_map step_of step ≡ spec.joined_of (map (λ word. word.now) conclusion.now) (map (λ word. word.now) named.now)) }
+{
+    let Some(conclusion) = literals(alloc, conclusion)? else {
+        return Ok(None);
+    };
+    let Some(pairs) = pairs(alloc, named)? else {
+        return Ok(None);
+    };
+    Ok(Some(Step::Congruence { conclusion, pairs }))
+}
+
+fn congruence(alloc: Global, words: &[&[u8]]) -> Result<Option<Step>, AllocError>
+    ensures { IfOk result (λ step. option_map step_of step ≡ spec.congruence_of (map (λ word. word.now) words.now)) }
+{
+    match colon(words) {
+        Some(at) => joined(alloc, &words[..at], &words[at + 1..]),
+        None => Ok(None),
+    }
+}
+
 fn combined(alloc: Global, conclusion: &[&[u8]], sums: &[&[u8]]) -> Result<Option<Step>, AllocError>
     ensures { IfOk result (λ step. option_map step_of step ≡ spec.combined_of (map (λ word. word.now) conclusion.now) (map (λ word. word.now) sums.now)) }
 {
@@ -213,6 +234,7 @@ fn by_letter(
         b'x' => Ok(connective(words)),
         b'a' => schema(alloc, words),
         b'u' => propagation(alloc, words),
+        b'e' => congruence(alloc, words),
         b'l' => linear(alloc, words),
         b's' => Ok(split(words)),
         b'n' => make(alloc, names, words),

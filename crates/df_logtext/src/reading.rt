@@ -57,7 +57,7 @@ mod tests {
 
     /// Each line of logs.
     const TEXT: &[u8] =
-        b"dfylog 1\no 1\nh 0\ng\nx 3 1\na 74 2 5\nu 0 1 : +3 -5\nl -3 +5 : 2 1*0 1 -1*1+1*2 3\ns 4 -7\nn num -12\nn is:i32 4\nn and 1 2\nn plus 0 0\nu 2 :\n.\no 2\n.\nend\n";
+        b"dfylog 1\no 1\nh 0\ng\nx 3 1\na 74 2 5\nu 0 1 : +3 -5\ne -3 +5 : 1 2 6 4\ne +3 :\nl -3 +5 : 2 1*0 1 -1*1+1*2 3\ns 4 -7\nn num -12\nn is:i32 4\nn and 1 2\nn plus 0 0\nu 2 :\n.\no 2\n.\nend\n";
 
     #[test]
     fn read_and_written(rt: HostRuntime) -> Result<(), Fail> {
@@ -71,7 +71,7 @@ mod tests {
     }
 
     /// Texts, and their first bad lines.
-    const BAD: [(&[u8], u64); 12] = [
+    const BAD: [(&[u8], u64); 13] = [
         (b"", 1),
         (b"dfylog 01\nend\n", 1),
         (b"dfylog 1\r\nend\n", 1),
@@ -85,6 +85,7 @@ mod tests {
             3,
         ),
         (b"dfylog 1\no 1\nn is:other 0\n.\nend\n", 3),
+        (b"dfylog 1\no 1\ne -3 : 1 2 6\n.\nend\n", 3),
         (b"dfylog 1\no 1\nu 0\n.\nend\n", 3),
         (b"dfylog 1\no 1\nl : 1*0\n.\nend\n", 3),
     ];

@@ -6,14 +6,15 @@ ghost use Rattle.std.specs.Fmt.{decimal, signed_decimal};
 ghost use Rattle.df_form.specs.Log.{step_of, combination_of};
 ghost use Rattle.df_form.specs.Node.{node_of};
 ghost use Rattle.df_logtext.specs.Joined.{behind};
-ghost use Rattle.df_logtext.specs.StepText.{literal_word, combination_words, type_name, op_word, op_number, node_words, letter as letter_of, arguments, step_line};
+ghost use Rattle.df_logtext.specs.StepText.{literal_word, pair_words, combination_words, type_name, op_word, op_number, node_words, letter as letter_of, arguments, step_line};
 ghost use Rattle.df_logtext.specs.LogText.{ended};
 ghost use Rattle.df_logtext.specs.View.{names_of};
 
 use crate::word::{
-    push_combinations, push_integer, push_literals, push_number, push_numbers, push_word,
+    push_combinations, push_integer, push_literals, push_number, push_numbers, push_pairs,
+    push_word,
 };
-use df_form::{Combination, Lit, Node, Op, Step};
+use df_form::{Combination, Lit, Node, Op, Pair, Step};
 use df_types::Ty;
 use std::alloc::AllocError;
 
@@ -90,6 +91,14 @@ fn push_propagation(
     push_literals(text, conclusion)
 }
 
+fn push_congruence(text: &mut Vec<u8>, conclusion: &[Lit], pairs: &[Pair]) -> Result<(), AllocError>
+    ensures { OnOk result (text.new.items ≡ text.old.items ++ behind 32 (map literal_word conclusion.now ++ codes ":" ∷ flat_map pair_words pairs.now)) }
+{
+    push_literals(text, conclusion)?;
+    push_word(text, b":")?;
+    push_pairs(text, pairs)
+}
+
 fn push_linear(
     text: &mut Vec<u8>,
     conclusion: &[Lit],
@@ -125,6 +134,7 @@ fn letter(step: &Step) -> &'static [u8]
         Step::Connective { .. } => b"x",
         Step::Schema { .. } => b"a",
         Step::Propagation { .. } => b"u",
+        Step::Congruence { .. } => b"e",
         Step::Linear { .. } => b"l",
         Step::Split { .. } => b"s",
         Step::Make(_) => b"n",
@@ -147,6 +157,7 @@ fn push_arguments(text: &mut Vec<u8>, names: &[String], step: &Step) -> Result<(
             clauses,
             conclusion,
         } => push_propagation(text, clauses, conclusion),
+        Step::Congruence { conclusion, pairs } => push_congruence(text, conclusion, pairs),
         Step::Linear {
             conclusion,
             combinations,

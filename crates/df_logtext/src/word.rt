@@ -5,9 +5,9 @@ ghost use Rattle.std.specs.List.{flat_map};
 ghost use Rattle.std.specs.Fmt.{decimal, signed_decimal};
 ghost use Rattle.df_form.specs.Log.{combination_of};
 ghost use Rattle.df_logtext.specs.Joined.{behind};
-ghost use Rattle.df_logtext.specs.StepText.{literal_word, multiple_text, sum_words, combination_words};
+ghost use Rattle.df_logtext.specs.StepText.{literal_word, pair_words, multiple_text, sum_words, combination_words};
 
-use df_form::{Combination, Lit, Multiple};
+use df_form::{Combination, Lit, Multiple, Pair};
 use itoa::Buffer;
 use std::alloc::AllocError;
 
@@ -81,6 +81,23 @@ pub fn push_literals(text: &mut Vec<u8>, literals: &[Lit]) -> Result<(), AllocEr
 {
     for literal in literals {
         push_literal(text, *literal)?;
+    }
+    Ok(())
+}
+
+fn push_pair(text: &mut Vec<u8>, pair: &Pair) -> Result<(), AllocError>
+    ensures { OnOk result (text.new.items ≡ text.old.items ++ behind 32 (pair_words pair.now)) }
+{
+    push_number(text, pair.left as u64)?;
+    push_number(text, pair.right as u64)
+}
+
+/// Pairs.
+pub fn push_pairs(text: &mut Vec<u8>, pairs: &[Pair]) -> Result<(), AllocError>
+    ensures { OnOk result (text.new.items ≡ text.old.items ++ behind 32 (flat_map pair_words pairs.now)) }
+{
+    for pair in pairs {
+        push_pair(text, pair)?;
     }
     Ok(())
 }

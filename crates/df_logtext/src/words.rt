@@ -10,7 +10,7 @@ ghost use Rattle.df_logtext.specs.View.{names_of};
 
 use crate::number::{integer, number};
 use crate::parting::parts;
-use df_form::{Combination, Lit, Multiple, Op};
+use df_form::{Combination, Lit, Multiple, Op, Pair};
 use df_types::Ty;
 use std::alloc::{AllocError, Global};
 
@@ -64,6 +64,35 @@ pub fn literals(alloc: Global, words: &[&[u8]]) -> Result<Option<Vec<Lit>>, Allo
         literals.push(literal)?;
     }
     Ok(Some(literals))
+}
+
+fn pair(left: &[u8], right: &[u8]) -> Option<Pair>
+    ensures { result ≡ spec.pair_of (spec.index_of left.now) (spec.index_of right.now) }
+{
+    Some(Pair {
+        left: index(left)?,
+        right: index(right)?,
+    })
+}
+
+/// Pairs, if the words are two numbers for each.
+pub fn pairs(alloc: Global, words: &[&[u8]]) -> Result<Option<Vec<Pair>>, AllocError>
+    ensures { IfOk result (λ found. option_map (λ pairs. pairs.items) found ≡ spec.pairs_from [] (map (λ word. word.now) words.now)) }
+{
+    let mut pairs = Vec::new(alloc);
+    let mut rest = words;
+    while let [left, right, others @ ..] = rest {
+        let Some(pair) = pair(left, right) else {
+            return Ok(None);
+        };
+        pairs.push(pair)?;
+        rest = others;
+    }
+    if rest.is_empty() {
+        Ok(Some(pairs))
+    } else {
+        Ok(None)
+    }
 }
 
 /// Where the first `*` stands.

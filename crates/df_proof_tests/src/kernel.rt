@@ -177,6 +177,87 @@ const KINDS: [Case; 47] = [
     ),
 ];
 
+/// x + x becomes 13, y + y 14, twice these 15 and 16, and the equality of the last two 17.
+const DOUBLES: &[Line] = &[
+    Line::N(Op::Plus, &[7, 7]),
+    Line::N(Op::Plus, &[8, 8]),
+    Line::N(Op::Plus, &[13, 13]),
+    Line::N(Op::Plus, &[14, 14]),
+    Line::N(Op::Equal, &[15, 16]),
+    // y * y becomes 18, 1 19, 2 20, and the equalities of x with these 21 and 22
+    Line::N(Op::Times, &[8, 8]),
+    Line::N(Op::Number(1), &[]),
+    Line::N(Op::Number(2), &[]),
+    Line::N(Op::Equal, &[7, 19]),
+    Line::N(Op::Equal, &[7, 20]),
+];
+
+/// Clauses over these terms that hold by congruence, and then others.
+const CONGRUENCES: [Case; 19] = [
+    (&[Line::E(&[(false, 9), (true, 9)], &[])], Some((12, 0))),
+    (&[Line::E(&[(false, 2), (true, 2)], &[])], Some((12, 0))),
+    // p = q, and p gives q, and q gives p
+    (
+        &[Line::E(&[(false, 11), (false, 0), (true, 2)], &[])],
+        Some((12, 0)),
+    ),
+    (
+        &[Line::E(&[(true, 0), (false, 2), (false, 11)], &[])],
+        Some((12, 0)),
+    ),
+    // x = y makes their doubles equal, and then the doubles of these
+    (
+        &[Line::E(&[(false, 9), (true, 17)], &[(13, 14), (15, 16)])],
+        Some((12, 0)),
+    ),
+    (
+        &[Line::E(&[(true, 17), (false, 9)], &[(14, 13), (16, 15)])],
+        Some((12, 0)),
+    ),
+    // x is 1 and 2
+    (&[Line::E(&[(false, 21), (false, 22)], &[])], Some((12, 0))),
+    (
+        &[Line::E(&[(false, 9), (true, 9)], &[(7, 7)])],
+        Some((12, 0)),
+    ),
+    // not in this order, and not without the equality or the first pair
+    (
+        &[Line::E(&[(false, 9), (true, 17)], &[(15, 16), (13, 14)])],
+        Some((11, 7)),
+    ),
+    (
+        &[Line::E(&[(true, 17)], &[(13, 14), (15, 16)])],
+        Some((11, 7)),
+    ),
+    (
+        &[Line::E(&[(false, 9), (true, 17)], &[(13, 14)])],
+        Some((11, 7)),
+    ),
+    // two operations
+    (
+        &[Line::E(&[(false, 9), (true, 9)], &[(14, 18)])],
+        Some((11, 7)),
+    ),
+    (
+        &[Line::E(&[(false, 9), (true, 9)], &[(7, 8)])],
+        Some((11, 7)),
+    ),
+    // nothing that can't be
+    (&[Line::E(&[], &[])], Some((11, 7))),
+    (&[Line::E(&[(false, 9)], &[])], Some((11, 7))),
+    (&[Line::E(&[(false, 21)], &[])], Some((11, 7))),
+    (&[Line::E(&[(false, 0), (true, 2)], &[])], Some((11, 7))),
+    // no formula, and no node
+    (
+        &[Line::E(&[(false, 9), (true, 9), (true, 7)], &[])],
+        Some((11, 7)),
+    ),
+    (
+        &[Line::E(&[(false, 9), (true, 9)], &[(23, 23)])],
+        Some((11, 7)),
+    ),
+];
+
 /// p (0), and p implies q (2), whose clauses are 0 to 3 with the negation of q (1).
 const FIRST: &[Line] = &[Line::H(0), Line::H(1), Line::X(2, 0), Line::G];
 
@@ -309,9 +390,10 @@ const TYPED: Sheet = (
     )],
 );
 
-const SHEETS: [Sheet; 6] = [
+const SHEETS: [Sheet; 7] = [
     (&[], &[(P, 0)], &[], &PLACES),
     (&[&[(P, 0)], &[(P, 0), (Op::Not, 1)]], &EACH, &[], &KINDS),
+    (&[], &EACH, DOUBLES, &CONGRUENCES),
     (MODUS_PONENS, &[(Q, 0)], FIRST, &PROPAGATIONS),
     LINEAR,
     SPLITTING,

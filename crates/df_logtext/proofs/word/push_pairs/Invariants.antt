@@ -1,0 +1,8 @@
+use Rattle.std.proofs.Common.{◌≡◌, ◌++◌, take}
+use Rattle.std.specs.List.{flat_map}
+use Rattle.df_logtext.specs.Joined.{behind}
+use Rattle.df_logtext.specs.StepText.{pair_words}
+use Rattle.df_logtext.proofs.word.push_pairs.Given as goal
+
+abbrev pub invariant-loop-pair : goal.invariant-loop-pair
+invariant-loop-pair l = l.text.items ≡ l.initial.text.items ++ behind 32 (flat_map pair_words (take l.pair-index l.pairs))
