@@ -1,41 +1,9 @@
 //! Conflict analysis: from a false clause back to the first unique implication point, which gives a
 //! clause to learn.
 
-use crate::book::Origin;
 use crate::engine::Engine;
-use crate::literal::Literal;
-use crate::trail::Reason;
-use std::alloc::{AllocError, Global};
-
-/// An analysis so far.
-#[derive(Drop)]
-struct Analysis {
-    /// The decision level of the conflict.
-    level: usize,
-    /// How many literals of that level are met and not resolved.
-    open: usize,
-    /// False literals of lower levels, but for the lowest.
-    kept: Vec<Literal>,
-    /// The clauses that were resolved with, the last one first.
-    resolved: Vec<usize>,
-    /// Variables of the lowest level that were met.
-    roots: Vec<usize>,
-    /// All variables that were met.
-    met: Vec<usize>,
-}
-
-impl Analysis {
-    fn new(alloc: Global, level: usize) -> Analysis {
-        Analysis {
-            level,
-            open: 0,
-            kept: Vec::new(alloc),
-            resolved: Vec::new(alloc),
-            roots: Vec::new(alloc),
-            met: Vec::new(alloc),
-        }
-    }
-}
+use df_clauses::{Analysis, Literal, Origin, Reason};
+use std::alloc::AllocError;
 
 /// What a conflict comes to.
 #[derive(Clone, Copy, Debug, PartialEq, Eq)]
@@ -51,12 +19,12 @@ pub(crate) enum Lesson {
 impl<'a> Engine<'a> {
     /// Learns from a clause that is false.
     pub fn learn(&mut self, conflict: usize) -> Result<Lesson, AllocError> {
-        let level = self.level_of(conflict);
+        let level = self.solver.level_of(conflict);
         self.cancel(level)?;
         let mut analysis = Analysis::new(self.alloc, level);
         let asserting = self.analyze(&mut analysis, conflict)?;
-        self.forget(&analysis);
-        self.order.decay()?;
+        self.solver.forget(&analysis);
+        self.solver.order.decay()?;
         if self.is_lost {
             return Ok(Lesson::Lost);
         }
@@ -67,19 +35,6 @@ impl<'a> Engine<'a> {
         }
     }
 
-    /// The highest level of a false clause's literals.
-    fn level_of(&self, clause: usize) -> usize {
-        let mut level = 0;
-        for place in 0..self.book.width(clause) {
-            if let Some(literal) = self.book.literal(clause, place) {
-                if let Some(assignment) = self.trail.assignment(literal.variable) {
-                    level = level.max(assignment.level);
-                }
-            }
-        }
-        level
-    }
-
     /// Resolves the conflict with the reasons of its level. The negation of the first unique
     /// implication point; none at the lowest level, where nothing is left.
     fn analyze(
@@ -88,14 +43,14 @@ impl<'a> Engine<'a> {
         conflict: usize,
     ) -> Result<Option<Literal>, AllocError> {
         self.resolve(analysis, conflict)?;
-        for place in (0..self.trail.len()).rev() {
+        for place in (0..self.solver.trail.len()).rev() {
             if analysis.open == 0 {
                 break;
             }
-            let Some(literal) = self.trail.literal(place) else {
+            let Some(literal) = self.solver.trail.literal(place) else {
                 break;
             };
-            if !self.is_open(analysis, literal) {
+            if !self.solver.is_open(analysis, literal) {
                 continue;
             }
             if analysis.open == 1 && analysis.level > 0 {
@@ -111,73 +66,16 @@ impl<'a> Engine<'a> {
         Ok(None)
     }
 
-    /// Whether the literal was met and is of the level of the conflict.
-    fn is_open(&self, analysis: &Analysis, literal: Literal) -> bool {
-        match self.trail.assignment(literal.variable) {
-            Some(assignment) => {
-                assignment.level == analysis.level && self.is_marked(literal.variable)
-            }
-            None => false,
-        }
-    }
-
-    fn is_marked(&self, variable: usize) -> bool {
-        match self.marks.get(variable) {
-            Some(mark) => *mark,
-            None => true,
-        }
-    }
-
-    fn mark(&mut self, variable: usize, is_met: bool) {
-        if let Some(mark) = self.marks.get_mut(variable) {
-            *mark = is_met;
-        }
-    }
-
-    /// No variable is met any more.
-    fn forget(&mut self, analysis: &Analysis) {
-        for variable in analysis.met.iter() {
-            self.mark(*variable, false);
-        }
-    }
-
     /// Meets the false literals of a clause.
     fn resolve(&mut self, analysis: &mut Analysis, clause: usize) -> Result<(), AllocError> {
-        analysis.resolved.push(clause)?;
-        let width = self.book.width(clause);
+        let width = self.solver.book.width(clause);
         self.spend(width);
-        for place in 0..width {
-            if let Some(literal) = self.book.literal(clause, place) {
-                self.meet(analysis, literal)?;
-            }
-        }
-        Ok(())
-    }
-
-    fn meet(&mut self, analysis: &mut Analysis, literal: Literal) -> Result<(), AllocError> {
-        let variable = literal.variable;
-        let Some(assignment) = self.trail.assignment(variable) else {
-            return Ok(());
-        };
-        if assignment.positive == literal.positive || self.is_marked(variable) {
-            return Ok(());
-        }
-        self.mark(variable, true);
-        analysis.met.push(variable)?;
-        self.order.bump(variable);
-        if assignment.level == analysis.level {
-            analysis.open = analysis.open.saturating_add(1);
-        } else if assignment.level == 0 {
-            analysis.roots.push(variable)?;
-        } else {
-            analysis.kept.push(literal)?;
-        }
-        Ok(())
+        self.solver.resolve(analysis, clause)
     }
 
     /// The clause that gave a literal its value.
     pub fn reason(&mut self, literal: Literal) -> Result<Option<usize>, AllocError> {
-        let Some(assignment) = self.trail.assignment(literal.variable) else {
+        let Some(assignment) = self.solver.trail.assignment(literal.variable) else {
             return Ok(None);
         };
         let clause = match assignment.reason {
@@ -187,7 +85,7 @@ impl<'a> Engine<'a> {
             Reason::Constant => self.explain_constant(literal)?,
         };
         if let Some(clause) = clause {
-            self.trail.explain(literal.variable, clause);
+            self.solver.trail.explain(literal.variable, clause);
         }
         Ok(clause)
     }
@@ -213,7 +111,10 @@ impl<'a> Engine<'a> {
             return Ok(Lesson::Lost);
         }
         let literals = Vec::new(self.alloc);
-        let empty = self.book.add(literals, Origin::Learned(antecedents))?;
+        let empty = self
+            .solver
+            .book
+            .add(literals, Origin::Learned(antecedents))?;
         Ok(Lesson::Refuted(empty))
     }
 
@@ -228,7 +129,7 @@ impl<'a> Engine<'a> {
         if self.is_lost {
             return Ok(Lesson::Lost);
         }
-        let level = self.highest_level(&analysis.kept);
+        let level = self.solver.highest_level(&analysis.kept);
         let mut literals = analysis.kept;
         literals.push(asserting)?;
         self.cancel(level)?;
@@ -236,15 +137,5 @@ impl<'a> Engine<'a> {
             None => Ok(Lesson::Learned),
             Some(_) => Ok(Lesson::Lost),
         }
-    }
-
-    fn highest_level(&self, literals: &[Literal]) -> usize {
-        let mut level = 0;
-        for literal in literals {
-            if let Some(assignment) = self.trail.assignment(literal.variable) {
-                level = level.max(assignment.level);
-            }
-        }
-        level
     }
 }

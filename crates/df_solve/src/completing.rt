@@ -1,11 +1,9 @@
 //! Where each variable has a value: whole numbers for all columns, or a split.
 
-use crate::book::Origin;
-use crate::bounds::{Cause, Side};
-use crate::forms::Column;
-use crate::linear::Entry;
 use crate::searching::{Search, Turn};
-use crate::simplex::Check;
+use df_clauses::Origin;
+use df_simplex::{Cause, Check, Entry, Side};
+use df_theory::Column;
 use std::alloc::AllocError;
 
 /// Half the sum of the coefficients' magnitudes, rounded up: by how much a form may change where its
@@ -57,7 +55,7 @@ impl<'a> Search<'a> {
 
     /// Looks for a point from which rounding leads past no bound. Whether the tableau has one then.
     fn is_rounded(&mut self) -> Result<bool, AllocError> {
-        let level = self.engine.trail.level();
+        let level = self.engine.solver.trail.level();
         self.engine.open()?;
         if self.shrink_all()? {
             if let Check::Feasible = self.engine.check_tableau()? {

@@ -1,9 +1,8 @@
 //! Defining clauses: those of a formula come into the book once it has a value.
 
-use crate::book::Origin;
 use crate::engine::Engine;
-use crate::literal::Literal;
-use crate::terms::Shape;
+use df_clauses::{Literal, Origin};
+use df_theory::Shape;
 use std::alloc::AllocError;
 
 impl<'a> Engine<'a> {

@@ -1,17 +1,9 @@
 //! The state of the engine, its variables and its clauses.
 
-use crate::book::{Book, Origin};
-use crate::bounds::{Cause, Side};
-use crate::forms::{Atom, Meaning};
-use crate::literal::Literal;
-use crate::order::Order;
-use crate::rows::Need;
-use crate::simplex::Check;
-use crate::terms::{Shape, Terms};
-use crate::theory::Theory;
-use crate::trail::{Reason, Trail};
-use crate::variables::Variables;
+use df_clauses::{Literal, Origin, Reason, Solver};
 use df_form::Sequent;
+use df_simplex::{Cause, Check, Need, Side};
+use df_theory::{Atom, Meaning, Shape, Terms, Theory, Variables};
 use std::alloc::{AllocError, Global};
 
 /// How many pivots a check of the tableau may take.
@@ -23,12 +15,8 @@ pub(crate) struct Engine<'a> {
     pub alloc: Global,
     pub terms: Terms<'a>,
     pub variables: Variables,
-    pub book: Book,
-    pub trail: Trail,
-    pub order: Order,
+    pub solver: Solver,
     pub theory: Theory,
-    /// By variable, whether an analysis has met it.
-    pub marks: Vec<bool>,
     /// How much work is left to do.
     pub fuel: u64,
     /// A number of an explanation is past 128 bits.
@@ -45,11 +33,8 @@ impl<'a> Engine<'a> {
             alloc,
             terms: Terms::new(alloc, sequent)?,
             variables: Variables::new(alloc),
-            book: Book::new(alloc),
-            trail: Trail::new(alloc),
-            order: Order::new(alloc),
+            solver: Solver::new(alloc),
             theory: Theory::new(alloc),
-            marks: Vec::new(alloc),
             fuel,
             is_lost: false,
         })
@@ -75,7 +60,7 @@ impl<'a> Engine<'a> {
 
     /// Whether the engine is to stop.
     pub fn is_over(&self) -> bool {
-        self.fuel == 0 || self.is_lost || self.book.is_full()
+        self.fuel == 0 || self.is_lost || self.solver.book.is_full()
     }
 
     /// The literal of a formula.
@@ -94,13 +79,11 @@ impl<'a> Engine<'a> {
             _ => Meaning::Nothing,
         };
         let variable = self.variables.add(node, meaning)?;
-        self.book.add_variable()?;
-        self.trail.add_variable()?;
-        self.order.add_variable(false)?;
-        self.marks.push(false)?;
+        self.solver.add_variable()?;
         match meaning {
             Meaning::Nothing => {}
             Meaning::Constant(positive) => self
+                .solver
                 .trail
                 .assign(Literal { variable, positive }, Reason::Constant)?,
             Meaning::Atom(atom) => {
@@ -114,7 +97,8 @@ impl<'a> Engine<'a> {
     /// Gives an atom without a value the one that bounds imply.
     fn imply(&mut self, variable: usize, atom: &Atom) -> Result<(), AllocError> {
         if let Some((positive, bound)) = self.theory.implied(atom) {
-            self.trail
+            self.solver
+                .trail
                 .assign(Literal { variable, positive }, Reason::Bound(bound))?;
         }
         Ok(())
@@ -128,7 +112,7 @@ impl<'a> Engine<'a> {
             let Some(variable) = self.theory.speaker(column, place) else {
                 break;
             };
-            if self.trail.assignment(variable).is_none() {
+            if self.solver.trail.assignment(variable).is_none() {
                 if let Meaning::Atom(atom) = self.variables.meaning(variable) {
                     self.imply(variable, &atom)?;
                 }
@@ -182,76 +166,26 @@ impl<'a> Engine<'a> {
         literals: Vec<Literal>,
         origin: Origin,
     ) -> Result<Option<usize>, AllocError> {
-        let width = literals.len();
-        self.spend(width);
-        let clause = self.book.add(literals, origin)?;
-        for place in [0, 1] {
-            let best = self.best_watch(clause, place, width);
-            self.book.exchange(clause, place, best);
-            if let Some(literal) = self.book.literal(clause, place) {
-                self.book.watch(literal, clause)?;
-            }
-        }
-        self.begin_clause(clause)
-    }
-
-    /// The place, from one on, of a literal that is not false, or else became so last.
-    fn best_watch(&self, clause: usize, from: usize, width: usize) -> usize {
-        let mut best = from;
-        let mut level = 0;
-        for place in from..width {
-            let Some(literal) = self.book.literal(clause, place) else {
-                break;
-            };
-            let other = self.trail.false_level(literal);
-            if level < other {
-                best = place;
-                level = other;
-            }
-        }
-        best
-    }
-
-    /// Has a new clause give its first literal, where the others are false.
-    fn begin_clause(&mut self, clause: usize) -> Result<Option<usize>, AllocError> {
-        let Some(first) = self.book.literal(clause, 0) else {
-            return Ok(Some(clause));
-        };
-        if self.trail.is_false(first) {
-            return Ok(Some(clause));
-        }
-        let is_unit = match self.book.literal(clause, 1) {
-            Some(second) => self.trail.is_false(second),
-            None => true,
-        };
-        if is_unit && self.trail.value(first).is_none() {
-            self.trail.assign(first, Reason::Clause(clause))?;
-        }
-        Ok(None)
+        self.spend(literals.len());
+        self.solver.add_clause(literals, origin)
     }
 
     /// Takes the levels after this one back.
     pub fn cancel(&mut self, level: usize) -> Result<(), AllocError> {
-        let end = self.trail.end_of(level);
-        for _ in end..self.trail.len() {
-            if let Some(literal) = self.trail.retract() {
-                self.order.release(literal)?;
-            }
-        }
-        self.trail.close(level);
+        self.solver.cancel(level)?;
         self.theory.bounds.cancel(level);
         Ok(())
     }
 
     /// A decision level begins.
     pub fn open(&mut self) -> Result<(), AllocError> {
-        self.trail.open()?;
+        self.solver.trail.open()?;
         self.theory.bounds.open()
     }
 
     /// Decides that a literal is true.
     pub fn decide(&mut self, literal: Literal) -> Result<(), AllocError> {
         self.open()?;
-        self.trail.assign(literal, Reason::Decision)
+        self.solver.trail.assign(literal, Reason::Decision)
     }
 }

@@ -5,34 +5,15 @@
 #![tactic(auto)]
 
 mod analyzing;
-mod book;
-mod bounds;
-mod choosing;
 mod completing;
 mod defining;
-mod dividing;
 mod engine;
 mod explaining;
-mod explanation;
-mod forms;
-mod linear;
-mod literal;
-mod logging;
 mod modelling;
-mod order;
 mod probing;
 mod propagating;
 mod proposing;
-mod recording;
-mod rows;
 mod searching;
-mod simplex;
-mod tableau;
-mod tableau_row;
-mod terms;
-mod theory;
-mod trail;
 mod units;
-mod variables;
 
 pub use proposing::{Proposal, propose};

@@ -1,13 +1,13 @@
 //! Tables: the numbers of all nodes where the free terms are what the engine has found.
 
 use crate::engine::Engine;
-use crate::forms::Column;
-use crate::tableau::Fraction;
 use df_form::{Lit, Sequent};
 use df_ground::{Ground, GroundFault};
 use df_kern::Known;
 use df_model::{Valuation, valuation};
+use df_simplex::Fraction;
 use df_table::Table;
+use df_theory::Column;
 use std::alloc::{AllocError, Global};
 
 /// The nearest whole number.
@@ -41,7 +41,7 @@ fn truths(alloc: Global, engine: &Engine) -> Result<Known, AllocError> {
     for variable in 0..engine.variables.len() {
         if let (Some(node), Some(assignment)) = (
             engine.variables.node(variable),
-            engine.trail.assignment(variable),
+            engine.solver.trail.assignment(variable),
         ) {
             known.insert(Lit {
                 positive: assignment.positive,

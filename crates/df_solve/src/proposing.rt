@@ -1,9 +1,9 @@
 //! What the engine proposes.
 
-use crate::logging::log_of;
 use crate::modelling::counterexample;
 use crate::searching::{Search, Turn};
 use df_form::{Sequent, Step};
+use df_record::{Recorder, log_of};
 use df_table::Table;
 use std::alloc::{AllocError, Global};
 
@@ -36,12 +36,12 @@ pub fn propose(alloc: Global, sequent: &Sequent, steps: u64) -> Result<Proposal,
         turn = search.turn()?;
     }
     match turn {
-        Turn::Refuted(clause) => Ok(Proposal::Proved(log_of(
-            alloc,
-            &search.engine,
-            sequent.nodes.len(),
-            clause,
-        )?)),
+        Turn::Refuted(clause) => {
+            let engine = &search.engine;
+            let nodes = sequent.nodes.len();
+            let recorder = Recorder::new(alloc, &engine.terms, &engine.variables, nodes);
+            Ok(Proposal::Proved(log_of(recorder, &engine.solver.book, clause)?))
+        }
         Turn::Complete => proposed(counterexample(alloc, &search.engine, sequent)?),
         Turn::On | Turn::GaveUp => Ok(Proposal::GaveUp),
     }

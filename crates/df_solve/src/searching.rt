@@ -1,12 +1,12 @@
 //! The search: it takes hypotheses in, tries bounds out, decides, learns from conflicts and restarts.
 
 use crate::analyzing::Lesson;
-use crate::book::Origin;
 use crate::engine::Engine;
-use crate::forms::Meaning;
-use crate::literal::Literal;
-use crate::simplex::Check;
+use crate::probing::Reach;
+use df_clauses::{Literal, Origin};
 use df_form::Sequent;
+use df_simplex::Check;
+use df_theory::Meaning;
 use std::alloc::{AllocError, Global};
 
 /// How many conflicts come before the first restart.
@@ -23,8 +23,10 @@ pub(crate) struct Search<'a> {
     end: usize,
     /// How many of each end come next.
     chunk: usize,
-    /// Bounds were tried out.
-    is_probed: bool,
+    /// How far the bounds are followed that are tried out next.
+    pub reach: Reach,
+    /// Bounds are tried out while this much work is left to do.
+    pub reserve: u64,
     restarts: u64,
     /// How many conflicts are left before the next restart.
     conflicts: u64,
@@ -69,7 +71,8 @@ impl<'a> Search<'a> {
             first: 0,
             end: sequent.hypotheses.len(),
             chunk: 4,
-            is_probed: false,
+            reach: Reach::Clauses,
+            reserve: 0,
             restarts: 1,
             conflicts: RESTART,
         })
@@ -126,12 +129,11 @@ impl<'a> Search<'a> {
     }
 
     fn advance(&mut self) -> Result<Turn, AllocError> {
-        if self.engine.trail.level() == 0 {
+        if self.engine.solver.trail.level() == 0 {
             if self.first < self.end {
                 return self.assume_chunk();
             }
-            if !self.is_probed {
-                self.is_probed = true;
+            if self.reach != Reach::Nowhere {
                 return self.probe();
             }
         }
@@ -177,10 +179,10 @@ impl<'a> Search<'a> {
     /// Decides a variable that has no value.
     fn decide(&mut self) -> Result<Turn, AllocError> {
         for _ in 0..usize::MAX {
-            let Some(variable) = self.engine.order.next() else {
+            let Some(variable) = self.engine.solver.order.next() else {
                 break;
             };
-            if self.engine.trail.assignment(variable).is_none() {
+            if self.engine.solver.trail.assignment(variable).is_none() {
                 let positive = self.engine.phase(variable);
                 self.engine.decide(Literal { variable, positive })?;
                 return Ok(Turn::On);
@@ -196,7 +198,7 @@ impl<'a> Engine<'a> {
         match self.variables.meaning(variable) {
             Meaning::Atom(atom) => self.theory.holds(&atom),
             Meaning::Constant(positive) => positive,
-            Meaning::Nothing => self.order.phase(variable),
+            Meaning::Nothing => self.solver.order.phase(variable),
         }
     }
 }

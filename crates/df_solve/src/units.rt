@@ -1,8 +1,7 @@
 //! Units: clauses that say what variables of the lowest level are.
 
-use crate::book::Origin;
 use crate::engine::Engine;
-use crate::literal::Literal;
+use df_clauses::{Literal, Origin};
 use std::alloc::AllocError;
 
 impl<'a> Engine<'a> {
@@ -32,7 +31,7 @@ impl<'a> Engine<'a> {
         variable: usize,
         waiting: &mut Vec<usize>,
     ) -> Result<bool, AllocError> {
-        let Some(assignment) = self.trail.assignment(variable) else {
+        let Some(assignment) = self.solver.trail.assignment(variable) else {
             return Ok(false);
         };
         let literal = Literal {
@@ -57,8 +56,8 @@ impl<'a> Engine<'a> {
         waiting: &mut Vec<usize>,
     ) -> Result<bool, AllocError> {
         let before = waiting.len();
-        for place in 0..self.book.width(clause) {
-            if let Some(literal) = self.book.literal(clause, place) {
+        for place in 0..self.solver.book.width(clause) {
+            if let Some(literal) = self.solver.book.literal(clause, place) {
                 if literal.variable != variable && self.variables.unit(literal.variable).is_none() {
                     waiting.push(literal.variable)?;
                 }
@@ -69,13 +68,15 @@ impl<'a> Engine<'a> {
 
     /// Derives the unit of a literal, whose reason's other literals have theirs.
     fn derive_unit(&mut self, literal: Literal, reason: usize) -> Result<(), AllocError> {
-        let width = self.book.width(reason);
+        let width = self.solver.book.width(reason);
         let unit = if width == 1 {
             reason
         } else {
             let antecedents = self.units_of(literal.variable, reason)?;
             let literals = vec![in self.alloc; literal]?;
-            self.book.add(literals, Origin::Learned(antecedents))?
+            self.solver
+                .book
+                .add(literals, Origin::Learned(antecedents))?
         };
         self.variables.set_unit(literal.variable, unit);
         Ok(())
@@ -83,8 +84,8 @@ impl<'a> Engine<'a> {
 
     fn units_of(&self, variable: usize, clause: usize) -> Result<Vec<usize>, AllocError> {
         let mut units = Vec::new(self.alloc);
-        for place in 0..self.book.width(clause) {
-            if let Some(literal) = self.book.literal(clause, place) {
+        for place in 0..self.solver.book.width(clause) {
+            if let Some(literal) = self.solver.book.literal(clause, place) {
                 if literal.variable != variable {
                     if let Some(unit) = self.variables.unit(literal.variable) {
                         units.push(unit)?;

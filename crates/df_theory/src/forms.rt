@@ -1,0 +1,256 @@
+//! Linear forms: what nodes are as sums of multiples of columns. A column is a number that is no sum
+//! and no multiple, or a sum of such numbers whose coefficients have no common divisor.
+
+use crate::terms::{Shape, Terms};
+use df_simplex::{Entry, Linear, Side, combine, content, divided, weighted};
+use indexmap::IndexSet;
+use std::alloc::{AllocError, Global};
+use std::collections::HashMap;
+
+/// A sum that is a column of its own.
+#[derive(Debug, Drop, PartialEq, Eq, Hash)]
+struct Form {
+    entries: Vec<Entry>,
+}
+
+/// What stands behind a column.
+#[derive(Clone, Copy, Debug)]
+pub enum Column {
+    Node(usize),
+    /// The form of this number.
+    Form(usize),
+}
+
+/// What a comparison says of a column: it is true where the column has a bound on the side, and false
+/// where it has one on the other side.
+#[derive(Clone, Copy, Debug)]
+pub struct Atom {
+    pub column: usize,
+    pub side: Side,
+    pub if_true: i128,
+    pub if_false: i128,
+    /// By how much the row of the comparison is divided to be that of the bound.
+    pub divisor: i128,
+}
+
+/// What a formula says to arithmetic.
+#[derive(Clone, Copy, Debug)]
+pub enum Meaning {
+    Nothing,
+    Constant(bool),
+    Atom(Atom),
+}
+
+/// The most entries that all linear forms may have.
+const ROOM: usize = 1_000_000;
+
+/// The columns so far, and what nodes are in terms of them.
+#[derive(Drop)]
+pub struct Forms {
+    alloc: Global,
+    columns: Vec<Column>,
+    linears: Vec<Linear>,
+    /// By node.
+    linear_of: HashMap<usize, usize>,
+    forms: IndexSet<Form>,
+    /// By form.
+    column_of: Vec<usize>,
+    room: usize,
+}
+
+impl Forms {
+    pub fn new(alloc: Global) -> Forms {
+        Forms {
+            alloc,
+            columns: Vec::new(alloc),
+            linears: Vec::new(alloc),
+            linear_of: HashMap::new(alloc),
+            forms: IndexSet::new(alloc),
+            column_of: Vec::new(alloc),
+            room: ROOM,
+        }
+    }
+
+    pub fn len(&self) -> usize {
+        self.columns.len()
+    }
+
+    pub fn column(&self, column: usize) -> Option<Column> {
+        self.columns.get(column).copied()
+    }
+
+    /// The entries of a column that is a form.
+    pub fn entries(&self, column: usize) -> Option<&[Entry]> {
+        match self.column(column)? {
+            Column::Node(_) => None,
+            Column::Form(form) => Some(self.forms.get_index(form)?.entries.as_slice()),
+        }
+    }
+
+    fn linear(&self, node: usize) -> Option<&Linear> {
+        match self.linear_of.get(&node) {
+            Some(place) => self.linears.get(*place),
+            None => None,
+        }
+    }
+
+    fn is_known(&self, node: usize) -> bool {
+        self.linear_of.contains_key(&node)
+    }
+
+    /// A part of the node whose linear form is not known yet.
+    fn unknown_part(&self, terms: &Terms, node: usize) -> Option<usize> {
+        match terms.shape(node) {
+            Shape::Sum(a, _) if !self.is_known(a) => Some(a),
+            Shape::Sum(_, b) | Shape::Multiple(_, b) if !self.is_known(b) => Some(b),
+            _ => None,
+        }
+    }
+
+    /// Has the linear form of a number known, and those of its parts. Whether it could.
+    fn expand(&mut self, terms: &Terms, node: usize) -> Result<bool, AllocError> {
+        let mut waiting = vec![in self.alloc; node]?;
+        for _ in 0..terms.len().saturating_mul(4) {
+            let Some(top) = waiting.last().copied() else {
+                break;
+            };
+            if self.is_known(top) {
+                let _ = waiting.pop();
+            } else if let Some(part) = self.unknown_part(terms, top) {
+                waiting.push(part)?;
+            } else if !self.define(terms, top)? {
+                return Ok(false);
+            }
+        }
+        Ok(self.is_known(node))
+    }
+
+    /// Makes the linear form of a node from those of its parts. Whether it could.
+    fn define(&mut self, terms: &Terms, node: usize) -> Result<bool, AllocError> {
+        let linear = match terms.shape(node) {
+            Shape::Number(number) => Some(Linear {
+                entries: Vec::new(self.alloc),
+                constant: number,
+            }),
+            Shape::Sum(a, b) => self.weighted(1, a, 1, b)?,
+            Shape::Multiple(factor, b) => self.weighted(factor, b, 0, b)?,
+            _ => Some(self.unknown(node)?),
+        };
+        match linear {
+            Some(linear) => self.store(node, linear),
+            None => Ok(false),
+        }
+    }
+
+    fn store(&mut self, node: usize, linear: Linear) -> Result<bool, AllocError> {
+        let Some(room) = self.room.checked_sub(linear.entries.len()) else {
+            return Ok(false);
+        };
+        self.room = room;
+        let place = self.linears.len();
+        self.linears.push(linear)?;
+        self.linear_of.insert(node, place)?;
+        Ok(true)
+    }
+
+    /// A number that is a column.
+    fn unknown(&mut self, node: usize) -> Result<Linear, AllocError> {
+        let column = self.columns.len();
+        self.columns.push(Column::Node(node))?;
+        let entry = Entry {
+            column,
+            coefficient: 1,
+        };
+        Ok(Linear {
+            entries: vec![in self.alloc; entry]?,
+            constant: 0,
+        })
+    }
+
+    /// f times a node and g times another.
+    fn weighted(&self, f: i128, a: usize, g: i128, b: usize) -> Result<Option<Linear>, AllocError> {
+        let (Some(left), Some(right)) = (self.linear(a), self.linear(b)) else {
+            return Ok(None);
+        };
+        let Some(constant) = weighted(f, left.constant, g, right.constant) else {
+            return Ok(None);
+        };
+        let entries = combine(
+            self.alloc,
+            f,
+            left.entries.as_slice(),
+            g,
+            right.entries.as_slice(),
+        )?;
+        match entries {
+            Some(entries) => Ok(Some(Linear { entries, constant })),
+            None => Ok(None),
+        }
+    }
+
+    /// The column of entries whose coefficients have no common divisor, the first one above 0.
+    fn column_of_entries(&mut self, entries: Vec<Entry>) -> Result<usize, AllocError> {
+        if let [entry] = entries.as_slice() {
+            return Ok(entry.column);
+        }
+        let count = self.forms.len();
+        let (form, _) = self.forms.insert_full(Form { entries })?;
+        if form < count {
+            return Ok(self.column_of.get(form).copied().unwrap_or(0));
+        }
+        let column = self.columns.len();
+        self.columns.push(Column::Form(form))?;
+        self.column_of.push(column)?;
+        Ok(column)
+    }
+
+    /// What `a <= b` says.
+    pub fn comparison(&mut self, terms: &Terms, a: usize, b: usize) -> Result<Meaning, AllocError> {
+        if !self.expand(terms, a)? || !self.expand(terms, b)? {
+            return Ok(Meaning::Nothing);
+        }
+        match self.weighted(1, b, -1, a)? {
+            Some(difference) => self.meaning(&difference),
+            None => Ok(Meaning::Nothing),
+        }
+    }
+
+    /// What it says that the sum is at least 0.
+    fn meaning(&mut self, sum: &Linear) -> Result<Meaning, AllocError> {
+        let Some(first) = sum.entries.first().copied() else {
+            return Ok(Meaning::Constant(0 <= sum.constant));
+        };
+        let Some(divisor) = content(0, &sum.entries) else {
+            return Ok(Meaning::Nothing);
+        };
+        let signed = if first.coefficient < 0 {
+            divisor.checked_neg().unwrap_or(0)
+        } else {
+            divisor
+        };
+        let Some(entries) = divided(self.alloc, &sum.entries, signed)? else {
+            return Ok(Meaning::Nothing);
+        };
+        let column = self.column_of_entries(entries)?;
+        Ok(atom_of(column, first.coefficient < 0, divisor, sum.constant))
+    }
+}
+
+/// What it says that divisor times the column, or times its negation, and a constant is at least 0.
+fn atom_of(column: usize, is_negated: bool, divisor: i128, constant: i128) -> Meaning {
+    let below = constant.checked_neg().and_then(|k| k.checked_sub(1));
+    let (Some(if_true), Some(if_false)) = (
+        constant.checked_div_euclid(divisor),
+        below.and_then(|k| k.checked_div_euclid(divisor)),
+    ) else {
+        return Meaning::Nothing;
+    };
+    let side = if is_negated { Side::Upper } else { Side::Lower };
+    Meaning::Atom(Atom {
+        column,
+        side,
+        if_true,
+        if_false,
+        divisor,
+    })
+}

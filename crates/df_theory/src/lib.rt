@@ -1,0 +1,19 @@
+//! What formulas say to linear arithmetic: nodes as linear forms, comparisons as bounds of columns, the
+//! literals that bounds imply, and the explanation of bounds by literals. Nothing is proved of it but
+//! that it is safe and ends.
+#![tactic(auto)]
+
+mod choosing;
+mod explaining;
+mod explanation;
+mod forms;
+mod terms;
+mod theory;
+mod variables;
+
+pub use choosing::Facts;
+pub use explanation::Explained;
+pub use forms::{Atom, Column, Forms, Meaning};
+pub use terms::{Made, Shape, Terms};
+pub use theory::Theory;
+pub use variables::Variables;

@@ -1,0 +1,126 @@
+//! Linear arithmetic over whole numbers: the columns, their bounds, the rows and the tableau.
+
+use crate::forms::{Atom, Forms, Meaning};
+use crate::terms::Terms;
+use df_simplex::{Bounds, Entry, Rows, Side, Tableau};
+use std::alloc::{AllocError, Global};
+
+/// The state of arithmetic.
+#[derive(Drop)]
+pub struct Theory {
+    alloc: Global,
+    pub forms: Forms,
+    pub bounds: Bounds,
+    pub rows: Rows,
+    pub tableau: Tableau,
+    /// By column, the variables that speak of it.
+    speakers: Vec<Vec<usize>>,
+}
+
+impl Theory {
+    pub fn new(alloc: Global) -> Theory {
+        Theory {
+            alloc,
+            forms: Forms::new(alloc),
+            bounds: Bounds::new(alloc),
+            rows: Rows::new(alloc),
+            tableau: Tableau::new(alloc),
+            speakers: Vec::new(alloc),
+        }
+    }
+
+    /// What `a <= b` says.
+    pub fn comparison(&mut self, terms: &Terms, a: usize, b: usize) -> Result<Meaning, AllocError> {
+        let meaning = self.forms.comparison(terms, a, b)?;
+        for column in self.bounds.columns()..self.forms.len() {
+            self.add_column(column)?;
+        }
+        Ok(meaning)
+    }
+
+    fn add_column(&mut self, column: usize) -> Result<(), AllocError> {
+        self.bounds.add_column()?;
+        self.rows.add_column()?;
+        self.tableau.add_column()?;
+        self.speakers.push(Vec::new(self.alloc))?;
+        let Some(entries) = self.forms.entries(column) else {
+            return Ok(());
+        };
+        let members = Vec::from_slice(self.alloc, entries)?;
+        let mut row = Vec::from_slice(self.alloc, entries)?;
+        row.push(Entry {
+            column,
+            coefficient: -1,
+        })?;
+        self.rows.add(row)?;
+        self.tableau.add_row(column, members)
+    }
+
+    /// The variable speaks of the column.
+    pub fn hear(&mut self, column: usize, variable: usize) -> Result<(), AllocError> {
+        if let Some(speakers) = self.speakers.get_mut(column) {
+            speakers.push(variable)?;
+        }
+        Ok(())
+    }
+
+    /// How many variables speak of the column.
+    pub fn speaker_count(&self, column: usize) -> usize {
+        match self.speakers.get(column) {
+            Some(speakers) => speakers.len(),
+            None => 0,
+        }
+    }
+
+    /// A variable that speaks of the column.
+    pub fn speaker(&self, column: usize, place: usize) -> Option<usize> {
+        self.speakers.get(column)?.get(place).copied()
+    }
+
+    /// Whether bounds make the atom true or false, and the number of the one that does.
+    pub fn implied(&self, atom: &Atom) -> Option<(bool, usize)> {
+        if let Some(bound) = self.sufficient(atom.column, atom.side, atom.if_true) {
+            return Some((true, bound));
+        }
+        let bound = self.sufficient(atom.column, atom.side.opposite(), atom.if_false)?;
+        Some((false, bound))
+    }
+
+    /// The number of the tightest bound, where it suffices.
+    fn sufficient(&self, column: usize, side: Side, wanted: i128) -> Option<usize> {
+        let number = self.bounds.current(column, side)?;
+        if self.bounds.get(number)?.constant <= wanted {
+            Some(number)
+        } else {
+            None
+        }
+    }
+
+    /// Whether the tableau's values are within all bounds, or it can look for no others.
+    pub fn is_settled(&self) -> bool {
+        self.tableau.is_broken || (self.tableau.is_settled && self.bounds.is_seen())
+    }
+
+    /// Whether the atom holds at the tableau's values.
+    pub fn holds(&self, atom: &Atom) -> bool {
+        let value = self.tableau.fraction(atom.column);
+        let Some(limit) = atom.if_true.checked_mul(value.denominator) else {
+            return false;
+        };
+        match atom.side {
+            Side::Lower => limit.saturating_add(value.numerator) >= 0,
+            Side::Upper => value.numerator <= limit,
+        }
+    }
+}
+
+impl Atom {
+    /// The side and the constant of the bound that the atom gives, or its negation.
+    pub fn bound(&self, positive: bool) -> (Side, i128) {
+        if positive {
+            (self.side, self.if_true)
+        } else {
+            (self.side.opposite(), self.if_false)
+        }
+    }
+}
