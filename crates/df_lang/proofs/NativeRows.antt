@@ -1,11 +1,12 @@
 -- What compiles, by computation.
-use Rattle.std.proofs.Common.{◌≡◌, ℕ, pos, Bool, true, false, List, [], ◌∷◌, None, refl}
+use Rattle.std.proofs.Common.{◌≡◌, ℕ, ◌+◌, pos, Bool, true, false, List, [], ◌∷◌, None, refl}
 use Rattle.df_lang.specs.declared.ty.Ty.{Ty}
 use Rattle.df_lang.specs.declared.ty.Ty.TheVariants as types
 use Rattle.df_lang.specs.declared.expr.AddendOperator.TheVariants as addends
+use Rattle.df_lang.specs.declared.expr.Arrow.TheVariants as arrows
 use Rattle.df_lang.specs.declared.expr.Comparison.TheVariants as comparisons
-use Rattle.df_lang.specs.Expr.{Expr, Number, Negate, Sum, Chain, As, Convert, no_addend, addend, no_link, link}
-use Rattle.df_lang.specs.Stmt.{Value, Variable, Var, Assert, Print, Stmts, done, next}
+use Rattle.df_lang.specs.Expr.{Expr, Number, Negate, Sum, Implies, Chain, As, Convert, no_addend, addend, no_member, member, no_link, link}
+use Rattle.df_lang.specs.Stmt.{Value, Variable, Var, If, Assert, Print, Stmts, done, next, no_branch, branch}
 use Rattle.df_lang.specs.Program.{Param}
 use Rattle.df_lang.specs.Native.{NativeRule, Places, Integers, Forms, Breach, breaches_in_method}
 use Rattle.df_lang.proofs.Samples.{at, N, param_of, loc, method_with, parity, below, counting}
@@ -68,6 +69,30 @@ a_negated_literal = refl
 
 a_sum_of_literals : broken_by [] (printed types.Bool (below_three (Sum types.Int literal (addend addends.Plus (at 6) literal no_addend)))) ≡ breaks Integers 2 ∷ breaks Integers 2 ∷ breaks Integers 6 ∷ []
 a_sum_of_literals = refl
+
+-- `n + n < bound` at the column
+abbrev sum_below : ℕ → ℕ → ℕ → Expr
+sum_below n bound col =
+    Chain types.Int (Sum types.Int (Number types.Int (pos n) (at col)) (addend addends.Plus (at (col + 2)) (Number types.Int (pos n) (at (col + 4))) no_addend))
+    (link comparisons.Less (at (col + 6)) (Number types.Int (pos bound) (at (col + 8))) no_link)
+
+abbrev guarded_by : Expr → Stmts
+guarded_by guard = next (If (branch (at 1) guard done no_branch) done) done
+
+-- `if 1 + 1 < 2 ==> 3 + 3 < 7 {}`
+an_implication : broken_by [] (guarded_by (Implies arrows.Implies (sum_below 1 2 4) (member (at 14) (sum_below 3 7 18) no_member)))
+    ≡ breaks Integers 4 ∷ breaks Integers 8 ∷ breaks Integers 6 ∷ breaks Integers 18 ∷ breaks Integers 22 ∷ breaks Integers 20 ∷ []
+an_implication = refl
+
+-- `if 1 + 1 < 2 <== 3 + 3 < 7 {}` is broken in the order of the text, though its right side is evaluated first
+a_turned_implication : broken_by [] (guarded_by (Implies arrows.Explies (sum_below 3 7 18) (member (at 14) (sum_below 1 2 4) no_member)))
+    ≡ breaks Integers 4 ∷ breaks Integers 8 ∷ breaks Integers 6 ∷ breaks Integers 18 ∷ breaks Integers 22 ∷ breaks Integers 20 ∷ []
+a_turned_implication = refl
+
+-- `if 1 + 1 < 2 <== 3 + 3 < 7 <== 5 + 5 < 11 {}`
+a_turned_run : broken_by [] (guarded_by (Implies arrows.Explies (sum_below 5 11 32) (member (at 28) (sum_below 3 7 18) (member (at 14) (sum_below 1 2 4) no_member))))
+    ≡ breaks Integers 4 ∷ breaks Integers 8 ∷ breaks Integers 6 ∷ breaks Integers 18 ∷ breaks Integers 22 ∷ breaks Integers 20 ∷ breaks Integers 32 ∷ breaks Integers 36 ∷ breaks Integers 34 ∷ []
+a_turned_run = refl
 
 an_assertion_is_not_compiled : broken_by [] (next (Assert (at 15) (below_three (Negate types.Int (at 8) literal))) done) ≡ []
 an_assertion_is_not_compiled = refl

@@ -1,8 +1,10 @@
 -- What is well typed, and what is not, by computation.
-use Rattle.std.proofs.Common.{◌≡◌, pos, true, false, refl}
+use Rattle.std.proofs.Common.{◌≡◌, pos, Bool, true, false, [], ◌∷◌, None, refl}
 use Rattle.df_lang.specs.declared.ty.Ty.TheVariants as types
 use Rattle.df_lang.specs.Typing.{is_well_typed}
-use Rattle.df_lang.proofs.Samples.{parities, below, alone, counting, leaving, giving, giving_away, cheating, unmeasured, measured, keep, narrow, taking, twos, bytes, told, num, tallying, calling, owing, in_turn}
+use Rattle.df_lang.specs.Stmt.{Var, next, done}
+use Rattle.df_lang.specs.Program.{Method}
+use Rattle.df_lang.proofs.Samples.{at, N, param_of, method_with, parities, below, alone, counting, leaving, giving, giving_away, cheating, unmeasured, measured, keep, narrow, taking, twos, bytes, told, num, tallying, calling, owing, in_turn}
 
 typed_parities : is_well_typed (parities below) ≡ true
 typed_parities = refl
@@ -48,3 +50,21 @@ typed_owing = refl
 
 typed_in_turn : is_well_typed (alone in_turn) ≡ true
 typed_in_turn = refl
+
+-- a parameter, a result and a variable, each marked as a ghost or not
+abbrev marked : Bool → Bool → Bool → Method
+marked parameter result variable =
+    method_with (record { declared = (param_of N).declared; ty = N; is_ghost = parameter } ∷ []) (record { declared = (param_of N).declared; ty = N; is_ghost = result } ∷ []) [] [] None
+    (next (Var (at 14) (record { name = 0; pos = at 18; ty = N; is_ghost = variable; local = 2 } ∷ []) None) done)
+
+nothing_marked : is_well_typed (alone (marked false false false)) ≡ true
+nothing_marked = refl
+
+marked_parameter : is_well_typed (alone (marked true false false)) ≡ false
+marked_parameter = refl
+
+marked_result : is_well_typed (alone (marked false true false)) ≡ false
+marked_result = refl
+
+marked_variable : is_well_typed (alone (marked false false true)) ≡ false
+marked_variable = refl

@@ -26,7 +26,7 @@ abbrev mutual
   reads (Sum ty first rest) = reads first ++ reads_of_addends rest
   reads (Product ty first rest) = reads first ++ reads_of_factors rest
   reads (Junction junction first rest) = reads first ++ reads_of_members rest
-  reads (Implies first rest) = reads first ++ reads_of_members rest
+  reads (Implies arrow first rest) = reads first ++ reads_of_members rest
   reads (Iff first rest) = reads first ++ reads_of_members rest
   reads (Chain ty first rest) = reads first ++ reads_of_links rest
   reads (As source target pos operand) = reads operand

@@ -5,6 +5,7 @@ use Rattle.df_lang.specs.declared.ty.Ty.{Ty}
 use Rattle.df_lang.specs.declared.expr.AddendOperator.{AddendOperator}
 use Rattle.df_lang.specs.declared.expr.FactorOperator.{FactorOperator}
 use Rattle.df_lang.specs.declared.expr.Junction.{Junction as JunctionKind}
+use Rattle.df_lang.specs.declared.expr.Arrow.{Arrow}
 use Rattle.df_lang.specs.declared.expr.Comparison.{Comparison}
 
 mutual
@@ -18,7 +19,8 @@ mutual
     Sum : (ty : Ty) (first : Expr) (rest : Addends) → Expr
     Product : (ty : Ty) (first : Expr) (rest : Factors) → Expr
     Junction : (junction : JunctionKind) (first : Expr) (rest : Members) → Expr
-    Implies : (first : Expr) (rest : Members) → Expr
+    -- the operands as they are evaluated: those of `<==` from the right of the text to its left
+    Implies : (arrow : Arrow) (first : Expr) (rest : Members) → Expr
     Iff : (first : Expr) (rest : Members) → Expr
     Chain : (ty : Ty) (first : Expr) (rest : Links) → Expr
     As : (source target : Ty) (pos : Pos) (operand : Expr) → Expr

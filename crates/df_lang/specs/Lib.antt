@@ -6,6 +6,7 @@ pub mod Stmt
 pub mod StmtView
 pub mod Program
 pub mod Measures
+pub mod Marks
 pub mod Typing
 pub mod Assignment
 pub mod Native

@@ -5,6 +5,7 @@ use Rattle.std.specs.List.{flat_map}
 use Rattle.df_base.specs.declared.pos.Pos.{Pos}
 use Rattle.df_lang.specs.declared.ty.Ty.{Ty}
 use Rattle.df_lang.specs.declared.ty.Ty.TheVariants as types
+use Rattle.df_lang.specs.declared.expr.Arrow.TheVariants as arrows
 use Rattle.df_lang.specs.Expr.{Expr, Number, Truth, Character, Local, Negate, Not, Sum, Product, Junction, Implies, Iff, Chain, As, Convert, Addends, no_addend, addend, Factors, no_factor, factor, Members, no_member, member, Links, no_link, link}
 use Rattle.df_lang.specs.Stmt.{Operand, Text, Value, Call, Source, Single, Results, Update, Variable, Stmt, Block, Var, Assign, CallOf, If, While, Break, Return, Assert, Print, Stmts, done, next, Branches, no_branch, branch}
 use Rattle.df_lang.specs.Program.{Param, Method, Program, method_at}
@@ -50,7 +51,7 @@ if_nat types.Nat pos = breach Forms pos
 if_nat ty pos = []
 
 abbrev mutual
-  -- of an expression that stands as such an operand, or elsewhere; a conversion is no node of the text
+  -- In the order of the text, of an expression that stands as such an operand, or elsewhere; a conversion is no node of the text.
   pub breaches : Bool → Expr → List Breach
   breaches is_operand (Number ty value pos) = if_int_elsewhere is_operand ty pos
   breaches is_operand (Truth value pos) = []
@@ -61,7 +62,8 @@ abbrev mutual
   breaches is_operand (Sum ty first rest) = breaches false first ++ breaches_of_addends ty rest
   breaches is_operand (Product ty first rest) = breaches false first ++ breaches_of_factors ty rest
   breaches is_operand (Junction junction first rest) = breaches false first ++ breaches_of_members rest
-  breaches is_operand (Implies first rest) = breaches false first ++ breaches_of_members rest
+  breaches is_operand (Implies arrows.Implies first rest) = breaches false first ++ breaches_of_members rest
+  breaches is_operand (Implies arrows.Explies first rest) = breaches_of_turned rest ++ breaches false first
   breaches is_operand (Iff first rest) = breaches false first ++ breaches_of_members rest
   breaches is_operand (Chain ty first rest) = breaches true first ++ breaches_of_links rest
   breaches is_operand (As source target pos operand) = breaches true operand ++ if_int_elsewhere is_operand target pos ++ if_nat target pos
@@ -79,6 +81,11 @@ abbrev mutual
   pub breaches_of_members : Members → List Breach
   breaches_of_members no_member = []
   breaches_of_members (member pos operand rest) = breaches false operand ++ breaches_of_members rest
+
+  -- of members that stand in the text from the last to the first
+  pub breaches_of_turned : Members → List Breach
+  breaches_of_turned no_member = []
+  breaches_of_turned (member pos operand rest) = breaches_of_turned rest ++ breaches false operand
 
   pub breaches_of_links : Links → List Breach
   breaches_of_links no_link = []

@@ -11,6 +11,7 @@ use Rattle.df_lang.specs.Stmt.{Operand, Text, Value, Target, Call, Conversion, S
 use Rattle.df_lang.specs.Newtype.{Newtype}
 use Rattle.df_lang.specs.Program.{Method, Decl, NewtypeDecl, MethodDecl, Program, newtype_at, method_at, types_of}
 use Rattle.df_lang.specs.Measures.{guard_measure}
+use Rattle.df_lang.specs.Marks.{has_no_ghost}
 
 abbrev pub same_type : Ty → Ty → Bool
 same_type (types.Newtype a) (types.Newtype b) = a == b
@@ -76,7 +77,7 @@ abbrev mutual
   is_expr program locals ty (Sum own first rest) = same_type own ty && is_arithmetic program ty && is_expr program locals ty first && are_addends program locals ty rest
   is_expr program locals ty (Product own first rest) = same_type own ty && is_arithmetic program ty && is_expr program locals ty first && are_factors program locals ty rest
   is_expr program locals ty (Junction junction first rest) = same_type ty types.Bool && is_expr program locals types.Bool first && are_members program locals rest
-  is_expr program locals ty (Implies first rest) = same_type ty types.Bool && is_expr program locals types.Bool first && are_members program locals rest
+  is_expr program locals ty (Implies arrow first rest) = same_type ty types.Bool && is_expr program locals types.Bool first && are_members program locals rest
   is_expr program locals ty (Iff first rest) = same_type ty types.Bool && is_expr program locals types.Bool first && are_members program locals rest
   is_expr program locals ty (Chain own first rest) = same_type ty types.Bool && is_expr program locals own first && are_links program locals own rest
   is_expr program locals ty (As source target pos operand) = same_type target ty && casts program source target && is_expr program locals source operand
@@ -256,7 +257,7 @@ is_newtype newtype = int_le newtype.low newtype.default && int_le newtype.defaul
 
 abbrev pub is_decl : Program → Decl → Bool
 is_decl program (NewtypeDecl newtype) = is_newtype newtype
-is_decl program (MethodDecl method) = is_method program method
+is_decl program (MethodDecl method) = is_method program method && has_no_ghost method
 
 abbrev pub is_well_typed : Program → Bool
 is_well_typed program = list_all (is_decl program) program.decls

@@ -23,6 +23,15 @@ pub enum Junction {
     Or,
 }
 
+/// The sign of a run of implications as it is written.
+#[derive(Clone, Copy, PartialEq, Eq)]
+pub enum Arrow {
+    /// `==>`
+    Implies,
+    /// `<==`, turned around: the operand that is written last is the first one.
+    Explies,
+}
+
 /// How two neighbours of a chain compare.
 #[derive(Clone, Copy, PartialEq, Eq)]
 pub enum Comparison {
@@ -88,6 +97,7 @@ pub enum Expr {
     },
     /// Implications, from the right.
     Implies {
+        arrow: Arrow,
         first: Box<Expr>,
         rest: Vec<Member>,
     },

@@ -11,7 +11,7 @@ mod ty;
 
 pub use decl::{Clause, Decl, Declared, Method, Newtype, Param};
 pub use expr::{
-    Addend, AddendOperator, Comparison, Expr, Factor, FactorOperator, Junction, Link, Member,
+    Addend, AddendOperator, Arrow, Comparison, Expr, Factor, FactorOperator, Junction, Link, Member,
 };
 pub use interval::Interval;
 pub use program::Program;

@@ -248,7 +248,7 @@ module _ (program : Program) (locals : List Ty) (before : Assigned) (all : (loca
     typed_reads (Junction junction first rest) ty is =
         let is = three (same_type ty types.Bool) (is_expr program locals types.Bool first) (are_members program locals rest) is in
         joined_uses before (reads first) (reads_of_members rest) (typed_reads first types.Bool is.1) (members_read rest is.2)
-    typed_reads (Implies first rest) ty is =
+    typed_reads (Implies arrow first rest) ty is =
         let is = three (same_type ty types.Bool) (is_expr program locals types.Bool first) (are_members program locals rest) is in
         joined_uses before (reads first) (reads_of_members rest) (typed_reads first types.Bool is.1) (members_read rest is.2)
     typed_reads (Iff first rest) ty is =

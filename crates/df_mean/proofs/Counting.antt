@@ -150,7 +150,7 @@ module _ (m : Meaning) (before : Assigned) (s : State) (assigned : AreAssigned b
         let h = parted before (reads first) (reads_of_factors rest) h in then_counts IsValue (evaluate m s first) _ (evaluate_counts first h.0) (λ v. factors_count rest ty v h.1)
     evaluate_counts (Junction junction first rest) h =
         let h = parted before (reads first) (reads_of_members rest) h in then_counts IsValue (evaluate m s first) _ (evaluate_counts first h.0) (λ v. junction_counts rest junction v h.1)
-    evaluate_counts (Implies first rest) h =
+    evaluate_counts (Implies arrow first rest) h =
         let h = parted before (reads first) (reads_of_members rest) h in then_counts IsValue (evaluate m s first) _ (evaluate_counts first h.0) (λ v. implications_count rest v h.1)
     evaluate_counts (Iff first rest) h =
         let h = parted before (reads first) (reads_of_members rest) h in then_counts IsValue (evaluate m s first) _ (evaluate_counts first h.0) (λ v. equivalences_count rest v h.1)

@@ -21,7 +21,7 @@ mutual
   evaluate_grows m n h s (Sum ty first rest) = after_grows _ _ _ _ (evaluate_grows m n h s first) (λ v. addends_grow m n h s ty v rest)
   evaluate_grows m n h s (Product ty first rest) = after_grows _ _ _ _ (evaluate_grows m n h s first) (λ v. factors_grow m n h s ty v rest)
   evaluate_grows m n h s (Junction junction first rest) = after_grows _ _ _ _ (evaluate_grows m n h s first) (λ v. junction_grows m n h s junction v rest)
-  evaluate_grows m n h s (Implies first rest) = after_grows _ _ _ _ (evaluate_grows m n h s first) (λ v. implications_grow m n h s v rest)
+  evaluate_grows m n h s (Implies arrow first rest) = after_grows _ _ _ _ (evaluate_grows m n h s first) (λ v. implications_grow m n h s v rest)
   evaluate_grows m n h s (Iff first rest) = after_grows _ _ _ _ (evaluate_grows m n h s first) (λ v. equivalences_grow m n h s v rest)
   evaluate_grows m n h s (Chain ty first rest) = after_grows _ _ _ _ (evaluate_grows m n h s first) (λ v. links_grow m n h s v rest)
   evaluate_grows m n h s (As source target at operand) = after_grows _ _ _ _ (evaluate_grows m n h s operand) (λ v. equal_grows _ _ (ap (λ p. as_type p target at (number_of v)) (sym h.program)))

@@ -4,6 +4,7 @@ use Rattle.df_lang.specs.declared.ty.Ty.{Ty}
 use Rattle.df_lang.specs.declared.ty.Ty.TheVariants as types
 use Rattle.df_lang.specs.declared.expr.FactorOperator.TheVariants as factors
 use Rattle.df_lang.specs.declared.expr.Comparison.{Comparison}
+use Rattle.df_lang.specs.declared.expr.Arrow.TheVariants as arrows
 use Rattle.df_lang.specs.declared.expr.Comparison.TheVariants as comparisons
 use Rattle.df_lang.specs.Expr.{Expr, Number, Character, Negate, Not, Implies, Iff, Chain, As, Members, no_member, member, no_link, link}
 use Rattle.df_lang.specs.Program.{Program, NewtypeDecl}
@@ -25,27 +26,27 @@ then_member e rest = member (at 8) e rest
 
 -- ---- `==>`, also read from the right as `<==`
 
-implied : worth (Implies (truth_expr true) (then_member (truth_expr true) no_member)) ≡ Gives (t true)
+implied : worth (Implies arrows.Implies (truth_expr true) (then_member (truth_expr true) no_member)) ≡ Gives (t true)
 implied = refl
 
-not_implied : worth (Implies (truth_expr true) (then_member (truth_expr false) no_member)) ≡ Gives (t false)
+not_implied : worth (Implies arrows.Implies (truth_expr true) (then_member (truth_expr false) no_member)) ≡ Gives (t false)
 not_implied = refl
 
-false_implies : worth (Implies (truth_expr false) (then_member undefined no_member)) ≡ Gives (t true)
+false_implies : worth (Implies arrows.Implies (truth_expr false) (then_member undefined no_member)) ≡ Gives (t true)
 false_implies = refl
 
-true_asks : worth (Implies (truth_expr true) (then_member undefined no_member)) ≡ Wrong (at 6) kinds.Divisor
+true_asks : worth (Implies arrows.Implies (truth_expr true) (then_member undefined no_member)) ≡ Wrong (at 6) kinds.Divisor
 true_asks = refl
 
 -- `a ==> (b ==> c)`: from the left it would be false
-from_the_right : worth (Implies (truth_expr false) (then_member (truth_expr true) (then_member (truth_expr false) no_member))) ≡ Gives (t true)
+from_the_right : worth (Implies arrows.Implies (truth_expr false) (then_member (truth_expr true) (then_member (truth_expr false) no_member))) ≡ Gives (t true)
 from_the_right = refl
 
-all_true_but_the_last : worth (Implies (truth_expr true) (then_member (truth_expr true) (then_member (truth_expr false) no_member))) ≡ Gives (t false)
+all_true_but_the_last : worth (Implies arrows.Implies (truth_expr true) (then_member (truth_expr true) (then_member (truth_expr false) no_member))) ≡ Gives (t false)
 all_true_but_the_last = refl
 
 -- the member that is evaluated first is told: of `a <== b` this is b
-premise_first : worth (Implies (compared (num (pos 101)) comparisons.Less (loc 0)) (then_member undefined no_member)) ≡ Wrong (at 2) kinds.Range
+premise_first : worth (Implies arrows.Implies (compared (num (pos 101)) comparisons.Less (loc 0)) (then_member undefined no_member)) ≡ Wrong (at 2) kinds.Range
 premise_first = refl
 
 -- ---- `<==>`, which evaluates all its members

@@ -45,7 +45,7 @@ module _ (locals : List Ty) (m n : Meaning) (s t : State) (h : ReadsSame locals 
     evaluate_reads (Junction junction first rest) ty is =
         let is = three (same_type ty types.Bool) (is_expr m.program locals types.Bool first) (are_members m.program locals rest) is in
         after_same (evaluate m s first) (evaluate n t first) _ _ (evaluate_reads first types.Bool is.1) (λ v. junction_read rest junction v is.2)
-    evaluate_reads (Implies first rest) ty is =
+    evaluate_reads (Implies arrow first rest) ty is =
         let is = three (same_type ty types.Bool) (is_expr m.program locals types.Bool first) (are_members m.program locals rest) is in
         after_same (evaluate m s first) (evaluate n t first) _ _ (evaluate_reads first types.Bool is.1) (λ v. implications_read rest v is.2)
     evaluate_reads (Iff first rest) ty is =

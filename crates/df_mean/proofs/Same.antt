@@ -40,7 +40,7 @@ mutual
   evaluate_same m n s t h (Sum ty first rest) = after_same (evaluate m s first) (evaluate n t first) _ _ (evaluate_same m n s t h first) (λ v. addends_same m n s t h ty v rest)
   evaluate_same m n s t h (Product ty first rest) = after_same (evaluate m s first) (evaluate n t first) _ _ (evaluate_same m n s t h first) (λ v. factors_same m n s t h ty v rest)
   evaluate_same m n s t h (Junction junction first rest) = after_same (evaluate m s first) (evaluate n t first) _ _ (evaluate_same m n s t h first) (λ v. junction_same m n s t h junction v rest)
-  evaluate_same m n s t h (Implies first rest) = after_same (evaluate m s first) (evaluate n t first) _ _ (evaluate_same m n s t h first) (λ v. implications_same m n s t h v rest)
+  evaluate_same m n s t h (Implies arrow first rest) = after_same (evaluate m s first) (evaluate n t first) _ _ (evaluate_same m n s t h first) (λ v. implications_same m n s t h v rest)
   evaluate_same m n s t h (Iff first rest) = after_same (evaluate m s first) (evaluate n t first) _ _ (evaluate_same m n s t h first) (λ v. equivalences_same m n s t h v rest)
   evaluate_same m n s t h (Chain ty first rest) = after_same (evaluate m s first) (evaluate n t first) _ _ (evaluate_same m n s t h first) (λ v. links_same m n s t h v rest)
   evaluate_same m n s t h (As source target at operand) = after_same (evaluate m s operand) (evaluate n t operand) _ _ (evaluate_same m n s t h operand) (λ v. ap (λ p. as_type p target at (number_of v)) h.program)

@@ -79,7 +79,7 @@ mutual
   evaluate_shallow m s (Sum ty first rest) = after_shallow (evaluate m s first) _ (evaluate_shallow m s first) (λ v. addends_shallow m s ty v rest)
   evaluate_shallow m s (Product ty first rest) = after_shallow (evaluate m s first) _ (evaluate_shallow m s first) (λ v. factors_shallow m s ty v rest)
   evaluate_shallow m s (Junction junction first rest) = after_shallow (evaluate m s first) _ (evaluate_shallow m s first) (λ v. junction_shallow m s junction v rest)
-  evaluate_shallow m s (Implies first rest) = after_shallow (evaluate m s first) _ (evaluate_shallow m s first) (λ v. implications_shallow m s v rest)
+  evaluate_shallow m s (Implies arrow first rest) = after_shallow (evaluate m s first) _ (evaluate_shallow m s first) (λ v. implications_shallow m s v rest)
   evaluate_shallow m s (Iff first rest) = after_shallow (evaluate m s first) _ (evaluate_shallow m s first) (λ v. equivalences_shallow m s v rest)
   evaluate_shallow m s (Chain ty first rest) = after_shallow (evaluate m s first) _ (evaluate_shallow m s first) (λ v. links_shallow m s v rest)
   evaluate_shallow m s (As source target at operand) = after_shallow (evaluate m s operand) _ (evaluate_shallow m s operand) (λ v. cast_shallow m.program target at (number_of v))

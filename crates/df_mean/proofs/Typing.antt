@@ -105,7 +105,7 @@ mutual
       let is = three (same_type ty types.Bool) (is_expr m.program locals types.Bool first) (are_members m.program locals rest) is in
       after_gives (Is m.program types.Bool) (Is m.program ty) _ _ (evaluate_typed m locals s typed first types.Bool is.1) (λ v h.
       junction_typed m locals s typed junction rest ty v is.0 is.2 h)
-  evaluate_typed m locals s typed (Implies first rest) ty is =
+  evaluate_typed m locals s typed (Implies arrow first rest) ty is =
       let is = three (same_type ty types.Bool) (is_expr m.program locals types.Bool first) (are_members m.program locals rest) is in
       after_gives (Is m.program types.Bool) (Is m.program ty) _ _ (evaluate_typed m locals s typed first types.Bool is.1) (λ v h.
       implications_typed m locals s typed rest ty v is.0 is.2 h)

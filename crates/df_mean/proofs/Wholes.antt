@@ -6,6 +6,7 @@ use Rattle.df_base.specs.declared.pos.Pos.{Pos}
 use Rattle.df_lang.specs.declared.ty.Ty.{Ty}
 use Rattle.df_lang.specs.Stmt.{Clause}
 use Rattle.df_lang.specs.Program.{Param, Method, Decl, NewtypeDecl, MethodDecl, Program, as_method, method_at, types_of}
+use Rattle.df_lang.specs.Marks.{has_no_ghost}
 use Rattle.df_lang.specs.Typing.{is_type, are_clauses, are_measures, is_method, is_decl, is_well_typed, are_stmts, locals_after_all}
 use Rattle.df_meaning.specs.declared.kind.Kind.TheVariants as kinds
 use Rattle.df_mean.specs.Value.{truth_of}
@@ -30,7 +31,7 @@ found_all p (d ∷ ds) zero method are e = let are = both (is_decl p d) (list_al
   where
     by_decl : (d : Decl) → is_decl p d ≡ true → as_method d ≡ Some method → is_method p method ≡ true
     by_decl (NewtypeDecl newtype) is e = cc
-    by_decl (MethodDecl m) is e = let same : m ≡ method = cc in subst (λ (x : Method). is_method p x ≡ true) same is
+    by_decl (MethodDecl m) is e = let same : m ≡ method = cc in subst (λ (x : Method). is_method p x ≡ true) same (both (is_method p m) (has_no_ghost m) is).0
 found_all p (d ∷ ds) (suc id) method are e = found_all p ds id method (both (is_decl p d) (list_all (is_decl p) ds) are).1 e
 
 pub method_typed : (p : Program) (id : ℕ) (method : Method) → is_well_typed p ≡ true → method_at p id ≡ Some method → is_method p method ≡ true

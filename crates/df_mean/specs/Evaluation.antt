@@ -85,7 +85,7 @@ abbrev mutual
   evaluate m s (Sum ty first rest) = after (evaluate m s first) (λ v. evaluate_addends m s ty v rest)
   evaluate m s (Product ty first rest) = after (evaluate m s first) (λ v. evaluate_factors m s ty v rest)
   evaluate m s (Junction junction first rest) = after (evaluate m s first) (λ v. evaluate_junction m s junction v rest)
-  evaluate m s (Implies first rest) = after (evaluate m s first) (λ v. evaluate_implications m s v rest)
+  evaluate m s (Implies arrow first rest) = after (evaluate m s first) (λ v. evaluate_implications m s v rest)
   evaluate m s (Iff first rest) = after (evaluate m s first) (λ v. evaluate_equivalences m s v rest)
   evaluate m s (Chain ty first rest) = after (evaluate m s first) (λ v. evaluate_links m s v rest)
   evaluate m s (As source target at operand) = after (evaluate m s operand) (λ v. as_type m.program target at (number_of v))

@@ -23,7 +23,7 @@ use Rattle.df_ntree.specs.declared.expr.BinaryOperator.TheVariants as binary
 use Rattle.df_ntree.specs.declared.expr.UnaryOperator.{UnaryOperator}
 use Rattle.df_ntree.specs.declared.expr.UnaryOperator.TheVariants as unary
 use Rattle.df_ntree.specs.Operator.{sign_of, unary_sign_of}
-use Rattle.df_ntree.specs.Spelling.{Piece, Plain, Characters, IsPiece, Begins, a_sign, a_word, separated, spell_more, optional}
+use Rattle.df_ntree.specs.Spelling.{Piece, Plain, Characters, IsPiece, Begins, a_sign, a_word, word_there, separated, spell_more, optional}
 use Rattle.df_ntree.specs.Expr.{Expr, Number, Character, Truth, Name, Parentheses, Call, Unary, Cast, Operations, Leading, Members, end, more, Arguments, no_more, argument}
 use Rattle.df_ntree.specs.ExprSpelling.{spell, spell_members, spell_arguments, spell_further, spell_type, spell_cast}
 use Rattle.df_ntree.specs.File as pure
@@ -166,8 +166,8 @@ mutual
 
   branches_in : (m : Branches) → AllIn (spell_branches m)
   branches_in pure.end = tt
-  branches_in (pure.more guard opens body rest) =
-      both_in (a_word words.Else ∷ a_word words.If ∷ (spell guard ++ braces opens (spell_statements body))) (spell_branches rest) (tt, (tt, both_in (spell guard) _ (expr_in guard) (braces_in opens (spell_statements body) (statements_in body)))) (branches_in rest)
+  branches_in (pure.more pos guard opens body rest) =
+      both_in (a_word words.Else ∷ word_there words.If pos ∷ (spell guard ++ braces opens (spell_statements body))) (spell_branches rest) (tt, (tt, both_in (spell guard) _ (expr_in guard) (braces_in opens (spell_statements body) (statements_in body)))) (branches_in rest)
 
   otherwise_in : (o : Otherwise) → AllIn (spell_otherwise o)
   otherwise_in without = tt

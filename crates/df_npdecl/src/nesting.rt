@@ -97,33 +97,32 @@ fn next_statement(
     }
 }
 
-/// Takes `if` and its branches.
+/// Takes a run of branches.
 #[cycle(statement)]
 #[tactic(auto, unfolding(df_ntree::specs::mirror::FileReading::if_by, df_ntree::specs::mirror::Reading::many))]
 fn if_statement(cursor: &mut Cursor, alloc: Global, room: usize) -> Result<Statement, Stop>
     ensures { Reads (λ x. (statement_of x, rest_of cursor.new)) result (if_by room (block_at room) (rest_of cursor.old)) }
 {
-    let pos = cursor.pos_of_word(Word::If)?;
     let first = branch(cursor, alloc, room)?;
     let others = else_ifs(cursor, alloc, room)?;
     let otherwise = otherwise(cursor, alloc, room)?;
     Ok(Statement::If {
-        pos,
         first,
         others,
         otherwise,
     })
 }
 
-/// Takes a guard and its block.
+/// Takes `if`, a guard and its block.
 #[cycle(statement)]
 #[tactic(auto, unfolding(df_ntree::specs::mirror::FileReading::branch_by))]
 fn branch(cursor: &mut Cursor, alloc: Global, room: usize) -> Result<Branch, Stop>
     ensures { Reads (λ x. (branch_of x, rest_of cursor.new)) result (branch_by room (block_at room) (rest_of cursor.old)) }
 {
+    let pos = cursor.pos_of_word(Word::If)?;
     let guard = cursor.expression(alloc, room)?;
     let body = block(cursor, alloc, room)?;
-    Ok(Branch { guard, body })
+    Ok(Branch { pos, guard, body })
 }
 
 /// Takes `while guard`, the clauses and the body.
@@ -164,7 +163,6 @@ fn next_else_if(cursor: &mut Cursor, alloc: Global, room: usize) -> Result<Optio
 {
     if else_if_stands(cursor) {
         cursor.word(Word::Else)?;
-        cursor.word(Word::If)?;
         Ok(Some(branch(cursor, alloc, room)?))
     } else {
         Ok(None)

@@ -69,7 +69,7 @@ unfolding at ident
 assert_height = refl
 
 -- `if a {} else if b {} else {}` is as high as `if a {}`
-branches_are_siblings : statement_height (If (at 1) (Name (ident 0 4)) (at 6) done (more (Name (ident 1 17)) (at 19) done end) (otherwise (at 27) done)) ≡ statement_height (If (at 1) (Name (ident 0 4)) (at 6) done end without)
+branches_are_siblings : statement_height (If (at 1) (Name (ident 0 4)) (at 6) done (more (at 14) (Name (ident 1 17)) (at 19) done end) (otherwise (at 27) done)) ≡ statement_height (If (at 1) (Name (ident 0 4)) (at 6) done end without)
 unfolding at ident
 branches_are_siblings = refl
 

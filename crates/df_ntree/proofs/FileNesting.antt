@@ -33,10 +33,10 @@ block_there x tokens rest starts = kind_there (kinds.Sign signs.OpenBrace) (Some
 -- ---- branches
 
 abbrev pub spell_branch : Branch → List Piece
-spell_branch x = spell x.guard ++ spell_block x.body
+spell_branch x = word_there words.If x.pos ∷ (spell x.guard ++ spell_block x.body)
 
 abbrev pub spell_else_if : Branch → List Piece
-spell_else_if x = a_word words.Else ∷ a_word words.If ∷ spell_branch x
+spell_else_if x = a_word words.Else ∷ spell_branch x
 
 abbrev spell_else : Block → List Piece
 spell_else x = a_word words.Else ∷ spell_block x
@@ -44,15 +44,16 @@ spell_else x = a_word words.Else ∷ spell_block x
 branch_reads : (room : ℕ) (block : Reader Block) → ReadsAs block spell_block (IsBlock room) Any → ReadsAs (branch_by room block) spell_branch (IsBranch room) Any
 unfolding branch_by
 branch_reads room block r =
-    made_reads (λ (x : Expr × Block). record { guard = x.0; body = x.1 }) (λ (y : Branch). (y.guard, y.body)) (both (expression_at room) block) (λ (x : Expr × Block). spell x.0 ++ spell_block x.1) (λ (x : Expr × Block). IsLowExpr room x.0 × IsBlock room x.1) Any spell_branch (IsBranch room)
-    (both_reads (expression_at room) block spell spell_block (IsLowExpr room) (IsBlock room) NoneContinues Any (expression_reads room) r (λ b tokens rest starts is after. none_at_brace tokens (block_there b tokens rest starts)))
-    (λ x tokens rest starts is. (starts, is)) (λ y tokens rest starts is. (starts, is)) (λ y is. refl)
+    made_reads (λ (x : Pos × (Expr × Block)). record { pos = x.0; guard = x.1.0; body = x.1.1 }) (λ (y : Branch). (y.pos, (y.guard, y.body))) (both (pos_of_word words.If) (both (expression_at room) block))
+    (λ (x : Pos × (Expr × Block)). (word_there words.If x.0 ∷ []) ++ (spell x.1.0 ++ spell_block x.1.1)) (λ (x : Pos × (Expr × Block)). Anything x.0 × (IsLowExpr room x.1.0 × IsBlock room x.1.1)) Any spell_branch (IsBranch room)
+    (pair_reads (pos_of_word words.If) (both (expression_at room) block) (λ (pos : Pos). word_there words.If pos ∷ []) (λ (x : Expr × Block). spell x.0 ++ spell_block x.1) (Anything {X = Pos}) (λ (x : Expr × Block). IsLowExpr room x.0 × IsBlock room x.1) Any (word_pos_reads words.If)
+    (both_reads (expression_at room) block spell spell_block (IsLowExpr room) (IsBlock room) NoneContinues Any (expression_reads room) r (λ b tokens rest starts is after. none_at_brace tokens (block_there b tokens rest starts))))
+    (λ x tokens rest starts is. (starts, is.1)) (λ y tokens rest starts is. (starts, (tt, is))) (λ y is. refl)
 
 pub else_if_reads : (room : ℕ) (block : Reader Block) → ReadsAs block spell_block (IsBlock room) Any → ReadsAs (else_if_by room block) spell_else_if (IsBranch room) Any
 unfolding else_if_by
 else_if_reads room block r =
-    word_reads words.Else _ (λ (x : Branch). a_word words.If ∷ spell_branch x) (IsBranch room) Any
-    (word_reads words.If (branch_by room block) spell_branch (IsBranch room) Any (branch_reads room block r))
+    word_reads words.Else (branch_by room block) spell_branch (IsBranch room) Any (branch_reads room block r)
 
 otherwise_reads : (room : ℕ) (block : Reader Block) → ReadsAs block spell_block (IsBlock room) Any → ReadsAs (otherwise_by block) (optional spell_else) (IsOption (IsBlock room)) (NotThen (word_stands words.Else) Any)
 unfolding otherwise_by
@@ -64,8 +65,8 @@ else_if_shows : (x : Branch) (tokens rest : List Token) → Begins (spell_else_i
 else_if_shows x [] rest starts = absurd starts
 else_if_shows x (t ∷ []) rest starts = absurd starts.1
 else_if_shows x (t ∷ u ∷ tokens) rest starts =
-    let one = word_shows words.Else (kinds.Word words.Else) None (a_word words.If ∷ spell_branch x) (t ∷ u ∷ tokens) rest true refl starts in
-    let two = word_shows words.If (kinds.Word words.If) None (spell_branch x) (u ∷ tokens) rest true refl starts.1 in
+    let one = word_shows words.Else (kinds.Word words.Else) None (spell_branch x) (t ∷ u ∷ tokens) rest true refl starts in
+    let two = word_shows words.If (kinds.Word words.If) (Some x.pos) (spell x.guard ++ spell_block x.body) (u ∷ tokens) rest true refl starts.1 in
     ap (λ (b : Bool). cond b (word_stands words.If (u ∷ tokens)) false) one ∙ two
 
 else_no_if : (x : Block) (tokens rest : List Token) → Begins (spell_else x) tokens rest → else_if_stands tokens ≡ false
@@ -102,33 +103,32 @@ abbrev IsRun : ℕ → Run → Type 0
 IsRun room x = AllByRecursion (IsBranch room) x.0 × IsOption (IsBlock room) x.1
 
 abbrev Choice : Type 0
-Choice = Pos × (Branch × Run)
+Choice = Branch × Run
 
 abbrev spell_choice : Choice → List Piece
-spell_choice x = (word_there words.If x.0 ∷ []) ++ (spell_branch x.1.0 ++ spell_run x.1.1)
+spell_choice x = spell_branch x.0 ++ spell_run x.1
 
 abbrev IsChoice : ℕ → Choice → Type 0
-IsChoice room x = Anything x.0 × (IsBranch room x.1.0 × IsRun room x.1.1)
+IsChoice room x = IsBranch room x.0 × IsRun room x.1
 
 abbrev choice_by : ℕ → Reader Block → Reader Choice
-choice_by room block = both (pos_of_word words.If) (both (branch_by room block) (both (many else_if_stands (else_if_by room block)) (otherwise_by block)))
+choice_by room block = both (branch_by room block) (both (many else_if_stands (else_if_by room block)) (otherwise_by block))
 
 choice_reads : (room : ℕ) (block : Reader Block) → ReadsAs block spell_block (IsBlock room) Any → ReadsAs (choice_by room block) spell_choice (IsChoice room) (NotThen (word_stands words.Else) Any)
 choice_reads room block r =
-    pair_reads (pos_of_word words.If) (both (branch_by room block) (both (many else_if_stands (else_if_by room block)) (otherwise_by block))) (λ (pos : Pos). word_there words.If pos ∷ []) (λ (x : Branch × Run). spell_branch x.0 ++ spell_run x.1) (Anything {X = Pos}) (λ (x : Branch × Run). IsBranch room x.0 × IsRun room x.1) (NotThen (word_stands words.Else) Any) (word_pos_reads words.If)
-    (pair_reads (branch_by room block) (both (many else_if_stands (else_if_by room block)) (otherwise_by block)) spell_branch spell_run (IsBranch room) (IsRun room) (NotThen (word_stands words.Else) Any) (branch_reads room block r)
+    pair_reads (branch_by room block) (both (many else_if_stands (else_if_by room block)) (otherwise_by block)) spell_branch spell_run (IsBranch room) (IsRun room) (NotThen (word_stands words.Else) Any) (branch_reads room block r)
     (both_reads (many else_if_stands (else_if_by room block)) (otherwise_by block) (flat_map spell_else_if) (optional spell_else) (AllByRecursion (IsBranch room)) (IsOption (IsBlock room)) (NotThen else_if_stands Any) (NotThen (word_stands words.Else) Any)
     (many_reads else_if_stands (else_if_by room block) spell_else_if (IsBranch room) Any (else_if_reads room block r) (branch_sibling room))
-    (otherwise_reads room block r) (before_otherwise room)))
+    (otherwise_reads room block r) (before_otherwise room))
 
 branch_list : Branches → List Branch
 branch_list end = []
-branch_list (more guard opens body rest) = record { guard = guard; body = record { pos = opens; statements = body } } ∷ branch_list rest
+branch_list (more pos guard opens body rest) = record { pos = pos; guard = guard; body = record { pos = opens; statements = body } } ∷ branch_list rest
 
 branches_back : (m : Branches) → branches_of (branch_list m) ≡ m
 unfolding branch_list
 branches_back end = refl
-branches_back (more guard opens body rest) = ap (more guard opens body) (branches_back rest)
+branches_back (more pos guard opens body rest) = ap (more pos guard opens body) (branches_back rest)
 
 spelled_branches : (xs : List Branch) → flat_map spell_else_if xs ≡ spell_branches (branches_of xs)
 spelled_branches [] = refl
@@ -146,7 +146,7 @@ branches_to room (x ∷ xs) are =
 branches_from : (room : ℕ) (m : Branches) → AreBranches m → deepest_branch m ≤ room → AllByRecursion (IsBranch room) (branch_list m)
 unfolding branch_list
 branches_from room end are low = tt
-branches_from room (more guard opens body rest) are low = (((are.0.0, omega arith), (are.0.1, omega arith)), branches_from room rest are.1 (omega arith))
+branches_from room (more pos guard opens body rest) are low = (((are.0.0, omega arith), (are.0.1, omega arith)), branches_from room rest are.1 (omega arith))
 
 option_of : Otherwise → Option Block
 option_of without = None
@@ -178,29 +178,29 @@ unfolding if_by
 if_sound room block r x tokens rest e =
     made_found if_of (choice_by room block) spell_choice (IsChoice room) (NotThen (word_stands words.Else) Any) (suc room) (choice_reads room block r)
     (λ y ts us starts is.
-    let bs = branches_to room y.1.1.0 is.1.1.0 in
-    let o = otherwise_to room y.1.1.1 is.1.1.1 in
-    let a = is.1.0.0.1 in
-    let b = is.1.0.1.1 in
+    let bs = branches_to room y.1.0 is.1.0 in
+    let o = otherwise_to room y.1.1 is.1.1 in
+    let a = is.0.0.1 in
+    let b = is.0.1.1 in
     let c = bs.1 in
     let d = o.1 in
-    (subst (λ (ps : List Piece). Begins (word_there words.If y.0 ∷ (spell_branch y.1.0 ++ ps)) ts us) (spelled_run y.1.1) starts, ((is.1.0.0.0, is.1.0.1.0, bs.0, o.0), omega arith)))
+    (subst (λ (ps : List Piece). Begins (spell_branch y.0 ++ ps) ts us) (spelled_run y.1) starts, ((is.0.0.0, is.0.1.0, bs.0, o.0), omega arith)))
     x tokens rest e
 
 if_complete : (room : ℕ) (block : Reader Block) → ReadsAs block spell_block (IsBlock room) Any → (pos : Pos) (guard : Expr) (opens : Pos) (body : Statements) (others : Branches) (last : Otherwise) (tokens rest : List Token)
     → Begins (spell_statement (If pos guard opens body others last)) tokens rest → IsWithin (suc room) (If pos guard opens body others last) → NotElse rest → if_by room block tokens ≡ Some (If pos guard opens body others last, rest)
 unfolding if_by
 if_complete room block r pos guard opens body others last tokens rest starts is after =
-    let first : Branch = record { guard = guard; body = record { pos = opens; statements = body } } in
+    let first : Branch = record { pos = pos; guard = guard; body = record { pos = opens; statements = body } } in
     let low = is.1 in
     let run : Run = (branch_list others, option_of last) in
     let same : spell_branches others ++ spell_otherwise last ≡ spell_run run =
     ap (λ (m : Branches). spell_branches m ++ spell_otherwise last) (sym (branches_back others))
     ∙ ap (λ (o : Otherwise). spell_branches (branches_of (branch_list others)) ++ spell_otherwise o) (sym (otherwise_back last))
     ∙ sym (spelled_run run) in
-    let starts' = subst (λ (ps : List Piece). Begins (word_there words.If pos ∷ (spell_branch first ++ ps)) tokens rest) same starts in
-    made_complete if_of (choice_by room block) spell_choice (IsChoice room) (NotThen (word_stands words.Else) Any) (choice_reads room block r) (pos, (first, run)) tokens rest starts'
-    (tt, (((is.0.0, omega arith), (is.0.1, omega arith)), (branches_from room others is.0.2 (omega arith), otherwise_from room last is.0.3 (omega arith)))) (after, tt)
+    let starts' = subst (λ (ps : List Piece). Begins (spell_branch first ++ ps) tokens rest) same starts in
+    made_complete if_of (choice_by room block) spell_choice (IsChoice room) (NotThen (word_stands words.Else) Any) (choice_reads room block r) (first, run) tokens rest starts'
+    (((is.0.0, omega arith), (is.0.1, omega arith)), (branches_from room others is.0.2 (omega arith), otherwise_from room last is.0.3 (omega arith))) (after, tt)
     ∙ ap (λ (m : Branches). got (If pos guard opens body m (otherwise_of (option_of last))) rest) (branches_back others)
     ∙ ap (λ (o : Otherwise). got (If pos guard opens body others o) rest) (otherwise_back last)
 

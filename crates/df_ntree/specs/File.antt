@@ -43,7 +43,7 @@ mutual
     Var : Pos → (locals : List Local) (values : List Expr) → Statement
     Assign : (targets values : List Expr) → Statement
     Expression : Expr → Statement
-    -- the guard, its block and where that opens, what an `else if` follows each, and the last `else`
+    -- the guard, its block and where that opens, the branches behind an `else`, and the last `else`
     If : Pos → Expr → Pos → Statements → Branches → Otherwise → Statement
     -- the guard, the clauses, the block and where it opens
     While : Pos → Expr → List Clause → Pos → Statements → Statement
@@ -56,10 +56,10 @@ mutual
     done : Statements
     next : Statement → Statements → Statements
 
-  -- guards, each with its block
+  -- where the word `if` stands, the guard and its block
   pub data Branches : Type 0 where
     end : Branches
-    more : Expr → Pos → Statements → Branches → Branches
+    more : Pos → Expr → Pos → Statements → Branches → Branches
 
   pub data Otherwise : Type 0 where
     without : Otherwise
@@ -70,6 +70,7 @@ pub record Block : Type 0 where
   pub statements : Statements
 
 pub record Branch : Type 0 where
+  pub pos : Pos
   pub guard : Expr
   pub body : Block
 
@@ -79,7 +80,7 @@ statements_of (x ∷ xs) = next x (statements_of xs)
 
 abbrev pub branches_of : List Branch → Branches
 branches_of [] = end
-branches_of (x ∷ xs) = more x.guard x.body.pos x.body.statements (branches_of xs)
+branches_of (x ∷ xs) = more x.pos x.guard x.body.pos x.body.statements (branches_of xs)
 
 abbrev pub otherwise_of : Option Block → Otherwise
 otherwise_of None = without
@@ -122,14 +123,14 @@ abbrev pub block_step : Block-F Statement Block Branch → Block
 block_step x = record { pos = x.pos; statements = statements_of x.statements.items }
 
 abbrev pub branch_step : Branch-F Statement Block Branch → Branch
-branch_step x = record { guard = expr_of x.guard; body = x.body }
+branch_step x = record { pos = x.pos; guard = expr_of x.guard; body = x.body }
 
 abbrev pub statement_step : Statement-F Statement Block Branch → Statement
 statement_step (Statement-F.Block block) = Nested block.pos block.statements
 statement_step (Statement-F.Var pos locals values) = Var pos locals.items (map expr_of values.items)
 statement_step (Statement-F.Assign targets values) = Assign (map expr_of targets.items) (map expr_of values.items)
 statement_step (Statement-F.Expression value) = Expression (expr_of value)
-statement_step (Statement-F.If pos first others last) = If pos first.guard first.body.pos first.body.statements (branches_of others.items) (otherwise_of last)
+statement_step (Statement-F.If first others last) = If first.pos first.guard first.body.pos first.body.statements (branches_of others.items) (otherwise_of last)
 statement_step (Statement-F.While pos guard all body) = While pos (expr_of guard) (map clause_of all.items) body.pos body.statements
 statement_step (Statement-F.Return pos values) = Return pos (map expr_of values.items)
 statement_step (Statement-F.Break pos) = Break pos

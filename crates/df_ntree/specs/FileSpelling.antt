@@ -84,8 +84,8 @@ abbrev mutual
   -- { "else" "if" expression block }
   pub spell_branches : Branches → List Piece
   spell_branches end = []
-  spell_branches (more guard opens body rest) =
-      (a_word words.Else ∷ a_word words.If ∷ (spell guard ++ braces opens (spell_statements body))) ++ spell_branches rest
+  spell_branches (more pos guard opens body rest) =
+      (a_word words.Else ∷ word_there words.If pos ∷ (spell guard ++ braces opens (spell_statements body))) ++ spell_branches rest
 
   -- [ "else" block ]
   pub spell_otherwise : Otherwise → List Piece
@@ -176,7 +176,7 @@ abbrev mutual
 
   pub deepest_branch : Branches → ℕ
   deepest_branch end = 0
-  deepest_branch (more guard opens body rest) = max (max (height guard) (deepest body + 1)) (deepest_branch rest)
+  deepest_branch (more pos guard opens body rest) = max (max (height guard) (deepest body + 1)) (deepest_branch rest)
 
   pub otherwise_height : Otherwise → ℕ
   otherwise_height without = 0
@@ -216,7 +216,7 @@ abbrev mutual
 
   pub AreBranches : Branches → Type 0
   AreBranches end = Unit {0}
-  AreBranches (more guard opens body rest) = (IsExpr guard × AreStatements body) × AreBranches rest
+  AreBranches (more pos guard opens body rest) = (IsExpr guard × AreStatements body) × AreBranches rest
 
   pub IsOtherwise : Otherwise → Type 0
   IsOtherwise without = Unit {0}

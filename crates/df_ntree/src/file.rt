@@ -88,10 +88,11 @@ pub struct Block {
     pub statements: Vec<Statement>,
 }
 
-/// A guard, and the block that it guards.
+/// `if guard body`, the word `if` at `pos`.
 #[cycle(statement)]
 #[derive(Debug, Drop)]
 pub struct Branch {
+    pub pos: Pos,
     pub guard: Expr,
     pub body: Block,
 }
@@ -115,9 +116,8 @@ pub enum Statement {
     },
     /// `value;`, a primary for what it does, as a call.
     Expression(Expr),
-    /// `if first else if .. else otherwise`: the branches of a run of `else if` are siblings.
+    /// A branch, what `else if` adds, and `else otherwise`: the branches of a run are siblings.
     If {
-        pos: Pos,
         first: Branch,
         others: Vec<Branch>,
         otherwise: Option<Block>,

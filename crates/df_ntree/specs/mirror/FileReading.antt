@@ -144,21 +144,21 @@ unfoldable pub block_by : Reader Statement → Reader Block
 block_by statement tokens =
     made (λ x. record { pos = x.0; statements = statements_of x.1 }) (both (pos_of_sign signs.OpenBrace) (before_sign (many (is_open signs.CloseBrace) statement) signs.CloseBrace)) tokens
 
--- a guard and its block
+-- "if", a guard and its block
 unfoldable pub branch_by : ℕ → Reader Block → Reader Branch
-branch_by room block tokens = made (λ x. record { guard = x.0; body = x.1 }) (both (expression_at room) block) tokens
+branch_by room block tokens = made (λ x. record { pos = x.0; guard = x.1.0; body = x.1.1 }) (both (pos_of_word words.If) (both (expression_at room) block)) tokens
 
 unfoldable pub else_if_by : ℕ → Reader Block → Reader Branch
-else_if_by room block tokens = after_word words.Else (after_word words.If (branch_by room block)) tokens
+else_if_by room block tokens = after_word words.Else (branch_by room block) tokens
 
 unfoldable pub otherwise_by : Reader Block → Reader (Option Block)
 otherwise_by block tokens = optionally (word_stands words.Else) (after_word words.Else block) tokens
 
-abbrev pub if_of : Pos × (Branch × (List Branch × Option Block)) → Statement
-if_of x = If x.0 x.1.0.guard x.1.0.body.pos x.1.0.body.statements (branches_of x.1.1.0) (otherwise_of x.1.1.1)
+abbrev pub if_of : Branch × (List Branch × Option Block) → Statement
+if_of x = If x.0.pos x.0.guard x.0.body.pos x.0.body.statements (branches_of x.1.0) (otherwise_of x.1.1)
 
 unfoldable pub if_by : ℕ → Reader Block → Reader Statement
-if_by room block tokens = made if_of (both (pos_of_word words.If) (both (branch_by room block) (both (many else_if_stands (else_if_by room block)) (otherwise_by block)))) tokens
+if_by room block tokens = made if_of (both (branch_by room block) (both (many else_if_stands (else_if_by room block)) (otherwise_by block))) tokens
 
 abbrev pub while_of : Pos × (Expr × (List Clause × Block)) → Statement
 while_of x = While x.0 x.1.0 x.1.1.0 x.1.1.1.pos x.1.1.1.statements
