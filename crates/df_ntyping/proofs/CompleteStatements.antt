@@ -156,8 +156,8 @@ mutual
 
   branches_complete : (env : Environment) (branches : Branches) (typed_branches : typed_stmt.Branches) → AreBranches env branches typed_branches → branches_in env branches ≡ Some typed_branches
   branches_complete env file.end branches h = rw h refl
-  branches_complete env (file.more guard opens body others) branches (pos, condition, inner, rest, begins, h, b, bs, q) =
-      rw (begins, truth_complete env guard condition h, stmts_complete (enter env) body inner b, branches_complete (past env (locals_in_all body)) others rest bs, q) refl
+  branches_complete env (file.more pos guard opens body others) branches (condition, inner, rest, h, b, bs, q) =
+      rw (truth_complete env guard condition h, stmts_complete (enter env) body inner b, branches_complete (past env (locals_in_all body)) others rest bs, q) refl
 
   otherwise_complete : (env : Environment) (last : Otherwise) (stmts : typed_stmt.Stmts) → IsOtherwise env last stmts → otherwise_in env last ≡ Some stmts
   otherwise_complete env without stmts h = rw h refl

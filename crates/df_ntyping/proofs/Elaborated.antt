@@ -5,6 +5,7 @@ use Rattle.std.specs.List.{list_any, list_all}
 use Rattle.df_lang.specs.declared.ty.Ty.{Ty}
 use Rattle.df_lang.specs.declared.ty.Ty.TheVariants as types
 use Rattle.df_lang.specs.declared.expr.Junction.TheVariants as junctions
+use Rattle.df_lang.specs.declared.expr.Arrow.TheVariants as arrows
 use Rattle.df_lang.specs.Typing.{same_type}
 use Rattle.df_lang.specs.Expr as typed
 use Rattle.df_lang.specs.Stmt as typed_stmt
@@ -87,7 +88,7 @@ run_in (Some groups.Product) rest of first parts = only_if (is_integer of) (Some
 run_in (Some groups.Comparison) rest of first parts = only_if (all_of (compares of) rest && keeps_direction rest) (Some (types.Bool, typed.Chain of first (links_of parts)))
 run_in (Some groups.Conjunction) rest of first parts = truth_run of (typed.Junction junctions.And first (members_of parts))
 run_in (Some groups.Disjunction) rest of first parts = truth_run of (typed.Junction junctions.Or first (members_of parts))
-run_in (Some groups.Implication) rest of first parts = truth_run of (typed.Implies first (members_of parts))
+run_in (Some groups.Implication) rest of first parts = truth_run of (typed.Implies arrows.Implies first (members_of parts))
 run_in (Some groups.Explication) rest of first parts = truth_run of (turned first typed.no_member parts)
 run_in (Some groups.Equivalence) rest of first parts = truth_run of (typed.Iff first (members_of parts))
 run_in None rest of first parts = None
@@ -265,8 +266,8 @@ abbrev mutual
 
   pub branches_in : Environment → Branches → Option typed_stmt.Branches
   branches_in env file.end = Some typed_stmt.no_branch
-  branches_in env (file.more guard opens body others) =
-      bind (beginning_of guard) (λ pos. bind (truth_in env guard) (λ condition. both (typed_stmt.branch pos condition) (stmts_in (enter env) body) (branches_in (past env (locals_in_all body)) others)))
+  branches_in env (file.more pos guard opens body others) =
+      bind (truth_in env guard) (λ condition. both (typed_stmt.branch pos condition) (stmts_in (enter env) body) (branches_in (past env (locals_in_all body)) others))
 
   pub otherwise_in : Environment → Otherwise → Option typed_stmt.Stmts
   otherwise_in env without = Some typed_stmt.done

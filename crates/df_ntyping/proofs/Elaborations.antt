@@ -2,12 +2,14 @@
 use Rattle.std.proofs.Common.{ℕ, true, false, pos, List, [], ◌∷◌, None, Some, refl}
 use Rattle.df_lang.specs.declared.ty.Ty.TheVariants as types
 use Rattle.df_lang.specs.declared.expr.AddendOperator.TheVariants as addends
+use Rattle.df_lang.specs.declared.expr.Arrow.TheVariants as arrows
 use Rattle.df_lang.specs.declared.expr.Comparison.TheVariants as comparisons
 use Rattle.df_lang.specs.Expr as typed
 use Rattle.df_lang.specs.Stmt as typed_stmt
 use Rattle.df_ntree.specs.declared.expr.BinaryOperator.TheVariants as binary
 use Rattle.df_ntree.specs.Expr.{Expr, Number, Name, Truth, Call, Operations, end, more, no_more, argument}
-use Rattle.df_ntree.specs.File.{Assign}
+use Rattle.df_ntree.specs.File.{Assign, If, without}
+use Rattle.df_ntree.specs.File as file
 use Rattle.df_ntyping.specs.Table.{Signature}
 use Rattle.df_ntyping.specs.Environment.{Environment, Local, Fixed, Variable_role}
 use Rattle.df_ntyping.specs.ExprElaboration.{Elaborates, ElaboratesAt, Part}
@@ -96,7 +98,7 @@ chain_of_int = (
 
 -- `b <== c`: what stands on the right is evaluated first
 turned_implication : Elaborates env None (Operations (name 2 1) (more binary.Explies (at 1 3) (Truth true (at 1 7)) end)) types.Bool
-    (typed.Implies (typed.Truth true (at 1 7)) (typed.member (at 1 3) (loc 2 1) typed.no_member))
+    (typed.Implies arrows.Explies (typed.Truth true (at 1 7)) (typed.member (at 1 3) (loc 2 1) typed.no_member))
 turned_implication = (
   types.Bool,
   types.Bool,
@@ -108,6 +110,21 @@ turned_implication = (
   refl,
   (types.Bool, typed.Truth true (at 1 7), typed.Truth true (at 1 7), [], (refl, refl), refl, refl, refl, refl),
   (refl, refl, refl),
+)
+
+-- `if b {} else if true {}`: each branch stands at its word `if`
+branches_stand_at_if : IsStatement env (If (at 1 1) (name 2 4) (at 1 6) file.done (file.more (at 1 14) (Truth true (at 1 17)) (at 1 22) file.done file.end) without)
+    (typed_stmt.If (typed_stmt.branch (at 1 1) (loc 2 4) typed_stmt.done (typed_stmt.branch (at 1 14) (typed.Truth true (at 1 17)) typed_stmt.done typed_stmt.no_branch)) typed_stmt.done)
+branches_stand_at_if = (
+  loc 2 4,
+  typed_stmt.done,
+  typed_stmt.branch (at 1 14) (typed.Truth true (at 1 17)) typed_stmt.done typed_stmt.no_branch,
+  typed_stmt.done,
+  (local 2, refl, refl, refl),
+  refl,
+  (typed.Truth true (at 1 17), typed_stmt.done, typed_stmt.no_branch, (refl, refl), refl, refl, refl),
+  refl,
+  refl,
 )
 
 -- `i, b := P(n);`: the argument is an `int`, and the first result of `nat` goes to a place of `int`

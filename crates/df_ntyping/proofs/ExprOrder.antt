@@ -16,7 +16,7 @@ use Rattle.df_ntree.specs.Spelling.{a_sign}
 use Rattle.df_ntree.specs.Expr.{Expr, Number, Character, Truth, Name, Parentheses, Call, Unary, Cast, Operations, Leading, Members, end, more, Arguments, no_more, argument}
 use Rattle.df_ntree.specs.ExprSpelling.{spell, spell_number, spell_members, spell_arguments, spell_further, spell_cast, first_group, IsExpr, AreOf, AreArguments}
 use Rattle.df_ntyping.specs.Environment.{Environment}
-use Rattle.df_ntyping.specs.Node.{Node, Occurrence}
+use Rattle.df_ntyping.specs.Node.{Node, Occurrence, node_name}
 use Rattle.df_ntyping.specs.Meaning.{called_signature}
 use Rattle.df_ntyping.specs.Places.{beginning_of}
 use Rattle.df_ntyping.specs.ExprTypes.{type_in, wanted_first, wanted_behind}
@@ -75,10 +75,10 @@ some_width (Leading (more operator pos operand rest)) g = omega arith
 
 -- parts, their whole, and what comes behind
 pub then_more : (low above middle high : ℕ) (xs : List Occurrence) (one : Occurrence) (ys : List Occurrence) → Segment low above middle xs → above < middle → one.start ≡ low → one.after ≡ middle
-    → Segment low middle high ys → middle ≤ high → Segment low above high (xs ++ one ∷ ys)
-then_more low above middle high xs one ys h p q r k s =
+    → node_name one.node ≡ None → Segment low middle high ys → middle ≤ high → Segment low above high (xs ++ one ∷ ys)
+then_more low above middle high xs one ys h p q r n k s =
     subst (λ (all : List Occurrence). Segment low above high all) (append_assoc xs (one ∷ []) ys)
-    (joined low above middle high (xs ++ one ∷ []) ys (ended low above middle xs one h p q r) k (omega arith) s)
+    (joined low above middle high (xs ++ one ∷ []) ys (ended low above middle xs one h p q r n) k (omega arith) s)
 
 pub token_alone : (env : Environment) (node : Node) (start : ℕ) → Segment start start (suc start) (token_at env node start ∷ [])
 token_alone env node start = alone start start (suc start) (token_at env node start) (record { begins = omega arith; behind = omega arith; ends = omega arith })
@@ -92,7 +92,7 @@ cast_order env start pos word source [] p = no_nodes start word (word + 0)
 cast_order env start pos word source (ty ∷ others) p =
     then_more start word (word + 2) (word + (suc (length others) + suc (length others))) (type_nodes env (suc word) ty) _ _
     (weaker (suc word) (suc word) (suc (suc word)) start word (word + 2) (type_nodes env (suc word) ty) (type_order env (suc word) ty) (omega arith) (omega arith) (omega arith))
-    (omega arith) refl refl
+    (omega arith) refl refl refl
     (weaker start (word + 2) (word + 2 + (length others + length others)) start (word + 2) (word + (suc (length others) + suc (length others))) _ (cast_order env start pos (word + 2) _ others (omega arith)) (omega arith) (omega arith) (omega arith))
     (omega arith)
 
@@ -105,36 +105,36 @@ append_none [] = refl
 append_none (x ∷ xs) = ap (λ (all : List Occurrence). x ∷ all) (append_none xs)
 
 chain_order : (env : Environment) (group : Option Group) (start after : ℕ) (members : Members) (xs : List Occurrence) → start < after → Segment start start after xs → Segment start start after (xs ++ chain_nodes env group start after members)
-chain_order env (Some groups.Comparison) start after members xs p h = ended start start after xs _ h p refl refl
+chain_order env (Some groups.Comparison) start after members xs p h = ended start start after xs _ h p refl refl refl
 chain_order env group start after members xs p h = rw (append_none xs) h
 
 -- one sign of a run that holds to the left, with its operand, and the rest
 left_order : (start sign width_of after : ℕ) (xs ys : List Occurrence) (one : Occurrence) → start ≤ sign → Segment (suc sign) (suc sign) (suc sign + width_of) xs → one.start ≡ start → one.after ≡ sign + 1 + width_of
-    → Segment start (sign + 1 + width_of) after ys → sign + 1 + width_of ≤ after → Segment start sign after (xs ++ one ∷ ys)
-left_order start sign width_of after xs ys one p h q r k s =
-    then_more start sign (sign + 1 + width_of) after xs one ys (weaker (suc sign) (suc sign) (suc sign + width_of) start sign (sign + 1 + width_of) xs h (omega arith) (omega arith) (omega arith)) (omega arith) q r k s
+    → node_name one.node ≡ None → Segment start (sign + 1 + width_of) after ys → sign + 1 + width_of ≤ after → Segment start sign after (xs ++ one ∷ ys)
+left_order start sign width_of after xs ys one p h q r n k s =
+    then_more start sign (sign + 1 + width_of) after xs one ys (weaker (suc sign) (suc sign) (suc sign + width_of) start sign (sign + 1 + width_of) xs h (omega arith) (omega arith) (omega arith)) (omega arith) q r n k s
 
 -- one of a run that holds to the right
 right_order : (start sign width_of after : ℕ) (xs ys : List Occurrence) (one : Occurrence) → start ≤ sign → Segment (suc sign) (suc sign) (suc sign + width_of) xs → one.start ≡ start → one.after ≡ after
-    → Segment (suc sign) (sign + 1 + width_of) after ys → sign + 1 + width_of ≤ after → Segment start sign after (xs ++ ys ++ one ∷ [])
-right_order start sign width_of after xs ys one p h q r k s =
+    → node_name one.node ≡ None → Segment (suc sign) (sign + 1 + width_of) after ys → sign + 1 + width_of ≤ after → Segment start sign after (xs ++ ys ++ one ∷ [])
+right_order start sign width_of after xs ys one p h q r n k s =
     ended start sign after (xs ++ ys) one
     (joined start sign (sign + 1 + width_of) after xs ys (weaker (suc sign) (suc sign) (suc sign + width_of) start sign (sign + 1 + width_of) xs h (omega arith) (omega arith) (omega arith))
-    (weaker (suc sign) (sign + 1 + width_of) after start (sign + 1 + width_of) after ys k (omega arith) (omega arith) (omega arith)) (omega arith) s) (omega arith) q r
+    (weaker (suc sign) (sign + 1 + width_of) after start (sign + 1 + width_of) after ys k (omega arith) (omega arith) (omega arith)) (omega arith) s) (omega arith) q r n
 
 -- a sign, its operand, and the whole
-unary_order : (start width_of : ℕ) (xs : List Occurrence) (one : Occurrence) → Segment (suc start) (suc start) (suc start + width_of) xs → one.start ≡ start → one.after ≡ start + 1 + width_of → Segment start start (start + suc width_of) (xs ++ one ∷ [])
-unary_order start width_of xs one h p q =
-    ended start start (start + suc width_of) xs one (weaker (suc start) (suc start) (suc start + width_of) start start (start + suc width_of) xs h (omega arith) (omega arith) (omega arith)) (omega arith) p (omega (arith, q))
+unary_order : (start width_of : ℕ) (xs : List Occurrence) (one : Occurrence) → Segment (suc start) (suc start) (suc start + width_of) xs → one.start ≡ start → one.after ≡ start + 1 + width_of → node_name one.node ≡ None → Segment start start (start + suc width_of) (xs ++ one ∷ [])
+unary_order start width_of xs one h p q n =
+    ended start start (start + suc width_of) xs one (weaker (suc start) (suc start) (suc start + width_of) start start (start + suc width_of) xs h (omega arith) (omega arith) (omega arith)) (omega arith) p (omega (arith, q)) n
 
 -- what is called, its arguments, and the call
 pub call_order : (start at after width_of : ℕ) (xs ys : List Occurrence) (one : Occurrence) → Segment start start (start + width_of) xs → Segment at at after ys → at ≡ start + width_of + 1 → at ≤ after → one.start ≡ start → one.after ≡ after + 1
-    → Segment start start (after + 1) (xs ++ ys ++ one ∷ [])
-call_order start at after width_of xs ys one h k p q r s =
+    → node_name one.node ≡ None → Segment start start (after + 1) (xs ++ ys ++ one ∷ [])
+call_order start at after width_of xs ys one h k p q r s n =
     ended start start (after + 1) (xs ++ ys) one
     (weaker start start after start start (after + 1) (xs ++ ys)
     (joined start start (start + width_of) after xs ys h (weaker at at after start (start + width_of) after ys k (omega (arith, p)) (omega (arith, p)) (omega arith)) (omega arith) (omega (arith, p, q)))
-    (omega arith) (omega arith) (omega arith)) (omega (arith, p, q)) r s
+    (omega arith) (omega arith) (omega arith)) (omega (arith, p, q)) r s n
 
 mutual
   pub expr_order : (env : Environment) (start : ℕ) (e : Expr) → IsExpr e → Segment start start (start + width e) (expr_nodes env start e)
@@ -143,7 +143,7 @@ mutual
   expr_order env start (Truth value pos) g = no_nodes start start (start + 1)
   expr_order env start (Name ident) g =
       ended start start (start + 1) (token_at env (Node.UsedName ident) start ∷ []) (token_at env (Node.Plain ident) start)
-      (weaker start start (suc start) start start (start + 1) _ (token_alone env (Node.UsedName ident) start) (omega arith) (omega arith) (omega arith)) (omega arith) refl (omega arith)
+      (weaker start start (suc start) start start (start + 1) _ (token_alone env (Node.UsedName ident) start) (omega arith) (omega arith) (omega arith)) (omega arith) refl (omega arith) refl
   expr_order env start (Parentheses pos inner) g =
       weaker (suc start) (suc start) (suc start + width inner) start start (start + width (Parentheses pos inner)) (expr_nodes env (suc start) inner) (expr_order env (suc start) inner g)
       (omega arith) (omega arith) (omega (arith, width_parentheses pos inner))
@@ -153,12 +153,12 @@ mutual
       let after = at + length (spell_arguments arguments) in
       weaker start start (after + 1) start start (start + width (Call callee arguments)) _
       (call_order start at after (width callee) (callee_nodes env start callee (expr_nodes env start callee)) (argument_nodes env at places arguments) _
-      (callee_order env start callee (expr_nodes env start callee) (expr_order env start callee g.0)) (argument_order env at places arguments g.2) refl (omega arith) refl (omega (arith, width_call callee arguments)))
+      (callee_order env start callee (expr_nodes env start callee) (expr_order env start callee g.0)) (argument_order env at places arguments g.2) refl (omega arith) refl (omega (arith, width_call callee arguments)) refl)
       (omega arith) (omega arith) (omega (arith, width_call callee arguments))
   expr_order env start (Unary unary.Negate pos operand) g =
-      unary_order start (width operand) (expr_nodes env (suc start) operand) _ (expr_order env (suc start) operand g.0) refl refl
+      unary_order start (width operand) (expr_nodes env (suc start) operand) _ (expr_order env (suc start) operand g.0) refl refl refl
   expr_order env start (Unary unary.Not pos operand) g =
-      unary_order start (width operand) (expr_nodes env (suc start) operand) _ (expr_order env (suc start) operand g.0) refl refl
+      unary_order start (width operand) (expr_nodes env (suc start) operand) _ (expr_order env (suc start) operand g.0) refl refl refl
   expr_order env start (Cast operand all) g =
       weaker start start (start + width operand + (length all + length all)) start start (start + width (Cast operand all)) _
       (joined start start (start + width operand) (start + width operand + (length all + length all)) (expr_nodes env start operand) _ (expr_order env start operand g.0)
@@ -181,11 +181,11 @@ mutual
   run_order env group start sign wanted left after end g all p q = no_nodes start sign after
   run_order env (Some groups.Implication) start sign wanted left after (more operator pos operand rest) g all p q =
       let right = type_in env None operand in
-      right_order start sign (width operand) after (expr_nodes env (suc sign) operand) _ _ p (expr_order env (suc sign) operand all.1) refl refl
+      right_order start sign (width operand) after (expr_nodes env (suc sign) operand) _ _ p (expr_order env (suc sign) operand all.1) refl refl refl
       (run_order env (Some groups.Implication) (suc sign) (sign + 1 + width operand) None right after rest g all.3 (omega arith) (omega (arith, q, width_members operator pos operand rest)))
       (omega (arith, q, width_members operator pos operand rest))
   run_order env group start sign wanted left after (more operator pos operand rest) g all p q =
-      left_order start sign (width operand) after (expr_nodes env (suc sign) operand) _ _ p (expr_order env (suc sign) operand all.1) refl refl
+      left_order start sign (width operand) after (expr_nodes env (suc sign) operand) _ _ p (expr_order env (suc sign) operand all.1) refl refl refl
       (run_order env group start (sign + 1 + width operand) _ _ after rest g all.3 (omega arith) (omega (arith, q, width_members operator pos operand rest)))
       (omega (arith, q, width_members operator pos operand rest))
 
@@ -193,9 +193,9 @@ mutual
   argument_order env start places no_more g = no_nodes start start (start + 0)
   argument_order env start places (argument e no_more) g =
       weaker start start (start + width e) start start (start + length (spell_arguments (argument e no_more))) _
-      (ended start start (start + width e) (expr_nodes env start e) _ (expr_order env start e g.0) (omega (arith, some_width e g.0)) refl refl) (omega arith) (omega arith) (omega (arith, width_last e))
+      (ended start start (start + width e) (expr_nodes env start e) _ (expr_order env start e g.0) (omega (arith, some_width e g.0)) refl refl refl) (omega arith) (omega arith) (omega (arith, width_last e))
   argument_order env start places (argument e (argument other rest)) g =
-      then_more start start (start + width e) (start + length (spell_arguments (argument e (argument other rest)))) (expr_nodes env start e) _ _ (expr_order env start e g.0) (omega (arith, some_width e g.0)) refl refl
+      then_more start start (start + width e) (start + length (spell_arguments (argument e (argument other rest)))) (expr_nodes env start e) _ _ (expr_order env start e g.0) (omega (arith, some_width e g.0)) refl refl refl
       (weaker (start + width e + 1) (start + width e + 1) (start + width e + 1 + length (spell_arguments (argument other rest))) start (start + width e) (start + length (spell_arguments (argument e (argument other rest)))) _
       (argument_order env (start + width e + 1) (other_places places) (argument other rest) g.1) (omega arith) (omega arith) (omega (arith, width_argument e other rest)))
       (omega (arith, width_argument e other rest))

@@ -6,8 +6,8 @@ use Rattle.df_ntree.specs.declared.file.Parameter.{Parameter}
 use Rattle.df_ntree.specs.Spelling.{a_sign, separated, optional, IsOption}
 use Rattle.df_ntree.specs.Expr.{Expr}
 use Rattle.df_ntree.specs.ExprSpelling.{spell, IsExpr}
-use Rattle.df_ntree.specs.File.{Clause, NewtypeDeclaration, MethodDeclaration, Declaration, Newtype, Method}
-use Rattle.df_ntree.specs.FileSpelling.{spell_clause, spell_statements, spell_parameter, spell_parameters, spell_results, spell_typed, spell_witness, spell_block, spell_newtype, spell_method, spell_declaration, IsOuterExpr, IsOuterClause, IsDeclaration}
+use Rattle.df_ntree.specs.File.{Clause, NewtypeDeclaration, MethodDeclaration, Declaration, Newtype, Method, File}
+use Rattle.df_ntree.specs.FileSpelling.{spell_clause, spell_statements, spell_parameter, spell_parameters, spell_results, spell_typed, spell_witness, spell_block, spell_newtype, spell_method, spell_declaration, IsOuterExpr, IsOuterClause, IsDeclaration, IsFile}
 use Rattle.df_ntyping.specs.Table.{Table, results_in, table_of}
 use Rattle.df_ntyping.specs.Environment.{Environment, Parameter_role, Variable_role, declare, names_of}
 use Rattle.df_ntyping.specs.Node.{Node, Owner}
@@ -15,7 +15,7 @@ use Rattle.df_ntyping.specs.ExprNodes.{width, token_at, type_nodes, expr_nodes}
 use Rattle.df_ntyping.specs.StatementNodes.{clause_widths}
 use Rattle.df_ntyping.specs.FileNodes.{empty_environment, over_parameters, over_body, over_clause, use_nodes, witness_nodes, newtype_nodes, parameter_nodes, clauses_of_method, method_nodes, declared_name, declaration_nodes, declarations_nodes, file_nodes}
 use Rattle.df_ntyping.specs.Laws.{NodesAreInOrder}
-use Rattle.df_ntyping.proofs.Order.{Segment, no_nodes, weaker, joined, ended, some_order, all_ordered}
+use Rattle.df_ntyping.proofs.Order.{Segment, no_nodes, weaker, joined, ended, some_order, all_ordered, AreApart, all_apart}
 use Rattle.df_ntyping.proofs.ExprOrder.{token_alone, type_order, expr_order}
 use Rattle.df_ntyping.proofs.PartOrder.{later, and_then, separated_more, separated_one, type_width, clause_order, clauses_width}
 use Rattle.df_ntyping.proofs.StatementOrder.{braces_width, statements_order}
@@ -44,7 +44,7 @@ newtype_order env start x g =
     (and_then predicate middle middle after (use_nodes inner predicate x.predicate) (witness_nodes env middle x.witness) (use_order inner predicate x.predicate g.0.0)
     (later middle middle (middle + witness) after _ (witness_order env middle x.witness g.1) (omega arith) (omega (arith, newtype_width x))) (omega arith) (omega arith) (omega (arith, newtype_width x)))
     (omega arith) (omega arith) (omega arith))
-    (omega (arith, newtype_width x)) refl refl
+    (omega (arith, newtype_width x)) refl refl refl
 
 -- ---- methods
 
@@ -138,3 +138,7 @@ declarations_order table before start (x ∷ others) g =
 
 pub nodes_are_in_order : NodesAreInOrder
 nodes_are_in_order file g = all_ordered (file_nodes file) (declarations_order (table_of file) [] 0 file.declarations g).sorted
+
+-- of two nodes at one place the later one is no name
+pub names_are_apart : (file : File) → IsFile file → AreApart (file_nodes file)
+names_are_apart file g = all_apart (file_nodes file) (declarations_order (table_of file) [] 0 file.declarations g).sorted

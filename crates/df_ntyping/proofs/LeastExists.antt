@@ -12,17 +12,17 @@ use Rattle.df_ntyping.specs.Least.{Fault, IsLeast, IsFault, IsLeastBroken, by_nu
 
 -- ---- orders
 
-not_true : (b : Bool) → (b ≡ true → ⊥) → b ≡ false
+pub not_true : (b : Bool) → (b ≡ true → ⊥) → b ≡ false
 not_true true h = absurd (h refl)
 not_true false h = refl
 
 pub true_not_false : (b : Bool) → b ≡ true → b ≡ false → ⊥
 true_not_false b p q = let same : true ≡ false = sym p ∙ q in cc
 
-less_asym : (a b : ℕ) → nat_lt a b ≡ true → nat_lt b a ≡ false
+pub less_asym : (a b : ℕ) → nat_lt a b ≡ true → nat_lt b a ≡ false
 less_asym a b p = not_true (nat_lt b a) (λ q. let x : a < b = ltb-true a b p in let y : b < a = ltb-true b a q in omega arith)
 
-less_neg : (a b c : ℕ) → nat_lt a b ≡ false → nat_lt b c ≡ false → nat_lt a c ≡ false
+pub less_neg : (a b c : ℕ) → nat_lt a b ≡ false → nat_lt b c ≡ false → nat_lt a c ≡ false
 less_neg a b c p q = not_true (nat_lt a c) (λ r. let x : b ≤ a = ltb-false a b p in let y : c ≤ b = ltb-false b c q in let z : a < c = ltb-true a c r in omega arith)
 
 pub by_self : (a : ℕ) (r : Bool) → by_number a a r ≡ r
@@ -30,7 +30,7 @@ by_self a r = rw (less_self, equal_self a) refl where
   less_self : nat_lt a a ≡ false
   less_self = not_true (nat_lt a a) (λ q. let x : a < a = ltb-true a a q in omega arith)
 
-by_greater : (a b : ℕ) (r : Bool) → b < a → by_number a b r ≡ false
+pub by_greater : (a b : ℕ) (r : Bool) → b < a → by_number a b r ≡ false
 by_greater a b r p = rw (not_less, not_equal) refl where
   not_less : nat_lt a b ≡ false
   not_less = not_true (nat_lt a b) (λ q. let x : a < b = ltb-true a b q in omega arith)
@@ -52,14 +52,14 @@ three a b = by_one (cases_lt a b) where
   by_one (inl p) = inl p
   by_one (inr p) = by_two p (eq-or-lt_of_le p)
 
-by_asym : (a b : ℕ) (r s : Bool) → (r ≡ true → s ≡ false) → by_number a b r ≡ true → by_number b a s ≡ false
+pub by_asym : (a b : ℕ) (r s : Bool) → (r ≡ true → s ≡ false) → by_number a b r ≡ true → by_number b a s ≡ false
 by_asym a b r s h p = by_cases (three a b) where
   by_cases : (a < b) ⊎ ((a ≡ b) ⊎ (b < a)) → by_number b a s ≡ false
   by_cases (inl q) = by_greater b a s q
   by_cases (inr (inl q)) = rw (← q) (by_self a s ∙ h (sym (by_self a r) ∙ subst (λ (x : ℕ). by_number a x r ≡ true) (sym q) p))
   by_cases (inr (inr q)) = absurd (true_not_false (by_number a b r) p (by_greater a b r q))
 
-by_neg : (a b c : ℕ) (r s t : Bool) → (r ≡ false → s ≡ false → t ≡ false) → by_number a b r ≡ false → by_number b c s ≡ false → by_number a c t ≡ false
+pub by_neg : (a b c : ℕ) (r s t : Bool) → (r ≡ false → s ≡ false → t ≡ false) → by_number a b r ≡ false → by_number b c s ≡ false → by_number a c t ≡ false
 by_neg a b c r s t h p q = by_cases (three a b) (three b c) where
   by_cases : (a < b) ⊎ ((a ≡ b) ⊎ (b < a)) → (b < c) ⊎ ((b ≡ c) ⊎ (c < b)) → by_number a c t ≡ false
   by_cases (inl x) y = absurd (true_not_false (by_number a b r) (by_less a b r x) p)
@@ -80,7 +80,7 @@ neg f g h =
       starts : {r s t : Bool} → (r ≡ false → s ≡ false → t ≡ false) → by_number g.at.start f.at.start r ≡ false → by_number h.at.start g.at.start s ≡ false → by_number h.at.start f.at.start t ≡ false
       starts {r} {s} {t} k p q = by_neg h.at.start g.at.start f.at.start s r t (λ a b. k b a) q p
 
-irreflexive : (f : Fault) → comes_before f f ≡ false
+pub irreflexive : (f : Fault) → comes_before f f ≡ false
 irreflexive f = not_true (comes_before f f) (λ p. true_not_false (comes_before f f) p (asym f f p))
 
 -- ---- none or a least

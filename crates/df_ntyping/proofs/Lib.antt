@@ -4,14 +4,15 @@ mod Assigned
 mod Complete
 mod CompleteStatements
 mod Types
-mod Order
-mod LeastExists
+pub mod Order
+pub mod LeastExists
 mod OneMissing
 mod ExprOrder
 mod SideOrder
 mod PartOrder
 mod StatementOrder
-mod FileOrder
+pub mod FileOrder
+pub mod First
 mod WellTyped
 mod TypedIsWellTyped
 mod Elaborations

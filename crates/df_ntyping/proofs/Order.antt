@@ -1,10 +1,10 @@
 -- Nodes come in the order of where their texts end, and of two that end together the inner one comes first.
 use Rattle.std.proofs.Common.{◌≡◌, ℕ, ◌<◌, ◌≤◌, Bool, true, false, List, [], ◌∷◌, ◌++◌, refl, ◌⊎◌, inl, inr, arith}
-use Rattle.std.specs.Prelude.{filter, cond, nat_lt, nat_le, ◌||◌}
+use Rattle.std.specs.Prelude.{None, filter, cond, nat_lt, nat_le, ◌||◌}
 use Rattle.std.specs.List.{AllByRecursion}
 use Rattle.std.proofs.lemmas.Bool.{cases_lt, lt-ltb, le-leb}
 use Rattle.df_lemmas.proofs.Numbers.{equal_self}
-use Rattle.df_ntyping.specs.Node.{Occurrence}
+use Rattle.df_ntyping.specs.Node.{Occurrence, node_name}
 use Rattle.df_ntyping.specs.Least.{by_number}
 use Rattle.df_ntyping.specs.Laws.{AreInOrder}
 
@@ -14,9 +14,9 @@ pub record IsWithin (low above high : ℕ) (one : Occurrence) : Type 0 where
   pub behind : above < one.after
   pub ends : one.after ≤ high
 
--- it ends before the other, or with it and begins no earlier
+-- it ends before the other, or with it and begins no earlier, and then the other is no name
 pub IsBefore : Occurrence → Occurrence → Type 0
-IsBefore one other = (one.after ≤ other.after) × (other.after ≤ one.after → other.start ≤ one.start)
+IsBefore one other = (one.after ≤ other.after) × (other.after ≤ one.after → other.start ≤ one.start) × (other.after ≤ one.after → node_name other.node ≡ None)
 
 pub AreWithin : ℕ → ℕ → ℕ → List Occurrence → Type 0
 AreWithin low above high [] = Unit {0}
@@ -64,7 +64,7 @@ all_behind one low above high [] p h = tt
 all_behind one low above high (y ∷ ys) p h =
     let node = h.0 in
     let b : above < y.after = node.behind in
-    ((omega arith, λ (q : y.after ≤ one.after). absurd (omega arith)), all_behind one low above high ys p h.1)
+    ((omega arith, λ (q : y.after ≤ one.after). absurd (omega arith), λ (q : y.after ≤ one.after). absurd (omega arith)), all_behind one low above high ys p h.1)
 
 sorted_append : (low above middle high : ℕ) (xs ys : List Occurrence) → AreWithin low above middle xs → AreWithin low middle high ys → AreSorted xs → AreSorted ys → AreSorted (xs ++ ys)
 unfolding AreSorted AreWithin
@@ -93,20 +93,21 @@ unfolding AreWithin AreSorted AllBehind
 alone low above high one h = record { within = (h, tt); sorted = (tt, tt) }
 
 -- the whole behind its parts
-behind_all : (low above high : ℕ) (xs : List Occurrence) (one : Occurrence) → AreWithin low above high xs → AreSorted xs → one.start ≡ low → one.after ≡ high → AreSorted (xs ++ one ∷ [])
+behind_all : (low above high : ℕ) (xs : List Occurrence) (one : Occurrence) → AreWithin low above high xs → AreSorted xs → one.start ≡ low → one.after ≡ high → node_name one.node ≡ None → AreSorted (xs ++ one ∷ [])
 unfolding AreWithin AreSorted AllBehind IsBefore
-behind_all low above high [] one h k p q = (tt, tt)
-behind_all low above high (x ∷ xs) one h k p q =
+behind_all low above high [] one h k p q n = (tt, tt)
+behind_all low above high (x ∷ xs) one h k p q n =
     let node = h.0 in
     let a : low ≤ x.start = node.begins in
     let c : x.after ≤ high = node.ends in
-    (behind_append x xs (one ∷ []) k.0 ((omega arith, λ (r : one.after ≤ x.after). omega arith), tt), behind_all low above high xs one h.1 k.1 p q)
+    (behind_append x xs (one ∷ []) k.0 ((omega arith, λ (r : one.after ≤ x.after). omega arith, λ (r : one.after ≤ x.after). n), tt), behind_all low above high xs one h.1 k.1 p q n)
 
-pub ended : (low above high : ℕ) (xs : List Occurrence) (one : Occurrence) → Segment low above high xs → above < high → one.start ≡ low → one.after ≡ high → Segment low above high (xs ++ one ∷ [])
+-- and the whole is no name
+pub ended : (low above high : ℕ) (xs : List Occurrence) (one : Occurrence) → Segment low above high xs → above < high → one.start ≡ low → one.after ≡ high → node_name one.node ≡ None → Segment low above high (xs ++ one ∷ [])
 unfolding AreWithin
-ended low above high xs one h p q r = record {
+ended low above high xs one h p q r n = record {
   within = within_append low above high xs (one ∷ []) h.within (record { begins = omega arith; behind = omega arith; ends = omega arith }, tt);
-  sorted = behind_all low above high xs one h.within h.sorted q r;
+  sorted = behind_all low above high xs one h.within h.sorted q r n;
 }
 
 -- ---- some of the nodes
@@ -165,3 +166,18 @@ pub all_ordered : (all : List Occurrence) → AreSorted all → AreInOrder all
 unfolding AreSorted
 all_ordered [] h = tt
 all_ordered (one ∷ others) h = (ordered one others h.0, all_ordered others h.1)
+
+-- of two nodes at one place the later one is no name
+unfoldable pub AreApart : List Occurrence → Type 0
+AreApart [] = Unit {0}
+AreApart (one ∷ others) = AllByRecursion (λ (other : Occurrence). other.after ≤ one.after → node_name other.node ≡ None) others × AreApart others
+
+none_beside : (one : Occurrence) (others : List Occurrence) → AllBehind one others → AllByRecursion (λ (other : Occurrence). other.after ≤ one.after → node_name other.node ≡ None) others
+unfolding AllBehind IsBefore
+none_beside one [] h = tt
+none_beside one (other ∷ others) h = (h.0.2, none_beside one others h.1)
+
+pub all_apart : (all : List Occurrence) → AreSorted all → AreApart all
+unfolding AreSorted AreApart
+all_apart [] h = tt
+all_apart (one ∷ others) h = (none_beside one others h.0, all_apart others h.1)

@@ -53,7 +53,7 @@ head_order env start local values (Some ty) p =
     (omega arith) (omega arith) (omega (arith, type_width ty)))
 head_order env start local [] None p =
     rw p (and_then start (start + 1) (start + 1) (start + 1) _ [] (ended start start (start + 1) (token_at env (Node.NewName (names_of env.inner) local.name) start ∷ []) (token_at env (Node.Untyped env.next local.name) start)
-    (later start start (suc start) (start + 1) _ (token_alone env _ start) (omega arith) (omega arith)) (omega arith) refl (omega arith)) (no_nodes (start + 1) (start + 1) (start + 1)) (omega arith) (omega arith) (omega arith))
+    (later start start (suc start) (start + 1) _ (token_alone env _ start) (omega arith) (omega arith)) (omega arith) refl (omega arith) refl) (no_nodes (start + 1) (start + 1) (start + 1)) (omega arith) (omega arith) (omega arith))
 head_order env start local (value ∷ values) None p =
     rw p (and_then start (suc start) (start + 1) (start + 1) _ [] (token_alone env _ start) (no_nodes (start + 1) (start + 1) (start + 1)) (omega arith) (omega arith) (omega arith))
 
@@ -78,10 +78,10 @@ locals_width (local ∷ other ∷ others) = omega (arith, separated_more spell_l
 
 pub clause_order : (env : Environment) (owner : Owner) (start : ℕ) (clause : Clause) → IsClause clause → Segment start start (start + length (spell_clause clause)) (clause_nodes env owner start clause)
 clause_order env owner start (Condition kind pos condition) g =
-    ended start start (start + suc (width condition)) _ _ (later start (suc start) (suc start + width condition) (start + suc (width condition)) _ (condition_order env (suc start) condition g) (omega arith) (omega arith)) (omega arith) refl refl
+    ended start start (start + suc (width condition)) _ _ (later start (suc start) (suc start + width condition) (start + suc (width condition)) _ (condition_order env (suc start) condition g) (omega arith) (omega arith)) (omega arith) refl refl refl
 clause_order env owner start (Decreases pos values) g =
     ended start start (start + suc (length (separated spell values))) _ _
-    (later start (suc start) (suc start + widths values) (start + suc (length (separated spell values))) _ (exprs_order env (suc start) values g.1) (omega arith) (omega (arith, separated_widths values))) (omega arith) refl refl
+    (later start (suc start) (suc start + widths values) (start + suc (length (separated spell values))) _ (exprs_order env (suc start) values g.1) (omega arith) (omega (arith, separated_widths values))) (omega arith) refl refl refl
 
 pub clauses_order : (env : Environment) (owner : Owner) (start : ℕ) (clauses : List Clause) → AllByRecursion IsClause clauses → Segment start start (start + clause_widths clauses) (clauses_nodes env owner start clauses)
 clauses_order env owner start [] g = no_nodes start start (start + 0)
@@ -112,4 +112,4 @@ operands_order env start (Value e ∷ other ∷ others) g =
 
 pub whole_order : (env : Environment) (start : ℕ) (e : Expr) → IsExpr e → Segment start start (start + width e) (whole_nodes env start e)
 whole_order env start (Call callee arguments) g = whole_call_order env start callee arguments g
-whole_order env start e g = ended start start (start + width e) (expr_nodes env start e) _ (expr_order env start e g) (omega (arith, some_width e g)) refl refl
+whole_order env start e g = ended start start (start + width e) (expr_nodes env start e) _ (expr_order env start e g) (omega (arith, some_width e g)) refl refl refl

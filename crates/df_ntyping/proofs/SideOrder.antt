@@ -29,10 +29,10 @@ separated_widths (e ∷ other ∷ others) = omega (arith, length-append (spell e
 -- ---- expressions
 
 pub value_order : (env : Environment) (start : ℕ) (place : Option Ty) (e : Expr) → IsExpr e → Segment start start (start + width e) (value_nodes env start place e)
-value_order env start place e g = ended start start (start + width e) (expr_nodes env start e) _ (expr_order env start e g) (omega (arith, some_width e g)) refl refl
+value_order env start place e g = ended start start (start + width e) (expr_nodes env start e) _ (expr_order env start e g) (omega (arith, some_width e g)) refl refl refl
 
 pub condition_order : (env : Environment) (start : ℕ) (e : Expr) → IsExpr e → Segment start start (start + width e) (condition_nodes env start e)
-condition_order env start e g = ended start start (start + width e) (expr_nodes env start e) _ (expr_order env start e g) (omega (arith, some_width e g)) refl refl
+condition_order env start e g = ended start start (start + width e) (expr_nodes env start e) _ (expr_order env start e g) (omega (arith, some_width e g)) refl refl refl
 
 -- one, a comma, and others
 parted : (start one others : ℕ) (xs ys : List Occurrence) → Segment start start (start + one) xs → Segment (start + one + 1) (start + one + 1) (start + one + 1 + others) ys → Segment start start (start + (one + 1 + others)) (xs ++ ys)
@@ -58,14 +58,14 @@ whole_call_order env start callee arguments g =
     let after = at + length (spell_arguments arguments) in
     weaker start start (after + 1) start start (start + width (Call callee arguments)) _
     (call_order start at after (width callee) (callee_nodes env start callee (expr_nodes env start callee)) (argument_nodes env at places arguments) _
-    (callee_order env start callee (expr_nodes env start callee) (expr_order env start callee g.0)) (argument_order env at places arguments g.2) refl (omega arith) refl (omega (arith, width_call callee arguments)))
+    (callee_order env start callee (expr_nodes env start callee) (expr_order env start callee g.0)) (argument_order env at places arguments g.2) refl (omega arith) refl (omega (arith, width_call callee arguments)) refl)
     (omega arith) (omega arith) (omega (arith, width_call callee arguments))
 
 place_order : (env : Environment) (start : ℕ) (e : Expr) → IsExpr e → Segment start start (start + width e) (place_nodes env start e)
 place_order env start (Name ident) g =
     ended start start (start + 1) (token_at env (Node.UsedName ident) start ∷ []) (token_at env (Node.Place (Name ident)) start)
-    (weaker start start (suc start) start start (start + 1) _ (token_alone env (Node.UsedName ident) start) (omega arith) (omega arith) (omega arith)) (omega arith) refl (omega arith)
-place_order env start e g = ended start start (start + width e) (expr_nodes env start e) _ (expr_order env start e g) (omega (arith, some_width e g)) refl refl
+    (weaker start start (suc start) start start (start + 1) _ (token_alone env (Node.UsedName ident) start) (omega arith) (omega arith) (omega arith)) (omega arith) refl (omega arith) refl
+place_order env start e g = ended start start (start + width e) (expr_nodes env start e) _ (expr_order env start e g) (omega (arith, some_width e g)) refl refl refl
 
 pub all_places_order : (env : Environment) (start : ℕ) (es : List Expr) → AllByRecursion IsPrimary es → Segment start start (start + widths es) (all_places env start es)
 all_places_order env start [] g = no_nodes start start (start + 0)
@@ -74,7 +74,7 @@ all_places_order env start (e ∷ other ∷ others) g = parted start (width e) (
 
 source_order : (env : Environment) (start : ℕ) (places : List (Option Ty)) (e : Expr) → IsExpr e → Segment start start (start + width e) (source_nodes env start places e)
 source_order env start places (Call callee arguments) g =
-    ended start start (start + width (Call callee arguments)) (call_nodes env start callee arguments) _ (whole_call_order env start callee arguments g) (omega (arith, some_width (Call callee arguments) g)) refl refl
+    ended start start (start + width (Call callee arguments)) (call_nodes env start callee arguments) _ (whole_call_order env start callee arguments g) (omega (arith, some_width (Call callee arguments) g)) refl refl refl
 source_order env start places e g = value_order env start (first_place places) e g
 
 apart_order : (env : Environment) (start : ℕ) (places : List (Option Ty)) (es : List Expr) → AllByRecursion IsExpr es → Segment start start (start + widths es) (sources_apart env start places es)
@@ -95,4 +95,4 @@ update_order env start sign after pos places [] g p q r = no_nodes start sign af
 update_order env start sign after pos places (e ∷ others) g p q r =
     ended start sign after (sources_nodes env (suc sign) places (e ∷ others)) _
     (weaker (suc sign) (suc sign) (suc sign + widths (e ∷ others)) start sign after _ (sources_order env (suc sign) places (e ∷ others) g) (omega arith) (omega arith) (omega arith))
-    (omega arith) refl refl
+    (omega arith) refl refl refl

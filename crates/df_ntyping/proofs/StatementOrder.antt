@@ -4,7 +4,7 @@ use Rattle.std.specs.List.{flat_map}
 use Rattle.df_base.specs.declared.pos.Pos.{Pos}
 use Rattle.df_tok.specs.declared.word.Word.TheVariants as words
 use Rattle.df_tok.specs.declared.sign.Sign.TheVariants as signs
-use Rattle.df_ntree.specs.Spelling.{Piece, a_sign, a_word, separated}
+use Rattle.df_ntree.specs.Spelling.{Piece, a_sign, a_word, word_there, separated}
 use Rattle.df_ntree.specs.Expr.{Expr}
 use Rattle.df_ntree.specs.ExprSpelling.{spell}
 use Rattle.df_ntree.specs.File as file
@@ -56,10 +56,10 @@ while_width pos opens guard clauses body = omega (
   clauses_width clauses,
 )
 
-branch_width : (opens : Pos) (guard : Expr) (body : Statements) (others : Branches) → length (spell_branches (file.more guard opens body others)) ≡ 4 + width guard + length (spell_statements body) + length (spell_branches others)
-branch_width opens guard body others = omega (
+branch_width : (pos opens : Pos) (guard : Expr) (body : Statements) (others : Branches) → length (spell_branches (file.more pos guard opens body others)) ≡ 4 + width guard + length (spell_statements body) + length (spell_branches others)
+branch_width pos opens guard body others = omega (
   arith,
-  length-append (a_word words.Else ∷ a_word words.If ∷ (spell guard ++ braces opens (spell_statements body))) (spell_branches others),
+  length-append (a_word words.Else ∷ word_there words.If pos ∷ (spell guard ++ braces opens (spell_statements body))) (spell_branches others),
   length-append (spell guard) (braces opens (spell_statements body)),
   braces_width opens (spell_statements body),
 )
@@ -127,14 +127,14 @@ mutual
       (clauses_order env Owner.OfLoop at_clauses clauses g.1) (omega arith) (omega arith) (omega arith))
       (later (suc opening) (suc opening) (suc opening + inner) after _ (statements_order (inside_loop (enter env)) (suc opening) body g.2) (omega arith) (omega (arith, size)))
       (omega arith) (omega arith) (omega (arith, size)))
-      (omega (arith, size)) refl refl
+      (omega (arith, size)) refl refl refl
   statement_order env start (Return pos values) g =
       let after = start + length (spell_statement (Return pos values)) in
       let size = length-append (separated spell values) semicolon in
       ended start start after _ _
       (later start (suc start) (suc start + widths values) after _ (sources_order env (suc start) (types_of_locals env env.results) values g) (omega arith) (omega (arith, size, separated_widths values)))
-      (omega arith) refl refl
-  statement_order env start (Break pos) g = ended start start (start + 2) [] _ (no_nodes start start (start + 2)) (omega arith) refl refl
+      (omega arith) refl refl refl
+  statement_order env start (Break pos) g = ended start start (start + 2) [] _ (no_nodes start start (start + 2)) (omega arith) refl refl refl
   statement_order env start (Assert pos condition) g =
       later start (suc start) (suc start + width condition) (start + length (spell_statement (Assert pos condition))) _ (condition_order env (suc start) condition g) (omega arith) (omega (arith, length-append (spell condition) semicolon))
   statement_order env start (Print pos operands) g =
@@ -153,13 +153,13 @@ mutual
 
   branches_order : (env : Environment) (start : ℕ) (all : Branches) → AreBranches all → Segment start start (start + length (spell_branches all)) (branches_nodes env start all)
   branches_order env start file.end g = no_nodes start start (start + 0)
-  branches_order env start (file.more guard opens body others) g =
+  branches_order env start (file.more pos guard opens body others) g =
       let wide = width guard in
       let inner = length (spell_statements body) in
       let opening = start + 2 + wide in
       let behind_body = opening + 2 + inner in
-      let after = start + length (spell_branches (file.more guard opens body others)) in
-      let size = branch_width opens guard body others in
+      let after = start + length (spell_branches (file.more pos guard opens body others)) in
+      let size = branch_width pos opens guard body others in
       and_then start behind_body behind_body after _ _
       (and_then start opening (suc opening) behind_body (condition_nodes env (start + 2) guard) _
       (later start (start + 2) (start + 2 + wide) opening _ (condition_order env (start + 2) guard g.0.0) (omega arith) (omega arith))

@@ -8,6 +8,7 @@ use Rattle.df_lang.specs.declared.expr.AddendOperator.TheVariants as addends
 use Rattle.df_lang.specs.declared.expr.FactorOperator.{FactorOperator}
 use Rattle.df_lang.specs.declared.expr.FactorOperator.TheVariants as factors
 use Rattle.df_lang.specs.declared.expr.Junction.TheVariants as junctions
+use Rattle.df_lang.specs.declared.expr.Arrow.TheVariants as arrows
 use Rattle.df_lang.specs.declared.expr.Comparison.{Comparison}
 use Rattle.df_lang.specs.declared.expr.Comparison.TheVariants as comparisons
 use Rattle.df_lang.specs.Typing.{same_type}
@@ -87,7 +88,7 @@ links_of (part ∷ parts) = typed.link (comparison_of part.operator) part.pos pa
 
 -- A run of `<==` is one of `==>` from the right: what stands before an operation, in front of what is turned.
 abbrev pub turned : typed.Expr → typed.Members → List Part → typed.Expr
-turned first done [] = typed.Implies first done
+turned first done [] = typed.Implies arrows.Explies first done
 turned first done (part ∷ parts) = turned part.operand (typed.member part.pos first done) parts
 
 -- numbers and characters are in order, all types are equal or not
@@ -103,7 +104,7 @@ IsRun (Some groups.Comparison) rest of first parts ty t =
     (all_of (compares of) rest ≡ true) × (keeps_direction rest ≡ true) × (ty ≡ types.Bool) × (t ≡ typed.Chain of first (links_of parts))
 IsRun (Some groups.Conjunction) rest of first parts ty t = (of ≡ types.Bool) × (ty ≡ types.Bool) × (t ≡ typed.Junction junctions.And first (members_of parts))
 IsRun (Some groups.Disjunction) rest of first parts ty t = (of ≡ types.Bool) × (ty ≡ types.Bool) × (t ≡ typed.Junction junctions.Or first (members_of parts))
-IsRun (Some groups.Implication) rest of first parts ty t = (of ≡ types.Bool) × (ty ≡ types.Bool) × (t ≡ typed.Implies first (members_of parts))
+IsRun (Some groups.Implication) rest of first parts ty t = (of ≡ types.Bool) × (ty ≡ types.Bool) × (t ≡ typed.Implies arrows.Implies first (members_of parts))
 IsRun (Some groups.Explication) rest of first parts ty t = (of ≡ types.Bool) × (ty ≡ types.Bool) × (t ≡ turned first typed.no_member parts)
 IsRun (Some groups.Equivalence) rest of first parts ty t = (of ≡ types.Bool) × (ty ≡ types.Bool) × (t ≡ typed.Iff first (members_of parts))
 

@@ -49,3 +49,12 @@ pub record IsTold (nodes : List Occurrence) (refusal : Refusal) : Type 0 where
 -- and it is of the stage
 abbrev pub IsToldIn : ℕ → List Occurrence → Refusal → Type 0
 IsToldIn stage nodes refusal = (told : IsTold nodes refusal) × (stage_of told.fault.rule ≡ stage)
+
+-- ---- one stage
+
+abbrev pub IsFaultIn : ℕ → List Occurrence → Fault → Type 0
+IsFaultIn stage nodes fault = IsFault nodes fault × (stage_of fault.rule ≡ stage)
+
+-- no rule of the stage is broken
+abbrev pub BreaksNoneIn : ℕ → List Occurrence → Type 0
+BreaksNoneIn stage nodes = (fault : Fault) → IsFaultIn stage nodes fault → ⊥

@@ -149,7 +149,7 @@ abbrev mutual
 
   pub inferred_behind_branches : Environment → Branches → List Inferred
   inferred_behind_branches env file.end = env.types
-  inferred_behind_branches env (file.more guard opens body others) =
+  inferred_behind_branches env (file.more pos guard opens body others) =
       inferred_behind_branches (over (past env (locals_in_all body)) (inferred_behind_all (over (enter env) (used env (guard ∷ []))) body)) others
 
   pub inferred_behind_otherwise : Environment → Otherwise → List Inferred

@@ -23,7 +23,7 @@ abbrev mutual
 
   pub locals_in_branches : Branches → ℕ
   locals_in_branches end = 0
-  locals_in_branches (more guard opens body others) = locals_in_all body + locals_in_branches others
+  locals_in_branches (more pos guard opens body others) = locals_in_all body + locals_in_branches others
 
   pub locals_in_otherwise : Otherwise → ℕ
   locals_in_otherwise without = 0

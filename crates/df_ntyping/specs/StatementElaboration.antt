@@ -129,12 +129,11 @@ abbrev mutual
   AreStatements env (next statement others) stmts =
       (one : typed.Stmt) × (rest : typed.Stmts) × IsStatement env statement one × AreStatements (behind env statement) others rest × (stmts ≡ typed.next one rest)
 
-  -- a branch behind the first stands where its guard begins
   pub AreBranches : Environment → Branches → typed.Branches → Type 0
   AreBranches env end branches = branches ≡ typed.no_branch
-  AreBranches env (more guard opens body others) branches =
-      (pos : Pos) × (condition : typed_expr.Expr) × (inner : typed.Stmts) × (rest : typed.Branches)
-      × (beginning_of guard ≡ Some pos) × ElaboratesTruth env guard condition × AreStatements (enter env) body inner
+  AreBranches env (more pos guard opens body others) branches =
+      (condition : typed_expr.Expr) × (inner : typed.Stmts) × (rest : typed.Branches)
+      × ElaboratesTruth env guard condition × AreStatements (enter env) body inner
       × AreBranches (past env (locals_in_all body)) others rest × (branches ≡ typed.branch pos condition inner rest)
 
   -- without an `else` nothing is done there

@@ -161,7 +161,7 @@ abbrev mutual
 
   pub branches_nodes : Environment → ℕ → Branches → List Occurrence
   branches_nodes env start end = []
-  branches_nodes env start (more guard opens body others) =
+  branches_nodes env start (more pos guard opens body others) =
       let opening = start + 2 + width guard in
       condition_nodes env (start + 2) guard
       ++ statements_nodes (enter env) (suc opening) body
