@@ -1,0 +1,13 @@
+pub mod Latest
+pub mod Telling
+pub mod Entries
+pub mod Meanings
+pub mod Parts
+pub mod Opening
+pub mod ExprNodes
+pub mod StatementNodes
+pub mod FileNodes
+pub mod FirstTold
+pub mod Listing
+pub mod Whole
+pub mod Anywhere
