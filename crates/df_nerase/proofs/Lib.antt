@@ -1,0 +1,11 @@
+pub mod First
+pub mod Outcomes
+pub mod ValueKinds
+pub mod Expressions
+pub mod Statements
+pub mod Methods
+pub mod Wholes
+pub mod Erased
+pub mod Bounded
+pub mod Lowering
+pub mod FirstRows
