@@ -1,0 +1,4 @@
+pub mod Equal
+pub mod Runs
+pub mod Arithmetic
+pub mod Examples

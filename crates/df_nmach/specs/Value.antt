@@ -1,0 +1,32 @@
+-- Values of the machine, and when two are equal. No value holds another one.
+use Rattle.std.specs.Prelude.{ℕ, ℤ, Bool, true, false, not, nat_eq, List}
+use Rattle.std.specs.Ordering.{int_eq}
+use Rattle.std.specs.Str.{bytes_eq}
+
+-- a text is a sequence of characters
+pub data Value : Type 0 where
+  Number : ℤ → Value
+  Truth : Bool → Value
+  Char : ℕ → Value
+  Null : Value
+  Reference : ℕ → Value
+  Text : List ℕ → Value
+
+abbrev pub same_truth : Bool → Bool → Bool
+same_truth true b = b
+same_truth false b = not b
+
+-- equality: values of two kinds differ
+abbrev pub same : Value → Value → Bool
+same (Number a) (Number b) = int_eq a b
+same (Truth a) (Truth b) = same_truth a b
+same (Char a) (Char b) = nat_eq a b
+same Null Null = true
+same (Reference a) (Reference b) = nat_eq a b
+same (Text a) (Text b) = bytes_eq a b
+same v w = false
+
+-- whether a value is a text, so that another one like it takes memory
+abbrev pub is_text : Value → Bool
+is_text (Text a) = true
+is_text v = false
