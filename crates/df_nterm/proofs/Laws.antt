@@ -1,0 +1,51 @@
+-- The laws of terms.
+use Rattle.std.proofs.Common.{◌≡◌, ◌⊎◌, inl, inr, true, List, [], ◌∷◌, is_some, Some, refl, sym, ap, subst, ◌∙◌}
+use Rattle.df_lang.specs.declared.ty.Ty.{Ty}
+use Rattle.df_lang.specs.Expr.{Expr}
+use Rattle.df_lang.specs.Typing.{is_expr}
+use Rattle.df_lang.specs.Assignment.{Use, Reached, reads, unassigned}
+use Rattle.df_mean.specs.Value.{Value}
+use Rattle.df_mean.specs.Outcome.{Outcome, Gives, Dismissed}
+use Rattle.df_mean.specs.State.{State}
+use Rattle.df_mean.specs.Meaning.{Meaning}
+use Rattle.df_mean.specs.Evaluation.{evaluate}
+use Rattle.df_mean.proofs.Same.{evaluate_same}
+use Rattle.df_mean.proofs.Counting.{evaluate_counts, not_dismissed, use_there}
+use Rattle.df_nterm.specs.Meaning.{Interpretation, value}
+use Rattle.df_nterm.specs.Expressions.{Environment, term_of, conditions_of}
+use Rattle.df_nterm.specs.Laws.{Agrees, AgreesOn, told, EvaluationIsAnswered, BelowIsOrder}
+use Rattle.df_nterm.proofs.Told.{IsOr}
+use Rattle.df_nterm.proofs.Sorted.{Holds, HoldsOn}
+use Rattle.df_nterm.proofs.Answering.{over, evaluation_told}
+use Rattle.df_nterm.proofs.Ordering.{below_orders}
+
+-- whatever locals have values
+pub evaluation_or_dismissed : (m : Meaning) (i : Interpretation) (locals : List Ty) (env : Environment) (s : State) (ty : Ty) (e : Expr)
+    → i.program ≡ m.program → is_expr m.program locals ty e ≡ true → HoldsOn i locals env s (reads e)
+    → IsOr (evaluate m s e) (told i (conditions_of env e) (Gives (value i (term_of env e))))
+evaluation_or_dismissed m i locals env s ty e same is holds =
+    let is_there = subst (λ p. is_expr p locals ty e ≡ true) (sym same) is in
+    subst (λ o. IsOr o (told i (conditions_of env e) (Gives (value i (term_of env e))))) (sym (evaluate_same m (over i m locals env s) s s (record { program = sym same; locals = λ local. refl }) e))
+    (evaluation_told i m locals env s e ty is_there holds)
+
+agrees_holds : (i : Interpretation) (locals : List Ty) (env : Environment) (s : State) (uses : List Use) → AgreesOn i locals env s uses → HoldsOn i locals env s uses
+agrees_holds i locals env s [] h = tt
+agrees_holds i locals env s (u ∷ uses) h =
+    (record { sorted = λ ty there. rw (h.0.term) (h.0.sorted ty there); term = λ v there. h.0.term ∙ same there }, agrees_holds i locals env s uses h.1)
+  where
+    same : {v : Value} → s.locals u.local ≡ Some v → h.0.value ≡ v
+    same there = let e : Some h.0.value ≡ Some _ = sym h.0.read ∙ there in cc
+
+all_read : (i : Interpretation) (locals : List Ty) (env : Environment) (s : State) (uses : List Use) → AgreesOn i locals env s uses → unassigned (Reached (λ n. is_some (s.locals n))) uses ≡ []
+all_read i locals env s [] h = refl
+all_read i locals env s (u ∷ uses) h = use_there (Reached (λ n. is_some (s.locals n))) u uses (ap is_some h.0.read) (all_read i locals env s uses h.1)
+
+pub evaluation_is_answered : EvaluationIsAnswered
+evaluation_is_answered m i locals env s ty e same is agrees = counted (evaluation_or_dismissed m i locals env s ty e same is (agrees_holds i locals env s (reads e) agrees))
+  where
+    counted : IsOr (evaluate m s e) (told i (conditions_of env e) (Gives (value i (term_of env e)))) → evaluate m s e ≡ told i (conditions_of env e) (Gives (value i (term_of env e)))
+    counted (inl d) = absurd (not_dismissed _ (evaluate m s e) (evaluate_counts m (Reached (λ n. is_some (s.locals n))) s (λ n has. has) e (all_read i locals env s (reads e) agrees)) d)
+    counted (inr h) = h
+
+pub below_is_order : BelowIsOrder
+below_is_order = below_orders

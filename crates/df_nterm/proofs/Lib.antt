@@ -1,0 +1,6 @@
+pub mod Told
+pub mod Sorted
+pub mod Below
+pub mod Answering
+pub mod Ordering
+pub mod Laws
