@@ -1,0 +1,15 @@
+pub mod Fills
+pub mod ExpressionsEmitted
+pub mod StatementsEmitted
+pub mod LinkView
+pub mod Tail
+pub mod Reach
+pub mod OperatorRuns
+pub mod ExpressionRuns
+pub mod Places
+pub mod Lifts
+pub mod UpdateRuns
+pub mod PrintRuns
+pub mod StatementRuns
+pub mod MethodRuns
+pub mod Whole

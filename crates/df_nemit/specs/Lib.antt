@@ -1,0 +1,5 @@
+pub mod Code
+pub mod Counts
+pub mod Correct
+pub mod Named
+pub mod mirror

@@ -1,0 +1,13 @@
+pub mod Lists
+pub mod Read
+pub mod Segments
+pub mod Values
+pub mod Waiting
+pub mod Landing
+pub mod Filling
+pub mod Stays
+pub mod Begins
+pub mod Reached
+pub mod Ending
+pub mod Effects
+pub mod Acting
