@@ -11,6 +11,8 @@ use Rattle.df_nplain.specs.Stmt.{Stmts, While}
 use Rattle.df_nplain.specs.Kind.{Kind}
 use Rattle.df_nplain.specs.Plain as plain
 use Rattle.df_nplain.specs.Bounded.{is_bounded, is_bounded_kind, are_bounded_stmts, is_bounded_method, is_bounded_program}
+use Rattle.df_nplain.specs.Counts.{are_stmts, has_counts}
+use Rattle.df_nplain.specs.Short.{are_short_stmts, has_short_texts}
 use Rattle.df_nplain.specs.Outcome.{Outcome, Wrong, TooDeep, Stuck, after}
 use Rattle.df_nplain.specs.Outcome as outcomes
 use Rattle.df_nplain.specs.State.{State, begin}
@@ -29,8 +31,7 @@ use Rattle.df_nmach.specs.Step as step
 use Rattle.df_nmach.specs.Run.{and_then, machine_run, begun, start_of, NeverFaults}
 use Rattle.df_nmach.proofs.Runs.{run_add, ends_for_good}
 use Rattle.df_nemit.specs.Code.{Exits, Mark, Fixed, To, instruction_of, unknown, with_outside, with_ending, leaving_at, fixed, slot, expr_code, stmt_marks, stmts_marks, gets, scratch_of, body_code, highest, method_code, plain_code}
-use Rattle.df_nemit.specs.Counts.{are_stmts, has_counts}
-use Rattle.df_nemit.specs.Correct.{machine_value, is_simple, called, returned, Reaches, DoesWhat}
+use Rattle.df_nemit.specs.Correct.{machine_value, is_simple, called, returned, Reaches, ComesTo, EndsWith, DoesWhat}
 use Rattle.df_nemit.proofs.Fills.{instructions_of, instructions_long, fixed_long, leaving_long, leaving_filled}
 use Rattle.df_nemit.proofs.StatementsEmitted.{highest_least}
 use Rattle.df_nemit.proofs.Reach.{HasAt, has_front, has_back, has_moved, HasMarks, marks_front, marks_back, marks_fixed, World, instructions, Point, point, frame, at, Leads, leads_silent, leads_none, leads_on, next_is, Still, Covers, Simple, Arrives, Carries, still_carries, carries_on, carries_to, Gives}
@@ -252,10 +253,10 @@ answered program number method e arguments text heap waiting (Wrong fault) a = t
 answered program number method e arguments text heap waiting TooDeep a = tt
 answered program number method e arguments text heap waiting Stuck a = tt
 
-method_runs : (program : plain.Plain) (number : ℕ) (method : plain.Method) → plain.method_at program number ≡ Some method → are_bounded_stmts method.body ≡ true → are_stmts program method.body ≡ true
+method_runs : (program : plain.Plain) (number : ℕ) (method : plain.Method) → plain.method_at program number ≡ Some method → are_bounded_stmts method.body ≡ true → are_stmts program method.body ≡ true → are_short_stmts method.body ≡ true
     → (m : Meaning) → Calls program m → Turns program m → (arguments : List Value) (text : List ℕ) → length arguments ≡ length method.parameters → list_all is_simple arguments ≡ true → (heap : Heap) (waiting : List Frame)
     → Answers (plain_code program) number (method_code program method) arguments (length method.results) heap waiting text (run_method m method arguments text)
-method_runs program number method e bounded counted m calls turns arguments text same all heap waiting =
+method_runs program number method e bounded counted short m calls turns arguments text same all heap waiting =
     let w = world_of program number method e heap waiting in
     let sc = scratch_of method in
     let marks = stmts_marks program sc 0 method.body in
@@ -272,7 +273,7 @@ method_runs program number method e bounded counted m calls turns arguments text
     let simple : Simple s = record { each = λ n v f. get_all arguments n v all f } in
     let zero : 0 + r ≡ r = omega arith in
     let runs = flows_to w 0 (0 + r) r s x (execute_all m s method.body) zero
-    (stmts_run program w (record { code = refl }) m calls turns method.body bounded counted s simple 0 x (record { outside = room; ending = room }) (has_front (instructions w) 0 front tail whole) (omega (arith, room))) in
+    (stmts_run program w (record { code = refl }) m calls turns method.body bounded counted short s simple 0 x (record { outside = room; ending = room }) (has_front (instructions w) 0 front tail whole) (omega (arith, room))) in
     answered program number method e arguments text heap waiting (run_method m method arguments text)
     (ends_run w method l 0 r s x refl refl (covers_begin program number method e heap waiting arguments text same) at_tail (execute_all m s method.body) runs)
 
@@ -293,6 +294,11 @@ get_counted : (program : plain.Plain) (ms : List plain.Method) (n : ℕ) (m : pl
 get_counted program [] n m all e = absurd (let f : None ≡ Some m = e in cc)
 get_counted program (x ∷ ms) zero m all e = let f : x ≡ m = cc in subst (λ (y : plain.Method). are_stmts program y.body ≡ true) f (both (are_stmts program x.body) (list_all (λ (y : plain.Method). are_stmts program y.body) ms) all).0
 get_counted program (x ∷ ms) (suc n) m all e = get_counted program ms n m (both (are_stmts program x.body) (list_all (λ (y : plain.Method). are_stmts program y.body) ms) all).1 e
+
+get_short : (ms : List plain.Method) (n : ℕ) (m : plain.Method) → list_all (λ (y : plain.Method). are_short_stmts y.body) ms ≡ true → slice_get ms n ≡ Some m → are_short_stmts m.body ≡ true
+get_short [] n m all e = absurd (let f : None ≡ Some m = e in cc)
+get_short (x ∷ ms) zero m all e = let f : x ≡ m = cc in subst (λ (y : plain.Method). are_short_stmts y.body ≡ true) f (both (are_short_stmts x.body) (list_all (λ (y : plain.Method). are_short_stmts y.body) ms) all).0
+get_short (x ∷ ms) (suc n) m all e = get_short ms n m (both (are_short_stmts x.body) (list_all (λ (y : plain.Method). are_short_stmts y.body) ms) all).1 e
 
 -- a loop's guard is evaluated, and where it is true there is a turn
 loop_runs : (program : plain.Plain) (w : World) → Of program w → (n : Meaning) (guard : Expr) (body : Stmts) → is_bounded guard ≡ true → (s : State) → Simple s → (p : ℕ) (x : Exits) → Inside w x
@@ -330,7 +336,7 @@ behind_runs program w m guard body q e p past s x jump there again Stuck a = tt
 
 turns_more : (program : plain.Plain) (depth : ℕ) → Calls program (whole program depth) → Turns program (whole program depth) → Turns program (whole program (suc depth))
 turns_more program depth calls turns = record {
-  by = λ w of guard body bounded bodies counted s simple p x inside has room.
+  by = λ w of guard body bounded bodies counted short s simple p x inside has room.
       let m = whole program depth in
       let test = expr_code w.scratch p guard in
       let z = p + length test in
@@ -348,20 +354,20 @@ turns_more program depth calls turns = record {
       let at_tail = has_moved (instructions w) (p + length (fixed front)) (z + 1) (instructions_of x tail) many (marks_back (instructions w) p x (fixed front) tail has) in
       let at_inner : HasMarks (instructions w) (z + 1) y inner = subst (λ (l : List Instruction). HasAt (instructions w) (z + 1) l) (sym (leaving_filled past x inner)) (marks_front (instructions w) (z + 1) x rest (Fixed (i.Jump p) ∷ []) at_tail) in
       let jump = (has_moved (instructions w) (z + 1 + length rest) e (i.Jump p ∷ []) (ap (λ (k : ℕ). z + 1 + k) (leaving_long past inner)) (marks_back (instructions w) (z + 1) x rest (Fixed (i.Jump p) ∷ []) at_tail)).0 in
-      let runs = stmts_run program w of m calls turns body bodies counted s simple (z + 1) y (record { outside = there; ending = inside.ending }) at_inner (omega (arith, there)) in
-      let again = λ (t : State) (st : Simple t). subst (λ (k : ℕ). Flows w p t x k (m.turns (record { guard = guard; body = body }) t)) ends (turns.by w of guard body bounded bodies counted t st p x inside has room) in
+      let runs = stmts_run program w of m calls turns body bodies counted short s simple (z + 1) y (record { outside = there; ending = inside.ending }) at_inner (omega (arith, there)) in
+      let again = λ (t : State) (st : Simple t). subst (λ (k : ℕ). Flows w p t x k (m.turns (record { guard = guard; body = body }) t)) ends (turns.by w of guard body bounded bodies counted short t st p x inside has room) in
       let turned = behind_runs program w m guard body (z + 1) e p past s x jump (omega (arith, there)) again (execute_all m s body) runs in
       loop_runs program w of (record { program = program; call = call_by m; turns = λ other t. TooDeep }) guard body bounded s simple p x inside has room (turn_by m (record { guard = guard; body = body }) s)
       (flows_to w (z + 1) past end s x (turn_by m (record { guard = guard; body = body }) s) (sym ends) turned);
 }
 
-calls_more : (program : plain.Plain) → is_bounded_program program ≡ true → has_counts program ≡ true → (depth : ℕ) → Calls program (whole program depth) → Turns program (whole program depth) → Calls program (whole program (suc depth))
-calls_more program bounded counted depth calls turns = record {
+calls_more : (program : plain.Plain) → is_bounded_program program ≡ true → has_counts program ≡ true → has_short_texts program ≡ true → (depth : ℕ) → Calls program (whole program depth) → Turns program (whole program depth) → Calls program (whole program (suc depth))
+calls_more program bounded counted short depth calls turns = record {
   by = λ number method arguments text e same all heap waiting.
       let m = whole program depth in
       let there : plain.method_at m.program number ≡ Some method = ap (λ (p : plain.Plain). plain.method_at p number) (whole_program program depth) ∙ e in
       subst (λ (o : Option plain.Method). Answers (plain_code program) number (method_code program method) arguments (length method.results) heap waiting text (option_map_or (λ (y : plain.Method). run_method m y arguments text) o Stuck)) (sym there)
-      (method_runs program number method e (get_bounded program.methods number method bounded e) (get_counted program program.methods number method counted e) m calls turns arguments text same all heap waiting);
+      (method_runs program number method e (get_bounded program.methods number method bounded e) (get_counted program program.methods number method counted e) (get_short program.methods number method short e) m calls turns arguments text same all heap waiting);
 }
 
 calls_none : (program : plain.Plain) → Calls program (whole program zero)
@@ -369,7 +375,7 @@ calls_none program = record { by = λ number method arguments text e same all he
 
 turns_none : (program : plain.Plain) → Turns program (whole program zero)
 turns_none program = record {
-  by = λ w of guard body bounded bodies counted s simple p x inside has room.
+  by = λ w of guard body bounded bodies counted short s simple p x inside has room.
       loop_runs program w of (record { program = program; call = λ callee arguments text. TooDeep; turns = λ other t. TooDeep }) guard body bounded s simple p x inside has room TooDeep tt;
 }
 
@@ -377,28 +383,25 @@ record Both (program : plain.Plain) (m : Meaning) : Type 0 where
   calls : Calls program m
   turns : Turns program m
 
-wholes_run : (program : plain.Plain) → is_bounded_program program ≡ true → has_counts program ≡ true → (depth : ℕ) → Both program (whole program depth)
-wholes_run program bounded counted zero = record { calls = calls_none program; turns = turns_none program }
-wholes_run program bounded counted (suc depth) =
-    let less = wholes_run program bounded counted depth in
-    record { calls = calls_more program bounded counted depth less.calls less.turns; turns = turns_more program depth less.calls less.turns }
+wholes_run : (program : plain.Plain) → is_bounded_program program ≡ true → has_counts program ≡ true → has_short_texts program ≡ true → (depth : ℕ) → Both program (whole program depth)
+wholes_run program bounded counted short zero = record { calls = calls_none program; turns = turns_none program }
+wholes_run program bounded counted short (suc depth) =
+    let less = wholes_run program bounded counted short depth in
+    record { calls = calls_more program bounded counted short depth less.calls less.turns; turns = turns_more program depth less.calls less.turns }
 
 -- ---- the program
 
 -- what one call comes to, of any depth
-run_answers : (program : plain.Plain) → is_bounded_program program ≡ true → has_counts program ≡ true → (depth number : ℕ) (method : plain.Method) (arguments : List Value) (text : List ℕ) → plain.method_at program number ≡ Some method
+run_answers : (program : plain.Plain) → is_bounded_program program ≡ true → has_counts program ≡ true → has_short_texts program ≡ true → (depth number : ℕ) (method : plain.Method) (arguments : List Value) (text : List ℕ) → plain.method_at program number ≡ Some method
     → length arguments ≡ length method.parameters → list_all is_simple arguments ≡ true → (heap : Heap) (waiting : List Frame)
     → Answers (plain_code program) number (method_code program method) arguments (length method.results) heap waiting text (run_method (whole program depth) method arguments text)
-run_answers program bounded counted depth number method arguments text e same all heap waiting =
-    let both = wholes_run program bounded counted depth in
-    method_runs program number method e (get_bounded program.methods number method bounded e) (get_counted program program.methods number method counted e) (whole program depth) both.calls both.turns arguments text same all heap waiting
+run_answers program bounded counted short depth number method arguments text e same all heap waiting =
+    let both = wholes_run program bounded counted short depth in
+    method_runs program number method e (get_bounded program.methods number method bounded e) (get_counted program program.methods number method counted e) (get_short program.methods number method short e) (whole program depth) both.calls both.turns arguments text same all heap waiting
 
 answer_of : (code : Code) (number : ℕ) (m : Method) (arguments : List Value) (count : ℕ) (heap : Heap) (waiting : List Frame) (text : List ℕ) (o : Outcome Returned) (r : Returned) → o ≡ outcomes.Gives r → Answers code number m arguments count heap waiting text o
     → Reaches code (called number m (map machine_value arguments) heap waiting text) (returned (map machine_value r.values) heap waiting r.text)
 answer_of code number m arguments count heap waiting text o r e a = (subst (λ (y : Outcome Returned). Answers code number m arguments count heap waiting text y) e a).2
-
-some_same : {A : Type 0} (x y : A) → Some x ≡ Some y → x ≡ y
-some_same x y e = cc
 
 -- what ends never faults
 ends_never_faults : (code : Code) (s : machine.State) (n : ℕ) (x : Final) → machine_run code n s ≡ Ended x → NeverFaults code (On s)
@@ -422,16 +425,27 @@ starts program number method arguments heap e same =
     ap (λ (o : Option Method). begun number heap xs o) (method_there program number method e)
     ∙ ap (λ (b : Bool). cond b (On state) step.Fault) (same_numbers (length xs) (length method.parameters) count)
 
-pub does_what : (program : plain.Plain) → is_bounded_program program ≡ true → has_counts program ≡ true → DoesWhat program (plain_code program)
-does_what program bounded counted = record {
-  calls = λ depth number method m arguments text result e there same all runs heap waiting.
-      let is : method_code program method ≡ m = some_same (method_code program method) m (sym (method_there program number method e) ∙ there) in
-      subst (λ (y : Method). Reaches (plain_code program) (called number y (map machine_value arguments) heap waiting text) (returned (map machine_value result.values) heap waiting result.text)) is
-      (answer_of (plain_code program) number (method_code program method) arguments (length method.results) heap waiting text (run_method (whole program depth) method arguments text) result runs
-      (run_answers program bounded counted depth number method arguments text e same all heap waiting));
-  never = λ depth number method arguments result e same all runs heap.
+pub does_what : (program : plain.Plain) → is_bounded_program program ≡ true → has_counts program ≡ true → has_short_texts program ≡ true → DoesWhat program (plain_code program)
+does_what program bounded counted short = record {
+  calls = λ depth number method arguments text result e same all runs heap waiting. record {
+    method = method_code program method;
+    there = method_there program number method e;
+    reaches =
+        answer_of (plain_code program) number (method_code program method) arguments (length method.results) heap waiting text (run_method (whole program depth) method arguments text) result runs
+        (run_answers program bounded counted short depth number method arguments text e same all heap waiting);
+  };
+  begins = λ depth number method arguments result e same all runs heap.
+      let xs = map machine_value arguments in
+      let start = called number (method_code program method) xs heap [] [] in
+      let begins = starts program number method arguments heap e same in
       let reaches = answer_of (plain_code program) number (method_code program method) arguments (length method.results) heap [] [] (run_method (whole program depth) method arguments []) result runs
-      (run_answers program bounded counted depth number method arguments [] e same all heap []) in
-      subst (λ (y : Stepped). NeverFaults (plain_code program) y) (sym (starts program number method arguments heap e same))
-      (ends_never_faults (plain_code program) (called number (method_code program method) (map machine_value arguments) heap [] []) reaches.steps (record { results = map machine_value result.values; heap = heap; text = result.text }) reaches.runs);
+      (run_answers program bounded counted short depth number method arguments [] e same all heap []) in
+      record {
+        start = start;
+        begins = begins;
+        never_faults = subst (λ (y : Stepped). NeverFaults (plain_code program) y) (sym begins)
+            (ends_never_faults (plain_code program) start reaches.steps (record { results = map machine_value result.values; heap = heap; text = result.text }) reaches.runs);
+        steps = reaches.steps;
+        ends = reaches.runs;
+      };
 }

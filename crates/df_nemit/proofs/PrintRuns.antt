@@ -11,6 +11,7 @@ use Rattle.df_nplain.specs.Kind as kinds
 use Rattle.df_nplain.specs.Stmt.{Operand, Text}
 use Rattle.df_nplain.specs.Stmt as stmts
 use Rattle.df_nplain.specs.Bounded.{is_bounded, is_bounded_operand}
+use Rattle.df_nplain.specs.Short.{is_short_operand}
 use Rattle.df_nplain.specs.Outcome.{Outcome, Wrong, TooDeep, Stuck, after}
 use Rattle.df_nplain.specs.Outcome as outcomes
 use Rattle.df_nplain.specs.State.{State, printed, with_text}
@@ -26,7 +27,6 @@ use Rattle.df_nmach.specs.Printing as printing
 use Rattle.df_nmach.specs.Step.{Effect, Goes, TooLong, given, demand, leaves, characters, sequence, effect}
 use Rattle.df_nmach.specs.Step as step
 use Rattle.df_nemit.specs.Code.{expr_code, shape_of, text_code, operand_code, operands_code}
-use Rattle.df_nemit.specs.Counts.{is_operand}
 use Rattle.df_nemit.specs.Correct.{machine_value, is_simple}
 use Rattle.df_nemit.proofs.Reach.{HasAt, has_front, has_back, has_moved, World, instructions, point, frame, Leads, leads_on, leads_one, Still, still_none, still_on, still_one, Covers, Simple, Arrives, Carries, still_carries, carries_on, carries_to, carries_from, Gives}
 use Rattle.df_nemit.proofs.OperatorRuns.{below}
@@ -142,11 +142,11 @@ after_after (Wrong fault) f g = refl
 after_after TooDeep f g = refl
 after_after Stuck f g = refl
 
-pub operands_run : (w : World) (m : Meaning) (operands : List Operand) → list_all is_bounded_operand operands ≡ true → list_all is_operand operands ≡ true → (s : State) → Simple s → (p : ℕ) → HasAt (instructions w) p (operands_code w.scratch p operands)
+pub operands_run : (w : World) (m : Meaning) (operands : List Operand) → list_all is_bounded_operand operands ≡ true → list_all is_short_operand operands ≡ true → (s : State) → Simple s → (p : ℕ) → HasAt (instructions w) p (operands_code w.scratch p operands)
     → p + length (operands_code w.scratch p operands) < length (instructions w) → Comes w p s [] (p + length (operands_code w.scratch p operands)) [] (print_all m s operands)
-operands_run w m [] bounded counted s simple p has inside = (simple, carries_to w p p (p + 0) s s [] [] (omega arith) (still_carries w p s [] p [] (still_none w p [])))
-operands_run w m (Text cs ∷ operands) bounded counted s simple p has inside =
-    let c = both (is_operand (Text cs)) (list_all is_operand operands) counted in
+operands_run w m [] bounded short s simple p has inside = (simple, carries_to w p p (p + 0) s s [] [] (omega arith) (still_carries w p s [] p [] (still_none w p [])))
+operands_run w m (Text cs ∷ operands) bounded short s simple p has inside =
+    let c = both (is_short_operand (Text cs)) (list_all is_short_operand operands) short in
     let head = text_code cs in
     let q = p + length head in
     let rest = operands_code w.scratch q operands in
@@ -155,7 +155,7 @@ operands_run w m (Text cs ∷ operands) bounded counted s simple p has inside =
     (comes_after w p q (q + length rest) s (printed s (values.Text cs)) [] [] [] (print_all m (printed s (values.Text cs)) operands)
     (text_runs w cs p s c.0 (has_front (instructions w) p head rest has))
     (operands_run w m operands bounded c.1 (printed s (values.Text cs)) (simple_printed s (values.Text cs) simple) q (has_back (instructions w) p head rest has) (omega (arith, whole, inside))))
-operands_run w m (stmts.Value kind value ∷ operands) bounded counted s simple p has inside =
+operands_run w m (stmts.Value kind value ∷ operands) bounded short s simple p has inside =
     let k = both (is_bounded value) (list_all is_bounded_operand operands) bounded in
     let code = expr_code w.scratch p value in
     let head = code ++ i.Print (shape_of kind) ∷ [] in
@@ -171,4 +171,4 @@ operands_run w m (stmts.Value kind value ∷ operands) bounded counted s simple 
     (expr_runs w m s simple value k.0 p [] (has_front (instructions w) p code (i.Print (shape_of kind) ∷ []) at_head) (omega (arith, whole, inside, place)))
     (λ v. kind_prints w kind z s v (λ t. print_all m t operands) (q + length rest) (has_back (instructions w) p code (i.Print (shape_of kind) ∷ []) at_head).0
     (λ u. subst (λ (n : ℕ). Comes w n (printed s u) [] (q + length rest) [] (print_all m (printed s u) operands)) place
-    (operands_run w m operands k.1 counted (printed s u) (simple_printed s u simple) q (has_back (instructions w) p head rest has) (omega (arith, whole, inside)))))))
+    (operands_run w m operands k.1 short (printed s u) (simple_printed s u simple) q (has_back (instructions w) p head rest has) (omega (arith, whole, inside)))))))

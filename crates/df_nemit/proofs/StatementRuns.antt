@@ -11,6 +11,8 @@ use Rattle.df_nplain.specs.Expr.{Expr}
 use Rattle.df_nplain.specs.Stmt.{Operand, Call, Update, Variable, Stmt, Block, Var, Assign, CallOf, If, While, Break, Return, Print, Stmts, done, next, Branches, no_branch, branch}
 use Rattle.df_nplain.specs.Plain as plain
 use Rattle.df_nplain.specs.Bounded.{is_bounded, is_bounded_call, is_bounded_variable, is_bounded_update, is_bounded_operand, is_bounded_stmt, are_bounded_stmts, are_bounded_branches}
+use Rattle.df_nplain.specs.Counts.{results_at, is_call, is_update, is_stmt, are_stmts, are_branches}
+use Rattle.df_nplain.specs.Short.{is_short_operand, is_short_stmt, are_short_stmts, are_short_branches}
 use Rattle.df_nplain.specs.Outcome.{Outcome, Wrong, TooDeep, Stuck, after}
 use Rattle.df_nplain.specs.Outcome as outcomes
 use Rattle.df_nplain.specs.State.{State, without_local}
@@ -22,8 +24,7 @@ use Rattle.df_nmach.specs.declared.instruction.Instruction.{Instruction}
 use Rattle.df_nmach.specs.declared.instruction.Instruction.TheVariants as i
 use Rattle.df_nmach.specs.Value as mach
 use Rattle.df_nmach.specs.Step.{Goes, demand}
-use Rattle.df_nemit.specs.Code.{Exit, Behind, Outside, Ending, Mark, Fixed, To, Exits, instruction_of, with_behind, with_outside, ending_at, leaving_at, fixed, expr_code, call_code, update_code, optional_code, operands_code, results_at, stmt_marks, stmts_marks, branches_marks}
-use Rattle.df_nemit.specs.Counts.{is_call, is_update, is_operand, is_stmt, are_stmts, are_branches}
+use Rattle.df_nemit.specs.Code.{Exit, Behind, Outside, Ending, Mark, Fixed, To, Exits, instruction_of, with_behind, with_outside, ending_at, leaving_at, fixed, expr_code, call_code, update_code, optional_code, operands_code, stmt_marks, stmts_marks, branches_marks}
 use Rattle.df_nemit.specs.Correct.{machine_value, is_simple}
 use Rattle.df_nemit.proofs.Fills.{instructions_of, fixed_long, ending_long, ending_filled, leaving_long, leaving_filled}
 use Rattle.df_nemit.proofs.Reach.{HasAt, has_front, has_back, has_moved, HasMarks, marks_front, marks_back, marks_fixed, World, instructions, point, frame, Leads, leads_none, Still, still_one, Covers, Simple, Carries, still_carries, carries_on, carries_to, carries_from, Gives}
@@ -41,7 +42,7 @@ pub record Inside (w : World) (x : Exits) : Type 0 where
 
 -- what a loop's turns come to, the machine does from its guard on
 pub record Turns (program : plain.Plain) (m : Meaning) : Type 0 where
-  pub by : (w : World) → Of program w → (guard : Expr) (body : Stmts) → is_bounded guard ≡ true → are_bounded_stmts body ≡ true → are_stmts program body ≡ true → (s : State) → Simple s → (p : ℕ) (x : Exits) → Inside w x
+  pub by : (w : World) → Of program w → (guard : Expr) (body : Stmts) → is_bounded guard ≡ true → are_bounded_stmts body ≡ true → are_stmts program body ≡ true → are_short_stmts body ≡ true → (s : State) → Simple s → (p : ℕ) (x : Exits) → Inside w x
       → HasMarks (instructions w) p x (stmt_marks program w.scratch p (While guard body)) → p + length (stmt_marks program w.scratch p (While guard body)) < length (instructions w)
       → Flows w p s x (p + length (stmt_marks program w.scratch p (While guard body))) (m.turns (record { guard = guard; body = body }) s)
 
@@ -136,11 +137,11 @@ fixed_room : (w : World) (p : ℕ) (code : List Instruction) → p + length (fix
 fixed_room w p code room = omega (arith, room, fixed_long code)
 
 mutual
-  pub stmt_runs : (program : plain.Plain) (w : World) → Of program w → (m : Meaning) → Calls program m → Turns program m → (stmt : Stmt) → is_bounded_stmt stmt ≡ true → is_stmt program stmt ≡ true → (s : State) → Simple s → (p : ℕ) (x : Exits) → Inside w x
+  pub stmt_runs : (program : plain.Plain) (w : World) → Of program w → (m : Meaning) → Calls program m → Turns program m → (stmt : Stmt) → is_bounded_stmt stmt ≡ true → is_stmt program stmt ≡ true → is_short_stmt stmt ≡ true → (s : State) → Simple s → (p : ℕ) (x : Exits) → Inside w x
       → HasMarks (instructions w) p x (stmt_marks program w.scratch p stmt) → p + length (stmt_marks program w.scratch p stmt) < length (instructions w)
       → Flows w p s x (p + length (stmt_marks program w.scratch p stmt)) (execute m s stmt)
-  stmt_runs program w of m calls turns (Block body) bounded counted s simple p x inside has room = stmts_run program w of m calls turns body bounded counted s simple p x inside has room
-  stmt_runs program w of m calls turns (Var variables update) bounded counted s simple p x inside has room =
+  stmt_runs program w of m calls turns (Block body) bounded counted short s simple p x inside has room = stmts_run program w of m calls turns body bounded counted short s simple p x inside has room
+  stmt_runs program w of m calls turns (Var variables update) bounded counted short s simple p x inside has room =
       let k = both (list_all is_bounded_variable variables) (is_bounded_update update) bounded in
       let code = optional_code w.scratch p update in
       let t = declare_all s variables in
@@ -148,11 +149,11 @@ mutual
       (flows_on w p (p + length code) s x (execute_optional m t update)
       (comes_after w p p (p + length code) s t [] [] [] (execute_optional m t update) (declared_carries w variables s p)
       (optional_runs program w of m calls update k.1 counted t (declared_simple variables s simple) p [] (marks_fixed (instructions w) p x code has) (fixed_room w p code room))))
-  stmt_runs program w of m calls turns (Assign update) bounded counted s simple p x inside has room =
+  stmt_runs program w of m calls turns (Assign update) bounded counted short s simple p x inside has room =
       let code = update_code w.scratch p update in
       fixed_flow w p s x code (execute m s (Assign update))
       (flows_on w p (p + length code) s x (execute_update m s update) (update_runs program w of m calls update bounded counted s simple p [] (marks_fixed (instructions w) p x code has) (fixed_room w p code room)))
-  stmt_runs program w of m calls turns (CallOf call) bounded counted s simple p x inside has room =
+  stmt_runs program w of m calls turns (CallOf call) bounded counted short s simple p x inside has room =
       let count = results_at program call.callee in
       let front = call_code w.scratch p call in
       let drops = replicate count i.Drop in
@@ -164,9 +165,10 @@ mutual
       fixed_flow w p s x code (execute m s (CallOf call))
       (flows_to w p (q + count) (p + length code) s x (execute m s (CallOf call)) ends
       (drops_flow w p q count s x (execute_call m s call) (call_runs program w of m calls s simple call bounded counted p [] (has_front (instructions w) p front drops at_code) (omega (arith, inner, ends))) (has_back (instructions w) p front drops at_code)))
-  stmt_runs program w of m calls turns (If branches otherwise) bounded counted s simple p x inside has room =
+  stmt_runs program w of m calls turns (If branches otherwise) bounded counted short s simple p x inside has room =
       let k = both (are_bounded_branches branches) (are_bounded_stmts otherwise) bounded in
       let c = both (are_branches program branches) (are_stmts program otherwise) counted in
+      let h = both (are_short_branches branches) (are_short_stmts otherwise) short in
       let choices = branches_marks program w.scratch p branches in
       let q = p + length choices in
       let others = stmts_marks program w.scratch q otherwise in
@@ -175,14 +177,14 @@ mutual
       let size : p + length (map (ending_at t) (choices ++ others)) ≡ t = omega (arith, ending_long t (choices ++ others), length-append choices others) in
       let there : t < length (instructions w) = omega (arith, size, room) in
       let has' = subst (λ (l : List Instruction). HasAt (instructions w) p l) (sym (ending_filled t x (choices ++ others))) has in
-      let last = stmts_run program w of m calls turns otherwise k.1 c.1 s simple q y (record { outside = inside.outside; ending = inside.ending }) (marks_back (instructions w) p y choices others has') there in
+      let last = stmts_run program w of m calls turns otherwise k.1 c.1 h.1 s simple q y (record { outside = inside.outside; ending = inside.ending }) (marks_back (instructions w) p y choices others has') there in
       flows_to w p t (p + length (map (ending_at t) (choices ++ others))) s x (execute m s (If branches otherwise)) (sym size)
-      (branches_run program w of m calls turns branches k.0 c.0 s simple p q y (record { outside = inside.outside; ending = inside.ending }) there (marks_front (instructions w) p y choices others has') refl (omega (arith, there)) (execute_all m s otherwise) last)
-  stmt_runs program w of m calls turns (While guard body) bounded counted s simple p x inside has room =
+      (branches_run program w of m calls turns branches k.0 c.0 h.0 s simple p q y (record { outside = inside.outside; ending = inside.ending }) there (marks_front (instructions w) p y choices others has') refl (omega (arith, there)) (execute_all m s otherwise) last)
+  stmt_runs program w of m calls turns (While guard body) bounded counted short s simple p x inside has room =
       let k = both (is_bounded guard) (are_bounded_stmts body) bounded in
-      turns.by w of guard body k.0 k.1 counted s simple p x inside has room
-  stmt_runs program w of m calls turns Break bounded counted s simple p x inside has room = (simple, still_carries w p s [] x.outside [] (jumps w p x.outside [] has.0 inside.outside))
-  stmt_runs program w of m calls turns (Return update) bounded counted s simple p x inside has room =
+      turns.by w of guard body k.0 k.1 counted short s simple p x inside has room
+  stmt_runs program w of m calls turns Break bounded counted short s simple p x inside has room = (simple, still_carries w p s [] x.outside [] (jumps w p x.outside [] has.0 inside.outside))
+  stmt_runs program w of m calls turns (Return update) bounded counted short s simple p x inside has room =
       let code = optional_code w.scratch p update in
       let q = p + length code in
       let ends : p + length (fixed code ++ To Ending ∷ []) ≡ q + 1 = omega (arith, length-append (fixed code) (To Ending ∷ []), fixed_long code) in
@@ -191,36 +193,38 @@ mutual
       returns_flow w p q (p + length (fixed code ++ To Ending ∷ [])) s x (execute_optional m s update)
       (optional_runs program w of m calls update bounded counted s simple p [] (marks_fixed (instructions w) p x code (marks_front (instructions w) p x (fixed code) (To Ending ∷ []) has)) (omega (arith, ends, room)))
       (jumps w q x.ending [] at_jump.0 inside.ending)
-  stmt_runs program w of m calls turns (Print operands) bounded counted s simple p x inside has room =
+  stmt_runs program w of m calls turns (Print operands) bounded counted short s simple p x inside has room =
       let code = operands_code w.scratch p operands in
       fixed_flow w p s x code (execute m s (Print operands))
-      (flows_on w p (p + length code) s x (print_all m s operands) (operands_run w m operands bounded counted s simple p (marks_fixed (instructions w) p x code has) (fixed_room w p code room)))
+      (flows_on w p (p + length code) s x (print_all m s operands) (operands_run w m operands bounded short s simple p (marks_fixed (instructions w) p x code has) (fixed_room w p code room)))
 
-  pub stmts_run : (program : plain.Plain) (w : World) → Of program w → (m : Meaning) → Calls program m → Turns program m → (stmts : Stmts) → are_bounded_stmts stmts ≡ true → are_stmts program stmts ≡ true → (s : State) → Simple s → (p : ℕ) (x : Exits) → Inside w x
+  pub stmts_run : (program : plain.Plain) (w : World) → Of program w → (m : Meaning) → Calls program m → Turns program m → (stmts : Stmts) → are_bounded_stmts stmts ≡ true → are_stmts program stmts ≡ true → are_short_stmts stmts ≡ true → (s : State) → Simple s → (p : ℕ) (x : Exits) → Inside w x
       → HasMarks (instructions w) p x (stmts_marks program w.scratch p stmts) → p + length (stmts_marks program w.scratch p stmts) < length (instructions w)
       → Flows w p s x (p + length (stmts_marks program w.scratch p stmts)) (execute_all m s stmts)
-  stmts_run program w of m calls turns done bounded counted s simple p x inside has room = (simple, record { by = λ l c. record { locals = l; covers = c; leads = subst (λ (n : ℕ). Moved w p n l s.text) (let e : p ≡ p + 0 = omega arith in e) (leads_none w (point p l [] s.text)) } })
-  stmts_run program w of m calls turns (next stmt others) bounded counted s simple p x inside has room =
+  stmts_run program w of m calls turns done bounded counted short s simple p x inside has room = (simple, record { by = λ l c. record { locals = l; covers = c; leads = subst (λ (n : ℕ). Moved w p n l s.text) (let e : p ≡ p + 0 = omega arith in e) (leads_none w (point p l [] s.text)) } })
+  stmts_run program w of m calls turns (next stmt others) bounded counted short s simple p x inside has room =
       let k = both (is_bounded_stmt stmt) (are_bounded_stmts others) bounded in
       let c = both (is_stmt program stmt) (are_stmts program others) counted in
+      let h = both (is_short_stmt stmt) (are_short_stmts others) short in
       let head = stmt_marks program w.scratch p stmt in
       let q = p + length head in
       let rest = stmts_marks program w.scratch q others in
       let ends : q + length rest ≡ p + length (head ++ rest) = omega (arith, length-append head rest) in
       flows_to w p (q + length rest) (p + length (head ++ rest)) s x (execute_all m s (next stmt others)) ends
       (flows_then w p q (q + length rest) s x (execute m s stmt) (λ t. execute_all m t others)
-      (stmt_runs program w of m calls turns stmt k.0 c.0 s simple p x inside (marks_front (instructions w) p x head rest has) (omega (arith, ends, room)))
-      (λ t st. stmts_run program w of m calls turns others k.1 c.1 t st q x inside (marks_back (instructions w) p x head rest has) (omega (arith, ends, room))))
+      (stmt_runs program w of m calls turns stmt k.0 c.0 h.0 s simple p x inside (marks_front (instructions w) p x head rest has) (omega (arith, ends, room)))
+      (λ t st. stmts_run program w of m calls turns others k.1 c.1 h.1 t st q x inside (marks_back (instructions w) p x head rest has) (omega (arith, ends, room))))
 
   -- the branches of a choice that ends behind it, the last statements of which begin at the place
-  branches_run : (program : plain.Plain) (w : World) → Of program w → (m : Meaning) → Calls program m → Turns program m → (branches : Branches) → are_bounded_branches branches ≡ true → are_branches program branches ≡ true → (s : State) → Simple s → (p q : ℕ) (x : Exits) → Inside w x
+  branches_run : (program : plain.Plain) (w : World) → Of program w → (m : Meaning) → Calls program m → Turns program m → (branches : Branches) → are_bounded_branches branches ≡ true → are_branches program branches ≡ true → are_short_branches branches ≡ true → (s : State) → Simple s → (p q : ℕ) (x : Exits) → Inside w x
       → x.behind < length (instructions w) → HasMarks (instructions w) p x (branches_marks program w.scratch p branches) → p + length (branches_marks program w.scratch p branches) ≡ q → q < length (instructions w)
       → (otherwise : Outcome Flow) → Flows w q s x x.behind otherwise → Flows w p s x x.behind (execute_branches m s branches otherwise)
-  branches_run program w of m calls turns no_branch bounded counted s simple p q x inside there has ends room otherwise last =
+  branches_run program w of m calls turns no_branch bounded counted short s simple p q x inside there has ends room otherwise last =
       let e : q ≡ p = omega (arith, ends) in subst (λ (n : ℕ). Flows w n s x x.behind otherwise) e last
-  branches_run program w of m calls turns (branch guard body rest) bounded counted s simple p q x inside there has ends room otherwise last =
+  branches_run program w of m calls turns (branch guard body rest) bounded counted short s simple p q x inside there has ends room otherwise last =
       let k = three (is_bounded guard) (are_bounded_stmts body) (are_bounded_branches rest) bounded in
       let c = both (are_stmts program body) (are_branches program rest) counted in
+      let h = both (are_short_stmts body) (are_short_branches rest) short in
       let test = expr_code w.scratch p guard in
       let z = p + length test in
       let inner = stmts_marks program w.scratch (z + 1) body in
@@ -239,5 +243,5 @@ mutual
       (expr_runs w m s simple guard k.0 p [] (has_front (instructions w) p test (i.Unless past ∷ []) at_front) (omega (arith, whole, room)))
       (guard_takes w z past x.behind s x (execute_all m s body) (execute_branches m s rest otherwise) unless (omega (arith, whole, room))
       (flows_further w (z + 1) e x.behind s x (execute_all m s body) (jumps w e x.behind [] behind.0 there)
-      (stmts_run program w of m calls turns body k.1 c.0 s simple (z + 1) x inside (marks_front (instructions w) (z + 1) x inner (To Behind ∷ others) at_tail) (omega (arith, whole, room))))
-      (branches_run program w of m calls turns rest k.2 c.1 s simple past q x inside there behind.1 whole room otherwise last))
+      (stmts_run program w of m calls turns body k.1 c.0 h.0 s simple (z + 1) x inside (marks_front (instructions w) (z + 1) x inner (To Behind ∷ others) at_tail) (omega (arith, whole, room))))
+      (branches_run program w of m calls turns rest k.2 c.1 h.1 s simple past q x inside there behind.1 whole room otherwise last))

@@ -10,6 +10,7 @@ use Rattle.df_nplain.specs.Expr.{Expr}
 use Rattle.df_nplain.specs.Stmt.{Call, Source, Single, Results, Update}
 use Rattle.df_nplain.specs.Plain as plain
 use Rattle.df_nplain.specs.Bounded.{is_bounded, is_bounded_source, is_bounded_call, is_bounded_update}
+use Rattle.df_nplain.specs.Counts.{results_at, is_call, is_source, count_of, is_update}
 use Rattle.df_nplain.specs.Outcome.{Outcome, Wrong, TooDeep, Stuck, after}
 use Rattle.df_nplain.specs.Outcome as outcomes
 use Rattle.df_nplain.specs.State.{State, with_text}
@@ -24,8 +25,7 @@ use Rattle.df_nmach.specs.State as machine
 use Rattle.df_nmach.specs.Step.{Effect, Goes, Calls as EffectCalls, given, demand, effect, next_effect, stepped, On, beginning}
 use Rattle.df_nmach.specs.Run.{and_then, machine_run}
 use Rattle.df_nmach.proofs.Runs.{run_add}
-use Rattle.df_nemit.specs.Code.{exprs_code, expr_code, call_code, source_code, sources_code, sets_code, update_code, optional_code, results_at, method_code, plain_code}
-use Rattle.df_nemit.specs.Counts.{is_call, is_source, count_of, is_update}
+use Rattle.df_nemit.specs.Code.{exprs_code, expr_code, call_code, source_code, sources_code, sets_code, update_code, optional_code, method_code, plain_code}
 use Rattle.df_nemit.specs.Correct.{machine_value, is_simple, called, returned, Reaches}
 use Rattle.df_nemit.proofs.Reach.{HasAt, has_front, has_back, has_moved, World, instructions, Point, point, frame, at, Leads, leads_on, leads_silent, next_is, Still, still_none, still_on, still_one, Covers, Simple, Arrives, Carries, still_carries, carries_on, carries_to, carries_from, Gives, gives_to}
 use Rattle.df_nemit.proofs.ExpressionRuns.{both, three, expr_runs}

@@ -10,7 +10,8 @@ use Rattle.df_nmach.specs.State.{Method, Code}
 use Rattle.df_nemit.specs.Code.{method_code, plain_code}
 use Rattle.df_nemit.specs.mirror.Emitting.{emit_method}
 use Rattle.df_nplain.specs.Bounded.{is_bounded_program}
-use Rattle.df_nemit.specs.Counts.{has_counts}
+use Rattle.df_nplain.specs.Counts.{has_counts}
+use Rattle.df_nplain.specs.Short.{has_short_texts}
 use Rattle.df_nemit.specs.Correct.{DoesWhat}
 use Rattle.df_nemit.proofs.StatementsEmitted.{emits_method}
 use Rattle.df_nemit.proofs.MethodRuns.{does_what}
@@ -31,10 +32,11 @@ code_is ms n made all le e f = λ j. record { methods = all_made (record { metho
 -- it does what the program does
 pub does : (ms : List declared.Method) (n : ℕ) (made : List Method) (all : List Shape) → length ms ≤ n → made ≡ map (emit_method (record { methods = map view.method_of ms })) (map view.method_of (take n ms))
     → all ≡ shapes.Number ∷ shapes.Truth ∷ shapes.Char ∷ shapes.Text ∷ [] → is_bounded_program (record { methods = map view.method_of ms }) ≡ true → has_counts (record { methods = map view.method_of ms }) ≡ true
+    → has_short_texts (record { methods = map view.method_of ms }) ≡ true
     → DoesWhat (record { methods = map view.method_of ms }) (record { methods = made; shapes = all })
-does ms n made all le e f bounded counted =
+does ms n made all le e f bounded counted short =
     let p : plain.Plain = record { methods = map view.method_of ms } in
-    subst (λ (c : Code). DoesWhat p c) (sym (code_is ms n made all le e f)) (does_what p bounded counted)
+    subst (λ (c : Code). DoesWhat p c) (sym (code_is ms n made all le e f)) (does_what p bounded counted short)
 
 names_stay : (p : plain.Plain) (ms : List plain.Method) → map (λ (m : Method). m.name) (map (method_code p) ms) ≡ map (λ (m : plain.Method). m.text) ms
 names_stay p [] = refl

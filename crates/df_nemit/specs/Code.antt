@@ -1,6 +1,5 @@
 -- The instructions of a program. Places of instructions count from the method's first.
 use Rattle.std.specs.Prelude.{ℕ, zero, suc, ◌+◌, ◌-◌, ◌^◌, ℤ, pos, neg_ℤ, Bool, true, false, cond, nat_lt, List, [], ◌∷◌, ◌++◌, length, map, max, reverse, replicate, Option, None, Some}
-use Rattle.std.specs.Option.{option_map_or}
 use Rattle.df_lang.specs.declared.expr.AddendOperator.{AddendOperator}
 use Rattle.df_lang.specs.declared.expr.AddendOperator.TheVariants as addends
 use Rattle.df_lang.specs.declared.expr.FactorOperator.{FactorOperator}
@@ -13,6 +12,7 @@ use Rattle.df_nplain.specs.Kind as kinds
 use Rattle.df_nplain.specs.Expr.{Expr, Number, Truth, Character, Local, Negate, Not, Sum, Product, Junction, Implies, Iff, Chain, As, Addends, no_addend, addend, Factors, no_factor, factor, Members, no_member, member, Links, no_link, link}
 use Rattle.df_nplain.specs.Stmt.{Operand, Text, Value, Call, Source, Single, Results, Update, Stmt, Block, Var, Assign, CallOf, If, While, Break, Return, Print, Stmts, done, next, Branches, no_branch, branch}
 use Rattle.df_nplain.specs.Plain as plain
+use Rattle.df_nplain.specs.Counts.{results_at}
 use Rattle.df_nmach.specs.declared.instruction.Range.{Range}
 use Rattle.df_nmach.specs.declared.instruction.UnaryOperator.TheVariants as unary
 use Rattle.df_nmach.specs.declared.instruction.BinaryOperator.{BinaryOperator}
@@ -276,10 +276,6 @@ abbrev pub operands_code : ℕ → ℕ → List Operand → List Instruction
 operands_code scratch place [] = []
 operands_code scratch place (operand ∷ others) =
     let head = operand_code scratch place operand in head ++ operands_code scratch (place + length head) others
-
--- how many results the method of a number has
-abbrev pub results_at : plain.Plain → ℕ → ℕ
-results_at program number = option_map_or (λ (m : plain.Method). length m.results) (plain.method_at program number) 0
 
 abbrev mutual
   -- a statement in a method of the program; the first instruction stands at the place

@@ -11,7 +11,7 @@ use Rattle.df_nmach.specs.State.{Code, Heap, Frame, State}
 use Rattle.df_nmach.specs.State as machine
 use Rattle.df_nmach.specs.Step as step
 use Rattle.df_nmach.specs.Step.{Stepped, beginning, at}
-use Rattle.df_nmach.specs.Run.{and_then, machine_run, start_of, NeverFaults}
+use Rattle.df_nmach.specs.Run.{machine_run, start_of, NeverFaults}
 
 abbrev pub machine_value : Value → mach.Value
 machine_value (Truth b) = mach.Truth b
@@ -40,21 +40,35 @@ pub record Reaches (code : Code) (start : State) (end : Stepped) : Type 0 where
   pub steps : ℕ
   pub runs : machine_run code steps start ≡ end
 
--- Each run of a method that comes to results comes to them on the machine, whatever waits below; and a run that
--- begins with it ends so, and never faults.
+-- The code has the method of the number, and its call on these arguments comes to these results, whose run has printed
+-- this text by then. What waits, and the heap, are as they were.
+pub record ComesTo (code : Code) (number : ℕ) (arguments : List mach.Value) (heap : Heap) (waiting : List Frame) (text : List ℕ) (results : List mach.Value) (printed : List ℕ) : Type 0 where
+  pub method : machine.Method
+  pub there : slice_get code.methods number ≡ Some method
+  pub reaches : Reaches code (called number method arguments heap waiting text) (returned results heap waiting printed)
+
+-- The machine begins with the method of the number on these arguments, no number of steps from there faults, and after
+-- some number it has ended with these results and this text, and the heap is as it was.
+pub record EndsWith (code : Code) (number : ℕ) (heap : Heap) (arguments results : List mach.Value) (text : List ℕ) : Type 0 where
+  pub start : State
+  pub begins : start_of code number heap arguments ≡ step.On start
+  pub never_faults : NeverFaults code (start_of code number heap arguments)
+  pub steps : ℕ
+  pub ends : machine_run code steps start ≡ step.Ended (record { results = results; heap = heap; text = text })
+
+-- Where a method comes to results, at any depth, its code comes to them: in a call, whatever waits, and from the beginning.
 pub record DoesWhat (plain : Plain) (code : Code) : Type 0 where
-  pub calls : (depth number : ℕ) (method : Method) (m : machine.Method) (arguments : List Value) (text : List ℕ) (result : Returned)
+  pub calls : (depth number : ℕ) (method : Method) (arguments : List Value) (text : List ℕ) (result : Returned)
       → method_at plain number ≡ Some method
-      → slice_get code.methods number ≡ Some m
       → length arguments ≡ length method.parameters
       → list_all is_simple arguments ≡ true
       → run_method (whole plain depth) method arguments text ≡ Gives result
       → (heap : Heap) (waiting : List Frame)
-      → Reaches code (called number m (map machine_value arguments) heap waiting text) (returned (map machine_value result.values) heap waiting result.text)
-  pub never : (depth number : ℕ) (method : Method) (arguments : List Value) (result : Returned)
+      → ComesTo code number (map machine_value arguments) heap waiting text (map machine_value result.values) result.text
+  pub begins : (depth number : ℕ) (method : Method) (arguments : List Value) (result : Returned)
       → method_at plain number ≡ Some method
       → length arguments ≡ length method.parameters
       → list_all is_simple arguments ≡ true
       → run_method (whole plain depth) method arguments [] ≡ Gives result
       → (heap : Heap)
-      → NeverFaults code (start_of code number heap (map machine_value arguments))
+      → EndsWith code number heap (map machine_value arguments) (map machine_value result.values) result.text

@@ -1,5 +1,4 @@
 pub mod Code
-pub mod Counts
 pub mod Correct
 pub mod Named
 pub mod mirror

@@ -9,7 +9,6 @@ ghost use Rattle.df_nmach.specs.State as state;
 ghost use Rattle.df_nmach.specs.View.{method_of, code_of};
 ghost use Rattle.df_nemit.specs.Code as pure;
 ghost use Rattle.df_nemit.specs.Correct.{DoesWhat};
-ghost use Rattle.df_nemit.specs.Counts.{has_counts};
 ghost use Rattle.df_nemit.specs.mirror.Emitting as mirror;
 ghost use Rattle.df_nemit.specs.Named.{are_named};
 
@@ -84,14 +83,15 @@ fn emit_one(alloc: Global, plain: &Plain, method: &Method) -> Result<df_nmach::M
     })
 }
 
-/// The machine code of a program. It fails for want of memory, also where a frame would have as many locals
-/// as no memory has room for.
+/// The machine code of a program whose methods have names, as those of a source have: the names of its tokens are
+/// identifiers. It fails for want of memory, also where a frame would have as many locals as no memory has room
+/// for.
 pub fn emit(alloc: Global, plain: &Plain) -> Result<Code, AllocError>
     requires names { are_named (plain_of plain.now) ≡ true }
     // It is a function of the program.
     ensures code { IfOk result (λ code. code_of code ≡ pure.plain_code (plain_of plain.now)) }
-    // Where calls and updates have as many values as are asked for, it does what the program does.
-    ensures does { IfOk result (λ code. has_counts (plain_of plain.now) ≡ true → DoesWhat (plain_of plain.now) (code_of code)) }
+    // It does what the program does.
+    ensures does { IfOk result (λ code. DoesWhat (plain_of plain.now) (code_of code)) }
     // Methods keep their numbers.
     ensures methods { IfOk result (λ code. map (λ (m : state.Method). m.name) (code_of code).methods ≡ map (λ (m : plain_program.Method). m.text) (plain_of plain.now).methods) }
 {

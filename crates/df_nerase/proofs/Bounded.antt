@@ -220,7 +220,7 @@ operands_bounded setting (operand ∷ others) are none =
     by_operand (Text characters) is e = refl
     by_operand (Value ty value) is e = expr_bounded setting.program setting.locals value false ty (both (is_type setting.program ty) (is_expr setting.program setting.locals ty value) is).1 e
 
-return_typed : (setting : Setting) (update : Option Update) → is_stmt setting (Return (record { line = 1; col = 1 }) update) ≡ true → may_update setting update ≡ true
+pub return_typed : (setting : Setting) (update : Option Update) → is_stmt setting (Return (record { line = 1; col = 1 }) update) ≡ true → may_update setting update ≡ true
 return_typed setting None is = refl
 return_typed setting (Some update) is = (both (is_update setting update) (gives_results setting update) is).0
 

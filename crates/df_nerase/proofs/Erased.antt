@@ -14,7 +14,7 @@ use Rattle.df_nplain.specs.Stmt as plain_stmt
 use Rattle.df_nplain.specs.StmtView as plain_stmt_view
 use Rattle.df_nplain.specs.Plain as plain_program
 use Rattle.df_nerase.specs.Erasing.{methods_among, erase_expr, erase_addends, erase_factors, erase_members, erase_links, erase_stmt, erase_stmts, erase_branches, kept, erase_method}
-use Rattle.df_nerase.specs.Numbers.{numbers_from}
+use Rattle.df_nerase.specs.mirror.Numbers.{numbers_from}
 
 -- ---- parts
 

@@ -10,7 +10,7 @@ use Rattle.df_lang.specs.Program.{Program}
 use Rattle.df_lang.specs.Native.{Integers}
 use Rattle.df_lang.proofs.Samples.{at, alone, method_with}
 use Rattle.df_nerase.specs.First.{IsFirst}
-use Rattle.df_nerase.specs.Finding.{find_in_decl}
+use Rattle.df_nerase.specs.mirror.Finding.{find_in_decl}
 
 -- `n + n < bound` at the column
 abbrev sum_below : ℕ → ℕ → ℕ → Expr

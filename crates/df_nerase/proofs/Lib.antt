@@ -7,5 +7,6 @@ pub mod Methods
 pub mod Wholes
 pub mod Erased
 pub mod Bounded
+pub mod Counts
 pub mod Lowering
 pub mod FirstRows

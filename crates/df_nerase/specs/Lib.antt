@@ -1,9 +1,9 @@
 pub mod Erasing
 pub mod First
+pub mod Refusals
 pub mod Simulation
 pub mod Lowering
 pub mod Running
 pub mod Views
-pub mod Finding
-pub mod Numbers
 pub mod Eraser
+pub mod mirror

@@ -13,6 +13,7 @@ use Rattle.df_mean.specs.Whole.{run_method, whole}
 use Rattle.df_mean.specs.Correct.{MeetsPreconditions, IsCorrect}
 use Rattle.df_nplain.specs.Plain as plain
 use Rattle.df_nplain.specs.Bounded.{is_bounded_program}
+use Rattle.df_nplain.specs.Counts.{has_counts}
 use Rattle.df_nplain.specs.Values.{have_kinds}
 use Rattle.df_nplain.specs.Outcome as outcomes
 use Rattle.df_nplain.specs.Outcome.{Fault}
@@ -24,6 +25,10 @@ use Rattle.df_nerase.specs.Simulation.{Simulates, returned_of}
 -- In a well-typed program that keeps the native rules each number at a place, and each result of arithmetic, has an interval.
 abbrev pub NativeProgramsAreBounded : Type 0
 NativeProgramsAreBounded = (program : Program) → is_well_typed program ≡ true → IsNative program → is_bounded_program (erased program) ≡ true
+
+-- Without the ghosts of a well-typed program calls and updates have as many values as are asked for.
+abbrev pub CountsAreKept : Type 0
+CountsAreKept = (program : Program) → is_well_typed program ≡ true → has_counts (erased program) ≡ true
 
 -- Methods are found under their new numbers.
 abbrev pub MethodsAreFound : Type 0

@@ -11,7 +11,7 @@ ghost use Rattle.df_nplain.specs.ExprView as plain;
 ghost use Rattle.df_nplain.specs.StmtView as plain_stmt;
 ghost use Rattle.df_nplain.specs.MethodView as plain_view;
 ghost use Rattle.df_nerase.specs.Views.{addend_of, factor_of, member_of, link_of, branch_of};
-ghost use Rattle.df_nerase.specs.Numbers.{numbers_from};
+ghost use Rattle.df_nerase.specs.mirror.Numbers.{numbers_from};
 ghost use Rattle.df_nerase.specs.Erasing as erasing;
 ghost use Rattle.df_nerase.specs.Erasing.{methods_among};
 

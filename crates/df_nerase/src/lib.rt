@@ -2,7 +2,7 @@
 #![tactic(auto)]
 
 ghost use Rattle.df_nerase.specs.First.{BrokenIsNotNative, NativeOrBroken};
-ghost use Rattle.df_nerase.specs.Running.{NativeProgramsAreBounded, ArgumentsAreLowered, ResultsAreLowered, MethodsAreFound, MethodsAreSimulated, CorrectMethodsRunAlike};
+ghost use Rattle.df_nerase.specs.Running.{NativeProgramsAreBounded, CountsAreKept, ArgumentsAreLowered, ResultsAreLowered, MethodsAreFound, MethodsAreSimulated, CorrectMethodsRunAlike};
 
 mod eraser;
 mod erasure;
@@ -29,7 +29,14 @@ pub fn native_programs_are_bounded()
     ensures { NativeProgramsAreBounded }
 {}
 
-/// There arguments of the types of a method's parameters have values without ghosts, of the kinds of their places.
+/// In a well-typed program calls and updates have as many values as are asked for, and so they have without its
+/// ghosts.
+pub fn counts_are_kept()
+    ensures { CountsAreKept }
+{}
+
+/// In a well-typed program that keeps the native rules arguments of the types of a method's parameters have values
+/// without ghosts, of the kinds of their places.
 pub fn arguments_are_lowered()
     ensures { ArgumentsAreLowered }
 {}

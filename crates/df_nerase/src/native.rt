@@ -9,8 +9,8 @@ ghost use Rattle.df_lang.specs.View.{program_of};
 ghost use Rattle.df_lang.specs.Native.{is_unbounded as unbounded};
 ghost use Rattle.df_nerase.specs.Views.{addend_of, factor_of, member_of, link_of, branch_of};
 ghost use Rattle.df_nerase.specs.First.{number_of};
-ghost use Rattle.df_nerase.specs.Finding as mirror;
-ghost use Rattle.df_nerase.specs.Finding.{rule_of, found_of};
+ghost use Rattle.df_nerase.specs.mirror.Finding as mirror;
+ghost use Rattle.df_nerase.specs.mirror.Finding.{rule_of, found_of};
 
 use df_base::Pos;
 use df_lang::{

@@ -3,7 +3,7 @@
 ghost use Rattle.std.specs.Prelude.{◌≡◌, ◌≤◌, ℕ, zero, IfOk, length};
 ghost use Rattle.df_lang.specs.View.{program_of};
 ghost use Rattle.df_nerase.specs.Erasing.{methods_among};
-ghost use Rattle.df_nerase.specs.Numbers.{numbers_from};
+ghost use Rattle.df_nerase.specs.mirror.Numbers.{numbers_from};
 
 use df_lang::{Decl, Program};
 use std::alloc::{AllocError, Global};

@@ -1,3 +1,4 @@
 pub mod Outcomes
 pub mod Growing
 pub mod Texts
+pub mod Short

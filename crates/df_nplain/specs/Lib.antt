@@ -15,4 +15,6 @@ pub mod Whole
 pub mod Growing
 pub mod Texts
 pub mod Bounded
+pub mod Counts
+pub mod Short
 pub mod Values

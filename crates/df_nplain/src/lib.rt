@@ -2,7 +2,11 @@
 //! compiler makes machine code of, and what they do.
 #![tactic(auto)]
 
+ghost use Rattle.std.specs.Prelude.{◌≡◌, true};
+ghost use Rattle.df_nplain.specs.declared.plain.Plain as declared;
+ghost use Rattle.df_nplain.specs.View.{plain_of};
 ghost use Rattle.df_nplain.specs.Growing.{StatementsGrow, WholesGrow, MethodsGrow};
+ghost use Rattle.df_nplain.specs.Short.{has_short_texts};
 ghost use Rattle.df_nplain.specs.Texts.{StatementsKeepText, MethodsKeepText};
 
 mod expr;
@@ -38,4 +42,9 @@ pub fn statements_keep_text()
 /// And so does one of a method.
 pub fn methods_keep_text()
     ensures { MethodsKeepText }
+{}
+
+/// No text of a program is as long as no memory is.
+pub fn texts_are_short()
+    ensures { (plain : declared.Plain) → has_short_texts (plain_of plain) ≡ true }
 {}

@@ -5,11 +5,13 @@ use Rattle.df_base.specs.declared.pos.Pos.{Pos}
 use Rattle.df_lang.specs.View.{program_of}
 use Rattle.df_nplain.specs.Plain.{Method}
 use Rattle.df_nplain.specs.Bounded.{is_bounded_method}
+use Rattle.df_nplain.specs.Counts.{has_counts}
 use Rattle.df_nerase.specs.First.{number_of, IsFirst}
-use Rattle.df_nerase.specs.Finding.{rule_of, breach_of}
+use Rattle.df_nerase.specs.mirror.Finding.{rule_of, breach_of}
 use Rattle.df_nerase.specs.declared.fault.EraseFault.TheVariants as faults
 use Rattle.df_nerase.proofs.First.{none_is_native, first_is_told, nothing_told, told_is, broken_is_not_native}
 use Rattle.df_nerase.proofs.Bounded.{native_programs_are_bounded}
+use Rattle.df_nerase.proofs.Counts.{counts_are_kept}
 use Rattle.df_nerase.proofs.erasure.erase.Goals as goal
 
 pub returns-clause-native : goal.returns-clause-native
@@ -50,8 +52,13 @@ pub returns-clause-told : goal.returns-clause-told
 returns-clause-told c = λ pos rule first.
     absurd (nothing_told (program_of c.args.program.now) pos rule (sym c.first_broken.ensures ∙ ap (option_map breach_of) c.in_default.is) first)
 
-pub new-requires : goal.new-requires
-new-requires c =
+pub new-requires-clause-bounded : goal.new-requires-clause-bounded
+new-requires-clause-bounded c =
     let program = program_of c.args.program.now in
     let native = none_is_native program (sym c.first_broken.ensures ∙ ap (option_map breach_of) c.in_default.is) in
     subst (λ (methods : List Method). list_all is_bounded_method methods ≡ true) (sym c.in_ok-methods.ensures) (native_programs_are_bounded program c.args.program.now.is_well_typed native)
+
+pub new-requires-clause-counted : goal.new-requires-clause-counted
+new-requires-clause-counted c =
+    let program = program_of c.args.program.now in
+    subst (λ (methods : List Method). has_counts (record { methods = methods }) ≡ true) (sym c.in_ok-methods.ensures) (counts_are_kept program c.args.program.now.is_well_typed)

@@ -1,7 +1,7 @@
 use Rattle.std.proofs.Common.{◌≡◌, drop, map}
 use Rattle.df_lang.specs.ExprView.{addends_of, factors_of, members_of, links_of}
 use Rattle.df_nerase.specs.Views.{addend_of, factor_of, member_of, link_of}
-use Rattle.df_nerase.specs.Finding.{found_of, find_in_addends, find_in_factors, find_in_members, find_in_turned, find_in_links}
+use Rattle.df_nerase.specs.mirror.Finding.{found_of, find_in_addends, find_in_factors, find_in_members, find_in_turned, find_in_links}
 use Rattle.df_nerase.proofs.native.+expr.Given as goal
 
 abbrev pub invariant-addends-loop-addend : goal.invariant-addends-loop-addend

@@ -1,7 +1,7 @@
 use Rattle.std.proofs.Common.{◌≡◌, drop, map}
 use Rattle.df_lang.specs.StmtView.{stmt_of, stmts_of, branches_of}
 use Rattle.df_nerase.specs.Views.{branch_of}
-use Rattle.df_nerase.specs.Finding.{found_of, find_in_all, find_in_branches}
+use Rattle.df_nerase.specs.mirror.Finding.{found_of, find_in_all, find_in_branches}
 use Rattle.df_nerase.proofs.native.+stmt.Given as goal
 
 abbrev pub invariant-stmts-loop-one : goal.invariant-stmts-loop-one

@@ -1,6 +1,6 @@
 use Rattle.std.proofs.Common.{◌≡◌, drop, map, fold}
 use Rattle.df_lang.specs.StmtView.{operand_of}
-use Rattle.df_nerase.specs.Finding.{found_of, find_in_operand}
+use Rattle.df_nerase.specs.mirror.Finding.{found_of, find_in_operand}
 use Rattle.df_nerase.proofs.native.all_printed.Given as goal
 
 abbrev pub invariant-loop-operand : goal.invariant-loop-operand

@@ -1,6 +1,6 @@
 use Rattle.std.proofs.Common.{◌≡◌, drop, map, fold}
 use Rattle.df_lang.specs.ExprView.{expr_of}
-use Rattle.df_nerase.specs.Finding.{found_of, find_in_argument}
+use Rattle.df_nerase.specs.mirror.Finding.{found_of, find_in_argument}
 use Rattle.df_nerase.proofs.native.call.Given as goal
 
 abbrev pub invariant-loop-argument : goal.invariant-loop-argument

@@ -1,6 +1,6 @@
 use Rattle.std.proofs.Common.{◌≡◌, drop, map, fold}
 use Rattle.df_lang.specs.DeclView.{param_of}
-use Rattle.df_nerase.specs.Finding.{found_of, find_in_param}
+use Rattle.df_nerase.specs.mirror.Finding.{found_of, find_in_param}
 use Rattle.df_nerase.proofs.native.params.Given as goal
 
 abbrev pub invariant-loop-param : goal.invariant-loop-param

@@ -1,6 +1,6 @@
 use Rattle.std.proofs.Common.{◌≡◌, drop, map, fold}
 use Rattle.df_lang.specs.StmtView.{source_of}
-use Rattle.df_nerase.specs.Finding.{found_of, find_in_source}
+use Rattle.df_nerase.specs.mirror.Finding.{found_of, find_in_source}
 use Rattle.df_nerase.proofs.native.sources.Given as goal
 
 abbrev pub invariant-loop-one : goal.invariant-loop-one

@@ -1,6 +1,6 @@
 use Rattle.std.proofs.Common.{◌≡◌, drop, map, fold}
 use Rattle.df_lang.specs.StmtView.{variable_of}
-use Rattle.df_nerase.specs.Finding.{found_of, find_in_variable}
+use Rattle.df_nerase.specs.mirror.Finding.{found_of, find_in_variable}
 use Rattle.df_nerase.proofs.native.variables.Given as goal
 
 abbrev pub invariant-loop-variable : goal.invariant-loop-variable

@@ -1,7 +1,7 @@
 use Rattle.std.proofs.Common.{◌≡◌, ◌≤◌, ◌+◌, ◌++◌, drop, map, length}
 use Rattle.df_lang.specs.DeclView.{decl_of}
 use Rattle.df_nerase.specs.Erasing.{methods_among}
-use Rattle.df_nerase.specs.Numbers.{numbers_from}
+use Rattle.df_nerase.specs.mirror.Numbers.{numbers_from}
 use Rattle.df_nerase.proofs.numbers.count.Given as goal
 
 abbrev pub invariant-loop-decl : goal.invariant-loop-decl

@@ -1,10 +1,13 @@
 -- Programs whose calls and updates have as many values as are asked for.
-use Rattle.std.specs.Prelude.{ℕ, zero, ◌+◌, ◌^◌, Bool, true, false, ◌==◌, ◌&&◌, nat_lt, List, [], ◌∷◌, length, Option, None, Some}
+use Rattle.std.specs.Prelude.{ℕ, zero, ◌+◌, Bool, true, false, ◌==◌, ◌&&◌, List, [], ◌∷◌, length, Option, None, Some}
 use Rattle.std.specs.List.{list_all}
 use Rattle.std.specs.Option.{option_map_or}
-use Rattle.df_nplain.specs.Stmt.{Operand, Text, Value, Call, Source, Single, Results, Update, Stmt, Block, Var, Assign, CallOf, If, While, Break, Return, Print, Stmts, done, next, Branches, no_branch, branch}
+use Rattle.df_nplain.specs.Stmt.{Call, Source, Single, Results, Update, Stmt, Block, Var, Assign, CallOf, If, While, Break, Return, Print, Stmts, done, next, Branches, no_branch, branch}
 use Rattle.df_nplain.specs.Plain.{Method, Plain, method_at}
-use Rattle.df_nemit.specs.Code.{results_at}
+
+-- how many results the method of a number has
+abbrev pub results_at : Plain → ℕ → ℕ
+results_at program number = option_map_or (λ (m : Method). length m.results) (method_at program number) 0
 
 -- a method is called that is there, on as many arguments as it has parameters
 abbrev pub is_call : Plain → Call → Bool
@@ -25,11 +28,6 @@ abbrev pub is_update : Plain → Option Update → Bool
 is_update program None = true
 is_update program (Some update) = list_all (is_source program) update.sources && count_of program update.sources == length update.targets
 
--- a text has fewer characters than any memory has bytes
-abbrev pub is_operand : Operand → Bool
-is_operand (Text characters) = nat_lt (length characters) (2 ^ 63)
-is_operand (Value kind value) = true
-
 abbrev mutual
   pub is_stmt : Plain → Stmt → Bool
   is_stmt program (Block body) = are_stmts program body
@@ -40,7 +38,7 @@ abbrev mutual
   is_stmt program (While guard body) = are_stmts program body
   is_stmt program Break = true
   is_stmt program (Return update) = is_update program update
-  is_stmt program (Print operands) = list_all is_operand operands
+  is_stmt program (Print operands) = true
 
   pub are_stmts : Plain → Stmts → Bool
   are_stmts program done = true

@@ -1,0 +1,5 @@
+mod Kinds
+mod Runs
+mod Names
+mod Entry
+mod Refusals

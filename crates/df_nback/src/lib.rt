@@ -1,0 +1,9 @@
+//! The back end: the machine code of a program, which runs as the program does.
+#![tactic(auto)]
+
+mod compiling;
+mod law;
+
+pub use compiling::compile;
+pub use df_nerase::EraseFault;
+pub use law::{compiled_code_never_faults, the_entry_runs};
