@@ -26,11 +26,11 @@ equal m n e = grind (arith, nat_tests)
 
 -- ---- lists of one length
 
-same_long : (as bs : List Ty) → are_same_types as bs ≡ true → length as ≡ length bs
+same_long : (xs ys : List Ty) → are_same_types xs ys ≡ true → length xs ≡ length ys
 same_long [] [] same = refl
-same_long [] (b ∷ bs) same = cc
-same_long (a ∷ as) [] same = cc
-same_long (a ∷ as) (b ∷ bs) same = ap suc (same_long as bs (both (same_type a b) (are_same_types as bs) same).1)
+same_long [] (y ∷ ys) same = cc
+same_long (x ∷ xs) [] same = cc
+same_long (x ∷ xs) (y ∷ ys) same = ap suc (same_long xs ys (both (same_type x y) (are_same_types xs ys) same).1)
 
 exprs_long : (p : Program) (locals tys : List Ty) (es : List Expr) → are_exprs p locals tys es ≡ true → length es ≡ length tys
 exprs_long p locals [] [] are = refl
