@@ -1,6 +1,5 @@
 -- The run of the entry.
-use Rattle.std.proofs.Common.{◌≡◌, ◌∙◌, ℕ, true, List, [], ◌∷◌, Option, Some, None, refl, sym, subst}
-use Rattle.df_base.specs.declared.pos.Pos.{Pos}
+use Rattle.std.proofs.Common.{◌≡◌, ℕ, true, List, [], ◌∷◌, Some, refl, sym, subst}
 use Rattle.df_lang.specs.Stmt.{Clause}
 use Rattle.df_lang.specs.Program.{Param, Method, Program, types_of}
 use Rattle.df_mean.specs.Value.{Value}
@@ -11,7 +10,7 @@ use Rattle.df_mean.specs.Whole.{whole, check_call}
 use Rattle.df_mean.specs.Correct.{IsCorrect, IsEntry}
 use Rattle.df_nerase.specs.Erasing.{method_number}
 use Rattle.df_nmach.specs.Value as machine
-use Rattle.df_nmach.specs.State.{Code, Heap}
+use Rattle.df_nmach.specs.State.{Code}
 use Rattle.df_nemit.specs.Correct.{EndsWith}
 use Rattle.df_nback.specs.Lowering.{lower}
 use Rattle.df_nback.specs.Run.{nothing_yet, IsCompiled, RunsAsEntry}

@@ -1,4 +1,4 @@
-mod Kinds
+mod KindsOfValues
 mod Runs
 mod Names
 mod Entry

@@ -1,10 +1,10 @@
 -- Methods keep their names.
-use Rattle.std.proofs.Common.{◌≡◌, ◌∙◌, ℕ, true, List, [], ◌∷◌, map, refl, sym, ap}
+use Rattle.std.proofs.Common.{◌≡◌, ℕ, true, List, [], ◌∷◌, map, refl, ap}
 use Rattle.std.specs.List.{list_all}
 use Rattle.df_lang.specs.Program.{Method, Program}
 use Rattle.df_mean.proofs.Cases.{both, joined}
 use Rattle.df_nplain.specs.Plain as plain
-use Rattle.df_nerase.specs.Erasing.{methods_among, erase_method}
+use Rattle.df_nerase.specs.Erasing.{erase_method}
 use Rattle.df_nmach.specs.Name.{is_name}
 
 pub texts_stay : (p : Program) (ms : List Method) → map (λ (m : plain.Method). m.text) (map (erase_method p) ms) ≡ map (λ (m : Method). m.declared.text) ms

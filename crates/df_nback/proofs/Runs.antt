@@ -1,7 +1,7 @@
 -- Correct methods run on the machine as they run with their ghosts.
-use Rattle.std.proofs.Common.{◌≡◌, ◌∙◌, ℕ, true, List, map, Option, Some, sym, ap, subst}
+use Rattle.std.proofs.Common.{◌≡◌, true, List, map, Option, Some, ap, subst}
 use Rattle.std.specs.Option.{option_map}
-use Rattle.df_lang.specs.Program.{Method, Program}
+use Rattle.df_lang.specs.Program.{Program}
 use Rattle.df_lang.specs.Typing.{is_well_typed}
 use Rattle.df_lang.specs.Native.{IsNative}
 use Rattle.df_mean.specs.Value.{Value}
@@ -13,8 +13,8 @@ use Rattle.df_nmach.specs.State.{Code}
 use Rattle.df_nmach.specs.Run.{start_of, NeverFaults}
 use Rattle.df_nemit.specs.Correct.{machine_value, DoesWhat}
 use Rattle.df_nback.specs.Compiled.{code_for}
-use Rattle.df_nback.specs.Run.{nothing_yet, RunsAs, IsCompiled, NeverFaultsWhereCorrect}
-use Rattle.df_nback.proofs.Kinds.{kinds_simple, kinds_long}
+use Rattle.df_nback.specs.Run.{nothing_yet, IsCompiled, NeverFaultsWhereCorrect}
+use Rattle.df_nback.proofs.KindsOfValues.{kinds_simple, kinds_long}
 
 one_some : {A : Type 0} (o : Option A) (x y : A) → o ≡ Some x → o ≡ Some y → x ≡ y
 one_some o x y e f = cc
