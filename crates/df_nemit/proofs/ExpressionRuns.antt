@@ -1,6 +1,6 @@
 -- The machine follows expressions.
-use Rattle.std.proofs.Common.{◌≡◌, ◌≢◌, ℕ, zero, suc, ◌+◌, ◌<◌, ◌≤◌, ◌&&◌, Bool, true, false, cond, not, List, [], ◌∷◌, ◌++◌, length, Option, Some, None, refl, sym, ap, ◌∙◌, subst, arith, length-append}
-use Rattle.std.specs.Prelude.{slice_get, slice_set, nat_lt}
+use Rattle.std.proofs.Common.{◌≡◌, ◌≢◌, ℕ, zero, suc, ◌+◌, ◌<◌, ◌&&◌, Bool, true, false, cond, not, List, [], ◌∷◌, ◌++◌, length, Option, Some, None, refl, sym, ap, ◌∙◌, subst, arith, length-append}
+use Rattle.std.specs.Prelude.{slice_get, slice_set}
 use Rattle.std.proofs.lemmas.Bool.Decides.{nat_tests}
 use Rattle.std.proofs.lemmas.List.{length-set}
 use Rattle.df_lang.specs.declared.expr.Junction.{Junction as JunctionKind}
@@ -9,24 +9,23 @@ use Rattle.df_lang.specs.declared.expr.Comparison.{Comparison}
 use Rattle.df_mean.specs.Value.{Value}
 use Rattle.df_mean.specs.Value as values
 use Rattle.df_mean.specs.Evaluation.{decides}
-use Rattle.df_nplain.specs.Kind.{Range, Kind}
+use Rattle.df_nplain.specs.Kind.{Range}
 use Rattle.df_nplain.specs.Expr.{Expr, Number, Truth, Character, Local, Negate, Not, Sum, Product, Junction, Implies, Iff, Chain, As, Addends, no_addend, addend, Factors, no_factor, factor, Members, no_member, member, Links, no_link, link}
-use Rattle.df_nplain.specs.Bounded.{is_interval, is_bounded, are_bounded_addends, are_bounded_factors, are_bounded_members, are_bounded_links}
+use Rattle.df_nplain.specs.Bounded.{is_bounded, are_bounded_addends, are_bounded_factors, are_bounded_members, are_bounded_links}
 use Rattle.df_nplain.specs.Outcome.{Outcome, Wrong, TooDeep, Stuck, after}
 use Rattle.df_nplain.specs.Outcome as outcomes
 use Rattle.df_nplain.specs.State.{State}
 use Rattle.df_nplain.specs.Meaning.{Meaning}
-use Rattle.df_nplain.specs.Evaluation.{number_in, truth_in, number_from, in_range, as_kind, added, multiplied, equivalent, compared, value_of_local, evaluate, evaluate_addends, evaluate_factors, evaluate_junction, evaluate_implications, evaluate_equivalences, evaluate_links}
+use Rattle.df_nplain.specs.Evaluation.{truth_in, as_kind, added, multiplied, equivalent, compared, value_of_local, evaluate, evaluate_addends, evaluate_factors, evaluate_junction, evaluate_implications, evaluate_equivalences, evaluate_links}
 use Rattle.df_nmach.specs.declared.instruction.UnaryOperator.TheVariants as unaries
 use Rattle.df_nmach.specs.declared.instruction.BinaryOperator.TheVariants as binaries
-use Rattle.df_nmach.specs.declared.instruction.Instruction.{Instruction}
 use Rattle.df_nmach.specs.declared.instruction.Instruction.TheVariants as i
 use Rattle.df_nmach.specs.Value as mach
-use Rattle.df_nmach.specs.Step.{Effect, Goes, given, demand, leaves, effect}
-use Rattle.df_nemit.specs.Code.{Exits, Mark, Fixed, To, unknown, with_behind, fixed, slot, range_of, adds, multiplies, decide, decide_unless, between, compare, keep, opening, joint, from_kind, to_kind, run_code, expr_code, addends_code, factors_code, junction_marks, implication_marks, equivalences_code, links_marks}
+use Rattle.df_nmach.specs.Step.{Goes, given, demand, leaves}
+use Rattle.df_nemit.specs.Code.{Exits, Fixed, unknown, with_behind, fixed, slot, range_of, adds, multiplies, decide, decide_unless, between, compare, keep, opening, from_kind, to_kind, run_code, expr_code, addends_code, factors_code, junction_marks, implication_marks, equivalences_code, links_marks}
 use Rattle.df_nemit.specs.Correct.{machine_value, is_simple}
-use Rattle.df_nemit.proofs.Fills.{instructions_of, instructions_long, instructions_fixed, fixed_long}
-use Rattle.df_nemit.proofs.Reach.{HasAt, has_front, has_back, has_moved, HasMarks, marks_front, marks_back, marks_fixed, World, instructions, Point, point, frame, Leads, leads_on, leads_silent, Still, still_none, still_on, still_one, Covers, Simple, Arrives, Carries, still_carries, carries_on, Gives, gives_after, gives_bind, gives_to, gives_from, Tells}
+use Rattle.df_nemit.proofs.Fills.{instructions_of, instructions_long, fixed_long}
+use Rattle.df_nemit.proofs.Reach.{HasAt, has_front, has_back, has_moved, HasMarks, marks_front, marks_back, marks_fixed, World, instructions, point, frame, Leads, leads_on, leads_silent, Still, still_none, still_on, still_one, Covers, Simple, Carries, still_carries, Gives, gives_after, gives_bind, gives_to, gives_from, Tells}
 use Rattle.df_nemit.proofs.OperatorRuns.{below, unary_gives, negate_same, not_same, added_same, multiplied_same, equivalent_same, from_kind_runs, to_kind_runs, turns, compare_tells}
 
 pub both : (a b : Bool) → (a && b) ≡ true → (a ≡ true) × (b ≡ true)

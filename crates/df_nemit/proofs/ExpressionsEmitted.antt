@@ -1,5 +1,5 @@
 -- What the emitter makes of expressions is their code.
-use Rattle.std.proofs.Common.{◌≡◌, ℕ, zero, suc, ◌+◌, Bool, true, false, List, [], ◌∷◌, ◌++◌, length, map, refl, sym, ap, ◌∙◌, subst, arith, append_assoc, length-append}
+use Rattle.std.proofs.Common.{◌≡◌, ℕ, ◌+◌, Bool, true, false, List, [], ◌∷◌, ◌++◌, length, refl, sym, ap, ◌∙◌, arith, append_assoc, length-append}
 use Rattle.std.proofs.lemmas.List.{append-nil, map-append}
 use Rattle.df_lang.specs.declared.expr.Junction.{Junction as JunctionKind}
 use Rattle.df_lang.specs.declared.expr.Junction.TheVariants as junctions
@@ -10,8 +10,8 @@ use Rattle.df_nmach.specs.declared.instruction.UnaryOperator.TheVariants as unar
 use Rattle.df_nmach.specs.declared.instruction.BinaryOperator.TheVariants as binary
 use Rattle.df_nmach.specs.declared.instruction.Instruction.{Instruction}
 use Rattle.df_nmach.specs.declared.instruction.Instruction.TheVariants as i
-use Rattle.df_nemit.specs.Code.{Exit, Behind, Outside, Ending, Mark, Fixed, To, Exits, instruction_of, unknown, with_behind, fixed, range_of, adds, multiplies, decide, decide_unless, between, compare, keep, opening, joint, from_kind, to_kind, run_code, expr_code, addends_code, factors_code, junction_marks, implication_marks, equivalences_code, links_marks, exprs_code}
-use Rattle.df_nemit.specs.mirror.Emitting.{Run, fill, begun, put, put_all, leave, landed, decided, decided_unless, put_between, kept, opened, joined, with_code, emit_expr, emit_addends, emit_factors, emit_junction, emit_implications, emit_equivalences, emit_links, emit_exprs}
+use Rattle.df_nemit.specs.Code.{Behind, Mark, Fixed, instruction_of, unknown, fixed, adds, multiplies, decide, decide_unless, between, compare, keep, opening, joint, from_kind, to_kind, run_code, expr_code, addends_code, factors_code, junction_marks, implication_marks, equivalences_code, links_marks, exprs_code}
+use Rattle.df_nemit.specs.mirror.Emitting.{Run, fill, begun, put, put_all, landed, decided, decided_unless, put_between, kept, opened, joined, with_code, emit_expr, emit_addends, emit_factors, emit_junction, emit_implications, emit_equivalences, emit_links, emit_exprs}
 use Rattle.df_nemit.proofs.Fills.{places, places_append, places_fixed, instructions_of, instructions_fixed, instructions_long, fixed_long, fills}
 
 -- ---- runs that go on by marks

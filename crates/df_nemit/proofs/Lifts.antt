@@ -1,22 +1,19 @@
 -- What code reaches, by how a statement goes on.
-use Rattle.std.proofs.Common.{◌≡◌, ℕ, ◌+◌, ◌<◌, ◌≤◌, Bool, true, false, List, [], ◌∷◌, ◌++◌, length, map, reverse, take, drop, Option, Some, None, refl, sym, ap, ◌∙◌, subst, arith, append_assoc, length-append}
-use Rattle.std.specs.Prelude.{slice_get}
+use Rattle.std.proofs.Common.{◌≡◌, ℕ, true, List, [], ◌∷◌, length, map, Some, subst}
 use Rattle.std.specs.List.{list_all}
-use Rattle.std.proofs.lemmas.List.{append-nil, length-map, length-reverse}
 use Rattle.df_mean.specs.Value.{Value}
-use Rattle.df_nplain.specs.Expr.{Expr}
 use Rattle.df_nplain.specs.Plain as plain
 use Rattle.df_nplain.specs.Outcome.{Outcome, Wrong, TooDeep, Stuck, after}
 use Rattle.df_nplain.specs.Outcome as outcomes
 use Rattle.df_nplain.specs.State.{State}
-use Rattle.df_nplain.specs.Meaning.{Meaning, Flow, Next, Return, Break, Returned, Loop}
-use Rattle.df_nplain.specs.Execution.{Values, goes, then_next, go_on}
+use Rattle.df_nplain.specs.Meaning.{Meaning, Flow, Next, Return, Break, Returned}
+use Rattle.df_nplain.specs.Execution.{Values, then_next, go_on}
 use Rattle.df_nmach.specs.Value as mach
 use Rattle.df_nmach.specs.State.{Code, Heap, Frame}
 use Rattle.df_nmach.specs.State as machine
-use Rattle.df_nemit.specs.Code.{Exits, Mark, method_code, plain_code}
+use Rattle.df_nemit.specs.Code.{Exits, method_code, plain_code}
 use Rattle.df_nemit.specs.Correct.{machine_value, is_simple, called, returned, Reaches}
-use Rattle.df_nemit.proofs.Reach.{World, Simple, Carries, carries_on, carries_to, carries_from, Gives}
+use Rattle.df_nemit.proofs.Reach.{World, Simple, Carries, carries_on, Gives}
 use Rattle.df_nemit.proofs.Places.{pushed}
 
 -- ---- states

@@ -1,6 +1,6 @@
 -- Links as contracts see them, by their parts.
 use Rattle.std.proofs.Common.{◌≡◌, rules}
-use Rattle.df_nplain.specs.ExprView.{Link, expr_of, link_of}
+use Rattle.df_nplain.specs.ExprView.{expr_of, link_of}
 use Rattle.df_nplain.specs.declared.expr.Expr.TheFolds.{the_lemmas}
 use Rattle.df_nplain.specs.declared.expr.Link as declared
 

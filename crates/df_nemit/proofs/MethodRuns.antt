@@ -1,14 +1,13 @@
 -- The machine follows methods, and calls of any depth.
-use Rattle.std.proofs.Common.{◌≡◌, ℕ, zero, suc, pos, ◌+◌, ◌-◌, ◌<◌, ◌≤◌, ◌&&◌, Bool, true, false, cond, List, [], ◌∷◌, ◌++◌, length, map, max, reverse, replicate, take, drop, Option, Some, None, refl, sym, ap, ◌∙◌, subst, arith, append_assoc, length-append}
-use Rattle.std.specs.Prelude.{slice_get, nat_lt, nat_le, nat_eq}
+use Rattle.std.proofs.Common.{◌≡◌, ℕ, zero, suc, pos, ◌+◌, ◌-◌, ◌<◌, ◌≤◌, ◌&&◌, Bool, true, cond, List, [], ◌∷◌, ◌++◌, length, map, max, reverse, replicate, take, Option, Some, None, refl, sym, ap, ◌∙◌, subst, arith, append_assoc, length-append}
+use Rattle.std.specs.Prelude.{slice_get, nat_eq}
 use Rattle.std.specs.List.{list_all}
 use Rattle.std.specs.Option.{option_map_or}
 use Rattle.std.proofs.lemmas.Bool.Decides.{nat_tests}
-use Rattle.std.proofs.lemmas.List.{append-nil, length-map, length-reverse, length-replicate, reverse-reverse, take_at}
+use Rattle.std.proofs.lemmas.List.{length-map, length-reverse, length-replicate, reverse-reverse, take_at}
 use Rattle.df_mean.specs.Value.{Value}
 use Rattle.df_nplain.specs.Expr.{Expr}
 use Rattle.df_nplain.specs.Stmt.{Stmts, While}
-use Rattle.df_nplain.specs.Kind.{Kind}
 use Rattle.df_nplain.specs.Plain as plain
 use Rattle.df_nplain.specs.Bounded.{is_bounded, is_bounded_kind, are_bounded_stmts, is_bounded_method, is_bounded_program}
 use Rattle.df_nplain.specs.Counts.{are_stmts, has_counts}
@@ -20,7 +19,7 @@ use Rattle.df_nplain.specs.Meaning.{Meaning, Flow, Returned, Loop}
 use Rattle.df_nplain.specs.Meaning as flows
 use Rattle.df_nplain.specs.Evaluation.{truth_in, evaluate}
 use Rattle.df_nplain.specs.Execution.{execute_all}
-use Rattle.df_nplain.specs.Whole.{values_from, results_of, end_of, run_method, behind_turn, turn_by, turns_with, meaning_of, call_by, whole}
+use Rattle.df_nplain.specs.Whole.{values_from, results_of, end_of, run_method, behind_turn, turn_by, turns_with, call_by, whole}
 use Rattle.df_nmach.specs.declared.instruction.Instruction.{Instruction}
 use Rattle.df_nmach.specs.declared.instruction.Instruction.TheVariants as i
 use Rattle.df_nmach.specs.Value as mach
@@ -30,16 +29,16 @@ use Rattle.df_nmach.specs.Step.{Effect, Goes, Returns, given, demand, leaves, ef
 use Rattle.df_nmach.specs.Step as step
 use Rattle.df_nmach.specs.Run.{and_then, machine_run, begun, start_of, NeverFaults}
 use Rattle.df_nmach.proofs.Runs.{run_add, ends_for_good}
-use Rattle.df_nemit.specs.Code.{Exits, Mark, Fixed, To, instruction_of, unknown, with_outside, with_ending, leaving_at, fixed, slot, expr_code, stmt_marks, stmts_marks, gets, scratch_of, body_code, highest, method_code, plain_code}
-use Rattle.df_nemit.specs.Correct.{machine_value, is_simple, called, returned, Reaches, ComesTo, EndsWith, DoesWhat}
+use Rattle.df_nemit.specs.Code.{Exits, Fixed, unknown, with_outside, with_ending, leaving_at, fixed, slot, expr_code, stmt_marks, stmts_marks, gets, scratch_of, body_code, highest, method_code, plain_code}
+use Rattle.df_nemit.specs.Correct.{machine_value, is_simple, called, returned, Reaches, DoesWhat}
 use Rattle.df_nemit.proofs.Fills.{instructions_of, instructions_long, fixed_long, leaving_long, leaving_filled}
 use Rattle.df_nemit.proofs.StatementsEmitted.{highest_least}
-use Rattle.df_nemit.proofs.Reach.{HasAt, has_front, has_back, has_moved, HasMarks, marks_front, marks_back, marks_fixed, World, instructions, Point, point, frame, at, Leads, leads_silent, leads_none, leads_on, next_is, Still, Covers, Simple, Arrives, Carries, still_carries, carries_on, carries_to, Gives}
+use Rattle.df_nemit.proofs.Reach.{HasAt, has_front, has_back, has_moved, HasMarks, marks_front, marks_back, marks_fixed, World, instructions, Point, point, frame, at, Leads, leads_silent, leads_none, next_is, Covers, Simple, Carries, still_carries, carries_on}
 use Rattle.df_nemit.proofs.ExpressionRuns.{both, three, expr_runs}
 use Rattle.df_nemit.proofs.Places.{pushed}
 use Rattle.df_nemit.proofs.Lifts.{Flows, flows_to, flows_after, flows_value, Answers, Calls}
 use Rattle.df_nemit.proofs.UpdateRuns.{Of, at_most, pushed_is, method_there}
-use Rattle.df_nemit.proofs.StatementRuns.{Inside, Turns, jumps, goes_in, goes_by, guard_takes, stmts_run}
+use Rattle.df_nemit.proofs.StatementRuns.{Inside, Turns, jumps, guard_takes, stmts_run}
 
 -- ---- results
 

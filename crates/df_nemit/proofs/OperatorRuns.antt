@@ -1,5 +1,5 @@
 -- The machine's operators do what those of programs do.
-use Rattle.std.proofs.Common.{◌≡◌, ℕ, zero, suc, ℤ, pos, negsuc, ◌+◌, ◌<◌, ◌≤◌, Bool, true, false, cond, not, List, [], ◌∷◌, ◌++◌, length, Option, Some, None, refl, sym, ap, ◌∙◌, subst, arith, length-append}
+use Rattle.std.proofs.Common.{◌≡◌, ℕ, zero, suc, ℤ, pos, negsuc, ◌+◌, ◌<◌, Bool, true, false, cond, not, List, [], ◌∷◌, length, Option, Some, None, refl, sym, ap, ◌∙◌, subst, arith}
 use Rattle.std.specs.Prelude.{slice_get, int_le, int_lt, nat_lt, nat_le, neg_ℤ, ◌*ℤ◌, ◌&&◌}
 use Rattle.std.specs.Ordering.{int_eq}
 use Rattle.std.specs.Int.{int_div_euclid, int_rem_euclid}
@@ -27,10 +27,10 @@ use Rattle.df_nmach.specs.declared.instruction.BinaryOperator.TheVariants as bin
 use Rattle.df_nmach.specs.declared.instruction.Instruction.{Instruction}
 use Rattle.df_nmach.specs.declared.instruction.Instruction.TheVariants as i
 use Rattle.df_nmach.specs.Value as mach
-use Rattle.df_nmach.specs.Step.{Effect, Goes, given, demand, within, divisor, unary, binary, leaves, effect}
+use Rattle.df_nmach.specs.Step.{given, within, divisor, unary, binary, leaves, effect}
 use Rattle.df_nemit.specs.Code.{range_of, adds, multiplies, compare, from_kind, to_kind}
 use Rattle.df_nemit.specs.Correct.{machine_value, is_simple}
-use Rattle.df_nemit.proofs.Reach.{HasAt, has_front, has_back, has_moved, World, instructions, frame, Still, still_none, still_on, still_one, still_carries, Gives, gives_after, gives_to, Tells}
+use Rattle.df_nemit.proofs.Reach.{HasAt, World, instructions, frame, Still, still_none, still_on, still_one, still_carries, Gives, gives_after, gives_to, Tells}
 
 pub below : (m n : ℕ) → m < n → nat_lt m n ≡ true
 below m n lt = grind (arith, nat_tests)

@@ -1,6 +1,6 @@
 -- The machine follows what is printed.
-use Rattle.std.proofs.Common.{◌≡◌, ℕ, zero, suc, ◌+◌, ◌<◌, ◌≤◌, ◌^◌, ◌&&◌, Bool, true, false, cond, List, [], ◌∷◌, ◌++◌, length, map, reverse, take, drop, Option, Some, None, refl, sym, ap, ◌∙◌, subst, arith, append_assoc, length-append}
-use Rattle.std.specs.Prelude.{slice_get, nat_lt, nat_le, option_map}
+use Rattle.std.proofs.Common.{◌≡◌, ℕ, ◌+◌, ◌<◌, ◌≤◌, ◌^◌, Bool, true, false, cond, List, [], ◌∷◌, ◌++◌, length, map, reverse, take, drop, Option, Some, refl, sym, ap, ◌∙◌, subst, arith, append_assoc, length-append}
+use Rattle.std.specs.Prelude.{slice_get, nat_lt, option_map}
 use Rattle.std.specs.List.{list_all}
 use Rattle.std.proofs.lemmas.Bool.Decides.{nat_tests}
 use Rattle.std.proofs.lemmas.List.{append-nil, length-map, length-reverse, take_at, drop_at, reverse-append, reverse-reverse}
@@ -14,11 +14,10 @@ use Rattle.df_nplain.specs.Bounded.{is_bounded, is_bounded_operand}
 use Rattle.df_nplain.specs.Short.{is_short_operand}
 use Rattle.df_nplain.specs.Outcome.{Outcome, Wrong, TooDeep, Stuck, after}
 use Rattle.df_nplain.specs.Outcome as outcomes
-use Rattle.df_nplain.specs.State.{State, printed, with_text}
+use Rattle.df_nplain.specs.State.{State, printed}
 use Rattle.df_nplain.specs.Meaning.{Meaning}
 use Rattle.df_nplain.specs.Evaluation.{of_kind, evaluate}
-use Rattle.df_nplain.specs.Execution.{evaluate_operand, print_all}
-use Rattle.df_nmach.specs.declared.instruction.Instruction.{Instruction}
+use Rattle.df_nplain.specs.Execution.{print_all}
 use Rattle.df_nmach.specs.declared.instruction.Instruction.TheVariants as i
 use Rattle.df_nmach.specs.declared.code.Shape.{Shape}
 use Rattle.df_nmach.specs.declared.code.Shape.TheVariants as shapes
@@ -26,9 +25,9 @@ use Rattle.df_nmach.specs.Value as mach
 use Rattle.df_nmach.specs.Printing as printing
 use Rattle.df_nmach.specs.Step.{Effect, Goes, TooLong, given, demand, leaves, characters, sequence, effect}
 use Rattle.df_nmach.specs.Step as step
-use Rattle.df_nemit.specs.Code.{expr_code, shape_of, text_code, operand_code, operands_code}
-use Rattle.df_nemit.specs.Correct.{machine_value, is_simple}
-use Rattle.df_nemit.proofs.Reach.{HasAt, has_front, has_back, has_moved, World, instructions, point, frame, Leads, leads_on, leads_one, Still, still_none, still_on, still_one, Covers, Simple, Arrives, Carries, still_carries, carries_on, carries_to, carries_from, Gives}
+use Rattle.df_nemit.specs.Code.{expr_code, shape_of, text_code, operands_code}
+use Rattle.df_nemit.specs.Correct.{machine_value}
+use Rattle.df_nemit.proofs.Reach.{HasAt, has_front, has_back, has_moved, World, instructions, point, frame, Leads, leads_one, Still, still_none, still_on, still_one, Simple, Carries, still_carries, carries_on, carries_to, Gives}
 use Rattle.df_nemit.proofs.OperatorRuns.{below}
 use Rattle.df_nemit.proofs.ExpressionRuns.{both, expr_runs}
 use Rattle.df_nemit.proofs.UpdateRuns.{at_most}

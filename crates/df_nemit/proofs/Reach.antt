@@ -1,5 +1,5 @@
 -- Where a frame of a method stands, and how it goes on.
-use Rattle.std.proofs.Common.{◌≡◌, ℕ, ◌+◌, ◌<◌, Bool, true, List, [], ◌∷◌, ◌++◌, length, Option, Some, None, refl, sym, ap, ◌∙◌, subst, arith, append_assoc, length-append}
+use Rattle.std.proofs.Common.{◌≡◌, ℕ, ◌+◌, ◌<◌, Bool, true, List, [], ◌∷◌, ◌++◌, length, Option, Some, refl, ap, ◌∙◌, subst, arith}
 use Rattle.std.specs.Prelude.{slice_get}
 use Rattle.std.proofs.lemmas.List.{append-nil, map-append}
 use Rattle.df_mean.specs.Value.{Value}
@@ -12,7 +12,7 @@ use Rattle.df_nmach.specs.declared.code.Shape.TheVariants as shapes
 use Rattle.df_nmach.specs.Value as mach
 use Rattle.df_nmach.specs.State.{Method, Code, Heap, Frame}
 use Rattle.df_nmach.specs.State as machine
-use Rattle.df_nmach.specs.Step.{Effect, Goes, given, effect, next_effect, stepped, On, machine_step}
+use Rattle.df_nmach.specs.Step.{Effect, Goes, given, effect, next_effect, stepped, On}
 use Rattle.df_nmach.specs.Run.{and_then, machine_run}
 use Rattle.df_nmach.proofs.Runs.{run_add}
 use Rattle.df_nemit.specs.Code.{Exits, Mark, instruction_of, fixed, slot}

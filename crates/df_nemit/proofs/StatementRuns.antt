@@ -1,18 +1,16 @@
 -- The machine follows statements.
-use Rattle.std.proofs.Common.{◌≡◌, ◌≢◌, ℕ, zero, suc, ◌+◌, ◌<◌, ◌≤◌, ◌&&◌, ◌==◌, Bool, true, false, cond, List, [], ◌∷◌, ◌++◌, length, map, replicate, Option, Some, None, refl, sym, ap, ◌∙◌, subst, ◌⊎◌, inl, inr, arith, length-append}
-use Rattle.std.specs.Prelude.{slice_get, nat_lt}
+use Rattle.std.proofs.Common.{◌≡◌, ℕ, ◌+◌, ◌<◌, ◌==◌, Bool, true, false, cond, List, [], ◌∷◌, ◌++◌, length, map, replicate, Some, None, refl, sym, ap, ◌∙◌, subst, arith, length-append}
+use Rattle.std.specs.Prelude.{slice_get}
 use Rattle.std.specs.List.{list_all}
-use Rattle.std.proofs.lemmas.Bool.{cases_eq}
-use Rattle.std.proofs.lemmas.Bool.Decides.{nat_tests}
 use Rattle.std.proofs.lemmas.List.{length-replicate}
 use Rattle.df_mean.specs.Value.{Value}
 use Rattle.df_mean.specs.Value as values
 use Rattle.df_nplain.specs.Expr.{Expr}
-use Rattle.df_nplain.specs.Stmt.{Operand, Call, Update, Variable, Stmt, Block, Var, Assign, CallOf, If, While, Break, Return, Print, Stmts, done, next, Branches, no_branch, branch}
+use Rattle.df_nplain.specs.Stmt.{Variable, Stmt, Block, Var, Assign, CallOf, If, While, Break, Return, Print, Stmts, done, next, Branches, no_branch, branch}
 use Rattle.df_nplain.specs.Plain as plain
-use Rattle.df_nplain.specs.Bounded.{is_bounded, is_bounded_call, is_bounded_variable, is_bounded_update, is_bounded_operand, is_bounded_stmt, are_bounded_stmts, are_bounded_branches}
-use Rattle.df_nplain.specs.Counts.{results_at, is_call, is_update, is_stmt, are_stmts, are_branches}
-use Rattle.df_nplain.specs.Short.{is_short_operand, is_short_stmt, are_short_stmts, are_short_branches}
+use Rattle.df_nplain.specs.Bounded.{is_bounded, is_bounded_variable, is_bounded_update, is_bounded_stmt, are_bounded_stmts, are_bounded_branches}
+use Rattle.df_nplain.specs.Counts.{results_at, is_stmt, are_stmts, are_branches}
+use Rattle.df_nplain.specs.Short.{is_short_stmt, are_short_stmts, are_short_branches}
 use Rattle.df_nplain.specs.Outcome.{Outcome, Wrong, TooDeep, Stuck, after}
 use Rattle.df_nplain.specs.Outcome as outcomes
 use Rattle.df_nplain.specs.State.{State, without_local}
@@ -24,14 +22,13 @@ use Rattle.df_nmach.specs.declared.instruction.Instruction.{Instruction}
 use Rattle.df_nmach.specs.declared.instruction.Instruction.TheVariants as i
 use Rattle.df_nmach.specs.Value as mach
 use Rattle.df_nmach.specs.Step.{Goes, demand}
-use Rattle.df_nemit.specs.Code.{Exit, Behind, Outside, Ending, Mark, Fixed, To, Exits, instruction_of, with_behind, with_outside, ending_at, leaving_at, fixed, expr_code, call_code, update_code, optional_code, operands_code, stmt_marks, stmts_marks, branches_marks}
-use Rattle.df_nemit.specs.Correct.{machine_value, is_simple}
-use Rattle.df_nemit.proofs.Fills.{instructions_of, fixed_long, ending_long, ending_filled, leaving_long, leaving_filled}
-use Rattle.df_nemit.proofs.Reach.{HasAt, has_front, has_back, has_moved, HasMarks, marks_front, marks_back, marks_fixed, World, instructions, point, frame, Leads, leads_none, Still, still_one, Covers, Simple, Carries, still_carries, carries_on, carries_to, carries_from, Gives}
+use Rattle.df_nemit.specs.Code.{Behind, Ending, To, Exits, with_behind, ending_at, fixed, expr_code, call_code, update_code, optional_code, operands_code, stmt_marks, stmts_marks, branches_marks}
+use Rattle.df_nemit.proofs.Fills.{instructions_of, fixed_long, ending_long, ending_filled}
+use Rattle.df_nemit.proofs.Reach.{HasAt, has_front, has_back, has_moved, HasMarks, marks_front, marks_back, marks_fixed, World, instructions, point, frame, Leads, leads_none, Still, still_one, Simple, Carries, still_carries, carries_on}
 use Rattle.df_nemit.proofs.OperatorRuns.{below}
 use Rattle.df_nemit.proofs.ExpressionRuns.{both, three, expr_runs}
 use Rattle.df_nemit.proofs.Places.{pushed}
-use Rattle.df_nemit.proofs.Lifts.{Comes, comes_after, comes_to, Brings, Flows, flows_after, flows_to, flows_then, flows_on, Takes, flows_value, takes_after, Calls}
+use Rattle.df_nemit.proofs.Lifts.{Comes, comes_after, Brings, Flows, flows_to, flows_then, flows_on, Takes, flows_value, takes_after, Calls}
 use Rattle.df_nemit.proofs.UpdateRuns.{Of, call_runs, update_runs, optional_runs, dropped_runs}
 use Rattle.df_nemit.proofs.PrintRuns.{operands_run}
 

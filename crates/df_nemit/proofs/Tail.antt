@@ -1,6 +1,6 @@
 -- A chain's links, one after another.
 use Rattle.std.proofs.Common.{◌≡◌, ℕ, zero, suc, ◌+◌, ◌-◌, ◌<◌, ◌≤◌, List, [], ◌∷◌, ◌++◌, length, map, drop, take, get_or, refl, sym, ap, ◌∙◌, arith, append_assoc}
-use Rattle.std.proofs.lemmas.List.{drop_more, take_more, take_all, append-nil}
+use Rattle.std.proofs.lemmas.List.{drop_more, take_more}
 use Rattle.df_lang.specs.declared.expr.Comparison.{Comparison}
 use Rattle.df_nplain.specs.ExprView.{Link, link_of, links_of}
 use Rattle.df_nmach.specs.declared.instruction.Instruction.{Instruction}

@@ -1,10 +1,10 @@
 -- The machine follows calls and updates.
-use Rattle.std.proofs.Common.{◌≡◌, ℕ, zero, suc, ◌+◌, ◌-◌, ◌<◌, ◌≤◌, ◌&&◌, ◌==◌, Bool, true, false, cond, List, [], ◌∷◌, ◌++◌, length, map, reverse, replicate, take, drop, Option, Some, None, refl, sym, ap, ◌∙◌, subst, arith, append_assoc, length-append}
+use Rattle.std.proofs.Common.{◌≡◌, ℕ, zero, suc, ◌+◌, ◌<◌, ◌≤◌, ◌&&◌, ◌==◌, Bool, true, false, List, [], ◌∷◌, ◌++◌, length, map, reverse, replicate, take, drop, Option, Some, None, refl, sym, ap, ◌∙◌, subst, arith, append_assoc, length-append}
 use Rattle.std.specs.Prelude.{slice_get, nat_le}
 use Rattle.std.specs.List.{list_all}
 use Rattle.std.specs.Option.{option_map_or}
 use Rattle.std.proofs.lemmas.Bool.Decides.{nat_tests}
-use Rattle.std.proofs.lemmas.List.{append-nil, length-map, length-reverse, take_at, drop_at, reverse-append, reverse-reverse}
+use Rattle.std.proofs.lemmas.List.{length-map, length-reverse, take_at, drop_at, reverse-append, reverse-reverse}
 use Rattle.df_mean.specs.Value.{Value}
 use Rattle.df_nplain.specs.Expr.{Expr}
 use Rattle.df_nplain.specs.Stmt.{Call, Source, Single, Results, Update}
@@ -17,19 +17,17 @@ use Rattle.df_nplain.specs.State.{State, with_text}
 use Rattle.df_nplain.specs.Meaning.{Meaning, Returned}
 use Rattle.df_nplain.specs.Evaluation.{evaluate}
 use Rattle.df_nplain.specs.Execution.{Values, evaluate_all, execute_call, execute_source, execute_sources, give_all, execute_update, execute_optional}
-use Rattle.df_nmach.specs.declared.instruction.Instruction.{Instruction}
 use Rattle.df_nmach.specs.declared.instruction.Instruction.TheVariants as i
 use Rattle.df_nmach.specs.Value as mach
 use Rattle.df_nmach.specs.State.{Method, Code, Heap, Frame}
-use Rattle.df_nmach.specs.State as machine
-use Rattle.df_nmach.specs.Step.{Effect, Goes, Calls as EffectCalls, given, demand, effect, next_effect, stepped, On, beginning}
+use Rattle.df_nmach.specs.Step.{Effect, Calls as EffectCalls, given, demand, next_effect, stepped, On, beginning}
 use Rattle.df_nmach.specs.Run.{and_then, machine_run}
 use Rattle.df_nmach.proofs.Runs.{run_add}
 use Rattle.df_nemit.specs.Code.{exprs_code, expr_code, call_code, source_code, sources_code, sets_code, update_code, optional_code, method_code, plain_code}
-use Rattle.df_nemit.specs.Correct.{machine_value, is_simple, called, returned, Reaches}
-use Rattle.df_nemit.proofs.Reach.{HasAt, has_front, has_back, has_moved, World, instructions, Point, point, frame, at, Leads, leads_on, leads_silent, next_is, Still, still_none, still_on, still_one, Covers, Simple, Arrives, Carries, still_carries, carries_on, carries_to, carries_from, Gives, gives_to}
-use Rattle.df_nemit.proofs.ExpressionRuns.{both, three, expr_runs}
-use Rattle.df_nemit.proofs.Places.{pushed, placed, sets_run, Fits, sets_fit, gives_covers, gives_simple, gives_text}
+use Rattle.df_nemit.specs.Correct.{machine_value, is_simple, called, returned}
+use Rattle.df_nemit.proofs.Reach.{HasAt, has_front, has_back, World, instructions, point, frame, at, Leads, next_is, Still, still_none, still_on, still_one, Simple, Carries, still_carries, carries_on, carries_to, Gives}
+use Rattle.df_nemit.proofs.ExpressionRuns.{both, expr_runs}
+use Rattle.df_nemit.proofs.Places.{pushed, placed, sets_run, sets_fit, gives_covers, gives_simple, gives_text}
 use Rattle.df_nemit.proofs.Lifts.{Comes, comes_after, comes_to, Brings, Answers, Calls}
 
 pub at_most : (m n : ℕ) → m ≤ n → nat_le m n ≡ true

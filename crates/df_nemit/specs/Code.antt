@@ -1,5 +1,5 @@
 -- The instructions of a program. Places of instructions count from the method's first.
-use Rattle.std.specs.Prelude.{ℕ, zero, suc, ◌+◌, ◌-◌, ◌^◌, ℤ, pos, neg_ℤ, Bool, true, false, cond, nat_lt, List, [], ◌∷◌, ◌++◌, length, map, max, reverse, replicate, Option, None, Some}
+use Rattle.std.specs.Prelude.{ℕ, zero, suc, ◌+◌, ◌-◌, ◌^◌, pos, neg_ℤ, Bool, true, false, cond, nat_lt, List, [], ◌∷◌, ◌++◌, length, map, max, replicate, Option, None, Some}
 use Rattle.df_lang.specs.declared.expr.AddendOperator.{AddendOperator}
 use Rattle.df_lang.specs.declared.expr.AddendOperator.TheVariants as addends
 use Rattle.df_lang.specs.declared.expr.FactorOperator.{FactorOperator}
@@ -15,7 +15,6 @@ use Rattle.df_nplain.specs.Plain as plain
 use Rattle.df_nplain.specs.Counts.{results_at}
 use Rattle.df_nmach.specs.declared.instruction.Range.{Range}
 use Rattle.df_nmach.specs.declared.instruction.UnaryOperator.TheVariants as unary
-use Rattle.df_nmach.specs.declared.instruction.BinaryOperator.{BinaryOperator}
 use Rattle.df_nmach.specs.declared.instruction.BinaryOperator.TheVariants as binary
 use Rattle.df_nmach.specs.declared.instruction.Instruction.{Instruction}
 use Rattle.df_nmach.specs.declared.instruction.Instruction.TheVariants as i

@@ -8,7 +8,7 @@ use Rattle.df_nplain.specs.declared.stmt.Operand as declared_operand
 use Rattle.df_nplain.specs.declared.stmt.Operand.TheVariants as operands
 use Rattle.df_nplain.specs.declared.stmt.Stmt as declared
 use Rattle.df_nplain.specs.declared.stmt.Stmt.TheOpen.{Stmt-F, Branch-F}
-use Rattle.df_nplain.specs.declared.stmt.Stmt.TheFolds.{map-Stmt, map-Branch, fold-roll-Stmt, fold-roll-Branch, ind-Stmt}
+use Rattle.df_nplain.specs.declared.stmt.Stmt.TheFolds.{map-Stmt, fold-roll-Stmt, fold-roll-Branch, ind-Stmt}
 use Rattle.df_nplain.specs.declared.stmt.Branch as declared_branch
 use Rattle.df_nplain.specs.declared.plain.Method as declared_method
 use Rattle.df_nplain.specs.declared.plain.Plain as declared_plain

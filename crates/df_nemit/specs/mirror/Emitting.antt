@@ -1,5 +1,5 @@
 -- What the emitter makes of the code so far, as its functions go: what private contracts cite.
-use Rattle.std.specs.Prelude.{ℕ, zero, suc, ◌+◌, ◌-◌, Bool, true, false, cond, List, [], ◌∷◌, ◌++◌, length, replicate, slice_set, Option, None, Some}
+use Rattle.std.specs.Prelude.{ℕ, ◌+◌, ◌-◌, Bool, true, false, List, [], ◌∷◌, ◌++◌, length, replicate, slice_set, Option, None, Some}
 use Rattle.df_lang.specs.declared.expr.Junction.{Junction as JunctionKind}
 use Rattle.df_lang.specs.declared.expr.Junction.TheVariants as junctions
 use Rattle.df_lang.specs.declared.expr.Comparison.{Comparison}

@@ -1,4 +1,4 @@
-use Rattle.std.proofs.Common.{◌+◌, ◌++◌, arith, rules, ap, sym, ◌∙◌, length}
+use Rattle.std.proofs.Common.{◌+◌, arith, rules, ap, sym, ◌∙◌, length}
 use Rattle.std.specs.Prelude.{map, drop, Vec, ℕ, List}
 use Rattle.std.specs.declared.alloc.Global.{Global}
 use Rattle.df_nmach.specs.declared.instruction.Instruction.{Instruction}
@@ -7,7 +7,7 @@ use Rattle.df_nplain.specs.Expr.{Expr}
 use Rattle.df_nplain.specs.ExprView.{link_of, links_of}
 use Rattle.df_nemit.specs.Code.{compare}
 use Rattle.df_nemit.specs.mirror.Drafts.{run_of}
-use Rattle.df_nemit.specs.mirror.Emitting.{Run, kept, put_all, with_code, emit_expr, emit_links}
+use Rattle.df_nemit.specs.mirror.Emitting.{kept, put_all, with_code, emit_expr, emit_links}
 use Rattle.df_nemit.proofs.LinkView.{link_operand, link_comparison}
 use Rattle.df_nemit.proofs.Tail.{goes_on, ends}
 use Rattle.df_nemit.proofs.expressions.+expr.Goals as goal

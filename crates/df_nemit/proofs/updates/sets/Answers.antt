@@ -1,7 +1,6 @@
-use Rattle.std.proofs.Common.{◌≡◌, ◌+◌, ◌-◌, ◌++◌, ◌∷◌, [], ℕ, List, take, arith, rules, ap, sym, ◌∙◌, subst}
-use Rattle.df_nmach.specs.declared.instruction.Instruction.{Instruction}
+use Rattle.std.proofs.Common.{◌≡◌, ◌+◌, ◌-◌, ◌++◌, ◌∷◌, [], ℕ, take, arith, rules, ap, sym, ◌∙◌}
 use Rattle.df_nmach.specs.declared.instruction.Instruction.TheVariants as i
-use Rattle.df_nemit.specs.Code.{slot, sets_code}
+use Rattle.df_nemit.specs.Code.{sets_code}
 use Rattle.df_nemit.proofs.Tail.{sets_on}
 use Rattle.df_nemit.proofs.updates.sets.Goals as goal
 
