@@ -3,3 +3,4 @@ mod Runs
 mod Names
 mod Entry
 mod Refusals
+mod Numbers

@@ -3,7 +3,9 @@
 
 mod compiling;
 mod law;
+mod numbering;
 
 pub use compiling::compile;
 pub use df_nerase::EraseFault;
 pub use law::{compiled_code_never_faults, the_entry_runs};
+pub use numbering::number_on_machine;
