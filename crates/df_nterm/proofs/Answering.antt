@@ -81,7 +81,7 @@ module _ (i : Interpretation) where
       no_cast true e = cc
       no_cast false e = cc
 
-  conversion_told : (source target : Ty) (at : Pos) (a : Term) → IsSorted source (value i a)
+  pub conversion_told : (source target : Ty) (at : Pos) (a : Term) → IsSorted source (value i a)
       → converted i.program source target at (value i a) ≡ told i (narrowing source target at a) (Gives (value i a))
   conversion_told types.Int types.Nat at a h = rw (number_form (value i a) h) refl
   conversion_told types.Int (types.Newtype id) at a h = refl
@@ -142,7 +142,7 @@ module _ (i : Interpretation) where
   number_in_value types.Bool a = refl
   number_in_value (types.Newtype id) a = refl
 
-  equal_told : (ty : Ty) (a b : Term) → IsSorted ty (value i a) → IsSorted ty (value i b) → same_value (value i a) (value i b) ≡ truth i (compared ty comparisons.Equal a b)
+  pub equal_told : (ty : Ty) (a b : Term) → IsSorted ty (value i a) → IsSorted ty (value i b) → same_value (value i a) (value i b) ≡ truth i (compared ty comparisons.Equal a b)
   equal_told types.Bool a b h g = rw (truth_form (value i a) h, truth_form (value i b) g) refl
   equal_told types.Char a b h g = refl
   equal_told types.Int a b h g = refl

@@ -4,3 +4,4 @@ pub mod Below
 pub mod Answering
 pub mod Ordering
 pub mod Laws
+pub mod Equal

@@ -1,0 +1,213 @@
+-- A run and what is said of it: what is false first tells where the run is wrong. Either the interpretation is given,
+-- and what is handed in is read from it; or what is handed in is given, and the interpretation takes it.
+use Rattle.std.proofs.Common.{◌≡◌, ◌⊎◌, inl, inr, ℕ, ◌≤◌, Bool, true, false, ◌&&◌, List, [], ◌∷◌, ◌++◌, refl, sym, ap, ◌∙◌, subst, arith, nat_lt}
+use Rattle.df_base.specs.declared.pos.Pos.{Pos}
+use Rattle.df_meaning.specs.declared.kind.Kind.{Kind}
+use Rattle.df_mean.specs.Value.{truth_of}
+use Rattle.df_mean.specs.Outcome.{Outcome, Gives, Wrong, TooDeep, NoChoice, Dismissed}
+use Rattle.df_mean.specs.State.{Handed}
+use Rattle.df_mean.proofs.Cases.{both}
+use Rattle.df_nterm.specs.Term.{Term, Free}
+use Rattle.df_nterm.specs.Meaning.{Interpretation, truth}
+use Rattle.df_nterm.proofs.Below.{IsBelow, SameBelow, value_same}
+use Rattle.df_npass.specs.Rules.{Said, Known, Owed}
+use Rattle.df_npass.proofs.Saying.{formula_of, AllTrue}
+use Rattle.df_npass.proofs.Proper.{AllBelow}
+
+pub data Mode : Type 0 where
+  Following : Mode
+  Taking : List Handed → Mode
+
+abbrev pub is_taking : Mode → Bool
+is_taking Following = false
+is_taking (Taking handed) = true
+
+-- ---- interpretations that agree below a number
+
+pub same_itself : (n : ℕ) (i : Interpretation) → SameBelow n i i
+same_itself n i = record { program = refl; free = λ free e. refl }
+
+pub same_then : (n m : ℕ) (i j k : Interpretation) → n ≤ m → SameBelow n i j → SameBelow m j k → SameBelow n i k
+same_then n m i j k more h g = record { program = h.program ∙ g.program; free = λ free e. h.free free e ∙ g.free free (grind (arith, more, e)) }
+
+-- formulas below a number have the truth that they had
+pub truth_same : (n : ℕ) (i j : Interpretation) → SameBelow n i j → (formula : Term) → IsBelow n formula → truth i formula ≡ truth j formula
+truth_same n i j same formula h = ap truth_of (value_same n i j same formula h)
+
+pub all_same : (n : ℕ) (i j : Interpretation) → SameBelow n i j → (said : List Said) → AllBelow n said → AllTrue i said → AllTrue j said
+all_same n i j same [] h all = tt
+all_same n i j same (x ∷ said) h all = (sym (truth_same n i j same (formula_of x) h.0) ∙ all.0, all_same n i j same said h.1 all.1)
+
+-- to another interpretation, in the same mode
+pub record Moves (a : Mode) (i : Interpretation) (n : ℕ) (b : Mode) (j : Interpretation) : Type 0 where
+  pub same : SameBelow n i j
+  pub mode : is_taking a ≡ is_taking b
+
+pub moves_here : (a : Mode) (i : Interpretation) (n : ℕ) → Moves a i n a i
+moves_here a i n = record { same = same_itself n i; mode = refl }
+
+pub moves_then : (a b c : Mode) (i j k : Interpretation) (n m : ℕ) → n ≤ m → Moves a i n b j → Moves b j m c k → Moves a i n c k
+moves_then a b c i j k n m le h g = record { same = same_then n m i j k le h.same g.same; mode = h.mode ∙ g.mode }
+
+-- ---- what is false first
+
+pub apart : (b : Bool) → b ≡ true → b ≡ false → ⊥
+apart true e f = cc
+apart false e f = cc
+
+-- the formula is owed there by the kind
+abbrev pub IsOwedAt : Said → Pos → Kind → Type 0
+IsOwedAt (Known formula) at kind = ⊥
+IsOwedAt (Owed own what formula) at kind = (own ≡ at) × (what ≡ kind)
+
+-- the first formula that is false is owed there by the kind
+abbrev pub FirstFalse : Interpretation → List Said → Pos → Kind → Type 0
+FirstFalse i [] at kind = ⊥
+FirstFalse i (x ∷ others) at kind = ((truth i (formula_of x) ≡ true) × FirstFalse i others at kind) ⊎ ((truth i (formula_of x) ≡ false) × IsOwedAt x at kind)
+
+module _ (i : Interpretation) (at : Pos) (kind : Kind) where
+  pub first_tail : (x : Said) (more : List Said) → truth i (formula_of x) ≡ true → FirstFalse i (x ∷ more) at kind → FirstFalse i more at kind
+  first_tail x more e f = elim f [ inl g ↦ g.1 | inr g ↦ absurd (apart (truth i (formula_of x)) e g.0) ]
+
+  pub first_head : (x : Said) (more : List Said) → truth i (formula_of x) ≡ false → FirstFalse i (x ∷ more) at kind → IsOwedAt x at kind
+  first_head x more e f = elim f [ inl g ↦ absurd (apart (truth i (formula_of x)) g.0 e) | inr g ↦ g.1 ]
+
+  pub first_behind : (said more : List Said) → AllTrue i said → FirstFalse i more at kind → FirstFalse i (said ++ more) at kind
+  first_behind [] more all f = f
+  first_behind (x ∷ said) more all f = inl (all.0, first_behind said more all.1 f)
+
+  pub first_rest : (said more : List Said) → AllTrue i said → FirstFalse i (said ++ more) at kind → FirstFalse i more at kind
+  first_rest [] more all f = f
+  first_rest (x ∷ said) more all f = first_rest said more all.1 (first_tail x (said ++ more) all.0 f)
+
+  pub none_false : (said : List Said) → AllTrue i said → FirstFalse i said at kind → ⊥
+  none_false [] all f = f
+  none_false (x ∷ said) all f = none_false said all.1 (first_tail x said all.0 f)
+
+-- ---- runs
+
+pub record Followed (B : Type 0) (i : Interpretation) (said : List Said) (run : List Handed → Outcome B) : Type 0 where
+  pub new : List Handed
+  pub tells : (at : Pos) (kind : Kind) → FirstFalse i said at kind → run new ≡ Wrong at kind
+
+pub record Blamed (B : Type 0) (i : Interpretation) (n : ℕ) (said : List Said) (run : Outcome B) : Type 0 where
+  pub to : Interpretation
+  pub same : SameBelow n i to
+  pub blames : (at : Pos) (kind : Kind) → run ≡ Wrong at kind → FirstFalse to said at kind
+
+abbrev pub Play : (B : Type 0) → Mode → Interpretation → ℕ → List Said → (List Handed → Outcome B) → Type 0
+Play B Following i n said run = Followed B i said run
+Play B (Taking handed) i n said run = Blamed B i n said (run handed)
+
+pub not_wrong : {A : Type 0} {o : Outcome A} (at : Pos) (kind : Kind) → o ≡ Dismissed → o ≡ Wrong at kind → ⊥
+not_wrong at kind e f = cc
+
+pub not_deep : {A : Type 0} {o : Outcome A} (at : Pos) (kind : Kind) → o ≡ TooDeep → o ≡ Wrong at kind → ⊥
+not_deep at kind e f = cc
+
+abbrev pub Ends : {B : Type 0} → Said → Outcome B → Type 0
+Ends (Known formula) o = o ≡ Dismissed
+Ends (Owed at kind formula) o = o ≡ Wrong at kind
+
+same_wrong : {B : Type 0} (o : Outcome B) (own at : Pos) (what kind : Kind) → o ≡ Wrong own what → own ≡ at → what ≡ kind → o ≡ Wrong at kind
+same_wrong o own at what kind e a k = rw (← a, ← k) e
+
+wrong_same : {B : Type 0} (o : Outcome B) (own at : Pos) (what kind : Kind) → o ≡ Wrong own what → o ≡ Wrong at kind → (own ≡ at) × (what ≡ kind)
+wrong_same o own at what kind e f = let a : own ≡ at = cc in let k : what ≡ kind = cc in (a, k)
+
+ends_wrong : {B : Type 0} (x : Said) (o : Outcome B) (at : Pos) (kind : Kind) → IsOwedAt x at kind → Ends x o → o ≡ Wrong at kind
+ends_wrong (Known formula) o at kind h e = absurd h
+ends_wrong (Owed own what formula) o at kind h e = same_wrong o own at what kind e h.0 h.1
+
+wrong_owed : {B : Type 0} (x : Said) (o : Outcome B) (at : Pos) (kind : Kind) → Ends x o → o ≡ Wrong at kind → IsOwedAt x at kind
+wrong_owed (Known formula) o at kind e w = absurd (not_wrong at kind e w)
+wrong_owed (Owed own what formula) o at kind e w = wrong_same o own at what kind e w
+
+-- the run is another one
+pub play_as : (B : Type 0) (mode : Mode) (i : Interpretation) (n : ℕ) (said : List Said) (run other : List Handed → Outcome B) → ((handed : List Handed) → run handed ≡ other handed) → Play B mode i n said other → Play B mode i n said run
+play_as B Following i n said run other e h = record { new = h.new; tells = λ at kind f. e h.new ∙ h.tells at kind f }
+play_as B (Taking handed) i n said run other e h = record { to = h.to; same = h.same; blames = λ at kind w. h.blames at kind (sym (e handed) ∙ w) }
+
+-- a run that is not wrong blames nothing
+pub play_silent : (B : Type 0) (i : Interpretation) (n : ℕ) (said : List Said) (o : Outcome B) → ((at : Pos) (kind : Kind) → o ≡ Wrong at kind → ⊥) → Blamed B i n said o
+play_silent B i n said o h = record { to = i; same = same_itself n i; blames = λ at kind w. absurd (h at kind w) }
+
+-- where all is true nothing is told
+pub play_over : (B : Type 0) (i : Interpretation) (n : ℕ) (said : List Said) (run : List Handed → Outcome B) → AllTrue i said → Play B Following i n said run
+play_over B i n said run all = record { new = []; tells = λ at kind f. absurd (none_false i at kind said all f) }
+
+-- what is handed in first
+pub play_handed : (B : Type 0) (i : Interpretation) (n : ℕ) (said : List Said) (run other : List Handed → Outcome B) (first : Handed) → ((handed : List Handed) → run (first ∷ handed) ≡ other handed) → Play B Following i n said other → Play B Following i n said run
+play_handed B i n said run other first e h = record { new = first ∷ h.new; tells = λ at kind f. e h.new ∙ h.tells at kind f }
+
+pub play_took : (B : Type 0) (i : Interpretation) (n : ℕ) (said : List Said) (run other : List Handed → Outcome B) (first : Handed) (handed : List Handed) → run (first ∷ handed) ≡ other handed → Play B (Taking handed) i n said other → Play B (Taking (first ∷ handed)) i n said run
+play_took B i n said run other first handed e h = record { to = h.to; same = h.same; blames = λ at kind w. h.blames at kind (sym e ∙ w) }
+
+-- behind what is true of all interpretations that agree
+pub play_behind : (B : Type 0) (mode : Mode) (i : Interpretation) (n : ℕ) (said more : List Said) (run : List Handed → Outcome B) → ((j : Interpretation) → SameBelow n i j → AllTrue j said) → Play B mode i n more run → Play B mode i n (said ++ more) run
+play_behind B Following i n said more run all h = record { new = h.new; tells = λ at kind f. h.tells at kind (first_rest i at kind said more (all i (same_itself n i)) f) }
+play_behind B (Taking handed) i n said more run all h = record { to = h.to; same = h.same; blames = λ at kind w. first_behind h.to at kind said more (all h.to h.same) (h.blames at kind w) }
+
+-- from a later number on
+pub play_later : (B : Type 0) (mode : Mode) (i : Interpretation) (n m : ℕ) (said : List Said) (run : List Handed → Outcome B) → n ≤ m → Play B mode i m said run → Play B mode i n said run
+play_later B Following i n m said run le h = h
+play_later B (Taking handed) i n m said run le h = record { to = h.to; same = same_then n m i i h.to le (same_itself n i) h.same; blames = h.blames }
+
+-- the interpretation takes something
+pub play_taking : (B : Type 0) (handed : List Handed) (i j : Interpretation) (n m : ℕ) (said : List Said) (run : List Handed → Outcome B) → n ≤ m → SameBelow n i j → Play B (Taking handed) j m said run → Play B (Taking handed) i n said run
+play_taking B handed i j n m said run le same h = record { to = h.to; same = same_then n m i j h.to le same h.same; blames = h.blames }
+
+-- one formula more: it is true, or it tells how the run ends
+pub said_then : (B : Type 0) (mode : Mode) (i : Interpretation) (n : ℕ) (x : Said) (more : List Said) (run : List Handed → Outcome B) → IsBelow n (formula_of x) → (truth i (formula_of x) ≡ true → Play B mode i n more run)
+    → (truth i (formula_of x) ≡ false → (handed : List Handed) → Ends x (run handed)) → Play B mode i n (x ∷ more) run
+said_then B Following i n x more run below h g = by_truth (truth i (formula_of x)) refl
+  where
+    by_truth : (b : Bool) → truth i (formula_of x) ≡ b → Play B Following i n (x ∷ more) run
+    by_truth true e = let p = h e in record { new = p.new; tells = λ at kind f. p.tells at kind (first_tail i at kind x more e f) }
+    by_truth false e = record { new = []; tells = λ at kind f. ends_wrong x (run []) at kind (first_head i at kind x more e f) (g e []) }
+said_then B (Taking handed) i n x more run below h g = by_truth (truth i (formula_of x)) refl
+  where
+    by_truth : (b : Bool) → truth i (formula_of x) ≡ b → Play B (Taking handed) i n (x ∷ more) run
+    by_truth true e = let p = h e in record { to = p.to; same = p.same; blames = λ at kind w. inl (sym (truth_same n i p.to p.same (formula_of x) below) ∙ e, p.blames at kind w) }
+    by_truth false e = record { to = i; same = same_itself n i; blames = λ at kind w. inr (e, wrong_owed x (run handed) at kind (g e handed) w) }
+
+-- ---- what is only known
+
+abbrev pub AreKnown : List Said → Type 0
+AreKnown [] = Unit {0}
+AreKnown (Known formula ∷ others) = AreKnown others
+AreKnown (x ∷ others) = ⊥
+
+pub known_append : (said more : List Said) → AreKnown said → AreKnown more → AreKnown (said ++ more)
+known_append [] more h g = g
+known_append (Known formula ∷ others) more h g = known_append others more h g
+known_append (Owed at kind formula ∷ others) more h g = absurd h
+
+pub known_first : (i : Interpretation) (at : Pos) (kind : Kind) (said more : List Said) → AreKnown said → FirstFalse i (said ++ more) at kind → AllTrue i said
+known_first i at kind [] more known f = tt
+known_first i at kind (Known formula ∷ said) more known f = elim f [ inl g ↦ (g.0, known_first i at kind said more known g.1) | inr g ↦ absurd g.1 ]
+known_first i at kind (Owed own what formula ∷ said) more known f = absurd known
+
+abbrev all_true : Interpretation → List Said → Bool
+all_true i [] = true
+all_true i (x ∷ said) = truth i (formula_of x) && all_true i said
+
+all_is : (i : Interpretation) (said : List Said) → all_true i said ≡ true → AllTrue i said
+all_is i [] e = tt
+all_is i (x ∷ said) e = let e = both (truth i (formula_of x)) (all_true i said) e in (e.0, all_is i said e.1)
+
+both_true : (a b : Bool) → a ≡ true → b ≡ true → (a && b) ≡ true
+both_true true b e f = f
+both_true false b e f = cc
+
+is_all : (i : Interpretation) (said : List Said) → AllTrue i said → all_true i said ≡ true
+is_all i [] h = refl
+is_all i (x ∷ said) h = both_true (truth i (formula_of x)) (all_true i said) h.0 (is_all i said h.1)
+
+-- where it is not all true the run is left open
+pub known_then_follow : (B : Type 0) (i : Interpretation) (n : ℕ) (said more : List Said) (run : List Handed → Outcome B) → AreKnown said → (AllTrue i said → Play B Following i n more run) → Play B Following i n (said ++ more) run
+known_then_follow B i n said more run known h = by_all (all_true i said) refl
+  where
+    by_all : (b : Bool) → all_true i said ≡ b → Play B Following i n (said ++ more) run
+    by_all true e = let all = all_is i said e in let p = h all in record { new = p.new; tells = λ at kind f. p.tells at kind (first_rest i at kind said more all f) }
+    by_all false e = record { new = []; tells = λ at kind f. absurd (apart (all_true i said) (is_all i said (known_first i at kind said more known f)) e) }

@@ -1,0 +1,178 @@
+-- What is said speaks of free terms that stand already, and says nothing of runs that do not come there.
+use Rattle.std.proofs.Common.{◌≡◌, ℕ, suc, ◌≤◌, ◌<◌, nat_lt, Bool, true, false, ◌&&◌, ◌||◌, if◌then◌else◌, cond, List, [], ◌∷◌, ◌++◌, map, length, slice_index_or, Option, None, Some, refl, sym, ap, ◌∙◌, subst, arith, le_trans, le_refl}
+use Rattle.std.specs.List.{AllByRecursion, flat_map, list_any, list_all, filter}
+use Rattle.std.specs.Option.{option_map_or}
+use Rattle.df_base.specs.declared.pos.Pos.{Pos}
+use Rattle.df_lang.specs.declared.ty.Ty.{Ty}
+use Rattle.df_lang.specs.declared.ty.Ty.TheVariants as types
+use Rattle.df_lang.specs.Expr.{Expr}
+use Rattle.df_lang.specs.Stmt.{Clause, Measure, Target, Conversion, Operand, Text, Value as Shown}
+use Rattle.df_lang.specs.Program.{Param}
+use Rattle.df_meaning.specs.declared.kind.Kind.{Kind}
+use Rattle.df_meaning.specs.declared.kind.Kind.TheVariants as kinds
+use Rattle.df_mean.specs.Modular.{Changed}
+use Rattle.df_mean.proofs.Cases.{both, joined as and_joined}
+use Rattle.df_nterm.specs.Term.{Term, Terms, no_term, term, terms_of, negation, implies, conjunction, disjunction, truth_term, either, sort_of_type, Numbers, Truths, Characters, Sort}
+use Rattle.df_nterm.specs.Term as ops
+use Rattle.df_nterm.specs.Meaning.{Interpretation, truth}
+use Rattle.df_nterm.specs.Same.{same_term}
+use Rattle.df_nterm.specs.Expressions.{Environment, Condition, term_of, conditions_of, equal_in, narrowing}
+use Rattle.df_nterm.specs.Measuring.{Measured, measured, below_of, same_of, is_below, is_same, are_below}
+use Rattle.df_nterm.proofs.Below.{IsBelow, below, all_below, below_grows, AreBelow, append_below, two_below, equal_below, conjunction_below, disjunction_below, narrowing_below, term_below, conditions_below}
+use Rattle.df_npass.specs.Rules.{Said, Known, Owed, Way, on_path, narrowed_path, narrowed, over, with_term, assume, assume_all, assert, assert_all, assume_type, free_of, Moved, havoc, assume_joined, join_locals, are_same, either_path, paths_of, any_path, Joined, join}
+use Rattle.df_npass.specs.Statements.{at_clause, assert_clauses, assume_clauses, assert_expr, assert_exprs, assert_measure, assert_operand, env_of}
+use Rattle.df_npass.specs.Methods.{require_all}
+use Rattle.df_npass.proofs.Saying.{formula_of, AllTrue, path_true, all_appended, off_path, narrowed_false, assert_off, assume_off}
+
+abbrev pub AllBelow : ℕ → List Said → Type 0
+AllBelow n said = AllByRecursion (λ (x : Said). IsBelow n (formula_of x)) said
+
+abbrev pub PathBelow : ℕ → Option Term → Type 0
+PathBelow n None = Unit {0}
+PathBelow n (Some path) = IsBelow n path
+
+abbrev pub EnvBelow : ℕ → Environment → Type 0
+EnvBelow n env = (local : ℕ) → IsBelow n (env local)
+
+-- of runs on a path
+pub record Proper (n : ℕ) (path : Option Term) (said : List Said) : Type 0 where
+  pub below : AllBelow n said
+  pub off : (i : Interpretation) → path_true i path ≡ false → AllTrue i said
+
+-- ---- growing
+
+pub below_append : (n : ℕ) (said more : List Said) → AllBelow n said → AllBelow n more → AllBelow n (said ++ more)
+below_append n [] more h g = g
+below_append n (x ∷ said) more h g = (h.0, below_append n said more h.1 g)
+
+pub said_grows : (n m : ℕ) (said : List Said) → n ≤ m → AllBelow n said → AllBelow m said
+said_grows n m [] more h = tt
+said_grows n m (x ∷ said) more h = (below_grows n m more (formula_of x) h.0, said_grows n m said more h.1)
+
+pub path_grows : (n m : ℕ) (path : Option Term) → n ≤ m → PathBelow n path → PathBelow m path
+path_grows n m None more h = tt
+path_grows n m (Some path) more h = below_grows n m more path h
+
+pub env_grows : (n m : ℕ) (env : Environment) → n ≤ m → EnvBelow n env → EnvBelow m env
+env_grows n m env more h = λ local. below_grows n m more (env local) (h local)
+
+pub proper_grows : (n m : ℕ) (path : Option Term) (said : List Said) → n ≤ m → Proper n path said → Proper m path said
+proper_grows n m path said more h = record { below = said_grows n m said more h.below; off = h.off }
+
+pub nothing_proper : (n : ℕ) (path : Option Term) → Proper n path []
+nothing_proper n path = record { below = tt; off = λ i e. tt }
+
+pub append_proper : (n : ℕ) (path : Option Term) (said more : List Said) → Proper n path said → Proper n path more → Proper n path (said ++ more)
+append_proper n path said more h g = record { below = below_append n said more h.below g.below; off = λ i e. all_appended i said more (h.off i e) (g.off i e) }
+
+-- ---- on paths
+
+pub on_path_below : (n : ℕ) (path : Option Term) (formula : Term) → PathBelow n path → IsBelow n formula → IsBelow n (on_path path formula)
+on_path_below n None formula h g = g
+on_path_below n (Some path) formula h g = two_below n path formula h g
+
+pub narrowed_below : (n : ℕ) (path : Option Term) (formula : Term) → PathBelow n path → IsBelow n formula → IsBelow n (narrowed_path path formula)
+narrowed_below n None formula h g = g
+narrowed_below n (Some path) formula h g = two_below n path formula h g
+
+-- what is proper on a narrower path is on a wider one
+pub wider : (n : ℕ) (path : Option Term) (formula : Term) (said : List Said) → Proper n (Some (narrowed_path path formula)) said → Proper n path said
+wider n path formula said h = record { below = h.below; off = λ i e. h.off i (narrowed_false i path formula e) }
+
+pub known_proper : (n : ℕ) (path : Option Term) (formula : Term) → PathBelow n path → IsBelow n formula → Proper n path (assume path formula)
+known_proper n path formula h g = record { below = (on_path_below n path formula h g, tt); off = λ i e. (off_path i path formula e, tt) }
+
+pub owed_proper : (n : ℕ) (path : Option Term) (at : Pos) (kind : Kind) (formula : Term) → PathBelow n path → IsBelow n formula → Proper n path (assert path at kind formula)
+owed_proper n path at kind formula h g = record { below = (on_path_below n path formula h g, tt); off = λ i e. (off_path i path formula e, tt) }
+
+pub asserted_proper : (n : ℕ) (path : Option Term) (cs : List Condition) → PathBelow n path → AreBelow n cs → Proper n path (assert_all path cs)
+asserted_proper n path cs h g = record { below = each cs g; off = λ i e. assert_off i path cs e }
+  where
+    each : (cs : List Condition) → AreBelow n cs → AllBelow n (assert_all path cs)
+    each [] g = tt
+    each (c ∷ cs) g = (on_path_below n path c.formula h g.0, each cs g.1)
+
+pub assumed_proper : (n : ℕ) (path : Option Term) (cs : List Condition) → PathBelow n path → AreBelow n cs → Proper n path (assume_all path cs)
+assumed_proper n path cs h g = record { below = each cs g; off = λ i e. assume_off i path cs e }
+  where
+    each : (cs : List Condition) → AreBelow n cs → AllBelow n (assume_all path cs)
+    each [] g = tt
+    each (c ∷ cs) g = (on_path_below n path c.formula h g.0, each cs g.1)
+
+-- what is said of each
+each_proper : {A : Type 0} (n : ℕ) (path : Option Term) (f : A → List Said) → ((a : A) → Proper n path (f a)) → (xs : List A) → Proper n path (flat_map f xs)
+each_proper n path f h [] = nothing_proper n path
+each_proper n path f h (x ∷ xs) = append_proper n path (f x) (flat_map f xs) (h x) (each_proper n path f h xs)
+
+module _ (n : ℕ) (way : Way) (path : PathBelow n way.path) (env : EnvBelow n way.env) where
+  pub expr_proper : (e : Expr) → Proper n way.path (assert_expr way e)
+  expr_proper e = asserted_proper n way.path (conditions_of way.env e) path (conditions_below n way.env env e)
+
+  pub exprs_proper : (es : List Expr) → Proper n way.path (assert_exprs way es)
+  exprs_proper es = each_proper n way.path (assert_expr way) expr_proper es
+
+  pub clauses_proper : (place : Clause → Pos) (kind : Kind) (clauses : List Clause) → Proper n way.path (assert_clauses place kind way clauses)
+  clauses_proper place kind clauses = each_proper n way.path _ (λ (clause : Clause). append_proper n way.path (assert_expr way clause.condition) _ (expr_proper clause.condition) (owed_proper n way.path (place clause) kind (term_of way.env clause.condition) path (term_below n way.env env clause.condition))) clauses
+
+  pub handed_proper : (clauses : List Clause) → Proper n way.path (assume_clauses way clauses)
+  handed_proper clauses = each_proper n way.path _ (λ (clause : Clause). append_proper n way.path (assume_all way.path (conditions_of way.env clause.condition)) _
+      (assumed_proper n way.path (conditions_of way.env clause.condition) path (conditions_below n way.env env clause.condition)) (known_proper n way.path (term_of way.env clause.condition) path (term_below n way.env env clause.condition))) clauses
+
+  pub required_proper : (clauses : List Clause) → Proper n way.path (require_all way clauses)
+  required_proper clauses = each_proper n way.path _ (λ (clause : Clause). append_proper n way.path (assert_expr way clause.condition) _ (expr_proper clause.condition) (known_proper n way.path (term_of way.env clause.condition) path (term_below n way.env env clause.condition))) clauses
+
+  pub measure_proper : (measures : List Measure) → Proper n way.path (assert_measure way measures)
+  measure_proper measures = each_proper n way.path _ (λ (measure : Measure). expr_proper measure.value) measures
+
+  pub operand_proper : (operand : Operand) → Proper n way.path (assert_operand way operand)
+  operand_proper (Text characters) = nothing_proper n way.path
+  operand_proper (Shown ty value) = expr_proper value
+
+  pub operands_proper : (operands : List Operand) → Proper n way.path (flat_map (assert_operand way) operands)
+  operands_proper operands = each_proper n way.path (assert_operand way) operand_proper operands
+
+-- ---- measures
+
+abbrev pub MeasureBelow : ℕ → List Measured → Type 0
+MeasureBelow n members = AllByRecursion (λ (one : Measured). IsBelow n one.value) members
+
+pub measured_below : (n : ℕ) (env : Environment) → EnvBelow n env → (measures : List Measure) → MeasureBelow n (measured env measures)
+measured_below n env h [] = tt
+measured_below n env h (measure ∷ others) = (term_below n env h measure.value, measured_below n env h others)
+
+pub measure_grows : (n m : ℕ) (members : List Measured) → n ≤ m → MeasureBelow n members → MeasureBelow m members
+measure_grows n m [] more h = tt
+measure_grows n m (one ∷ others) more h = (below_grows n m more one.value h.0, measure_grows n m others more h.1)
+
+module _ (n : ℕ) where
+  below_sorted : (x y : Sort) (a b : Term) → IsBelow n a → IsBelow n b → IsBelow n (below_of x y a b)
+  below_sorted Truths Truths a b h g = rw (h, g) refl
+  below_sorted Characters Characters a b h g = rw (h, g) refl
+  below_sorted Numbers Numbers a b h g = rw (h, g) refl
+  below_sorted Truths Characters a b h g = refl
+  below_sorted Truths Numbers a b h g = refl
+  below_sorted Characters Truths a b h g = refl
+  below_sorted Characters Numbers a b h g = refl
+  below_sorted Numbers Truths a b h g = refl
+  below_sorted Numbers Characters a b h g = refl
+
+  same_sorted : (x y : Sort) (a b : Term) → IsBelow n a → IsBelow n b → IsBelow n (same_of x y a b)
+  same_sorted Truths Truths a b h g = rw (h, g) refl
+  same_sorted Characters Characters a b h g = rw (h, g) refl
+  same_sorted Numbers Numbers a b h g = rw (h, g) refl
+  same_sorted Truths Characters a b h g = refl
+  same_sorted Truths Numbers a b h g = refl
+  same_sorted Characters Truths a b h g = refl
+  same_sorted Characters Numbers a b h g = refl
+  same_sorted Numbers Truths a b h g = refl
+  same_sorted Numbers Characters a b h g = refl
+
+  step_below : (a b : Measured) (rest : Term) → IsBelow n a.value → IsBelow n b.value → IsBelow n rest → IsBelow n (either (is_below a b) (ops.both (is_same a b) rest))
+  step_below a b rest h g e = rw (below_sorted (sort_of_type a.ty) (sort_of_type b.ty) a.value b.value h g, same_sorted (sort_of_type a.ty) (sort_of_type b.ty) a.value b.value h g, e) refl
+
+  pub order_below : (now before : List Measured) → MeasureBelow n now → MeasureBelow n before → IsBelow n (are_below now before)
+  order_below [] before h g = refl
+  order_below (a ∷ more) [] h g = refl
+  order_below (a ∷ []) (b ∷ []) h g = below_sorted (sort_of_type a.ty) (sort_of_type b.ty) a.value b.value h.0 g.0
+  order_below (a ∷ []) (b ∷ c ∷ others) h g = step_below a b (are_below [] (c ∷ others)) h.0 g.0 refl
+  order_below (a ∷ c ∷ more) (b ∷ others) h g = step_below a b (are_below (c ∷ more) others) h.0 g.0 (order_below (c ∷ more) others h.1 g.1)

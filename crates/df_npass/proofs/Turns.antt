@@ -1,0 +1,147 @@
+-- A turn of a loop that is handed in goes on from any values of the locals that the loop changes.
+use Rattle.std.proofs.Common.{◌≡◌, ℕ, ◌≤◌, ◌==◌, Bool, true, false, ◌&&◌, ◌||◌, if◌then◌else◌, List, [], ◌∷◌, ◌++◌, slice_get, is_some, Option, None, Some, refl, sym, ap, ◌∙◌, subst}
+use Rattle.std.specs.List.{list_all}
+use Rattle.std.specs.Option.{option_map_or}
+use Rattle.df_lang.specs.declared.ty.Ty.{Ty}
+use Rattle.df_lang.specs.Program.{Program}
+use Rattle.df_lang.specs.Typing.{same_type, is_type, is_well_typed}
+use Rattle.df_lang.specs.Assignment.{Assigned, has_value}
+use Rattle.df_mean.specs.Value.{Value}
+use Rattle.df_mean.specs.Types.{has_type}
+use Rattle.df_mean.specs.Outcome.{Outcome, Gives, Dismissed, after}
+use Rattle.df_mean.specs.State.{Handed, Given as HandedGiven, Turned, State, Store, Locals, store_with, with_store}
+use Rattle.df_mean.specs.Definite.{HasValue}
+use Rattle.df_mean.specs.Modular.{Changed, may_have, turned, handed_turn}
+use Rattle.df_mean.specs.Agreement.{is_changed}
+use Rattle.df_mean.proofs.Cases.{both, joined}
+use Rattle.df_mean.proofs.Types.{same_type_equal}
+use Rattle.df_mean.proofs.Changing.{are_there}
+use Rattle.df_mean.proofs.Counting.{assigned_has}
+use Rattle.df_nterm.specs.Term.{Term}
+use Rattle.df_nterm.specs.Meaning.{Interpretation}
+use Rattle.df_nterm.specs.Meaning as meanings
+use Rattle.df_nterm.proofs.Sorted.{IsSorted}
+use Rattle.df_nterm.proofs.Below.{SameBelow, value_same}
+use Rattle.df_npass.specs.Rules.{Said, Way, over, with_term, free_of, havoc}
+use Rattle.df_npass.specs.Statements.{each_once}
+use Rattle.df_npass.proofs.Saying.{AllTrue, path_true}
+use Rattle.df_npass.proofs.Playing.{Mode, Following, Taking, is_taking, Moves, moves_here, same_itself, all_same, Play, play_silent, play_handed, play_took, play_taking, play_behind, not_wrong, known_then_follow}
+use Rattle.df_npass.proofs.Proper.{PathBelow, EnvBelow, AllBelow}
+use Rattle.df_npass.proofs.Reading.{with_handed, Sits}
+use Rattle.df_npass.proofs.Staying.{havoc_stays, once_less}
+use Rattle.df_npass.proofs.Coming.{holds_reached, hold_at, hold_make, assigned_make, path_same}
+use Rattle.df_npass.proofs.Turning.{turned_state, all_may, turned_is, turned_store, turned_local, list_once}
+use Rattle.df_npass.proofs.Handing.{by_bool, havoc_sorted, havoc_typed, havoc_known, TookTurn, take_turn}
+
+pub havoc_path : (changed : List Changed) (fresh : ℕ) (way : Way) → (havoc changed fresh way).way.path ≡ way.path
+havoc_path [] fresh way = refl
+havoc_path (c ∷ others) fresh way = havoc_path others _ (over (with_term way.env c.local (free_of fresh c.ty)) way)
+
+-- the type of a changed local
+pub type_there : (all : List Ty) (c : Changed) → option_map_or (same_type c.ty) (slice_get all c.local) false ≡ true → slice_get all c.local ≡ Some c.ty
+type_there all c h = by_type (slice_get all c.local) h
+  where
+    by_type : (o : Option Ty) → option_map_or (same_type c.ty) o false ≡ true → o ≡ Some c.ty
+    by_type None e = cc
+    by_type (Some ty) e = ap Some (sym (same_type_equal c.ty ty e))
+
+some_equal : (v w : Value) → Some v ≡ Some w → v ≡ w
+some_equal v w e = cc
+
+if_true : {A : Type 0} (b : Bool) (x y : A) → b ≡ true → (if b then x else y) ≡ x
+if_true true x y e = refl
+if_true false x y e = cc
+
+if_false : {A : Type 0} (b : Bool) (x y : A) → b ≡ false → (if b then x else y) ≡ y
+if_false true x y e = cc
+if_false false x y e = refl
+
+module _ (B : Type 0) (p : Program) (all : List Ty) (n : ℕ) (way : Way) (s : State) (before : Assigned) (out : List ℕ) (every : List Changed) where
+  abbrev changed : List Changed
+  changed = each_once out every
+
+  abbrev turning : Way
+  turning = (havoc changed n way).way
+
+  -- the state that is handed in
+  abbrev pub state_of : Locals → List ℕ → State
+  state_of locals text = with_store (turned_state every locals s) (store_with text [])
+
+  given_turn : (locals : Locals) (text : List ℕ) (handed : List Handed) (go : State → Outcome B) → all_may p every locals ≡ true
+      → after (handed_turn p every (with_handed s (Turned locals text ∷ handed)) (Turned locals text ∷ handed)) go ≡ go (with_handed (state_of locals text) handed)
+  given_turn locals text handed go may =
+      ap (λ o. after o go) (turned_is p every locals (with_store s (store_with text handed)) ∙ if_true (all_may p every locals) _ _ may) ∙ ap go (turned_store every locals s (store_with text handed))
+
+  no_turn : (locals : Locals) (text : List ℕ) (handed : List Handed) (go : State → Outcome B) → all_may p every locals ≡ false
+      → after (handed_turn p every (with_handed s (Turned locals text ∷ handed)) (Turned locals text ∷ handed)) go ≡ Dismissed
+  no_turn locals text handed go may = ap (λ o. after o go) (turned_is p every locals (with_store s (store_with text handed)) ∙ if_false (all_may p every locals) _ _ may)
+
+  module _ (env : EnvBelow n way.env) (path : PathBelow n way.path) (there : are_there all every ≡ true)
+      (covers : (k : ℕ) → has_value before k ≡ true → is_changed every k ≡ true → is_changed changed k ≡ true) where
+    turned_sits : (a b : Mode) (i j : Interpretation) → Moves a i n b j → Sits a i all way before s → (locals : Locals) (text : List ℕ)
+        → ((k : ℕ) (v : Value) → is_changed changed k ≡ true → locals k ≡ Some v → meanings.value j (turning.env k) ≡ v)
+        → (is_taking b ≡ false → (k : ℕ) → is_changed changed k ≡ true → is_some (locals k) ≡ true)
+        → Sits b j all turning before (state_of locals text)
+    turned_sits a b i j moves sits locals text are have =
+        let once = list_once (λ (c : Changed). option_map_or (same_type c.ty) (slice_get all c.local) false) out every there in
+        record {
+          there = ap (path_true j) (havoc_path changed n way) ∙ (sym (path_same n i j moves.same way.path path) ∙ sits.there);
+          sorted = λ k ty e. by_bool (is_changed changed k) (λ c. havoc_sorted j all k ty e changed n way once c) (λ c.
+              subst (λ x. IsSorted ty (meanings.value j x)) (sym (havoc_stays changed n way k c)) (subst (λ v. IsSorted ty v) (value_same n i j moves.same (way.env k) (env k)) (sits.sorted k ty e)));
+          holds = hold_make j turning.env before (state_of locals text) (holds_reached i way.env before s sits.holds) (λ k v has e.
+              let e = sym (turned_local every locals s k) ∙ e in
+              by_bool (is_changed every k) (λ c. are k v (covers k has c) (sym (if_true (is_changed every k) (locals k) (s.locals k) c) ∙ e)) (λ c.
+              ap (meanings.value j) (havoc_stays changed n way k (once_less out every k c)) ∙ (sym (value_same n i j moves.same (way.env k) (env k)) ∙ hold_at i way.env before s sits.holds k v has (sym (if_false (is_changed every k) (locals k) (s.locals k) c) ∙ e))));
+          present = λ following. assigned_make before (state_of locals text) (holds_reached i way.env before s sits.holds) (λ k has.
+              ap is_some (turned_local every locals s k) ∙ by_bool (is_changed every k) (λ c. ap is_some (if_true (is_changed every k) (locals k) (s.locals k) c) ∙ have following k (covers k has c)) (λ c.
+              ap is_some (if_false (is_changed every k) (locals k) (s.locals k) c) ∙ assigned_has before s k (sits.present (moves.mode ∙ following)) has));
+        }
+
+    -- what the interpretation hands in
+    abbrev read : Interpretation → Locals
+    read i = λ k. if is_changed changed k then Some (meanings.value i (turning.env k)) else None
+
+    may_read : (i : Interpretation) → i.program ≡ p → path_true i way.path ≡ true → AllTrue i (havoc changed n way).said → (cs : List Changed) → are_there all cs ≡ true → all_may p cs (read i) ≡ true
+    may_read i program here said [] are = refl
+    may_read i program here said (c ∷ cs) are =
+        let are = both (option_map_or (same_type c.ty) (slice_get all c.local) false) (are_there all cs) are in
+        let once = list_once (λ (d : Changed). option_map_or (same_type d.ty) (slice_get all d.local) false) out every there in
+        joined (may_have p c.ty (read i c.local)) (all_may p cs (read i))
+        (by_bool (is_changed changed c.local)
+            (λ e. ap (may_have p c.ty) (if_true (is_changed changed c.local) _ _ e)
+                ∙ subst (λ q. has_type q c.ty (meanings.value i (turning.env c.local)) ≡ true) program (havoc_typed i all c.local c.ty (type_there all c are.0) changed n way once here said e))
+            (λ e. ap (may_have p c.ty) (if_false (is_changed changed c.local) _ _ e)))
+        (may_read i program here said cs are.1)
+
+    pub turn_then : (mode : Mode) (i : Interpretation) (more : List Said) (go : State → Outcome B) → i.program ≡ p → is_well_typed p ≡ true → list_all (λ (c : Changed). is_type p c.ty) every ≡ true
+        → n ≤ (havoc changed n way).fresh → AllBelow (havoc changed n way).fresh (havoc changed n way).said → Sits mode i all way before s
+        → ((k : Mode) (j : Interpretation) (t : State) → Moves mode i n k j → Sits k j all turning before t → Play B k j (havoc changed n way).fresh more (λ handed. go (with_handed t handed)))
+        → Play B mode i n ((havoc changed n way).said ++ more) (λ handed. after (handed_turn p every (with_handed s handed) handed) go)
+    turn_then Following i more go program well are grows below sits h =
+        known_then_follow B i n (havoc changed n way).said more _ (havoc_known changed n way) (λ said.
+        let may = may_read i program sits.there said every there in
+        play_handed B i n more _ (λ handed. go (with_handed (state_of (read i) []) handed)) (Turned (read i) []) (λ handed. given_turn (read i) [] handed go may)
+            (h Following i (state_of (read i) []) (moves_here Following i n)
+                (turned_sits Following Following i i (moves_here Following i n) sits (read i) []
+                    (λ k v c e. some_equal _ v (sym (if_true (is_changed changed k) (Some (meanings.value i (turning.env k))) None c) ∙ e))
+                    (λ following k c. ap is_some (if_true (is_changed changed k) (Some (meanings.value i (turning.env k))) None c)))))
+    turn_then (Taking []) i more go program well are grows below sits h = play_silent B i n _ _ (λ at kind w. not_wrong at kind refl w)
+    turn_then (Taking (HandedGiven vs text ∷ rest)) i more go program well are grows below sits h = play_silent B i n _ _ (λ at kind w. not_wrong at kind refl w)
+    turn_then (Taking (Turned locals text ∷ rest)) i more go program well are grows below sits h = by_may (all_may p every locals) refl
+      where
+        by_may : (b : Bool) → all_may p every locals ≡ b → Play B (Taking (Turned locals text ∷ rest)) i n ((havoc changed n way).said ++ more) (λ handed. after (handed_turn p every (with_handed s handed) handed) go)
+        by_may false e = play_silent B i n _ _ (λ at kind w. not_wrong at kind (no_turn locals text rest go e) w)
+        by_may true e =
+            let took = take_turn p i changed n way locals program well (list_once (λ (c : Changed). is_type p c.ty) out every are) (list_once (λ (c : Changed). may_have p c.ty (locals c.local)) out every e) in
+            let fresh = (havoc changed n way).fresh in
+            let said = (havoc changed n way).said in
+            let moves : Moves (Taking (Turned locals text ∷ rest)) i n (Taking rest) took.to = record { same = took.same; mode = refl } in
+            let run : List Handed → Outcome B = (λ handed. go (with_handed (state_of locals text) handed)) in
+            play_took B i n (said ++ more) (λ handed. after (handed_turn p every (with_handed s handed) handed) go) run (Turned locals text) rest (given_turn locals text rest go e)
+            (play_taking B rest i took.to n fresh (said ++ more) run grows took.same
+            (play_behind B (Taking rest) took.to fresh said more run (λ j agrees. all_same fresh took.to j agrees said below took.all)
+            (h (Taking rest) took.to (state_of locals text) moves
+                (turned_sits (Taking (Turned locals text ∷ rest)) (Taking rest) i took.to moves sits locals text (λ k v c f. took.are k v c f) (λ following. absurd (taking_not following))))))
+          where
+            taking_not : true ≡ false → ⊥
+            taking_not c = cc

@@ -1,0 +1,51 @@
+-- Obligations and modular runs.
+use Rattle.std.specs.Prelude.{◌≡◌, ℕ, true, false, List, Contains, Some}
+use Rattle.std.specs.List.{AllByRecursion}
+use Rattle.df_base.specs.declared.pos.Pos.{Pos}
+use Rattle.df_lang.specs.Program.{Method, Program, method_at}
+use Rattle.df_lang.specs.Typing.{is_well_typed}
+use Rattle.df_lang.specs.Assignment.{IsDefinitelyAssigned}
+use Rattle.df_meaning.specs.declared.kind.Kind.{Kind}
+use Rattle.df_mean.specs.Modular.{IsModularlyWrong, IsModularlySafe}
+use Rattle.df_nterm.specs.Term.{Term}
+use Rattle.df_nterm.specs.Meaning.{Interpretation, truth}
+use Rattle.df_npass.specs.Methods.{Obligation, obligations_of_method}
+
+-- an interpretation over the program makes the hypotheses true and the goal false
+pub record IsRefuted (program : Program) (obligation : Obligation) : Type 0 where
+  pub interpretation : Interpretation
+  pub program_is : interpretation.program ≡ program
+  pub hypotheses : AllByRecursion (λ (formula : Term). truth interpretation formula ≡ true) obligation.hypotheses
+  pub goal : truth interpretation obligation.goal ≡ false
+
+-- no interpretation does
+abbrev pub IsValid : Program → Obligation → Type 0
+IsValid program obligation =
+    (i : Interpretation) → i.program ≡ program → AllByRecursion (λ (formula : Term). truth i formula ≡ true) obligation.hypotheses → truth i obligation.goal ≡ true
+
+-- the obligation of a kind at a position
+pub record IsOwed (program : Program) (groups : List ℕ) (number : ℕ) (method : Method) (pos : Pos) (kind : Kind) (obligation : Obligation) : Type 0 where
+  pub owed : Contains (obligations_of_method program groups number method) obligation
+  pub place : obligation.pos ≡ pos
+  pub kind_is : obligation.kind ≡ kind
+
+-- where a modular run of a method is wrong, an obligation of that kind at that place is refuted
+abbrev pub WrongIsRefuted : Type 0
+WrongIsRefuted = (program : Program) (groups : List ℕ) (number : ℕ) (method : Method) (pos : Pos) (kind : Kind)
+    → is_well_typed program ≡ true → IsDefinitelyAssigned program → method_at program number ≡ Some method
+    → IsModularlyWrong program groups number method pos kind
+    → (obligation : Obligation) × IsOwed program groups number method pos kind obligation × IsRefuted program obligation
+
+-- and where an obligation is refuted, a modular run is wrong there by its kind
+abbrev pub RefutedIsWrong : Type 0
+RefutedIsWrong = (program : Program) (groups : List ℕ) (number : ℕ) (method : Method) (pos : Pos) (kind : Kind) (obligation : Obligation)
+    → is_well_typed program ≡ true → IsDefinitelyAssigned program → method_at program number ≡ Some method
+    → IsOwed program groups number method pos kind obligation → IsRefuted program obligation
+    → IsModularlyWrong program groups number method pos kind
+
+-- so where all obligations of a method are valid, no modular run of it is wrong
+abbrev pub ValidIsSafe : Type 0
+ValidIsSafe = (program : Program) (groups : List ℕ) (number : ℕ) (method : Method)
+    → is_well_typed program ≡ true → IsDefinitelyAssigned program → method_at program number ≡ Some method
+    → ((obligation : Obligation) → Contains (obligations_of_method program groups number method) obligation → IsValid program obligation)
+    → IsModularlySafe program groups number method

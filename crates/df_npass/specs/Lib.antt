@@ -1,0 +1,4 @@
+pub mod Rules
+pub mod Statements
+pub mod Methods
+pub mod Laws
