@@ -21,15 +21,9 @@ use Rattle.df_npass.specs.Rules.{Way, over}
 use Rattle.df_npass.specs.Statements.{env_of}
 use Rattle.df_npass.proofs.Saying.{path_true}
 use Rattle.df_npass.proofs.Playing.{Mode}
-use Rattle.df_npass.proofs.Reading.{SortedAll, Sits, IsTerm}
+use Rattle.df_npass.proofs.Reading.{values_at, AreOf, SortedAll, Sits}
 use Rattle.df_npass.proofs.Leading.{TermsBelow}
-use Rattle.df_npass.proofs.Taking.{AllSorted, values_at}
-
--- each term is of the sort of its type
-abbrev pub AreOf : Interpretation → List Ty → List Term → Type 0
-AreOf i [] [] = Unit {0}
-AreOf i (ty ∷ tys) (a ∷ others) = IsSorted ty (meanings.value i a) × AreOf i tys others
-AreOf i tys terms = ⊥
+use Rattle.df_npass.proofs.Taking.{AllSorted}
 
 pub of_moves : (n : ℕ) (i j : Interpretation) → SameBelow n i j → (tys : List Ty) (terms : List Term) → TermsBelow n terms → AreOf i tys terms → AreOf j tys terms
 of_moves n i j same [] [] below h = tt

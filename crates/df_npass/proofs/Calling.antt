@@ -40,11 +40,11 @@ use Rattle.df_npass.proofs.Saying.{path_true}
 use Rattle.df_npass.proofs.Playing.{Mode, Moves, Play, play_as}
 use Rattle.df_npass.proofs.Proper.{PathBelow, EnvBelow, path_grows, MeasureBelow, measured_below, order_below}
 use Rattle.df_npass.proofs.Leading.{TermsBelow, terms_grow, terms_append, env_of_below, any_giving}
-use Rattle.df_npass.proofs.Reading.{with_handed, Sits, checked_then, call_then, assume_then, measures_then}
+use Rattle.df_npass.proofs.Reading.{values_at, AreOf, with_handed, Sits, checked_then, call_then, assume_then, measures_then}
 use Rattle.df_npass.proofs.Coming.{path_same}
-use Rattle.df_npass.proofs.Taking.{AllSorted, values_at, AreResults, returned, results_then}
+use Rattle.df_npass.proofs.Taking.{AllSorted, AreResults, returned, results_then}
 use Rattle.df_npass.proofs.Measures.{method_measure_typed}
-use Rattle.df_npass.proofs.Arguments.{AreOf, of_moves, values_move, of_append, values_append, params_of, begun_sits, within_itself}
+use Rattle.df_npass.proofs.Arguments.{of_moves, values_move, of_append, values_append, params_of, begun_sits, within_itself}
 
 -- ---- outcomes
 

@@ -76,7 +76,7 @@ type_proper n path types.Int a h g = nothing_proper n path
 type_proper n path types.Bool a h g = nothing_proper n path
 type_proper n path types.Char a h g = nothing_proper n path
 
-with_below : (n : ℕ) (env : Environment) (local : ℕ) (a : Term) → EnvBelow n env → IsBelow n a → EnvBelow n (with_term env local a)
+pub with_below : (n : ℕ) (env : Environment) (local : ℕ) (a : Term) → EnvBelow n env → IsBelow n a → EnvBelow n (with_term env local a)
 with_below n env local a h g k = by_test (k == local)
   where
     by_test : (b : Bool) → IsBelow n (if b then a else env k)

@@ -14,4 +14,5 @@ pub mod Joining
 pub mod Measures
 pub mod Arguments
 pub mod Calling
+pub mod Standing
 mod Rows

@@ -69,6 +69,15 @@ hold_on i locals all env s sorted within (Reached set) h (u ∷ uses) e =
     (record { sorted = λ ty there. sorted u.local ty (within.at u.local ty there); term = λ v there. h u.local v (use_has (Reached set) u uses e) there },
     hold_on i locals all env s sorted within (Reached set) h uses ((parted (Reached set) (u ∷ []) uses e).1))
 
+abbrev pub values_at : Interpretation → List Term → List Value
+values_at i terms = map (meanings.value i) terms
+
+-- each term is of the sort of its type
+abbrev pub AreOf : Interpretation → List Ty → List Term → Type 0
+AreOf i [] [] = Unit {0}
+AreOf i (ty ∷ tys) (a ∷ others) = IsSorted ty (meanings.value i a) × AreOf i tys others
+AreOf i tys terms = ⊥
+
 -- the value of the term, of the sort of the type
 pub record IsTerm (i : Interpretation) (env : Environment) (e : Expr) (ty : Ty) (v : Value) : Type 0 where
   pub value : v ≡ meanings.value i (term_of env e)
@@ -250,16 +259,8 @@ module _ (B : Type 0) (mode : Mode) (i : Interpretation) (n : ℕ) where
 
     -- ---- expressions in order
 
-    abbrev pub AreTerms : List Ty → List Expr → List Value → Type 0
-    AreTerms [] [] [] = Unit {0}
-    AreTerms (ty ∷ tys) (e ∷ es) (v ∷ vs) = IsTerm i way.env e ty v × AreTerms tys es vs
-    AreTerms tys es vs = ⊥
-
-    abbrev pub values_of : List Expr → List Value
-    values_of es = map (λ (e : Expr). meanings.value i (term_of way.env e)) es
-
     pub exprs_then : (tys : List Ty) (es : List Expr) (more : List Said) (go : List Handed → List Value → Outcome B) → are_exprs p locals tys es ≡ true → unassigned before (flat_map reads es) ≡ []
-        → (AreTerms tys es (values_of es) → Plays more (λ handed. go handed (values_of es))) → Plays (assert_exprs way es ++ more) (λ handed. after (evaluate_all m (with_handed s handed) es) (go handed))
+        → (AreOf i tys (map (term_of way.env) es) → Plays more (λ handed. go handed (values_at i (map (term_of way.env) es)))) → Plays (assert_exprs way es ++ more) (λ handed. after (evaluate_all m (with_handed s handed) es) (go handed))
     exprs_then [] [] more go are read h = h tt
     exprs_then [] (e ∷ es) more go are read h = cc
     exprs_then (ty ∷ tys) [] more go are read h = cc
@@ -268,7 +269,7 @@ module _ (B : Type 0) (mode : Mode) (i : Interpretation) (n : ℕ) where
         let read = parted before (reads e) (flat_map reads es) read in
         subst (λ said. Plays said (λ handed. after (evaluate_all m (with_handed s handed) (e ∷ es)) (go handed))) (sym (append_assoc (assert_expr way e) (assert_exprs way es) more))
         (play_as B mode i n _ _ (λ handed. after (evaluate m (with_handed s handed) e) (λ v. after (evaluate_all m (with_handed s handed) es) (λ vs. go handed (v ∷ vs)))) (λ handed. after_listed (evaluate m (with_handed s handed) e) (evaluate_all m (with_handed s handed) es) (go handed))
-            (expr_then e ty (assert_exprs way es ++ more) _ are.0 read.0 (λ one. exprs_then tys es more (λ handed vs. go handed (meanings.value i (term_of way.env e) ∷ vs)) are.1 read.1 (λ others. h (one, others)))))
+            (expr_then e ty (assert_exprs way es ++ more) _ are.0 read.0 (λ one. exprs_then tys es more (λ handed vs. go handed (meanings.value i (term_of way.env e) ∷ vs)) are.1 read.1 (λ others. h (one.sorted, others)))))
 
     -- ---- measures
 

@@ -25,6 +25,7 @@ use Rattle.df_npass.specs.Statements.{any_values}
 use Rattle.df_npass.proofs.Saying.{AllTrue, path_true, all_appended, all_front, all_rest, on_it}
 use Rattle.df_npass.proofs.Playing.{Mode, Following, Taking, Moves, moves_here, same_itself, same_then, all_same, Play, play_silent, play_handed, play_took, play_taking, play_behind, not_wrong, AreKnown, known_append, known_then_follow}
 use Rattle.df_npass.proofs.Proper.{AllBelow}
+use Rattle.df_npass.proofs.Reading.{values_at}
 use Rattle.df_npass.proofs.Leading.{free_below, suc_more}
 
 sort_itself : (a : Sort) → same_sort a a ≡ true
@@ -119,9 +120,6 @@ abbrev pub AllSorted : List Param → List Value → Type 0
 AllSorted [] [] = Unit {0}
 AllSorted (param ∷ params) (v ∷ vs) = IsSorted param.ty v × AllSorted params vs
 AllSorted params vs = ⊥
-
-abbrev pub values_at : Interpretation → List Term → List Value
-values_at i terms = map (meanings.value i) terms
 
 pub record Took (i : Interpretation) (path : Option Term) (params : List Param) (n : ℕ) (vs : List Value) : Type 0 where
   pub to : Interpretation
