@@ -225,7 +225,7 @@ any_giving path (param ∷ others) fresh h =
       terms = (below_grows (suc fresh) _ more.grows (free_of fresh param.ty) (free_below fresh param.ty), more.terms);
     }
 
-exprs_below : (n : ℕ) (env : Environment) → EnvBelow n env → (es : List Expr) → TermsBelow n (map (term_of env) es)
+pub exprs_below : (n : ℕ) (env : Environment) → EnvBelow n env → (es : List Expr) → TermsBelow n (map (term_of env) es)
 exprs_below n env h [] = tt
 exprs_below n env h (e ∷ es) = (term_below n env h e, exprs_below n env h es)
 

@@ -15,4 +15,5 @@ pub mod Measures
 pub mod Arguments
 pub mod Calling
 pub mod Standing
+pub mod Updating
 mod Rows
