@@ -55,7 +55,7 @@ sole_of mode i all (way ∷ ways) before s h = elim h [
   | inr x ↦ (let more = sole_of mode i all ways before s x.1 in record { way = more.way; is = inr (x.0, more.is); sits = more.sits })
   ]
 
-joined_off : (i : Interpretation) (ty : Ty) (k : ℕ) (a : Term) (ways : List Way) → AllOff i ways → AllTrue i (assume_joined ty k a ways)
+pub joined_off : (i : Interpretation) (ty : Ty) (k : ℕ) (a : Term) (ways : List Way) → AllOff i ways → AllTrue i (assume_joined ty k a ways)
 joined_off i ty k a [] off = tt
 joined_off i ty k a (x ∷ xs) off = (off_path i x.path (equal_in ty a (x.env k)) off.0, joined_off i ty k a xs off.1)
 
@@ -169,14 +169,14 @@ known_joined ty k a [] = tt
 known_joined ty k a (x ∷ xs) = known_joined ty k a xs
 
 -- a local with different terms
-abbrev anew : Changed → List Way → ℕ → Moved → Moved
+abbrev pub anew : Changed → List Way → ℕ → Moved → Moved
 anew c ways fresh more = record { said = assume_joined c.ty c.local (free_of fresh c.ty) ways ++ more.said; fresh = more.fresh; way = more.way }
 
 module _ (ways : List Way) (path : Option Term) where
-  abbrev kept : List Changed → ℕ → Environment → Moved
+  abbrev pub kept : List Changed → ℕ → Environment → Moved
   kept others fresh env = join_locals others ways fresh env path
 
-  abbrev renewed : Changed → List Changed → ℕ → Environment → Moved
+  abbrev pub renewed : Changed → List Changed → ℕ → Environment → Moved
   renewed c others fresh env = join_locals others ways (suc fresh) (with_term env c.local (free_of fresh c.ty)) path
 
   join_known : (changed : List Changed) (fresh : ℕ) (env : Environment) → AreKnown (join_locals changed ways fresh env path).said

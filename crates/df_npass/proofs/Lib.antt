@@ -16,4 +16,6 @@ pub mod Arguments
 pub mod Calling
 pub mod Standing
 pub mod Updating
+pub mod Leaving
+pub mod Declaring
 mod Rows

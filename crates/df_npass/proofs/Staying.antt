@@ -94,7 +94,7 @@ once_less out (c ∷ others) n e =
         first false e = g
 
 -- neither in the one list nor in the other
-neither : (cs ds : List Changed) (n : ℕ) → is_changed (cs ++ ds) n ≡ false → (is_changed cs n ≡ false) × (is_changed ds n ≡ false)
+pub neither : (cs ds : List Changed) (n : ℕ) → is_changed (cs ++ ds) n ≡ false → (is_changed cs n ≡ false) × (is_changed ds n ≡ false)
 neither [] ds n e = (refl, e)
 neither (c ∷ cs) ds n e = first (c.local == n) e (λ rest. neither cs ds n rest)
   where
@@ -102,7 +102,7 @@ neither (c ∷ cs) ds n e = first (c.local == n) e (λ rest. neither cs ds n res
     first true e h = cc
     first false e h = h e
 
-in_both : (cs ds : List Changed) (n : ℕ) → is_changed cs n ≡ false → is_changed ds n ≡ false → is_changed (cs ++ ds) n ≡ false
+pub in_both : (cs ds : List Changed) (n : ℕ) → is_changed cs n ≡ false → is_changed ds n ≡ false → is_changed (cs ++ ds) n ≡ false
 in_both [] ds n h g = g
 in_both (c ∷ cs) ds n h g = first (c.local == n) h (λ rest. in_both cs ds n rest g)
   where
@@ -134,9 +134,9 @@ pub record FlowStays (n : ℕ) (env : Environment) (flow : Flow) : Type 0 where
   pub way : AllStay n env (ways_of flow.way)
   pub breaks : AllStay n env flow.breaks
 
-record PartsStay (n : ℕ) (env : Environment) (parted : Parted) : Type 0 where
-  ways : AllStay n env parted.ways
-  breaks : AllStay n env parted.breaks
+pub record PartsStay (n : ℕ) (env : Environment) (parted : Parted) : Type 0 where
+  pub ways : AllStay n env parted.ways
+  pub breaks : AllStay n env parted.breaks
 
 then_stays : (n : ℕ) (env : Environment) (flow : Flow) (go : ℕ → Way → Flow) → FlowStays n env flow → ((way : Way) → Stays n env way → FlowStays n env (go flow.fresh way)) → FlowStays n env (then_next flow go)
 then_stays n env flow go h g = by_way flow.way refl
@@ -152,7 +152,7 @@ flow_as : (n : ℕ) (env other : Environment) (flow : Flow) → other n ≡ env 
 flow_as n env other flow e h = record { way = stay_as n env other (ways_of flow.way) e h.way; breaks = stay_as n env other flow.breaks e h.breaks }
 
 -- none of all branches is none of what each changes outside
-fewer_in_branches : (branches : Branches) (n : ℕ) → is_changed (changed_by_branches branches) n ≡ false → is_changed (changed_in_branches branches) n ≡ false
+pub fewer_in_branches : (branches : Branches) (n : ℕ) → is_changed (changed_by_branches branches) n ≡ false → is_changed (changed_in_branches branches) n ≡ false
 fewer_in_branches no_branch n e = refl
 fewer_in_branches (branch at guard body rest) n e =
     let parts = neither (changed_by_all body) (changed_by_branches rest) n e in
@@ -204,7 +204,7 @@ module _ (setting : Setting) where
         then_stays n way.env (pass_stmt setting way stmt fresh) (λ more on. pass_all setting on others more) (stmt_stays way stmt fresh n parts.0)
             (λ on same. flow_as n way.env on.env (pass_all setting on others (pass_stmt setting way stmt fresh).fresh) same (all_stay on others (pass_stmt setting way stmt fresh).fresh n parts.1))
 
-    branches_stay : (way : Way) (branches : Branches) (otherwise : Way → ℕ → Flow) (fresh n : ℕ) → is_changed (changed_by_branches branches) n ≡ false → ((last : Way) (more : ℕ) → FlowStays n last.env (otherwise last more))
+    pub branches_stay : (way : Way) (branches : Branches) (otherwise : Way → ℕ → Flow) (fresh n : ℕ) → is_changed (changed_by_branches branches) n ≡ false → ((last : Way) (more : ℕ) → FlowStays n last.env (otherwise last more))
         → PartsStay n way.env (pass_branches setting way branches otherwise fresh)
     branches_stay way no_branch otherwise fresh n e g = let last = g way fresh in record { ways = last.way; breaks = last.breaks }
     branches_stay way (branch at guard body rest) otherwise fresh n e g =
