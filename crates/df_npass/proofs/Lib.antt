@@ -18,4 +18,5 @@ pub mod Standing
 pub mod Updating
 pub mod Leaving
 pub mod Declaring
+pub mod Covering
 mod Rows
