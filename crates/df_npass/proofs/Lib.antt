@@ -19,4 +19,5 @@ pub mod Updating
 pub mod Leaving
 pub mod Declaring
 pub mod Covering
+pub mod Sequencing
 mod Rows
