@@ -20,4 +20,5 @@ pub mod Leaving
 pub mod Declaring
 pub mod Covering
 pub mod Sequencing
+pub mod Branching
 mod Rows
