@@ -65,14 +65,14 @@ pub record Entered (program : Program) (entry : List Measured) (entered : List V
   pub values : entered ≡ map (λ (one : Measured). meanings.value i one.value) entry
   pub measured : AreMeasured i entry
 
-measure_moves : (n : ℕ) (i j : Interpretation) → SameBelow n i j → (members : List Measured) → MeasureBelow n members → map (λ (one : Measured). meanings.value i one.value) members ≡ map (λ (one : Measured). meanings.value j one.value) members
+pub measure_moves : (n : ℕ) (i j : Interpretation) → SameBelow n i j → (members : List Measured) → MeasureBelow n members → map (λ (one : Measured). meanings.value i one.value) members ≡ map (λ (one : Measured). meanings.value j one.value) members
 measure_moves n i j same [] below = refl
 measure_moves n i j same (one ∷ others) below = cons_same _ _ _ _ (value_same n i j same one.value below.0) (measure_moves n i j same others below.1)
   where
     cons_same : (v w : Value) (vs ws : List Value) → v ≡ w → vs ≡ ws → v ∷ vs ≡ w ∷ ws
     cons_same v w vs ws e f = cc
 
-measured_moves : (n : ℕ) (i j : Interpretation) → SameBelow n i j → (members : List Measured) → MeasureBelow n members → AreMeasured i members → AreMeasured j members
+pub measured_moves : (n : ℕ) (i j : Interpretation) → SameBelow n i j → (members : List Measured) → MeasureBelow n members → AreMeasured i members → AreMeasured j members
 measured_moves n i j same [] below h = tt
 measured_moves n i j same (one ∷ others) below h = (subst (λ v. IsSorted one.ty v) (value_same n i j same one.value below.0) h.0, measured_moves n i j same others below.1 h.1)
 
@@ -109,7 +109,7 @@ types_long method = let e = length-map method.parameters (λ param. param.ty) in
 pub measure_read : (program : Program) (method : Method) → are_measures program (types_of method.parameters) method.decreases ≡ true → unassigned (first_locals (length (types_of method.parameters))) (reads_of_measures (Some (method_measure method))) ≡ []
 measure_read program method are = method_measure_reads program (types_of method.parameters) (first_locals (length (types_of method.parameters))) (λ local less. first_have (length (types_of method.parameters)) local less) method are (types_long method)
 
-if_after : {A B : Type 0} (b : Bool) (a : A) (at : Pos) (kind : Kind) (f : A → Outcome B) → after (if b then Gives a else Wrong at kind) f ≡ (if b then f a else Wrong at kind)
+pub if_after : {A B : Type 0} (b : Bool) (a : A) (at : Pos) (kind : Kind) (f : A → Outcome B) → after (if b then Gives a else Wrong at kind) f ≡ (if b then f a else Wrong at kind)
 if_after true a at kind f = refl
 if_after false a at kind f = refl
 

@@ -115,7 +115,7 @@ first_parts fresh path asked flow rest a h g =
 
 -- ---- `while`
 
-turn_proper : (n : ℕ) (at : Pos) (invariants : List Clause) (measures : List Measure) (before : List Measured) (way : Way) → PathBelow n way.path → EnvBelow n way.env → MeasureBelow n before → Proper n way.path (assert_turn at invariants measures before way)
+pub turn_proper : (n : ℕ) (at : Pos) (invariants : List Clause) (measures : List Measure) (before : List Measured) (way : Way) → PathBelow n way.path → EnvBelow n way.env → MeasureBelow n before → Proper n way.path (assert_turn at invariants measures before way)
 turn_proper n at invariants measures before way path env h =
     append_proper n way.path (assert_clauses at_clause kinds.Turn way invariants) _ (clauses_proper n way path env at_clause kinds.Turn invariants)
     (append_proper n way.path (assert_measure way measures) _ (measure_proper n way path env measures) (owed_proper n way.path at kinds.Decreases _ path (order_below n (measured way.env measures) before (measured_below n way.env env measures) h)))

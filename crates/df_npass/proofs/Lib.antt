@@ -21,4 +21,5 @@ pub mod Declaring
 pub mod Covering
 pub mod Sequencing
 pub mod Branching
+pub mod Looping
 mod Rows
