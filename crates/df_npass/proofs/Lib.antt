@@ -22,4 +22,6 @@ pub mod Covering
 pub mod Sequencing
 pub mod Branching
 pub mod Looping
+pub mod Loops
+pub mod Passing
 mod Rows

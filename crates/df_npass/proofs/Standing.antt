@@ -1,11 +1,13 @@
 -- What stands where a run has come to a way.
-use Rattle.std.proofs.Common.{◌≡◌, ℕ, ◌≤◌, ◌==◌, Bool, true, false, if◌then◌else◌, List, slice_get, is_some, Option, None, Some, refl, sym, ap, ◌∙◌, subst}
+use Rattle.std.proofs.Common.{◌≡◌, ℕ, ◌≤◌, ◌==◌, Bool, true, false, if◌then◌else◌, List, [], ◌∷◌, slice_get, is_some, Option, None, Some, refl, sym, ap, ◌∙◌, subst}
 use Rattle.std.proofs.lemmas.Bool.{eqb-true}
 use Rattle.df_lang.specs.declared.ty.Ty.{Ty}
+use Rattle.df_lang.specs.Stmt.{Variable}
 use Rattle.df_lang.specs.Program.{Program}
-use Rattle.df_lang.specs.Assignment.{Assigned, Unreached, Reached, has_value, mark}
+use Rattle.df_lang.specs.Assignment.{Assigned, Unreached, Reached, has_value, mark, declare}
 use Rattle.df_mean.specs.Value.{Value}
-use Rattle.df_mean.specs.State.{State, Locals, set_local, with_local}
+use Rattle.df_mean.specs.State.{Handed, State, Locals, set_local, with_local, without_local}
+use Rattle.df_mean.specs.Execution.{declare_all}
 use Rattle.df_mean.specs.Definite.{HasValue}
 use Rattle.df_mean.proofs.Counting.{assigned_has}
 use Rattle.df_nterm.specs.Term.{Term}
@@ -19,7 +21,7 @@ use Rattle.df_npass.specs.Rules.{Way, over, with_term}
 use Rattle.df_npass.proofs.Playing.{Mode, Moves}
 use Rattle.df_npass.proofs.Proper.{PathBelow, EnvBelow, MeasureBelow, path_grows, env_grows, measure_grows}
 use Rattle.df_npass.proofs.Leading.{with_below}
-use Rattle.df_npass.proofs.Reading.{Sits}
+use Rattle.df_npass.proofs.Reading.{with_handed, Sits}
 use Rattle.df_npass.proofs.Coming.{IsReached, holds_reached, hold_at, hold_make, assigned_make, sits_moves}
 use Rattle.df_npass.proofs.Handing.{by_bool}
 use Rattle.df_npass.proofs.Calling.{Entered, entered_moves}
@@ -96,3 +98,42 @@ module _ (program : Program) (entry : List Measured) (entered : List Value) (all
       → Here mode i n way before s → Here mode i n (over (with_term way.env local a) way) (mark true before local) (with_local s local (meanings.value i a))
   stands_given mode i n way before s local ty a typed below is h =
       record { env = with_below n way.env local a h.env below; path = h.path; below = h.below; entered_is = h.entered_is; sits = sits_given mode i all way before s local ty a typed is h.sits }
+
+-- ---- declared locals have no values yet
+
+reached_unmark : (before : Assigned) (local : ℕ) → IsReached before → IsReached (mark false before local)
+reached_unmark Unreached local r = r
+reached_unmark (Reached set) local r = r
+
+unmarked : (before : Assigned) (local k : ℕ) → IsReached before → has_value (mark false before local) k ≡ true → ((k == local) ≡ false) × (has_value before k ≡ true)
+unmarked Unreached local k r h = absurd r
+unmarked (Reached set) local k r h = by_test (k == local) refl h
+  where
+    by_test : (b : Bool) → (k == local) ≡ b → (if b then false else set k) ≡ true → ((k == local) ≡ false) × (set k ≡ true)
+    by_test true e h = cc
+    by_test false e h = (e, h)
+
+sits_unset : (mode : Mode) (i : Interpretation) (all : List Ty) (way : Way) (before : Assigned) (s : State) (local : ℕ) → Sits mode i all way before s → Sits mode i all way (mark false before local) (without_local s local)
+sits_unset mode i all way before s local h =
+    let reached = holds_reached i way.env before s h.holds in
+    record {
+      there = h.there;
+      sorted = h.sorted;
+      holds = hold_make i way.env (mark false before local) (without_local s local) (reached_unmark before local reached) (λ k v has e.
+          let other = unmarked before local k reached has in
+          hold_at i way.env before s h.holds k v other.1 (sym (if_false (k == local) None (s.locals k) other.0) ∙ e));
+      present = λ following. assigned_make (mark false before local) (without_local s local) (reached_unmark before local reached) (λ k has.
+          let other = unmarked before local k reached has in
+          ap is_some (if_false (k == local) None (s.locals k) other.0) ∙ assigned_has before s k (h.present following) other.1);
+    }
+
+pub declared_stands : (program : Program) (entry : List Measured) (entered : List Value) (all : List Ty) (mode : Mode) (i : Interpretation) (n : ℕ) (way : Way) (variables : List Variable) (before : Assigned) (s : State)
+    → Stands program entry entered all mode i n way before s → Stands program entry entered all mode i n way (declare before variables) (declare_all s variables)
+declared_stands program entry entered all mode i n way [] before s h = h
+declared_stands program entry entered all mode i n way (v ∷ vs) before s h =
+    declared_stands program entry entered all mode i n way vs (mark false before v.local) (without_local s v.local)
+    (record { env = h.env; path = h.path; below = h.below; entered_is = h.entered_is; sits = sits_unset mode i all way before s v.local h.sits })
+
+pub declared_handed : (variables : List Variable) (s : State) (handed : List Handed) → declare_all (with_handed s handed) variables ≡ with_handed (declare_all s variables) handed
+declared_handed [] s handed = refl
+declared_handed (v ∷ vs) s handed = declared_handed vs (without_local s v.local) handed
