@@ -24,4 +24,8 @@ pub mod Branching
 pub mod Looping
 pub mod Loops
 pub mod Passing
+pub mod Obligations
+pub mod Ending
+pub mod Beginning
+pub mod Laws
 mod Rows

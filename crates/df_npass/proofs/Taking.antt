@@ -147,15 +147,15 @@ take_all i path (param ∷ params) n (v ∷ vs) h =
       all = all_appended more.to (assume_type path param.ty (free_of n param.ty)) _ (type_true more.to path param.ty (free_of n param.ty) (rw (is, ← program_is) h.0)) more.all;
     }
 
-any_known : (path : Option Term) (params : List Param) (n : ℕ) → AreKnown (any_values path params n).said
+pub any_known : (path : Option Term) (params : List Param) (n : ℕ) → AreKnown (any_values path params n).said
 any_known path [] n = tt
 any_known path (param ∷ params) n = known_append (assume_type path param.ty (free_of n param.ty)) _ (type_known path param.ty (free_of n param.ty)) (any_known path params (suc n))
 
-any_sorted : (i : Interpretation) (path : Option Term) (params : List Param) (n : ℕ) → AllSorted params (values_at i (any_values path params n).terms)
+pub any_sorted : (i : Interpretation) (path : Option Term) (params : List Param) (n : ℕ) → AllSorted params (values_at i (any_values path params n).terms)
 any_sorted i path [] n = tt
 any_sorted i path (param ∷ params) n = (free_sorted i n param.ty, any_sorted i path params (suc n))
 
-any_typed : (i : Interpretation) (path : Option Term) (params : List Param) (n : ℕ) → path_true i path ≡ true → AllTrue i (any_values path params n).said → have_types i.program (types_of params) (values_at i (any_values path params n).terms) ≡ true
+pub any_typed : (i : Interpretation) (path : Option Term) (params : List Param) (n : ℕ) → path_true i path ≡ true → AllTrue i (any_values path params n).said → have_types i.program (types_of params) (values_at i (any_values path params n).terms) ≡ true
 any_typed i path [] n there all = refl
 any_typed i path (param ∷ params) n there all =
     joined (has_type i.program param.ty (meanings.value i (free_of n param.ty))) _ (type_said i path param.ty (free_of n param.ty) there (free_sorted i n param.ty) (all_front i (assume_type path param.ty (free_of n param.ty)) _ all))

@@ -2,14 +2,15 @@
 use Rattle.std.specs.Prelude.{◌≡◌, ℕ, true, false, List, Contains, Some}
 use Rattle.std.specs.List.{AllByRecursion}
 use Rattle.df_base.specs.declared.pos.Pos.{Pos}
+use Rattle.df_lang.specs.Groups.{AreGroups}
 use Rattle.df_lang.specs.Program.{Method, Program, method_at}
 use Rattle.df_lang.specs.Typing.{is_well_typed}
 use Rattle.df_lang.specs.Assignment.{IsDefinitelyAssigned}
 use Rattle.df_meaning.specs.declared.kind.Kind.{Kind}
-use Rattle.df_mean.specs.Modular.{IsModularlyWrong, IsModularlySafe}
+use Rattle.df_mean.specs.Modular.{IsModularlyWrong, IsModularlySafe, IsSafe}
 use Rattle.df_nterm.specs.Term.{Term}
 use Rattle.df_nterm.specs.Meaning.{Interpretation, truth}
-use Rattle.df_npass.specs.Methods.{Obligation, obligations_of_method}
+use Rattle.df_npass.specs.Methods.{Obligation, obligations_of_method, obligations}
 
 -- an interpretation over the program makes the hypotheses true and the goal false
 pub record IsRefuted (program : Program) (obligation : Obligation) : Type 0 where
@@ -49,3 +50,20 @@ ValidIsSafe = (program : Program) (groups : List ℕ) (number : ℕ) (method : M
     → is_well_typed program ≡ true → IsDefinitelyAssigned program → method_at program number ≡ Some method
     → ((obligation : Obligation) → Contains (obligations_of_method program groups number method) obligation → IsValid program obligation)
     → IsModularlySafe program groups number method
+
+-- and where no modular run of a method is wrong, all its obligations are valid
+abbrev pub SafeIsValid : Type 0
+SafeIsValid = (program : Program) (groups : List ℕ) (number : ℕ) (method : Method) (obligation : Obligation)
+    → is_well_typed program ≡ true → IsDefinitelyAssigned program → method_at program number ≡ Some method
+    → IsModularlySafe program groups number method → Contains (obligations_of_method program groups number method) obligation → IsValid program obligation
+
+-- Of the whole program: where all obligations over its groups are valid, it is safe.
+abbrev pub AllValidIsSafe : Type 0
+AllValidIsSafe = (program : Program) (groups : List ℕ) → is_well_typed program ≡ true → IsDefinitelyAssigned program → AreGroups program groups
+    → ((obligation : Obligation) → Contains (obligations program groups) obligation → IsValid program obligation) → IsSafe program
+
+-- And where one of them is refuted, a modular run of its method is wrong there by its kind.
+abbrev pub RefutedMemberIsWrong : Type 0
+RefutedMemberIsWrong = (program : Program) (groups : List ℕ) (obligation : Obligation) → is_well_typed program ≡ true → IsDefinitelyAssigned program
+    → Contains (obligations program groups) obligation → IsRefuted program obligation
+    → (method : Method) × (method_at program obligation.declaration ≡ Some method) × IsModularlyWrong program groups obligation.declaration method obligation.pos obligation.kind

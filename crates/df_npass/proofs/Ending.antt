@@ -1,0 +1,169 @@
+-- Where a method ends its postconditions are owed.
+use Rattle.std.proofs.Common.{◌≡◌, ◌⊎◌, inl, inr, ℕ, zero, suc, ◌≤◌, ◌<◌, ◌+◌, ◌==◌, nat_lt, Bool, true, false, ◌&&◌, ◌||◌, if◌then◌else◌, List, [], ◌∷◌, ◌++◌, map, length, slice_get, slice_index_or, Option, None, Some, refl, sym, ap, ◌∙◌, subst, append_assoc, append-nil, length-append, arith, le_trans}
+use Rattle.std.proofs.lemmas.Bool.{eq-eqb, ltb-true, lt-ltb, cases_lt}
+use Rattle.std.proofs.lemmas.List.{length-map}
+use Rattle.std.specs.List.{list_all}
+use Rattle.std.specs.Option.{option_map_or}
+use Rattle.df_lang.specs.declared.ty.Ty.{Ty}
+use Rattle.df_lang.specs.Stmt.{Clause}
+use Rattle.df_lang.specs.Program.{Param, Method, Program, types_of}
+use Rattle.df_lang.specs.Typing.{same_type, is_expr, are_clauses, are_stmts}
+use Rattle.df_lang.specs.Assignment.{Assigned, has_value, at_entry, results_at, unassigned, Flowing, flow_all}
+use Rattle.df_meaning.specs.declared.kind.Kind.TheVariants as kinds
+use Rattle.df_mean.specs.Value.{Value}
+use Rattle.df_mean.specs.Outcome.{Outcome, Gives, Wrong, TooDeep, NoChoice, Dismissed, after}
+use Rattle.df_mean.specs.State.{Handed, State}
+use Rattle.df_mean.specs.Meaning.{Meaning}
+use Rattle.df_mean.specs.Meaning as flows
+use Rattle.df_mean.specs.Execution.{check_all}
+use Rattle.df_mean.specs.Whole.{end_of}
+use Rattle.df_mean.specs.Modular.{Changed}
+use Rattle.df_mean.specs.Agreement.{is_changed}
+use Rattle.df_mean.proofs.Cases.{joined}
+use Rattle.df_mean.proofs.Changing.{are_there}
+use Rattle.df_mean.proofs.Stating.{Within, same_self}
+use Rattle.df_nterm.specs.Term.{Term}
+use Rattle.df_nterm.specs.Meaning.{Interpretation}
+use Rattle.df_nterm.specs.Expressions.{Environment}
+use Rattle.df_nterm.proofs.Below.{SameBelow}
+use Rattle.df_npass.specs.Rules.{Said, Way, paths_of, any_path, Joined, join}
+use Rattle.df_npass.specs.Statements.{Flow, ways_of, last_of, at_clause, assert_clauses}
+use Rattle.df_npass.specs.Methods.{way_in, locals_from, ended}
+use Rattle.df_npass.proofs.Saying.{AllTrue, path_true, all_appended}
+use Rattle.df_npass.proofs.Playing.{Mode, Following, Taking, Moves, moves_then, Play, play_as, play_silent, play_over}
+use Rattle.df_npass.proofs.Proper.{PathBelow, EnvBelow, env_grows, clauses_proper}
+use Rattle.df_npass.proofs.Leading.{AllLead, append_lead, JoinGoing, join_going, any_path_reaches}
+use Rattle.df_npass.proofs.Staying.{AllStay}
+use Rattle.df_npass.proofs.Flowing.{Flows}
+use Rattle.df_npass.proofs.Reading.{with_handed, SortedAll, Sits, check_then}
+use Rattle.df_npass.proofs.Coming.{AllOff, OneSits, off_append, sorted_moves, one_left, one_right, one_less}
+use Rattle.df_npass.proofs.Calling.{first_read}
+use Rattle.df_npass.proofs.Joining.{join_then}
+use Rattle.df_npass.proofs.Leaving.{no_path, one_path, join_off_said, join_off_way}
+use Rattle.df_npass.proofs.Sequencing.{hand, Comes, Onward, ended_then}
+use Rattle.df_npass.proofs.Loops.{few, back, HasParameters, back_has}
+
+-- ---- the first locals
+
+locals_cover : (from : ℕ) (params : List Param) (k : ℕ) → from ≤ k → k < from + length params → is_changed (locals_from from params) k ≡ true
+locals_cover from [] k more less = absurd (omega (arith, more, less))
+locals_cover from (param ∷ params) k more less = by_order (cases_lt k (suc from)) (λ l. locals_cover (suc from) params k l (omega (arith, less)))
+  where
+    or_true : (b : Bool) → (b || true) ≡ true
+    or_true true = refl
+    or_true false = refl
+    by_order : (k < suc from) ⊎ (suc from ≤ k) → (suc from ≤ k → is_changed (locals_from (suc from) params) k ≡ true) → is_changed (locals_from from (param ∷ params)) k ≡ true
+    by_order (inl l) g = let same : from ≡ k = omega (arith, l, more) in ap (λ (b : Bool). b || is_changed (locals_from (suc from) params) k) (eq-eqb from k same)
+    by_order (inr l) g = ap (λ (b : Bool). (from == k) || b) (g l) ∙ or_true (from == k)
+
+get_at : (front : List Ty) (ty : Ty) (rest : List Ty) → slice_get (front ++ ty ∷ rest) (length front) ≡ Some ty
+get_at [] ty rest = refl
+get_at (t ∷ ts) ty rest = get_at ts ty rest
+
+one_longer : (front : List Ty) (ty : Ty) → length (front ++ ty ∷ []) ≡ suc (length front)
+one_longer [] ty = refl
+one_longer (t ∷ ts) ty = ap suc (one_longer ts ty)
+
+locals_there : (all front : List Ty) (params : List Param) → Within (front ++ types_of params) all → are_there all (locals_from (length front) params) ≡ true
+locals_there all front [] within = refl
+locals_there all front (param ∷ params) within =
+    let at = within.at (length front) param.ty (get_at front param.ty (types_of params)) in
+    joined _ _ (subst (λ (o : Option Ty). option_map_or (same_type param.ty) o false ≡ true) (sym at) (same_self param.ty))
+    (subst (λ (k : ℕ). are_there all (locals_from k params) ≡ true) (one_longer front param.ty)
+    (locals_there all (front ++ param.ty ∷ []) params (subst (λ (tys : List Ty). Within tys all) (sym (append_assoc front (param.ty ∷ []) (types_of params))) within)))
+
+pub types_append : (params others : List Param) → types_of (params ++ others) ≡ types_of params ++ types_of others
+types_append [] others = refl
+types_append (param ∷ params) others = ap (λ tys. param.ty ∷ tys) (types_append params others)
+
+after_gives : {A : Type 0} (o : Outcome A) → after o (λ a. Gives a) ≡ o
+after_gives (Gives a) = refl
+after_gives (Wrong at kind) = refl
+after_gives TooDeep = refl
+after_gives NoChoice = refl
+after_gives Dismissed = refl
+
+given_play : (B : Type 0) (mode : Mode) (i : Interpretation) (n : ℕ) (b : List Handed → B) → Play B mode i n [] (λ handed. Gives (b handed))
+given_play B Following i n b = play_over B i n [] (λ handed. Gives (b handed)) tt
+given_play B (Taking handed) i n b = play_silent B i n [] (Gives (b handed)) (λ at kind e. cc)
+
+module _ (program : Program) (own : Method) (all : List Ty) (within : Within (types_of own.parameters ++ types_of own.results) all) (typed : are_clauses program (types_of own.parameters ++ types_of own.results) own.postconditions ≡ true)
+    (m : Meaning) (m_is : m.program ≡ program) (n : ℕ) (mode : Mode) (i : Interpretation) (flow : Flow) (program_is : i.program ≡ program) (env : EnvBelow n (way_in own).env) (sorted : SortedAll i all (way_in own).env) (flows_body : Flows n None flow) where
+  abbrev tys : List Ty
+  tys = types_of own.parameters ++ types_of own.results
+
+  abbrev ways : List Way
+  ways = flow.returns ++ ways_of flow.way
+
+  abbrev changed : List Changed
+  changed = locals_from 0 (own.parameters ++ own.results)
+
+  abbrev after_path : Option Term
+  after_path = any_path (paths_of ways)
+
+  abbrev joined_ways : Joined
+  joined_ways = join after_path (way_in own).env changed ways flow.fresh
+
+  abbrev owed : Option Way → List Said
+  owed o = option_map_or (λ way. assert_clauses at_clause kinds.Ensures way own.postconditions) o []
+
+  leads : AllLead flow.fresh None ways
+  leads = append_lead flow.fresh None flow.returns (ways_of flow.way) flows_body.returns flows_body.way
+
+  here_env : EnvBelow flow.fresh (way_in own).env
+  here_env = env_grows n flow.fresh (way_in own).env flows_body.grows env
+
+  going : JoinGoing flow.fresh None joined_ways
+  going = join_going after_path (way_in own).env changed ways flow.fresh None here_env leads (any_path_reaches flow.fresh None ways leads)
+
+  there : are_there all changed ≡ true
+  there = locals_there all [] (own.parameters ++ own.results) (subst (λ (ts : List Ty). Within ts all) (sym (types_append own.parameters own.results)) within)
+
+  many : length tys ≡ length (own.parameters ++ own.results)
+  many = ap length (sym (types_append own.parameters own.results)) ∙ length-map (own.parameters ++ own.results) (λ (param : Param). param.ty)
+
+  cover : (k : ℕ) → has_value (back own) k ≡ true → is_changed changed k ≡ false → AllStay k (way_in own).env ways
+  cover k has e =
+      let less = ltb-true k (length tys) has in
+      let is = locals_cover 0 (own.parameters ++ own.results) k (omega arith) (omega (arith, less, many)) in
+      absurd (differ (is_changed changed k) is e)
+    where
+      differ : (b : Bool) → b ≡ true → b ≡ false → ⊥
+      differ true e f = cc
+      differ false e f = cc
+
+  -- where no run ends, nothing is said of it
+  ended_off : (j : Interpretation) → AllOff j ways → AllTrue j (ended own flow)
+  ended_off j off =
+      all_appended j joined_ways.said (owed joined_ways.way) (join_off_said j after_path (way_in own).env changed ways flow.fresh off)
+      (by_way joined_ways.way (join_off_way j after_path (way_in own).env changed ways flow.fresh off (λ several. no_path j ways off)) going.way)
+    where
+      by_way : (o : Option Way) → AllOff j (ways_of o) → AllLead joined_ways.fresh None (ways_of o) → AllTrue j (owed o)
+      by_way None off lead = tt
+      by_way (Some way) off lead = (clauses_proper joined_ways.fresh way lead.0.path_is lead.0.env at_clause kinds.Ensures own.postconditions).off j off.0
+
+  ended_play : (k : Mode) (j : Interpretation) (t : State) → Moves mode i n k j → OneSits k j all ways (back own) t → Play State k j flow.fresh (ended own flow) (λ handed. check_all m (with_handed t handed) kinds.Ensures own.postconditions)
+  ended_play k j t moves one =
+      join_then State flow.fresh all after_path None (way_in own).env changed (back own) t k j (owed joined_ways.way) (λ handed. check_all m (with_handed t handed) kinds.Ensures own.postconditions) (sorted_moves n i j moves.same all (way_in own).env env sorted) here_env there
+      ways one leads (λ several. (one_path k j all ways (back own) t one, (any_path_reaches flow.fresh None ways leads).path_is)) (λ several. cover) going (λ w u is moved sits.
+      let lead = (subst (λ o. AllLead joined_ways.fresh None (ways_of o)) is going.way).0 in
+      subst (λ o. Play State k u joined_ways.fresh (owed o) (λ handed. check_all m (with_handed t handed) kinds.Ensures own.postconditions)) (sym is)
+      (subst (λ said. Play State k u joined_ways.fresh said (λ handed. check_all m (with_handed t handed) kinds.Ensures own.postconditions)) (append-nil (owed (Some w)))
+      (play_as State k u joined_ways.fresh _ _ (λ handed. after (check_all m (with_handed t handed) kinds.Ensures own.postconditions) (λ x. Gives x)) (λ handed. sym (after_gives (check_all m (with_handed t handed) kinds.Ensures own.postconditions)))
+      (check_then State k u joined_ways.fresh program m m_is (sym moved.same.program ∙ (sym moves.same.program ∙ program_is)) tys all within (back own) w t sits lead.env lead.path_is kinds.Ensures own.postconditions [] (λ handed x. Gives x) typed (first_read program tys own.postconditions typed)
+          (given_play State k u joined_ways.fresh (λ handed. with_handed t handed))))))
+
+  -- what goes on behind the body
+  pub ended_onward : (behind carried : Assigned) → HasParameters own behind → unassigned behind (results_at own own.pos) ≡ []
+      → Onward State all (back own) mode i n (last_of flow) behind carried (ended own flow) (λ f. after (end_of f) (λ t. check_all m t kinds.Ensures own.postconditions))
+  ended_onward behind carried params none = record {
+    on = by_flow;
+    over = λ j same no_way no_break no_return loses. ended_off j (off_append j flow.returns (ways_of flow.way) no_return no_way);
+  }
+    where
+      by_flow : (k : Mode) (j : Interpretation) (f : flows.Flow) → Moves mode i n k j → Comes k j all (back own) (last_of flow) behind carried f
+          → Play State k j flow.fresh (ended own flow) (λ handed. after (end_of (hand f handed)) (λ t. check_all m t kinds.Ensures own.postconditions))
+      by_flow k j (flows.Next t) moves comes =
+          ended_play k j t moves (one_right k j all flow.returns (ways_of flow.way) (back own) t comes.2 (one_less k j all (ways_of flow.way) behind (back own) t tt (back_has own own.pos behind params none) comes.0))
+      by_flow k j (flows.Return t) moves comes = ended_play k j t moves (one_left k j all flow.returns (ways_of flow.way) (back own) t comes.0 comes.1)
+      by_flow k j (flows.Break t) moves comes = ended_then State k j flow.fresh (ended own flow) (λ handed. Dismissed) (ended_off j (off_append j flow.returns (ways_of flow.way) comes.2 comes.1)) (λ handed. refl)

@@ -1,0 +1,123 @@
+-- The obligation that the first false formula is, and the obligations of declarations.
+use Rattle.std.proofs.Common.{◌≡◌, ◌⊎◌, inl, inr, ℕ, zero, suc, ◌<◌, ◌+◌, Bool, true, false, List, [], ◌∷◌, ◌++◌, length, slice_get, slice_index_or, Contains, Option, None, Some, refl, sym, ap, ◌∙◌, subst, arith}
+use Rattle.std.proofs.lemmas.List.Elements.{Contains-append_left, Contains-append_right, Contains-append_cases}
+use Rattle.std.specs.List.{AllByRecursion}
+use Rattle.std.specs.Option.{option_and_then}
+use Rattle.df_base.specs.declared.pos.Pos.{Pos}
+use Rattle.df_lang.specs.Program.{Method, Decl, NewtypeDecl, MethodDecl, Program, as_method, method_at}
+use Rattle.df_meaning.specs.declared.kind.Kind.{Kind}
+use Rattle.df_nterm.specs.Term.{Term}
+use Rattle.df_nterm.specs.Meaning.{Interpretation, truth}
+use Rattle.df_npass.specs.Rules.{Said, Known, Owed}
+use Rattle.df_npass.specs.Methods.{Obligation, obligations_of, obligations_of_method, obligations_of_decl, obligations_from, obligations}
+use Rattle.df_npass.proofs.Saying.{formula_of}
+use Rattle.df_npass.proofs.Playing.{FirstFalse, IsOwedAt}
+
+abbrev pub AllHold : Interpretation → List Term → Type 0
+AllHold i formulas = AllByRecursion (λ (formula : Term). truth i formula ≡ true) formulas
+
+hold_more : (i : Interpretation) (known : List Term) (formula : Term) → AllHold i known → truth i formula ≡ true → AllHold i (known ++ formula ∷ [])
+hold_more i [] formula h e = (e, tt)
+hold_more i (x ∷ known) formula h e = (h.0, hold_more i known formula h.1 e)
+
+hold_less : (i : Interpretation) (known : List Term) (formula : Term) → AllHold i (known ++ formula ∷ []) → AllHold i known × (truth i formula ≡ true)
+hold_less i [] formula h = (tt, h.0)
+hold_less i (x ∷ known) formula h = let rest = hold_less i known formula h.1 in ((h.0, rest.0), rest.1)
+
+head_there : {X : Type 0} (x : X) (xs : List X) → Contains (x ∷ xs) x
+head_there x xs = (0, omega arith, refl)
+
+rest_there : {X : Type 0} (y : X) (xs : List X) (x : X) → Contains xs x → Contains (y ∷ xs) x
+rest_there y xs x h = (suc h.0, (let less = h.1 in omega (arith, less)), h.2)
+
+head_or_rest : {X : Type 0} (y : X) (xs : List X) (x : X) → Contains (y ∷ xs) x → (y ≡ x) ⊎ Contains xs x
+head_or_rest {X} y xs x h = by_index h.0 h.1 h.2
+  where
+    by_index : (k : ℕ) → k < suc (length xs) → slice_index_or (y ∷ xs) k x ≡ x → (y ≡ x) ⊎ Contains xs x
+    by_index zero less e = inl e
+    by_index (suc k) less e = inr (k, omega (arith, less), e)
+
+none_there : {X : Type 0} (x : X) → Contains [] x → ⊥
+none_there x h = let less = h.1 in omega (arith, less)
+
+-- ---- of one declaration
+
+-- the obligation of a kind at a place is refuted
+pub record Refutes (i : Interpretation) (number : ℕ) (among : List Obligation) (at : Pos) (kind : Kind) : Type 0 where
+  pub obligation : Obligation
+  pub among_them : Contains among obligation
+  pub declaration : obligation.declaration ≡ number
+  pub place : obligation.pos ≡ at
+  pub kind_is : obligation.kind ≡ kind
+  pub hypotheses : AllHold i obligation.hypotheses
+  pub goal : truth i obligation.goal ≡ false
+
+more_among : (i : Interpretation) (number : ℕ) (first : Obligation) (among : List Obligation) (at : Pos) (kind : Kind) → Refutes i number among at kind → Refutes i number (first ∷ among) at kind
+more_among i number first among at kind r =
+    record { obligation = r.obligation; among_them = rest_there first among r.obligation r.among_them; declaration = r.declaration; place = r.place; kind_is = r.kind_is; hypotheses = r.hypotheses; goal = r.goal }
+
+pub first_refuted : (i : Interpretation) (number : ℕ) (at : Pos) (kind : Kind) (said : List Said) (known : List Term) → FirstFalse i said at kind → AllHold i known → Refutes i number (obligations_of number known said) at kind
+first_refuted i number at kind [] known f h = absurd f
+first_refuted i number at kind (Known formula ∷ others) known f h = elim f [
+    inl g ↦ first_refuted i number at kind others (known ++ formula ∷ []) g.1 (hold_more i known formula h g.0)
+  | inr g ↦ absurd g.1
+  ]
+first_refuted i number at kind (Owed own what formula ∷ others) known f h = elim f [
+    inl g ↦ more_among i number (record { declaration = number; pos = own; kind = what; hypotheses = known; goal = formula }) (obligations_of number (known ++ formula ∷ []) others) at kind
+        (first_refuted i number at kind others (known ++ formula ∷ []) g.1 (hold_more i known formula h g.0))
+  | inr g ↦ record { obligation = record { declaration = number; pos = own; kind = what; hypotheses = known; goal = formula }; among_them = head_there _ _; declaration = refl; place = g.1.0; kind_is = g.1.1; hypotheses = h; goal = g.0 }
+  ]
+
+-- what is known before is among the hypotheses
+pub refuted_first : (i : Interpretation) (number : ℕ) (said : List Said) (known : List Term) (o : Obligation) → Contains (obligations_of number known said) o → AllHold i o.hypotheses → truth i o.goal ≡ false → AllHold i known × FirstFalse i said o.pos o.kind
+refuted_first i number [] known o there h no_goal = absurd (none_there o there)
+refuted_first i number (Known formula ∷ others) known o there h no_goal =
+    let rest = refuted_first i number others (known ++ formula ∷ []) o there h no_goal in
+    let less = hold_less i known formula rest.0 in
+    (less.0, inl (less.1, rest.1))
+refuted_first i number (Owed own what formula ∷ others) known o there h no_goal =
+    elim (head_or_rest (record { declaration = number; pos = own; kind = what; hypotheses = known; goal = formula }) (obligations_of number (known ++ formula ∷ []) others) o there) [
+      inl e ↦ (subst (λ (x : Obligation). AllHold i x.hypotheses) (sym e) h, inr (subst (λ (x : Obligation). truth i x.goal ≡ false) (sym e) no_goal, (ap (λ (x : Obligation). x.pos) e, ap (λ (x : Obligation). x.kind) e)))
+    | inr r ↦ (let rest = refuted_first i number others (known ++ formula ∷ []) o r h no_goal in let less = hold_less i known formula rest.0 in (less.0, inl (less.1, rest.1)))
+    ]
+
+pub of_declaration : (number : ℕ) (said : List Said) (known : List Term) (o : Obligation) → Contains (obligations_of number known said) o → o.declaration ≡ number
+of_declaration number [] known o there = absurd (none_there o there)
+of_declaration number (Known formula ∷ others) known o there = of_declaration number others (known ++ formula ∷ []) o there
+of_declaration number (Owed own what formula ∷ others) known o there =
+    elim (head_or_rest (record { declaration = number; pos = own; kind = what; hypotheses = known; goal = formula }) (obligations_of number (known ++ formula ∷ []) others) o there) [
+      inl e ↦ ap (λ (x : Obligation). x.declaration) (sym e)
+    | inr r ↦ of_declaration number others (known ++ formula ∷ []) o r
+    ]
+
+-- ---- of all
+
+module _ (program : Program) (groups : List ℕ) (o : Obligation) where
+  pub of_method_there : (decls : List Decl) (first k : ℕ) (method : Method) → option_and_then as_method (slice_get decls k) ≡ Some method → Contains (obligations_of_method program groups (first + k) method) o → Contains (obligations_from program groups first decls) o
+  of_method_there [] first k method e there = cc
+  of_method_there (NewtypeDecl newtype ∷ decls) first zero method e there = cc
+  of_method_there (MethodDecl own ∷ decls) first zero method e there =
+      let same : own ≡ method = cc in
+      let number : first + 0 ≡ first = omega arith in
+      Contains-append_left (obligations_of_method program groups first own) (obligations_from program groups (suc first) decls) o
+      (subst (λ (m : Method). Contains (obligations_of_method program groups first m) o) (sym same) (subst (λ (x : ℕ). Contains (obligations_of_method program groups x method) o) number there))
+  of_method_there (d ∷ decls) first (suc k) method e there =
+      let number : first + suc k ≡ suc first + k = omega arith in
+      Contains-append_right (obligations_of_decl program groups first d) (obligations_from program groups (suc first) decls) o
+      (of_method_there decls (suc first) k method e (subst (λ (x : ℕ). Contains (obligations_of_method program groups x method) o) number there))
+
+  pub record OfMethod (first : ℕ) (decls : List Decl) : Type 0 where
+    pub k : ℕ
+    pub method : Method
+    pub found : option_and_then as_method (slice_get decls k) ≡ Some method
+    pub there : Contains (obligations_of_method program groups (first + k) method) o
+
+  pub there_of_method : (decls : List Decl) (first : ℕ) → Contains (obligations_from program groups first decls) o → OfMethod first decls
+  there_of_method [] first there = absurd (none_there o there)
+  there_of_method (d ∷ decls) first there = elim (Contains-append_cases (obligations_of_decl program groups first d) (obligations_from program groups (suc first) decls) o there) [ inl x ↦ here d x | inr y ↦ later (there_of_method decls (suc first) y) ]
+    where
+      later : OfMethod (suc first) decls → OfMethod first (d ∷ decls)
+      later m = let number : suc first + m.k ≡ first + suc m.k = omega arith in record { k = suc m.k; method = m.method; found = m.found; there = subst (λ (x : ℕ). Contains (obligations_of_method program groups x m.method) o) number m.there }
+      here : (d : Decl) → Contains (obligations_of_decl program groups first d) o → OfMethod first (d ∷ decls)
+      here (NewtypeDecl newtype) there = absurd (none_there o there)
+      here (MethodDecl own) there = let number : first ≡ first + 0 = omega arith in record { k = 0; method = own; found = refl; there = subst (λ (x : ℕ). Contains (obligations_of_method program groups x own) o) number there }
