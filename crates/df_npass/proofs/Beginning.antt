@@ -168,13 +168,13 @@ module _ (program : Program) (well : is_well_typed program ≡ true) (groups : L
       let carried = all_carry program method method.body tys false before contract.body declared in
       let run_on : List Value → State → Outcome State = (λ entered t. run_body (modular (record { program = program; groups = groups; number = number; entry = entered }) depth) method t) in
       require_then State mode i n program plain refl program_is parameters all within_parameters before way s sits env_is tt method.preconditions (assert_measure way measures ++ (flow.said ++ ended method flow))
-          (λ handed t. after (measure_values plain t measures) (λ entered. run_on entered t)) contract.preconditions (subst (λ (x : ℕ). unassigned (first_locals x) (reads_of_clauses method.preconditions) ≡ []) many_parameters (first_read program parameters method.preconditions contract.preconditions))
+      (λ handed t. after (measure_values plain t measures) (λ entered. run_on entered t)) contract.preconditions (subst (λ (x : ℕ). unassigned (first_locals x) (reads_of_clauses method.preconditions) ≡ []) many_parameters (first_read program parameters method.preconditions contract.preconditions))
       (measures_then State mode i n program plain refl program_is parameters all within_parameters before way s sits env_is tt measures (flow.said ++ ended method flow) (λ handed entered. run_on entered (with_handed s handed))
-          (method_measure_typed program method contract.decreases) (subst (λ (x : ℕ). unassigned (first_locals x) (reads_of_measures (Some measures)) ≡ []) many_parameters (measure_read program method contract.decreases)) (λ are.
+      (method_measure_typed program method contract.decreases) (subst (λ (x : ℕ). unassigned (first_locals x) (reads_of_measures (Some measures)) ≡ []) many_parameters (measure_read program method contract.decreases)) (λ are.
       let entered = map (λ (one : Measured). meanings.value i one.value) entry in
       let run : Running = record { program = program; groups = groups; number = number; entry = entered } in
       let m = modular run depth in
       stmts_then State program well groups number entry entered method all all_types method.body depth tys false before mode i n way s (ended method flow) (λ f. after (end_of f) (λ t. check_all m t kinds.Ensures method.postconditions))
-          (record { at = λ k ty e. e }) contract.body declared params le none.0 deep
-          (record { env = env_is; path = tt; below = entry_below; entered_is = record { program_is = program_is; values = refl; measured = are }; sits = sits })
-          (ended_onward program method all within contract.postconditions m (program_of_modular run depth) n mode i flow program_is env_is sits.sorted flows_body flowing.behind flowing.breaks (λ k less. carried.kept k (omega (arith, less, le)) (params k less)) none.1)))
+      (record { at = λ k ty e. e }) contract.body declared params le none.0 deep
+      (record { env = env_is; path = tt; below = entry_below; entered_is = record { program_is = program_is; values = refl; measured = are }; sits = sits })
+      (ended_onward program method all within contract.postconditions m (program_of_modular run depth) n mode i flow program_is env_is sits.sorted flows_body flowing.behind flowing.breaks (λ k less. carried.kept k (omega (arith, less, le)) (params k less)) none.1)))

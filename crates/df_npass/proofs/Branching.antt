@@ -52,15 +52,20 @@ module _ (B : Type 0) (all : List Ty) (back : Assigned) (mode : Mode) (i : Inter
       by_flow k j (flows.Next t) moves comes =
           let rest = others_off j (sym (path_same n i j moves.same other_path other_is) ∙ off) in
           let reached = one_reached k j all (ways_of flow.way) one.behind t comes.0 in
-          h.on k j (flows.Next t) moves
-          (one_left k j all (ways_of flow.way) others.ways (meet one.behind two.behind) t (one_less k j all (ways_of flow.way) one.behind (meet one.behind two.behind) t (reached_left one.behind two.behind reached) (λ x has. join_left one.behind two.behind x reached has) comes.0) rest.0,
-          off_append j flow.breaks others.breaks comes.1 rest.1, off_append j flow.returns others.returns comes.2 rest.2)
+          h.on k j (flows.Next t) moves (
+            one_left k j all (ways_of flow.way) others.ways (meet one.behind two.behind) t (one_less k j all (ways_of flow.way) one.behind (meet one.behind two.behind) t (reached_left one.behind two.behind reached) (λ x has. join_left one.behind two.behind x reached has) comes.0) rest.0,
+            off_append j flow.breaks others.breaks comes.1 rest.1,
+            off_append j flow.returns others.returns comes.2 rest.2,
+          )
       by_flow k j (flows.Break t) moves comes =
           let rest = others_off j (sym (path_same n i j moves.same other_path other_is) ∙ off) in
           let reached = one_reached k j all flow.breaks one.breaks t comes.0 in
-          h.on k j (flows.Break t) moves
-          (one_left k j all flow.breaks others.breaks (meet one.breaks two.breaks) t (one_less k j all flow.breaks one.breaks (meet one.breaks two.breaks) t (reached_left one.breaks two.breaks reached) (λ x has. join_left one.breaks two.breaks x reached has) comes.0) rest.1,
-          off_append j (ways_of flow.way) others.ways comes.1 rest.0, off_append j flow.returns others.returns comes.2 rest.2, or_left flow.loses others.loses comes.3)
+          h.on k j (flows.Break t) moves (
+            one_left k j all flow.breaks others.breaks (meet one.breaks two.breaks) t (one_less k j all flow.breaks one.breaks (meet one.breaks two.breaks) t (reached_left one.breaks two.breaks reached) (λ x has. join_left one.breaks two.breaks x reached has) comes.0) rest.1,
+            off_append j (ways_of flow.way) others.ways comes.1 rest.0,
+            off_append j flow.returns others.returns comes.2 rest.2,
+            or_left flow.loses others.loses comes.3,
+          )
       by_flow k j (flows.Return t) moves comes =
           let rest = others_off j (sym (path_same n i j moves.same other_path other_is) ∙ off) in
           h.on k j (flows.Return t) moves
@@ -81,16 +86,21 @@ module _ (B : Type 0) (all : List Ty) (back : Assigned) (mode : Mode) (i : Inter
           let moves = moves_then mode mode k i i j n flow.fresh flows_first.grows (moves_here mode i n) moved in
           let rest = first_off j (sym (path_same n i j moves.same first_path first_is) ∙ off) in
           let reached = one_reached k j all others.ways two.behind t comes.0 in
-          h.on k j (flows.Next t) moves
-          (one_right k j all (ways_of flow.way) others.ways (meet one.behind two.behind) t rest.0 (one_less k j all others.ways two.behind (meet one.behind two.behind) t (reached_right one.behind two.behind reached) (λ x has. join_right one.behind two.behind x reached has) comes.0),
-          off_append j flow.breaks others.breaks rest.1 comes.1, off_append j flow.returns others.returns rest.2 comes.2)
+          h.on k j (flows.Next t) moves (
+            one_right k j all (ways_of flow.way) others.ways (meet one.behind two.behind) t rest.0 (one_less k j all others.ways two.behind (meet one.behind two.behind) t (reached_right one.behind two.behind reached) (λ x has. join_right one.behind two.behind x reached has) comes.0),
+            off_append j flow.breaks others.breaks rest.1 comes.1,
+            off_append j flow.returns others.returns rest.2 comes.2,
+          )
       by_flow k j (flows.Break t) moved comes =
           let moves = moves_then mode mode k i i j n flow.fresh flows_first.grows (moves_here mode i n) moved in
           let rest = first_off j (sym (path_same n i j moves.same first_path first_is) ∙ off) in
           let reached = one_reached k j all others.breaks two.breaks t comes.0 in
-          h.on k j (flows.Break t) moves
-          (one_right k j all flow.breaks others.breaks (meet one.breaks two.breaks) t rest.1 (one_less k j all others.breaks two.breaks (meet one.breaks two.breaks) t (reached_right one.breaks two.breaks reached) (λ x has. join_right one.breaks two.breaks x reached has) comes.0),
-          off_append j (ways_of flow.way) others.ways rest.0 comes.1, off_append j flow.returns others.returns rest.2 comes.2, or_right flow.loses others.loses comes.3)
+          h.on k j (flows.Break t) moves (
+            one_right k j all flow.breaks others.breaks (meet one.breaks two.breaks) t rest.1 (one_less k j all others.breaks two.breaks (meet one.breaks two.breaks) t (reached_right one.breaks two.breaks reached) (λ x has. join_right one.breaks two.breaks x reached has) comes.0),
+            off_append j (ways_of flow.way) others.ways rest.0 comes.1,
+            off_append j flow.returns others.returns rest.2 comes.2,
+            or_right flow.loses others.loses comes.3,
+          )
       by_flow k j (flows.Return t) moved comes =
           let moves = moves_then mode mode k i i j n flow.fresh flows_first.grows (moves_here mode i n) moved in
           let rest = first_off j (sym (path_same n i j moves.same first_path first_is) ∙ off) in

@@ -130,7 +130,7 @@ module _ (B : Type 0) (program : Program) (well : is_well_typed program ≡ true
       → list_all (λ (measure : Measure). is_expr program tys measure.ty measure.value) measures ≡ true → unassigned (first_locals (length tys)) (reads_of_measures (Some measures)) ≡ []
       → ((now : List Value) → Play B mode i n more (λ handed. go handed now))
       → Play B mode i n ((assert_measure way measures ++ assert way.path at kinds.Decreases (are_below (measured way.env measures) entry)) ++ more)
-          (λ handed. after (after (measure_values (plain_meaning program) (with_handed s handed) measures) (λ now. check_below at now entered)) (go handed))
+      (λ handed. after (after (measure_values (plain_meaning program) (with_handed s handed) measures) (λ now. check_below at now entered)) (go handed))
   measure_checked mode i n at measures way s tys more go begun below env path sits typed read h =
       let owed = assert way.path at kinds.Decreases (are_below (measured way.env measures) entry) in
       let now = map (λ (one : Measured). meanings.value i one.value) (measured way.env measures) in
@@ -155,7 +155,7 @@ module _ (B : Type 0) (program : Program) (well : is_well_typed program ≡ true
   pub method_call_then : (mode : Mode) (i : Interpretation) (n : ℕ) (way : Way) (call : Call) (method : Method) (terms : List Term) (text : List ℕ) (more : List Said) (go : Returned → Outcome B)
       → PathBelow n way.path → path_true i way.path ≡ true → TermsBelow n terms → MeasureBelow n entry → Entered program entry entered i → method_at program call.callee ≡ Some method → AreOf i (types_of method.parameters) terms
       → ((k : Mode) (j : Interpretation) (later : List ℕ) → Moves mode i n k j → AreOf j (types_of method.results) (any_values way.path method.results n).terms
-          → Play B k j (any_values way.path method.results n).fresh more (λ handed. go (returned (values_at j (any_values way.path method.results n).terms) later handed)))
+      → Play B k j (any_values way.path method.results n).fresh more (λ handed. go (returned (values_at j (any_values way.path method.results n).terms) later handed)))
       → Play B mode i n ((pass_method_call setting call method terms way n).said ++ more) (λ handed. after (modular_call running call.pos call.callee (values_at i terms) (store_with text handed)) go)
   method_call_then mode i n way call method terms text more go path there below entry_below begun found are h =
       let contract = contract_of program method (method_typed program call.callee method well found) in
@@ -174,22 +174,22 @@ module _ (B : Type 0) (program : Program) (well : is_well_typed program ≡ true
       let behind : List Handed → Outcome B = (λ handed. after (handed_results program method handed) (λ r. after (assume_returned program method vs r) go)) in
       subst (λ said. Play B mode i n said (λ handed. after (modular_call running call.pos call.callee vs (store_with text handed)) go)) (sym (four_parts asked falls results.said ensured more))
       (play_as B mode i n _ _ (λ handed. after (check_call plain (with_handed s handed) call.pos method.preconditions) (λ t. after (check_decrease running call.pos call.callee method t) (λ now. behind handed)))
-          (λ handed. ap (λ (o : Option Method). after (option_map_or (λ (method : Method).
-              after (check_call plain (begin vs (store_with text handed)) call.pos method.preconditions) (λ s.
-              after (check_decrease running call.pos call.callee method s) (λ now.
-              after (handed_results program method handed) (assume_returned program method vs)))) o Dismissed) go) found
-              ∙ (after_after (check_call plain (with_handed s handed) call.pos method.preconditions) _ go
-              ∙ then_same (check_call plain (with_handed s handed) call.pos method.preconditions) _ _ (λ t. after_after (check_decrease running call.pos call.callee method t) _ go
-              ∙ then_same (check_decrease running call.pos call.callee method t) _ _ (λ now. after_after (handed_results program method handed) (assume_returned program method vs) go))))
+      (λ handed. ap (λ (o : Option Method). after (option_map_or (λ (method : Method).
+      after (check_call plain (begin vs (store_with text handed)) call.pos method.preconditions) (λ s.
+      after (check_decrease running call.pos call.callee method s) (λ now.
+      after (handed_results program method handed) (assume_returned program method vs)))) o Dismissed) go) found
+      ∙ (after_after (check_call plain (with_handed s handed) call.pos method.preconditions) _ go
+      ∙ then_same (check_call plain (with_handed s handed) call.pos method.preconditions) _ _ (λ t. after_after (check_decrease running call.pos call.callee method t) _ go
+      ∙ then_same (check_decrease running call.pos call.callee method t) _ _ (λ now. after_after (handed_results program method handed) (assume_returned program method vs) go))))
       (call_then B mode i n program plain refl begun.program_is tys tys (within_itself tys) (first_locals (length tys)) inside s sits env path call.pos method.preconditions (falls ++ (results.said ++ (ensured ++ more)))
-          (λ handed t. after (check_decrease running call.pos call.callee method t) (λ now. behind handed)) contract.preconditions (first_read program tys method.preconditions contract.preconditions)
+      (λ handed t. after (check_decrease running call.pos call.callee method t) (λ now. behind handed)) contract.preconditions (first_read program tys method.preconditions contract.preconditions)
       (decrease_then mode i n call method inside s (results.said ++ (ensured ++ more)) (λ handed now. behind handed) contract begun entry_below env path sits (λ now.
       results_then B n way.path program method (ensured ++ more) (λ r. after (assume_returned program method vs r) go) mode i there begun.program_is (λ k j rs later moves given.
       ensured_then k j rs later moves given contract) giving.grows giving.said.below))))
     where
       ensured_then : (k : Mode) (j : Interpretation) (rs : List Value) (later : List ℕ) → Moves mode i n k j → AreResults j way.path method.results n rs → Contract program method
           → Play B k j (any_values way.path method.results n).fresh (assume_clauses (over (env_of (terms ++ (any_values way.path method.results n).terms)) way) method.postconditions ++ more)
-              (λ handed. after (assume_returned program method (values_at i terms) (returned rs later handed)) go)
+          (λ handed. after (assume_returned program method (values_at i terms) (returned rs later handed)) go)
       ensured_then k j rs later moves given contract =
           let plain = plain_meaning program in
           let results = any_values way.path method.results n in
@@ -204,7 +204,7 @@ module _ (B : Type 0) (program : Program) (well : is_well_typed program ≡ true
           let sits = subst (λ vs. Sits k j tys (over (env_of whole) way) (first_locals (length tys)) (begin vs (store_with later []))) vs_are (begun_sits k j way tys whole (store_with later []) here are_all) in
           let env = env_of_below results.fresh whole (terms_append results.fresh terms results.terms (terms_grow n results.fresh terms giving.grows below) giving.terms) in
           play_as B k j results.fresh _ _ (λ handed. after (or_dismissed (assume_each plain (with_handed (begin (values_at i terms ++ rs) (store_with later [])) handed) method.postconditions)) (λ t. go (returned rs later handed)))
-              (λ handed. after_after (or_dismissed (assume_each plain (begin (values_at i terms ++ rs) (store_with later handed)) method.postconditions)) _ go)
+          (λ handed. after_after (or_dismissed (assume_each plain (begin (values_at i terms ++ rs) (store_with later handed)) method.postconditions)) _ go)
           (assume_then B k j results.fresh program plain refl program_is tys tys (within_itself tys) (first_locals (length tys)) (over (env_of whole) way) (begin (values_at i terms ++ rs) (store_with later [])) sits env (path_grows n results.fresh way.path giving.grows path)
-              method.postconditions more (λ handed t. go (returned rs later handed)) contract.postconditions (first_read program tys method.postconditions contract.postconditions)
+          method.postconditions more (λ handed t. go (returned rs later handed)) contract.postconditions (first_read program tys method.postconditions contract.postconditions)
           (subst (λ vs. Play B k j results.fresh more (λ handed. go (returned vs later handed))) (sym given.are) (h k j later moves are_results)))

@@ -143,6 +143,6 @@ module _ (mode : Mode) (i : Interpretation) (all : List Ty) where
 pub one_moves : (a b : Mode) (i j : Interpretation) (n : ℕ) (all : List Ty) (path : Option Term) (ways : List Way) (before : Assigned) (s : State) → AllLead n path ways → Moves a i n b j → OneSits a i all ways before s → OneSits b j all ways before s
 one_moves a b i j n all path [] before s lead moves h = h
 one_moves a b i j n all path (way ∷ ways) before s lead moves h = elim h [
-    inl x ↦ inl (sits_moves a b i j n all way before s moves lead.0.env lead.0.path_is x.0, off_moves i j n path ways lead.1 moves.same x.1)
+  | inl x ↦ inl (sits_moves a b i j n all way before s moves lead.0.env lead.0.path_is x.0, off_moves i j n path ways lead.1 moves.same x.1)
   | inr x ↦ inr (sym (path_same n i j moves.same way.path lead.0.path_is) ∙ x.0, one_moves a b i j n all path ways before s lead.1 moves x.1)
-  ]
+]

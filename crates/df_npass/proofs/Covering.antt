@@ -140,6 +140,7 @@ module _ (set : Setting) (own : Method) (k : ℕ) where
       where
         first : Flow
         first = pass_stmt set way stmt n
+
         by_way : (o : Option Way) → first.way ≡ o → (option_map_or (λ on. followed_by first (pass_all set on others first.fresh)) o first).way ≡ Some w
             → ((on : Way) → first.way ≡ Some on → Gains k before (flow own before stmt).behind (changed_by stmt))
             → ((on : Way) → Gains k before (flow own before stmt).behind (changed_by stmt) → (pass_all set on others first.fresh).way ≡ Some w → Gains k (flow own before stmt).behind (flow_all own (flow own before stmt).behind others).behind (changed_by_all others))
@@ -168,14 +169,19 @@ module _ (set : Setting) (own : Method) (k : ℕ) where
       where
         taken : Way
         taken = narrowed way (term_of way.env guard)
+
         passed : Way
         passed = narrowed way (negation (term_of way.env guard))
+
         more : Parted
         more = pass_branches set passed rest (λ last. pass_all set last otherwise) (pass_all set taken body n).fresh
+
         first : Assigned
         first = (flow_all own before body).behind
+
         second : Assigned
         second = (flow_branches own before rest (flow_all own before otherwise)).behind
+
         by_way : (o : Option Way) → (pass_all set taken body n).way ≡ o → (ways_of o ++ more.ways ≡ [] → ⊥) → ((w : Way) → (pass_all set taken body n).way ≡ Some w → Gains k before first (changed_by_all body))
             → ((more.ways ≡ [] → ⊥) → Gains k before second (changed_by_branches rest ++ changed_by_all otherwise))
             → Gains k before (meet first second) (changed_by_all body ++ (changed_by_branches rest ++ changed_by_all otherwise))
@@ -215,32 +221,40 @@ module _ (set : Setting) (own : Method) (k : ℕ) where
         let parts = neither (changed_outside body) (changed_in_branches rest) k inside.0 in
         by_way (pass_all set taken body n).way refl many (λ many reached. lone rest otherwise passed (pass_all set taken body n).fresh (locals_after_all locals body) in_loop before is.2 also r h (join_right first second k reached has) (in_both (changed_in_branches rest) (changed_outside otherwise) k parts.1 inside.1) many)
         (λ w f reached.
-            let gained = all_gains body taken n before w r f in
-            let changed = by_bool (is_changed (changed_by_all body) k) (λ c. c) (λ c. absurd (apart (has_value first k) (join_left first second k gained.reached has) (gained.none h c))) in
-            let less = all_there program own k body locals in_loop is.1 (declared_is body changed parts.0) in
-            let past = branches_outside rest (locals_after_all locals body) in_loop is.2 less parts.1 in
-            let le = branches_grow (locals_after_all locals body) rest in
-            let also_past = outside_is otherwise (all_past program own k otherwise (locals_after_branches (locals_after_all locals body) rest) in_loop also (omega (arith, less, le))) inside.1 in
-            (past, also_past))
+        let gained = all_gains body taken n before w r f in
+        let changed = by_bool (is_changed (changed_by_all body) k) (λ c. c) (λ c. absurd (apart (has_value first k) (join_left first second k gained.reached has) (gained.none h c))) in
+        let less = all_there program own k body locals in_loop is.1 (declared_is body changed parts.0) in
+        let past = branches_outside rest (locals_after_all locals body) in_loop is.2 less parts.1 in
+        let le = branches_grow (locals_after_all locals body) rest in
+        let also_past = outside_is otherwise (all_past program own k otherwise (locals_after_branches (locals_after_all locals body) rest) in_loop also (omega (arith, less, le))) inside.1 in
+        (past, also_past))
       where
         taken : Way
         taken = narrowed way (term_of way.env guard)
+
         passed : Way
         passed = narrowed way (negation (term_of way.env guard))
+
         more : Parted
         more = pass_branches set passed rest (λ last. pass_all set last otherwise) (pass_all set taken body n).fresh
+
         first : Assigned
         first = (flow_all own before body).behind
+
         second : Assigned
         second = (flow_branches own before rest (flow_all own before otherwise)).behind
+
         gains : (more.ways ≡ [] → ⊥) → Gains k before second (changed_by_branches rest ++ changed_by_all otherwise)
         gains some = branches_gains rest otherwise passed (pass_all set taken body n).fresh before r (λ last more w f. all_gains otherwise last more before w r f) some
+
         many_some : (ways : List Way) → Many ways → ways ≡ [] → ⊥
         many_some [] m e = m
         many_some (w ∷ ws) m e = cc
+
         two_some : (w : Way) (ways : List Way) → Many (w ∷ ways) → ways ≡ [] → ⊥
         two_some w [] m e = m
         two_some w (x ∷ ws) m e = cc
+
         by_way : (o : Option Way) → (pass_all set taken body n).way ≡ o → Many (ways_of o ++ more.ways) → (Many more.ways → IsReached second → ⊥)
             → ((w : Way) → (pass_all set taken body n).way ≡ Some w → IsReached second → (is_changed (changed_by_branches rest) k ≡ false) × (is_changed (changed_by_all otherwise) k ≡ false)) → ⊥
         by_way None f many a b = a many (gains (many_some more.ways many)).reached

@@ -99,8 +99,8 @@ module _ (program : Program) (own : Method) (k : ℕ) where
         let is = both (are_branches (place program locals own in_loop) branches) (are_stmts (place program (locals_after_branches locals branches) own in_loop) otherwise) is in
         let le = all_grow (locals_after_branches locals branches) otherwise in
         elim (one_append (declared_by_branches branches) (declared_by_all otherwise) k h) [
-          inl x ↦ (let less = branches_there branches locals in_loop is.0 x in omega (arith, less, le))
-        | inr y ↦ all_there otherwise (locals_after_branches locals branches) in_loop is.1 y
+          | inl x ↦ (let less = branches_there branches locals in_loop is.0 x in omega (arith, less, le))
+          | inr y ↦ all_there otherwise (locals_after_branches locals branches) in_loop is.1 y
         ]
     stmt_there (While at guard invariants decreases body) locals in_loop is h =
         all_there body locals true (four (is_expr program locals types.Bool guard) (are_clauses program locals invariants) (is_measured (place program locals own in_loop) guard decreases) (are_stmts (place program locals own true) body) is).3 h
@@ -115,8 +115,8 @@ module _ (program : Program) (own : Method) (k : ℕ) where
         let is = both (is_stmt (place program locals own in_loop) stmt) (are_stmts (place program (locals_after locals stmt) own in_loop) others) is in
         let le = all_grow (locals_after locals stmt) others in
         elim (one_append (declared_by stmt) (declared_by_all others) k h) [
-          inl x ↦ (let less = stmt_there stmt locals in_loop is.0 x in omega (arith, less, le))
-        | inr y ↦ all_there others (locals_after locals stmt) in_loop is.1 y
+          | inl x ↦ (let less = stmt_there stmt locals in_loop is.0 x in omega (arith, less, le))
+          | inr y ↦ all_there others (locals_after locals stmt) in_loop is.1 y
         ]
 
     pub branches_there : (branches : Branches) (locals : List Ty) (in_loop : Bool) → are_branches (place program locals own in_loop) branches ≡ true → is_declared (declared_by_branches branches) k ≡ true → k < length (locals_after_branches locals branches)
@@ -125,8 +125,8 @@ module _ (program : Program) (own : Method) (k : ℕ) where
         let is = three (is_expr program locals types.Bool guard) (are_stmts (place program locals own in_loop) body) (are_branches (place program (locals_after_all locals body) own in_loop) rest) is in
         let le = branches_grow (locals_after_all locals body) rest in
         elim (one_append (declared_by_all body) (declared_by_branches rest) k h) [
-          inl x ↦ (let less = all_there body locals in_loop is.1 x in omega (arith, less, le))
-        | inr y ↦ branches_there rest (locals_after_all locals body) in_loop is.2 y
+          | inl x ↦ (let less = all_there body locals in_loop is.1 x in omega (arith, less, le))
+          | inr y ↦ branches_there rest (locals_after_all locals body) in_loop is.2 y
         ]
 
   -- each local is of a type of the program
@@ -162,4 +162,3 @@ module _ (program : Program) (own : Method) (k : ℕ) where
     types_after_branches (branch at guard body rest) locals in_loop is h =
         let is = three (is_expr program locals types.Bool guard) (are_stmts (place program locals own in_loop) body) (are_branches (place program (locals_after_all locals body) own in_loop) rest) is in
         types_after_branches rest (locals_after_all locals body) in_loop is.2 (types_after_all body locals in_loop is.1 h)
-

@@ -52,6 +52,7 @@ locals_cover from (param ∷ params) k more less = by_order (cases_lt k (suc fro
     or_true : (b : Bool) → (b || true) ≡ true
     or_true true = refl
     or_true false = refl
+
     by_order : (k < suc from) ⊎ (suc from ≤ k) → (suc from ≤ k → is_changed (locals_from (suc from) params) k ≡ true) → is_changed (locals_from from (param ∷ params)) k ≡ true
     by_order (inl l) g = let same : from ≡ k = omega (arith, l, more) in ap (λ (b : Bool). b || is_changed (locals_from (suc from) params) k) (eq-eqb from k same)
     by_order (inr l) g = ap (λ (b : Bool). (from == k) || b) (g l) ∙ or_true (from == k)
@@ -151,7 +152,7 @@ module _ (program : Program) (own : Method) (all : List Ty) (within : Within (ty
       (subst (λ said. Play State k u joined_ways.fresh said (λ handed. check_all m (with_handed t handed) kinds.Ensures own.postconditions)) (append-nil (owed (Some w)))
       (play_as State k u joined_ways.fresh _ _ (λ handed. after (check_all m (with_handed t handed) kinds.Ensures own.postconditions) (λ x. Gives x)) (λ handed. sym (after_gives (check_all m (with_handed t handed) kinds.Ensures own.postconditions)))
       (check_then State k u joined_ways.fresh program m m_is (sym moved.same.program ∙ (sym moves.same.program ∙ program_is)) tys all within (back own) w t sits lead.env lead.path_is kinds.Ensures own.postconditions [] (λ handed x. Gives x) typed (first_read program tys own.postconditions typed)
-          (given_play State k u joined_ways.fresh (λ handed. with_handed t handed))))))
+      (given_play State k u joined_ways.fresh (λ handed. with_handed t handed))))))
 
   -- what goes on behind the body
   pub ended_onward : (behind carried : Assigned) → HasParameters own behind → unassigned behind (results_at own own.pos) ≡ []

@@ -73,7 +73,7 @@ module _ (i : Interpretation) (all : List Ty) (k : ℕ) (ty : Ty) (typed : slice
       by_bool (is_changed others k) (λ e. havoc_typed others (suc fresh) (over (with_term way.env c.local (free_of fresh c.ty)) way) there.1 path (all_rest i (assume_type way.path c.ty (free_of fresh c.ty)) _ said) e) (λ e.
       let same = one_of c others k h e in
       rw (last_free c others fresh way k same e) (subst (λ t. has_type i.program t (meanings.value i (free_of fresh c.ty)) ≡ true) (type_of_one all c k ty same there.0 typed)
-          (type_said i way.path c.ty (free_of fresh c.ty) path (free_sorted i fresh c.ty) (all_front i (assume_type way.path c.ty (free_of fresh c.ty)) _ said))))
+      (type_said i way.path c.ty (free_of fresh c.ty) path (free_sorted i fresh c.ty) (all_front i (assume_type way.path c.ty (free_of fresh c.ty)) _ said))))
 
 pub havoc_known : (changed : List Changed) (fresh : ℕ) (way : Way) → AreKnown (havoc changed fresh way).said
 havoc_known [] fresh way = tt

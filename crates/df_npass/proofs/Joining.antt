@@ -51,9 +51,9 @@ pub record Sole (mode : Mode) (i : Interpretation) (all : List Ty) (ways : List 
 pub sole_of : (mode : Mode) (i : Interpretation) (all : List Ty) (ways : List Way) (before : Assigned) (s : State) → OneSits mode i all ways before s → Sole mode i all ways before s
 sole_of mode i all [] before s h = absurd h
 sole_of mode i all (way ∷ ways) before s h = elim h [
-    inl x ↦ record { way = way; is = inl (refl, x.0.there, x.1); sits = x.0 }
+  | inl x ↦ record { way = way; is = inl (refl, x.0.there, x.1); sits = x.0 }
   | inr x ↦ (let more = sole_of mode i all ways before s x.1 in record { way = more.way; is = inr (x.0, more.is); sits = more.sits })
-  ]
+]
 
 pub joined_off : (i : Interpretation) (ty : Ty) (k : ℕ) (a : Term) (ways : List Way) → AllOff i ways → AllTrue i (assume_joined ty k a ways)
 joined_off i ty k a [] off = tt
@@ -88,16 +88,16 @@ module _ (i : Interpretation) (w : Way) where
   joined_said : (ty : Ty) (k : ℕ) (a : Term) (ways : List Way) → IsSole i w ways → truth i (equal_in ty a (w.env k)) ≡ true → AllTrue i (assume_joined ty k a ways)
   joined_said ty k a [] h e = absurd h
   joined_said ty k a (x ∷ xs) h e = elim h [
-      inl s ↦ (on_any_path i x.path (equal_in ty a (x.env k)) (subst (λ (y : Way). truth i (equal_in ty a (y.env k)) ≡ true) (sym s.0) e), joined_off i ty k a xs s.2)
+    | inl s ↦ (on_any_path i x.path (equal_in ty a (x.env k)) (subst (λ (y : Way). truth i (equal_in ty a (y.env k)) ≡ true) (sym s.0) e), joined_off i ty k a xs s.2)
     | inr s ↦ (off_path i x.path (equal_in ty a (x.env k)) s.0, joined_said ty k a xs s.1 e)
-    ]
+  ]
 
   joined_told : (ty : Ty) (k : ℕ) (a : Term) (ways : List Way) → IsSole i w ways → AllTrue i (assume_joined ty k a ways) → truth i (equal_in ty a (w.env k)) ≡ true
   joined_told ty k a [] h all = absurd h
   joined_told ty k a (x ∷ xs) h all = elim h [
-      inl s ↦ sym (on_it i w.path (equal_in ty a (w.env k)) s.1) ∙ subst (λ (y : Way). truth i (on_path y.path (equal_in ty a (y.env k))) ≡ true) s.0 all.0
+    | inl s ↦ sym (on_it i w.path (equal_in ty a (w.env k)) s.1) ∙ subst (λ (y : Way). truth i (on_path y.path (equal_in ty a (y.env k))) ≡ true) s.0 all.0
     | inr s ↦ joined_told ty k a xs s.1 all.1
-    ]
+  ]
 
   pub sole_stays : (k : ℕ) (env : Environment) (ways : List Way) → IsSole i w ways → AllStay k env ways → w.env k ≡ env k
   sole_stays k env [] h all = absurd h
@@ -106,9 +106,9 @@ module _ (i : Interpretation) (w : Way) where
   pub sole_any : (ways : List Way) → IsSole i w ways → any_true i (paths_of ways) ≡ true
   sole_any [] h = absurd h
   sole_any (x ∷ xs) h = elim h [
-      inl s ↦ this_path i x.path (paths_of xs) (subst (λ (y : Way). path_true i y.path ≡ true) (sym s.0) s.1)
+    | inl s ↦ this_path i x.path (paths_of xs) (subst (λ (y : Way). path_true i y.path ≡ true) (sym s.0) s.1)
     | inr s ↦ later_path i x.path (paths_of xs) (sole_any xs s.1)
-    ]
+  ]
 
   sole_env : (n : ℕ) (path : Option Term) (ways : List Way) → AllLead n path ways → IsSole i w ways → EnvBelow n w.env
   sole_env n path [] lead h = absurd h
@@ -121,9 +121,9 @@ module _ (i : Interpretation) (w : Way) where
   sole_moves : (j : Interpretation) (n : ℕ) (path : Option Term) (ways : List Way) → AllLead n path ways → SameBelow n i j → IsSole i w ways → IsSole j w ways
   sole_moves j n path [] lead same h = absurd h
   sole_moves j n path (x ∷ xs) lead same h = elim h [
-      inl s ↦ inl (s.0, sym (path_same n i j same w.path (subst (λ (y : Way). PathBelow n y.path) s.0 lead.0.path_is)) ∙ s.1, off_moves i j n path xs lead.1 same s.2)
+    | inl s ↦ inl (s.0, sym (path_same n i j same w.path (subst (λ (y : Way). PathBelow n y.path) s.0 lead.0.path_is)) ∙ s.1, off_moves i j n path xs lead.1 same s.2)
     | inr s ↦ inr (sym (path_same n i j same x.path lead.0.path_is) ∙ s.0, sole_moves j n path xs lead.1 same s.1)
-    ]
+  ]
 
 -- ---- equal values
 
@@ -309,7 +309,7 @@ module _ (B : Type 0) (n : ℕ) (all : List Ty) (path before_path : Option Term)
     many_then Following is ways one lead here path_is cover grows below h =
         let sole = sole_of mode i all ways before s one in
         let go = (λ (said : AllTrue i (join_locals changed ways n env path).said). h i (moves_here mode i n) (joined_sits mode mode i i ways sole lead (moves_here mode i n) sorted env_is here path_is cover
-            (join_told ways path all sole.way i sole.is sole.sits.sorted changed n env there said))) in
+        (join_told ways path all sole.way i sole.is sole.sits.sorted changed n env there said))) in
         subst (λ k. Play B k i n ((join_locals changed ways n env path).said ++ more) run) (sym is)
         (known_then_follow B i n (join_locals changed ways n env path).said more run (join_known ways path changed n env) (λ said. subst (λ k. Play B k i (join_locals changed ways n env path).fresh more run) is (go said)))
     many_then (Taking handed) is ways one lead here path_is cover grows below h =

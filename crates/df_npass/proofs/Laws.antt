@@ -56,9 +56,11 @@ wrong_is_refuted program groups number method at kind well definite found wrong 
     let play = method_play program well groups number method is (definite number method found) (Taking wrong.store.handed) took.to wrong.depth wrong.store.text program_is of (λ e. absurd (never e)) in
     let first = play.blames at kind (subst (λ vs. modular_run program groups wrong.depth number method vs wrong.store ≡ Wrong at kind) (sym took.are) wrong.wrong) in
     let true_there = all_same arguments.fresh took.to play.to play.same arguments.said giving.said.below took.all in
-    let refuted = first_refuted play.to number at kind (pass_method program groups number method) [] (first_behind play.to at kind arguments.said (behind_arguments program well groups number method is (definite number method found)) true_there first) tt in
-    (refuted.obligation, record { owed = refuted.among_them; place = refuted.place; kind_is = refuted.kind_is },
-        record { interpretation = play.to; program_is = sym play.same.program ∙ program_is; hypotheses = refuted.hypotheses; goal = refuted.goal })
+    let refuted = first_refuted play.to number at kind (pass_method program groups number method) [] (first_behind play.to at kind arguments.said (behind_arguments program well groups number method is (definite number method found)) true_there first) tt in (
+      refuted.obligation,
+      record { owed = refuted.among_them; place = refuted.place; kind_is = refuted.kind_is },
+      record { interpretation = play.to; program_is = sym play.same.program ∙ program_is; hypotheses = refuted.hypotheses; goal = refuted.goal },
+    )
   where
     never : true ≡ false → ⊥
     never e = cc
@@ -90,7 +92,7 @@ valid_is_safe program groups number method well definite found valid at kind wro
 pub safe_is_valid : SafeIsValid
 safe_is_valid program groups number method obligation well definite found safe there i program_is hypotheses = by_bool (truth i obligation.goal) (λ e. e) (λ e.
     absurd (safe obligation.pos obligation.kind (refuted_is_wrong program groups number method obligation.pos obligation.kind obligation well definite found
-        (record { owed = there; place = refl; kind_is = refl }) (record { interpretation = i; program_is = program_is; hypotheses = hypotheses; goal = e }))))
+    (record { owed = there; place = refl; kind_is = refl }) (record { interpretation = i; program_is = program_is; hypotheses = hypotheses; goal = e }))))
 
 from_none : (k : ℕ) → 0 + k ≡ k
 from_none k = omega arith
@@ -107,7 +109,9 @@ pub refuted_member_is_wrong : RefutedMemberIsWrong
 refuted_member_is_wrong program groups obligation well definite there refuted =
     let of = there_of_method program groups obligation program.decls 0 there in
     let there = subst (λ (k : ℕ). Contains (obligations_of_method program groups k of.method) obligation) (from_none of.k) of.there in
-    let number = of_declaration of.k (pass_method program groups of.k of.method) [] obligation there in
-    (of.method, subst (λ (k : ℕ). method_at program k ≡ Some of.method) (sym number) of.found,
-        subst (λ (k : ℕ). IsModularlyWrong program groups k of.method obligation.pos obligation.kind) (sym number)
-        (refuted_is_wrong program groups of.k of.method obligation.pos obligation.kind obligation well definite of.found (record { owed = there; place = refl; kind_is = refl }) refuted))
+    let number = of_declaration of.k (pass_method program groups of.k of.method) [] obligation there in (
+      of.method,
+      subst (λ (k : ℕ). method_at program k ≡ Some of.method) (sym number) of.found,
+      subst (λ (k : ℕ). IsModularlyWrong program groups k of.method obligation.pos obligation.kind) (sym number)
+          (refuted_is_wrong program groups of.k of.method obligation.pos obligation.kind obligation well definite of.found (record { owed = there; place = refl; kind_is = refl }) refuted),
+    )

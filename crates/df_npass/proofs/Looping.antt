@@ -63,8 +63,8 @@ turn_ends B all program m m_is locals within loop mode i n way before s earlier 
     let falls : List Value → Outcome B = (λ now. after (check_below loop.pos now values) (λ checked. Dismissed)) in
     subst (λ said. Play B mode i n said (λ handed. after (behind_once m loop values (flows.Next (with_handed s handed))) go)) (sym (three_parts (assert_clauses at_clause kinds.Turn way loop.invariants) (assert_measure way measures) owed rest))
     (play_as B mode i n _ _ (λ handed. after (check_all m (with_handed s handed) kinds.Turn loop.invariants) (λ u. after (measure_values m u measures) falls))
-        (λ handed. after_after (check_all m (with_handed s handed) kinds.Turn loop.invariants) _ go ∙ then_same (check_all m (with_handed s handed) kinds.Turn loop.invariants) _ _ (λ u. after_after (measure_values m u measures) _ go
-            ∙ then_same (measure_values m u measures) _ _ (λ now. after_after (check_below loop.pos now values) _ go)))
+    (λ handed. after_after (check_all m (with_handed s handed) kinds.Turn loop.invariants) _ go ∙ then_same (check_all m (with_handed s handed) kinds.Turn loop.invariants) _ _ (λ u. after_after (measure_values m u measures) _ go
+    ∙ then_same (measure_values m u measures) _ _ (λ now. after_after (check_below loop.pos now values) _ go)))
     (check_then B mode i n program m m_is program_is locals all within before way s sits env path kinds.Turn loop.invariants (assert_measure way measures ++ (owed ++ rest)) (λ handed u. after (measure_values m u measures) falls) typed read
     (measures_then B mode i n program m m_is program_is locals all within before way s sits env path measures (owed ++ rest) (λ handed now. falls now) measures_typed measures_read (λ are.
     play_as B mode i n (owed ++ rest) _ (λ handed. if order.are_below now values then Dismissed else Wrong loop.pos kinds.Decreases) (λ handed. if_after (order.are_below now values) now loop.pos kinds.Decreases (λ checked. Dismissed))
@@ -102,8 +102,10 @@ module _ (B : Type 0) (all : List Ty) (back : Assigned) (program : Program) (m :
   turn_said = option_map_or (assert_turn loop.pos loop.invariants measures earlier) flow.way []
 
   leads : AllLead flow.fresh any.path ways
-  leads = (lead_grows n flow.fresh any.path outside flows_body.grows (narrowed_leads n any (negation (term_of any.env loop.guard)) env path (rw (term_is) refl)),
-      farther flow.fresh any.path inside flow.breaks (lead_grows n flow.fresh any.path inside flows_body.grows (narrowed_leads n any (term_of any.env loop.guard) env path term_is)) flows_body.breaks)
+  leads = (
+    lead_grows n flow.fresh any.path outside flows_body.grows (narrowed_leads n any (negation (term_of any.env loop.guard)) env path (rw (term_is) refl)),
+    farther flow.fresh any.path inside flow.breaks (lead_grows n flow.fresh any.path inside flows_body.grows (narrowed_leads n any (term_of any.env loop.guard) env path term_is)) flows_body.breaks,
+  )
 
   going : JoinGoing flow.fresh any.path (join after_path outside.env changed ways flow.fresh)
   going = join_going after_path outside.env changed ways flow.fresh any.path (env_grows n flow.fresh any.env flows_body.grows env) leads (any_path_reaches flow.fresh any.path ways leads)
@@ -139,8 +141,8 @@ module _ (B : Type 0) (all : List Ty) (back : Assigned) (program : Program) (m :
       play_behind B mode i n flow.said (turn_said ++ (joined.said ++ more)) run (λ j same. flows_body.said.off j (sym (path_same n i j same inside.path (narrowed_below n any.path (term_of any.env loop.guard) path term_is)) ∙ off))
       (play_later B mode i n flow.fresh (turn_said ++ (joined.said ++ more)) run flows_body.grows
       (leave_play mode i s (moves_here mode i n)
-          (one_less mode i all ways before (meet before breaks) s (reached_left before breaks reached) (λ k has. join_left before breaks k reached has) (inl (outside_sits, off_ways flow.breaks flows_body.breaks)))
-          (off_ways (ways_of flow.way) flows_body.way) (off_ways flow.returns flows_body.returns)))
+      (one_less mode i all ways before (meet before breaks) s (reached_left before breaks reached) (λ k has. join_left before breaks k reached has) (inl (outside_sits, off_ways flow.breaks flows_body.breaks)))
+      (off_ways (ways_of flow.way) flows_body.way) (off_ways flow.returns flows_body.returns)))
 
   -- the guard is true: the body runs once
   pub inside_onward : truth i (term_of any.env loop.guard) ≡ true → AreMeasured i earlier
@@ -152,18 +154,24 @@ module _ (B : Type 0) (all : List Ty) (back : Assigned) (program : Program) (m :
     where
       joined : Joined
       joined = join after_path outside.env changed ways flow.fresh
+
       out : truth i (term_of any.env loop.guard) ≡ true → path_true i outside.path ≡ false
       out is_true = narrowed_true i any.path (negation (term_of any.env loop.guard)) here ∙ negated i (term_of any.env loop.guard) true is_true
+
       out_below : PathBelow n outside.path
       out_below = narrowed_below n any.path (negation (term_of any.env loop.guard)) path (rw (term_is) refl)
+
       off_out : (j : Interpretation) → SameBelow n i j → path_true j outside.path ≡ false
       off_out j same = sym (path_same n i j same outside.path out_below) ∙ out is_true
+
       behind_true : (j : Interpretation) → SameBelow n i j → AllOff j flow.breaks → AllOff j flow.returns → AllTrue j (joined.said ++ more)
       behind_true j same no_break no_return =
           let off : AllOff j ways = (off_out j same, no_break) in
           all_appended j joined.said more (join_off_said j after_path outside.env changed ways flow.fresh off) (h.over j same (join_off_way j after_path outside.env changed ways flow.fresh off (λ many. no_path j ways off)) tt no_return refl)
+
       values : List Value
       values = map (λ (one : Measured). meanings.value i one.value) earlier
+
       by_flow : (k : Mode) (j : Interpretation) (f : flows.Flow) → Moves mode i n k j → Comes k j all back (last_of flow) behind breaks f
           → Play B k j flow.fresh (turn_said ++ (joined.said ++ more)) (λ handed. after (behind_once m loop values (hand f handed)) go)
       by_flow k j (flows.Next t) moves comes = by_way flow.way comes.0 flows_body.way
@@ -175,7 +183,7 @@ module _ (B : Type 0) (all : List Ty) (back : Assigned) (program : Program) (m :
               let below = measured_below n any.env env measures in
               subst (λ vs. Play B k j flow.fresh (assert_turn loop.pos loop.invariants measures earlier on ++ (joined.said ++ more)) (λ handed. after (behind_once m loop vs (flows.Next (with_handed t handed))) go)) (sym (measure_moves n i j moves.same earlier below))
               (turn_ends B all program m m_is locals within loop k j flow.fresh on before t earlier (joined.said ++ more) go (sym moves.same.program ∙ program_is) lead.0.env lead.0.path_is (sits_less k j all on behind before t reached kept (only k j all on behind t one))
-                  typed read measures_typed measures_read (measure_grows n flow.fresh earlier flows_body.grows below) (measured_moves n i j moves.same earlier below are) (behind_true j moves.same comes.1 comes.2))
+              typed read measures_typed measures_read (measure_grows n flow.fresh earlier flows_body.grows below) (measured_moves n i j moves.same earlier below are) (behind_true j moves.same comes.1 comes.2))
       by_flow k j (flows.Break t) moves comes =
           let reached_breaks = one_reached k j all flow.breaks breaks t comes.0 in
           leave_play k j t moves (inr (off_out j moves.same, one_less k j all flow.breaks breaks (meet before breaks) t (reached_right before breaks reached_breaks) (λ x has. join_right before breaks x reached_breaks has) comes.0)) comes.1 comes.2

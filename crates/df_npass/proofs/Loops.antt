@@ -113,6 +113,7 @@ numbered_have at a from (param ∷ params) e k more less = by_order (cases_lt k 
   where
     used : Use
     used = record { local = from; name = param.declared.name; pos = at }
+
     by_order : (k < suc from) ⊎ (suc from ≤ k) → (suc from ≤ k → has_value a k ≡ true) → has_value a k ≡ true
     by_order (inl l) g = let same : from ≡ k = omega (arith, l, more) in subst (λ (x : ℕ). has_value a x ≡ true) same (use_has a used (results_from at (suc from) params) e)
     by_order (inr l) g = g l
@@ -236,7 +237,7 @@ module _ (B : Type 0) (program : Program) (well : is_well_typed program ≡ true
       subst (λ said. Play B mode i n said (λ handed. after (print_all m (with_handed s handed) (Shown ty value ∷ others)) go)) (sym (append_assoc (assert_expr way value) (flat_map (assert_operand way) others) more))
       (play_as B mode i n _ _ (λ handed. after (evaluate m (with_handed s handed) value) (λ v. after (print_all m (printed (with_handed s handed) v) others) go)) (λ handed. after_after (evaluate m (with_handed s handed) value) _ go)
       (expr_then B mode i n program m (program_of_modular run depth) here.entered_is.program_is locals all within before way s here.sits here.env here.path value ty (flat_map (assert_operand way) others ++ more)
-          (λ handed v. after (print_all m (printed (with_handed s handed) v) others) go) (both (is_type program ty) (is_expr program locals ty value) is.0).1 read.0 (λ one.
+      (λ handed v. after (print_all m (printed (with_handed s handed) v) others) go) (both (is_type program ty) (is_expr program locals ty value) is.0).1 read.0 (λ one.
       print_then depth locals within in_loop before others mode i n way (printed s v) more go is.1 read.1 (stands_moves program entry entered all mode mode i i n n way before s (printed s v) (le_refl n) (moves_here mode i n) (λ x. refl) here) h)))
 
   -- ---- loops
@@ -284,7 +285,7 @@ module _ (B : Type 0) (program : Program) (well : is_well_typed program ≡ true
         subst (λ said. Play B mode i n said (λ handed. after (execute m (with_handed s handed) (While at guard invariants decreases body)) go)) (sym (append_assoc (entry_said ++ asked) loop_said more ∙ append_assoc entry_said asked (loop_said ++ more)))
         (play_as B mode i n _ _ (λ handed. after (check_all m (with_handed s handed) kinds.Entry invariants) (λ t. TooDeep)) (λ handed. after_after (check_all m (with_handed s handed) kinds.Entry invariants) _ go)
         (check_then B mode i n program m refl here.entered_is.program_is locals all here_within before way s here.sits here.env here.path kinds.Entry invariants (asked ++ (loop_said ++ more)) (λ handed t. TooDeep) parts.1 asks.1
-            (deep_play B mode i n (asked ++ (loop_said ++ more)) not_following)))
+        (deep_play B mode i n (asked ++ (loop_said ++ more)) not_following)))
 
     module _ (depth : ℕ) where
       abbrev m : Meaning
@@ -298,10 +299,10 @@ module _ (B : Type 0) (program : Program) (well : is_well_typed program ≡ true
 
       turn_play : (mode : Mode) (i : Interpretation) (n : ℕ) (any : Way) (t : State) (more : List Said) (go : flows.Flow → Outcome B) → Here mode i n any before t
           → ((w : Way) (said : List Said) (on_go : flows.Flow → Outcome B) → Here mode i n w before t → On mode i n (last_of (pass_all set w body n)) turn.behind turn.breaks said on_go
-              → Play B mode i n ((pass_all set w body n).said ++ said) (λ handed. after (execute_all m (with_handed t handed) body) on_go))
+          → Play B mode i n ((pass_all set w body n).said ++ said) (λ handed. after (execute_all m (with_handed t handed) body) on_go))
           → On mode i n (last_of (behind_loop at invariants (loop_measure guard decreases) (measured any.env (loop_measure guard decreases)) (changed_outside body) (narrowed any (negation (term_of any.env guard))) (pass_all set (narrowed any (term_of any.env guard)) body n))) (meet before turn.breaks) Unreached more go
           → Play B mode i n (assume_clauses any invariants ++ (assert_expr any guard ++ (assert_measure (narrowed any (term_of any.env guard)) (loop_measure guard decreases) ++ ((behind_loop at invariants (loop_measure guard decreases) (measured any.env (loop_measure guard decreases)) (changed_outside body)
-              (narrowed any (negation (term_of any.env guard))) (pass_all set (narrowed any (term_of any.env guard)) body n)).said ++ more)))) (λ handed. after (turned (with_handed t handed)) go)
+          (narrowed any (negation (term_of any.env guard))) (pass_all set (narrowed any (term_of any.env guard)) body n)).said ++ more)))) (λ handed. after (turned (with_handed t handed)) go)
       turn_play mode i n any t more go here body_play h =
           let changed = changed_outside body in
           let measures = loop_measure guard decreases in
@@ -326,36 +327,36 @@ module _ (B : Type 0) (program : Program) (well : is_well_typed program ≡ true
           let carried = all_carry program own body locals true before parts.3 declared in
           let less = (λ (k : ℕ) (has : has_value before k ≡ true). declared_less before (length locals) k declared reached has) in
           let cover : (k : ℕ) → has_value (meet before turn.breaks) k ≡ true → is_changed changed k ≡ false → AllStay k any.env (outside ∷ flow_in.breaks) = (λ k has e.
-              let has = join_left before turn.breaks k reached has in
-              let same = outside_is set own k body (all_past program own k body locals true parts.3 (less k has)) e in
-              (refl, (all_stay set inside body n k same).breaks)) in
+          let has = join_left before turn.breaks k reached has in
+          let same = outside_is set own k body (all_past program own k body locals true parts.3 (less k has)) e in
+          (refl, (all_stay set inside body n k same).breaks)) in
           let kept = (λ (k : ℕ) (has : has_value before k ≡ true). carried.kept k (less k has) has) in
           let values = map (λ (one : Measured). meanings.value i one.value) earlier in
           subst (λ said. Play B mode i n said (λ handed. after (turned (with_handed t handed)) go))
-              (ap (λ r. assumed ++ (asked ++ (counted ++ r))) (sym (three_parts flow_in.said turn_said joined_said more)))
+          (ap (λ r. assumed ++ (asked ++ (counted ++ r))) (sym (three_parts flow_in.said turn_said joined_said more)))
           (play_as B mode i n _ _ (λ handed. after (or_dismissed (assume_each m (with_handed t handed) invariants)) (λ v. after (turns_with (evaluate m v guard) v (modular_turn m loop v)) go)) (λ handed. after_after (or_dismissed (assume_each m (with_handed t handed) invariants)) _ go)
           (assume_then B mode i n program m m_is program_is locals all here_within before any t here.sits here.env here.path invariants (asked ++ (counted ++ rest)) (λ handed v. after (turns_with (evaluate m v guard) v (modular_turn m loop v)) go) parts.1 asks.1
           (play_as B mode i n _ _ (λ handed. after (evaluate m (with_handed t handed) guard) (λ v. after (if truth_of v then modular_turn m loop (with_handed t handed) else Gives (flows.Next (with_handed t handed))) go)) (λ handed. after_after (evaluate m (with_handed t handed) guard) _ go)
           (expr_then B mode i n program m m_is program_is locals all here_within before any t here.sits here.env here.path guard types.Bool (counted ++ rest) (λ handed v. after (if truth_of v then modular_turn m loop (with_handed t handed) else Gives (flows.Next (with_handed t handed))) go) parts.0 asks.0 (λ one.
           decide B flows.Flow mode i n (counted ++ rest) (λ handed. modular_turn m loop (with_handed t handed)) (λ handed. Gives (flows.Next (with_handed t handed))) go (truth i g)
           (λ is_true.
-              let sits : Sits mode i all inside before t = record { there = narrowed_true i any.path g here.sits.there ∙ is_true; sorted = here.sits.sorted; holds = here.sits.holds; present = here.sits.present } in
-              let here_inside : Here mode i n inside before t = record { env = here.env; path = inside_leads.path_is; below = here.below; entered_is = here.entered_is; sits = sits } in
-              play_as B mode i n _ _ (λ handed. after (measure_values m (with_handed t handed) measures) (λ now. after (execute_all m (with_handed t handed) body) (λ f. after (behind_once m loop now f) go)))
-                  (λ handed. after_after (measure_values m (with_handed t handed) measures) _ go ∙ then_same (measure_values m (with_handed t handed) measures) _ _ (λ now. after_after (execute_all m (with_handed t handed) body) (behind_once m loop now) go))
-              (measures_then B mode i n program m m_is program_is locals all here_within before inside t sits here.env inside_leads.path_is measures rest (λ handed now. after (execute_all m (with_handed t handed) body) (λ f. after (behind_once m loop now f) go)) typed_measures read_measures (λ are.
-              body_play inside (turn_said ++ (joined_said ++ more)) (λ f. after (behind_once m loop values f) go) here_inside
-                  (inside_onward B all (back own) program m m_is locals here_within loop mode i n any changed flow_in before turn.behind turn.breaks more go program_is here.env here.path term_is flows_body parts.1 asks.1 typed_measures read_measures here.sits.sorted
-                      (outside_there all body there) here.sits.there cover reached kept h is_true are))))
+          let sits : Sits mode i all inside before t = record { there = narrowed_true i any.path g here.sits.there ∙ is_true; sorted = here.sits.sorted; holds = here.sits.holds; present = here.sits.present } in
+          let here_inside : Here mode i n inside before t = record { env = here.env; path = inside_leads.path_is; below = here.below; entered_is = here.entered_is; sits = sits } in
+          play_as B mode i n _ _ (λ handed. after (measure_values m (with_handed t handed) measures) (λ now. after (execute_all m (with_handed t handed) body) (λ f. after (behind_once m loop now f) go)))
+          (λ handed. after_after (measure_values m (with_handed t handed) measures) _ go ∙ then_same (measure_values m (with_handed t handed) measures) _ _ (λ now. after_after (execute_all m (with_handed t handed) body) (behind_once m loop now) go))
+          (measures_then B mode i n program m m_is program_is locals all here_within before inside t sits here.env inside_leads.path_is measures rest (λ handed now. after (execute_all m (with_handed t handed) body) (λ f. after (behind_once m loop now f) go)) typed_measures read_measures (λ are.
+          body_play inside (turn_said ++ (joined_said ++ more)) (λ f. after (behind_once m loop values f) go) here_inside
+          (inside_onward B all (back own) program m m_is locals here_within loop mode i n any changed flow_in before turn.behind turn.breaks more go program_is here.env here.path term_is flows_body parts.1 asks.1 typed_measures read_measures here.sits.sorted
+          (outside_there all body there) here.sits.there cover reached kept h is_true are))))
           (λ is_false.
-              play_behind B mode i n counted rest (λ handed. go (flows.Next (with_handed t handed))) (λ j same. (measure_proper n inside inside_leads.path_is here.env measures).off j
-                  (sym (path_same n i j same inside.path inside_leads.path_is) ∙ (narrowed_true i any.path g here.sits.there ∙ is_false)))
-              (outside_play B all (back own) program m m_is locals here_within loop mode i n any changed flow_in before turn.behind turn.breaks more go program_is here.env here.path term_is flows_body parts.1 asks.1 typed_measures read_measures here.sits.sorted
-                  (outside_there all body there) here.sits.there cover reached kept h t is_false here.sits)))))))
+          play_behind B mode i n counted rest (λ handed. go (flows.Next (with_handed t handed))) (λ j same. (measure_proper n inside inside_leads.path_is here.env measures).off j
+          (sym (path_same n i j same inside.path inside_leads.path_is) ∙ (narrowed_true i any.path g here.sits.there ∙ is_false)))
+          (outside_play B all (back own) program m m_is locals here_within loop mode i n any changed flow_in before turn.behind turn.breaks more go program_is here.env here.path term_is flows_body parts.1 asks.1 typed_measures read_measures here.sits.sorted
+          (outside_there all body there) here.sits.there cover reached kept h t is_false here.sits)))))))
 
       pub while_play : (mode : Mode) (i : Interpretation) (n : ℕ) (way : Way) (s : State) (more : List Said) (go : flows.Flow → Outcome B) → Here mode i n way before s
           → ((k : Mode) (j : Interpretation) (fresh : ℕ) (w : Way) (t : State) (said : List Said) (on_go : flows.Flow → Outcome B) → is_taking mode ≡ is_taking k → Here k j fresh w before t → On k j fresh (last_of (pass_all set w body fresh)) turn.behind turn.breaks said on_go
-              → Play B k j fresh ((pass_all set w body fresh).said ++ said) (λ handed. after (execute_all m (with_handed t handed) body) on_go))
+          → Play B k j fresh ((pass_all set w body fresh).said ++ said) (λ handed. after (execute_all m (with_handed t handed) body) on_go))
           → On mode i n (last_of (pass_stmt set way (While at guard invariants decreases body) n)) (meet before turn.breaks) Unreached more go
           → Play B mode i n ((pass_stmt set way (While at guard invariants decreases body) n).said ++ more) (λ handed. after (execute (modular run (suc depth)) (with_handed s handed) (While at guard invariants decreases body)) go)
       while_play mode i n way s more go here body_play h =
@@ -377,11 +378,11 @@ module _ (B : Type 0) (program : Program) (well : is_well_typed program ≡ true
           (play_as B mode i n _ _ (λ handed. after (check_all upper (with_handed s handed) kinds.Entry invariants) (λ t. after (modular_turns m loop t) go)) (λ handed. after_after (check_all upper (with_handed s handed) kinds.Entry invariants) _ go)
           (check_then B mode i n program upper refl here.entered_is.program_is locals all here_within before way s here.sits here.env here.path kinds.Entry invariants (any.said ++ rest) (λ handed t. after (modular_turns m loop t) go) parts.1 asks.1
           (play_as B mode i n _ _ (λ handed. after (handed_turn program (changed_by_all body) (with_handed s handed) handed) (λ u. after (turned u) go))
-              (λ handed. after_after (handed_turn m.program (changed_by_all body) (with_handed s handed) handed) turned go ∙ ap (λ q. after (handed_turn q (changed_by_all body) (with_handed s handed) handed) (λ u. after (turned u) go)) m_is)
+          (λ handed. after_after (handed_turn m.program (changed_by_all body) (with_handed s handed) handed) turned go ∙ ap (λ q. after (handed_turn q (changed_by_all body) (with_handed s handed) handed) (λ u. after (turned u) go)) m_is)
           (turn_then B program all n way s before (declared_by_all body) (changed_by_all body) here.env here.path there
-              (λ k has c. once_there (declared_by_all body) (changed_by_all body) k (all_past program own k body locals true parts.3 (declared_less before (length locals) k declared reached has)) c)
-              mode i rest (λ u. after (turned u) go) here.entered_is.program_is well (types_there program all (changed_by_all body) all_types there) going.grows going.said.below here.sits (λ k j t moves sits.
+          (λ k has c. once_there (declared_by_all body) (changed_by_all body) k (all_past program own k body locals true parts.3 (declared_less before (length locals) k declared reached has)) c)
+          mode i rest (λ u. after (turned u) go) here.entered_is.program_is well (types_there program all (changed_by_all body) all_types there) going.grows going.said.below here.sits (λ k j t moves sits.
           turn_play k j any.fresh any.way t more go
-              (record { env = going.way.env; path = going.way.path_is; below = below; entered_is = entered_moves program entry entered n i j moves.same here.below here.entered_is; sits = sits })
-              (λ w said on_go here_in on. body_play k j any.fresh w t said on_go moves.mode here_in on)
-              (record { on = λ l u f moved comes. h.on l u f (moves_then mode k l i j u n any.fresh going.grows moves moved) comes; over = λ u same ways breaks returns loses. h.over u (same_then n any.fresh i j u going.grows moves.same same) ways breaks returns loses }))))))
+          (record { env = going.way.env; path = going.way.path_is; below = below; entered_is = entered_moves program entry entered n i j moves.same here.below here.entered_is; sits = sits })
+          (λ w said on_go here_in on. body_play k j any.fresh w t said on_go moves.mode here_in on)
+          (record { on = λ l u f moved comes. h.on l u f (moves_then mode k l i j u n any.fresh going.grows moves moved) comes; over = λ u same ways breaks returns loses. h.over u (same_then n any.fresh i j u going.grows moves.same same) ways breaks returns loses }))))))

@@ -59,14 +59,14 @@ more_among i number first among at kind r =
 pub first_refuted : (i : Interpretation) (number : ℕ) (at : Pos) (kind : Kind) (said : List Said) (known : List Term) → FirstFalse i said at kind → AllHold i known → Refutes i number (obligations_of number known said) at kind
 first_refuted i number at kind [] known f h = absurd f
 first_refuted i number at kind (Known formula ∷ others) known f h = elim f [
-    inl g ↦ first_refuted i number at kind others (known ++ formula ∷ []) g.1 (hold_more i known formula h g.0)
+  | inl g ↦ first_refuted i number at kind others (known ++ formula ∷ []) g.1 (hold_more i known formula h g.0)
   | inr g ↦ absurd g.1
-  ]
+]
 first_refuted i number at kind (Owed own what formula ∷ others) known f h = elim f [
-    inl g ↦ more_among i number (record { declaration = number; pos = own; kind = what; hypotheses = known; goal = formula }) (obligations_of number (known ++ formula ∷ []) others) at kind
-        (first_refuted i number at kind others (known ++ formula ∷ []) g.1 (hold_more i known formula h g.0))
+  | inl g ↦ more_among i number (record { declaration = number; pos = own; kind = what; hypotheses = known; goal = formula }) (obligations_of number (known ++ formula ∷ []) others) at kind
+      (first_refuted i number at kind others (known ++ formula ∷ []) g.1 (hold_more i known formula h g.0))
   | inr g ↦ record { obligation = record { declaration = number; pos = own; kind = what; hypotheses = known; goal = formula }; among_them = head_there _ _; declaration = refl; place = g.1.0; kind_is = g.1.1; hypotheses = h; goal = g.0 }
-  ]
+]
 
 -- what is known before is among the hypotheses
 pub refuted_first : (i : Interpretation) (number : ℕ) (said : List Said) (known : List Term) (o : Obligation) → Contains (obligations_of number known said) o → AllHold i o.hypotheses → truth i o.goal ≡ false → AllHold i known × FirstFalse i said o.pos o.kind
@@ -77,8 +77,8 @@ refuted_first i number (Known formula ∷ others) known o there h no_goal =
     (less.0, inl (less.1, rest.1))
 refuted_first i number (Owed own what formula ∷ others) known o there h no_goal =
     elim (head_or_rest (record { declaration = number; pos = own; kind = what; hypotheses = known; goal = formula }) (obligations_of number (known ++ formula ∷ []) others) o there) [
-      inl e ↦ (subst (λ (x : Obligation). AllHold i x.hypotheses) (sym e) h, inr (subst (λ (x : Obligation). truth i x.goal ≡ false) (sym e) no_goal, (ap (λ (x : Obligation). x.pos) e, ap (λ (x : Obligation). x.kind) e)))
-    | inr r ↦ (let rest = refuted_first i number others (known ++ formula ∷ []) o r h no_goal in let less = hold_less i known formula rest.0 in (less.0, inl (less.1, rest.1)))
+      | inl e ↦ (subst (λ (x : Obligation). AllHold i x.hypotheses) (sym e) h, inr (subst (λ (x : Obligation). truth i x.goal ≡ false) (sym e) no_goal, (ap (λ (x : Obligation). x.pos) e, ap (λ (x : Obligation). x.kind) e)))
+      | inr r ↦ (let rest = refuted_first i number others (known ++ formula ∷ []) o r h no_goal in let less = hold_less i known formula rest.0 in (less.0, inl (less.1, rest.1)))
     ]
 
 pub of_declaration : (number : ℕ) (said : List Said) (known : List Term) (o : Obligation) → Contains (obligations_of number known said) o → o.declaration ≡ number
@@ -86,8 +86,8 @@ of_declaration number [] known o there = absurd (none_there o there)
 of_declaration number (Known formula ∷ others) known o there = of_declaration number others (known ++ formula ∷ []) o there
 of_declaration number (Owed own what formula ∷ others) known o there =
     elim (head_or_rest (record { declaration = number; pos = own; kind = what; hypotheses = known; goal = formula }) (obligations_of number (known ++ formula ∷ []) others) o there) [
-      inl e ↦ ap (λ (x : Obligation). x.declaration) (sym e)
-    | inr r ↦ of_declaration number others (known ++ formula ∷ []) o r
+      | inl e ↦ ap (λ (x : Obligation). x.declaration) (sym e)
+      | inr r ↦ of_declaration number others (known ++ formula ∷ []) o r
     ]
 
 -- ---- of all
@@ -118,6 +118,7 @@ module _ (program : Program) (groups : List ℕ) (o : Obligation) where
     where
       later : OfMethod (suc first) decls → OfMethod first (d ∷ decls)
       later m = let number : suc first + m.k ≡ first + suc m.k = omega arith in record { k = suc m.k; method = m.method; found = m.found; there = subst (λ (x : ℕ). Contains (obligations_of_method program groups x m.method) o) number m.there }
+
       here : (d : Decl) → Contains (obligations_of_decl program groups first d) o → OfMethod first (d ∷ decls)
       here (NewtypeDecl newtype) there = absurd (none_there o there)
       here (MethodDecl own) there = let number : first ≡ first + 0 = omega arith in record { k = 0; method = own; found = refl; there = subst (λ (x : ℕ). Contains (obligations_of_method program groups x own) o) number there }

@@ -62,7 +62,6 @@ use Rattle.df_npass.proofs.Declaring.{is_declared, all_past}
 use Rattle.df_npass.proofs.Covering.{if_covers, outside_is}
 use Rattle.df_npass.proofs.Sequencing.{hand, Comes, Onward, then_play}
 use Rattle.df_npass.proofs.Branching.{taken_onward, passed_play, rejoin_onward}
-
 use Rattle.df_npass.proofs.Loops.{nesting, nesting_all, nesting_branches, call_of_modular, update_keeps, back, few, HasParameters, back_has, three_parts, if_there, deep_play, decide, print_then, shallow_play, while_play}
 
 module _ (B : Type 0) (program : Program) (well : is_well_typed program ≡ true) (groups : List ℕ) (number : ℕ) (entry : List Measured) (entered : List Value) (own : Method) (all : List Ty) (all_types : list_all (is_type program) all ≡ true) where
@@ -108,14 +107,14 @@ module _ (B : Type 0) (program : Program) (well : is_well_typed program ≡ true
         let m = modular run depth in
         let is = three (are_numbered (length locals) (variable_numbers variables)) (list_all (is_type program) (variable_types variables)) (may_update (place program (locals ++ variable_types variables) own in_loop) update) is in
         play_as B mode i n _ _ (λ handed. after (execute_optional m (with_handed (declare_all s variables) handed) update) (λ t. go (flows.Next t)))
-            (λ handed. ap (λ x. after (go_on (execute_optional m x update)) go) (declared_handed variables s handed) ∙ after_after (execute_optional m (with_handed (declare_all s variables) handed) update) _ go)
+        (λ handed. ap (λ x. after (go_on (execute_optional m x update)) go) (declared_handed variables s handed) ∙ after_after (execute_optional m (with_handed (declare_all s variables) handed) update) _ go)
         (optional_then B program well groups number entry entered m (program_of_modular run depth) (call_of_modular run depth) own (locals ++ variable_types variables) all within in_loop (declare before variables) update mode i n way (declare_all s variables) more (λ t. go (flows.Next t)) is.2 missing
-            (declared_stands program entry entered all mode i n way variables before s here) (next_on mode i n (pass_optional set update way n) (assign_all (declare before variables) update) Unreached more go h))
+        (declared_stands program entry entered all mode i n way variables before s here) (next_on mode i n (pass_optional set update way n) (assign_all (declare before variables) update) Unreached more go h))
     stmt_then (Assign at update) depth locals in_loop before mode i n way s more go within is declared params le missing deep here h =
         let m = modular run depth in
         play_as B mode i n _ _ (λ handed. after (execute_optional m (with_handed s handed) (Some update)) (λ t. go (flows.Next t))) (λ handed. after_after (execute_optional m (with_handed s handed) (Some update)) _ go)
         (optional_then B program well groups number entry entered m (program_of_modular run depth) (call_of_modular run depth) own locals all within in_loop before (Some update) mode i n way s more (λ t. go (flows.Next t)) is missing here
-            (next_on mode i n (pass_optional set (Some update) way n) (assign_all before (Some update)) Unreached more go h))
+        (next_on mode i n (pass_optional set (Some update) way n) (assign_all before (Some update)) Unreached more go h))
     stmt_then (CallOf call) depth locals in_loop before mode i n way s more go within is declared params le missing deep here h =
         let m = modular run depth in
         let given = pass_call set call way n in
@@ -135,11 +134,11 @@ module _ (B : Type 0) (program : Program) (well : is_well_typed program ≡ true
         let grown = branches_grow locals branches in
         let there = if_there all branches otherwise (stmt_there (plain_meaning program) own (If branches otherwise) locals all in_loop within is) in
         let inner = rejoin_onward B all (back own) mode i n way parted changed flowing.behind flowing.breaks more go parts here.env here.path here.sits.there here.sits.sorted there
-            (λ many k has e. if_covers set own k program branches otherwise way n locals in_loop before both_is.0 both_is.1 declared reached many has e) h in
+        (λ many k has e. if_covers set own k program branches otherwise way n locals in_loop before both_is.0 both_is.1 declared reached many has e) h in
         subst (λ said. Play B mode i n said (λ handed. after (execute (modular run depth) (with_handed s handed) (If branches otherwise)) go)) (sym (append_assoc parted.said joined_said more))
         (branches_then branches otherwise depth locals in_loop before mode i n way s (joined_said ++ more) go (before_all deeper all otherwise within) both_is.0 declared params le missing (λ e. sum_left (nesting_branches branches) (nesting_all otherwise) depth (deep e))
-            (λ fresh last said none here_last on. stmts_then otherwise depth deeper in_loop before mode i fresh last s said go within both_is.1 (declared_more (length locals) (length deeper) before grown declared) params (le_trans le grown) none (λ e. sum_right (nesting_branches branches) (nesting_all otherwise) depth (deep e)) here_last on)
-            here inner)
+        (λ fresh last said none here_last on. stmts_then otherwise depth deeper in_loop before mode i fresh last s said go within both_is.1 (declared_more (length locals) (length deeper) before grown declared) params (le_trans le grown) none (λ e. sum_right (nesting_branches branches) (nesting_all otherwise) depth (deep e)) here_last on)
+        here inner)
     stmt_then (While at guard invariants decreases body) zero locals in_loop before mode i n way s more go within is declared params le missing deep here h =
         shallow_play B program well groups number entry entered own all all_types at guard invariants decreases body locals in_loop before within is declared missing mode i n way s more go (λ e. let never = deep e in absurd (omega (arith, never))) here
     stmt_then (While at guard invariants decreases body) (suc depth) locals in_loop before mode i n way s more go within is declared params le missing deep here h =
@@ -147,7 +146,7 @@ module _ (B : Type 0) (program : Program) (well : is_well_typed program ≡ true
         let turn : Flowing = flow_all own before body in
         let none = nothing_missing (unassigned before (reads guard ++ reads_of_clauses invariants ++ reads_of_measures decreases)) turn.missing missing in
         while_play B program well groups number entry entered own all all_types at guard invariants decreases body locals in_loop before within is declared missing depth mode i n way s more go here
-            (λ k j fresh w t said on_go same here_in on. stmts_then body depth locals true before k j fresh w t said on_go within parts.3 declared params le none.1 (λ e. let most = deep (same ∙ e) in omega (arith, most)) here_in on) h
+        (λ k j fresh w t said on_go same here_in on. stmts_then body depth locals true before k j fresh w t said on_go within parts.3 declared params le none.1 (λ e. let most = deep (same ∙ e) in omega (arith, most)) here_in on) h
     stmt_then (Break at) depth locals in_loop before mode i n way s more go within is declared params le missing deep here h = h.on mode i (flows.Break s) (moves_here mode i n) (inl (here.sits, tt), tt, tt, refl)
     stmt_then (Return at update) depth locals in_loop before mode i n way s more go within is declared params le missing deep here h =
         let m = modular run depth in
@@ -155,17 +154,17 @@ module _ (B : Type 0) (program : Program) (well : is_well_typed program ≡ true
         let moved = pass_optional set update way n in
         play_as B mode i n _ _ (λ handed. after (execute_optional m (with_handed s handed) update) (λ t. go (flows.Return t))) (λ handed. after_after (execute_optional m (with_handed s handed) update) _ go)
         (optional_then B program well groups number entry entered m (program_of_modular run depth) (call_of_modular run depth) own locals all within in_loop before update mode i n way s more (λ t. go (flows.Return t))
-            (return_updates (plain_meaning program) locals own in_loop update is) none.0 here (λ k j t moves there.
+        (return_updates (plain_meaning program) locals own in_loop update is) none.0 here (λ k j t moves there.
         h.on k j (flows.Return t) moves (inl (sits_less k j all moved.way (assign_all before update) (back own) t tt (back_has own at (assign_all before update) (λ x less. update_keeps update before x (params x less)) none.1) there.sits, tt), tt, tt, refl)))
     stmt_then (Assert at condition) depth locals in_loop before mode i n way s more go within is declared params le missing deep here h =
         let m = modular run depth in
         let owed = assert way.path at kinds.Assert (term_of way.env condition) in
         subst (λ said. Play B mode i n said (λ handed. after (execute m (with_handed s handed) (Assert at condition)) go)) (sym (append_assoc (assert_expr way condition) owed more))
         (play_as B mode i n _ _ (λ handed. after (evaluate m (with_handed s handed) condition) (λ v. if truth_of v then go (flows.Next (with_handed s handed)) else Wrong at kinds.Assert))
-            (λ handed. after_if (evaluate m (with_handed s handed) condition) (Gives (flows.Next (with_handed s handed))) (Wrong at kinds.Assert) go (Wrong at kinds.Assert) refl)
+        (λ handed. after_if (evaluate m (with_handed s handed) condition) (Gives (flows.Next (with_handed s handed))) (Wrong at kinds.Assert) go (Wrong at kinds.Assert) refl)
         (expr_then B mode i n program m (program_of_modular run depth) here.entered_is.program_is locals all within before way s here.sits here.env here.path condition types.Bool (owed ++ more) (λ handed v. if truth_of v then go (flows.Next (with_handed s handed)) else Wrong at kinds.Assert) is missing (λ one.
         checked_then B mode i n way.path here.sits.there here.path at kinds.Assert (term_of way.env condition) (truth i (term_of way.env condition)) more (λ handed. go (flows.Next (with_handed s handed))) (term_below n way.env here.env condition) refl
-            (next_on mode i n (saying (assert_expr way condition ++ owed) n way) before Unreached more go h mode i s (moves_here mode i n) here))))
+        (next_on mode i n (saying (assert_expr way condition ++ owed) n way) before Unreached more go h mode i s (moves_here mode i n) here))))
     stmt_then (Print at operands) depth locals in_loop before mode i n way s more go within is declared params le missing deep here h =
         let m = modular run depth in
         play_as B mode i n _ _ (λ handed. after (print_all m (with_handed s handed) operands) (λ t. go (flows.Next t))) (λ handed. after_after (print_all m (with_handed s handed) operands) _ go)
@@ -189,17 +188,17 @@ module _ (B : Type 0) (program : Program) (well : is_well_typed program ≡ true
         let first = pass_stmt set way stmt n in
         let flows_first = stmt_flows set way stmt n here.env here.path here.below in
         then_play B all (back own) mode i n way.path first (λ on. pass_all set on others first.fresh) one two (λ handed. execute m (with_handed s handed) stmt) more go (λ t. execute_all m t others) flows_first
-            (λ on led. all_flows set on others first.fresh led.env led.path_is (measure_grows n first.fresh entry flows_first.grows here.below))
-            (λ said on. stmt_then stmt depth locals in_loop before mode i n way s said (λ f. after (goes (λ t. execute_all m t others) f) go) (before_all deeper all others within) is.0 declared params le none.0 (λ e. sum_left (nesting stmt) (nesting_all others) depth (deep e)) here on)
-            (λ on k j t led moves sits onward. stmts_then others depth deeper in_loop one.behind k j first.fresh on t more go within is.1 carried.behind (λ x less. carried.kept x (omega (arith, less, le)) (params x less)) (le_trans le grown) none.1
-                (λ e. sum_right (nesting stmt) (nesting_all others) depth (deep (moves.mode ∙ e)))
-                (record { env = led.env; path = led.path_is; below = measure_grows n first.fresh entry flows_first.grows here.below; entered_is = entered_moves program entry entered n i j moves.same here.below here.entered_is; sits = sits }) onward) h
+        (λ on led. all_flows set on others first.fresh led.env led.path_is (measure_grows n first.fresh entry flows_first.grows here.below))
+        (λ said on. stmt_then stmt depth locals in_loop before mode i n way s said (λ f. after (goes (λ t. execute_all m t others) f) go) (before_all deeper all others within) is.0 declared params le none.0 (λ e. sum_left (nesting stmt) (nesting_all others) depth (deep e)) here on)
+        (λ on k j t led moves sits onward. stmts_then others depth deeper in_loop one.behind k j first.fresh on t more go within is.1 carried.behind (λ x less. carried.kept x (omega (arith, less, le)) (params x less)) (le_trans le grown) none.1
+        (λ e. sum_right (nesting stmt) (nesting_all others) depth (deep (moves.mode ∙ e)))
+        (record { env = led.env; path = led.path_is; below = measure_grows n first.fresh entry flows_first.grows here.below; entered_is = entered_moves program entry entered n i j moves.same here.below here.entered_is; sits = sits }) onward) h
 
     branches_then : (branches : Branches) (otherwise : Stmts) (depth : ℕ) (locals : List Ty) (in_loop : Bool) (before : Assigned) (mode : Mode) (i : Interpretation) (n : ℕ) (way : Way) (s : State) (more : List Said) (go : flows.Flow → Outcome B)
         → Within (locals_after_branches locals branches) all → are_branches (place program locals own in_loop) branches ≡ true → AreDeclared (length locals) before → HasParameters own before → few own ≤ length locals → (flow_branches own before branches (flow_all own before otherwise)).missing ≡ []
         → (is_taking mode ≡ false → nesting_branches branches ≤ depth)
         → ((fresh : ℕ) (last : Way) (said : List Said) → (flow_all own before otherwise).missing ≡ [] → Here mode i fresh last before s → On mode i fresh (last_of (pass_all set last otherwise fresh)) (flow_all own before otherwise).behind (flow_all own before otherwise).breaks said go
-            → Play B mode i fresh ((pass_all set last otherwise fresh).said ++ said) (λ handed. after (execute_all (modular run depth) (with_handed s handed) otherwise) go))
+        → Play B mode i fresh ((pass_all set last otherwise fresh).said ++ said) (λ handed. after (execute_all (modular run depth) (with_handed s handed) otherwise) go))
         → Here mode i n way before s → On mode i n (pass_branches set way branches (λ last. pass_all set last otherwise) n) (flow_branches own before branches (flow_all own before otherwise)).behind (flow_branches own before branches (flow_all own before otherwise)).breaks more go
         → Play B mode i n ((pass_branches set way branches (λ last. pass_all set last otherwise) n).said ++ more) (λ handed. after (execute_branches (modular run depth) (with_handed s handed) branches (execute_all (modular run depth) (with_handed s handed) otherwise)) go)
     branches_then no_branch otherwise depth locals in_loop before mode i n way s more go within is declared params le missing deep last here h = last n way more missing here h
@@ -223,17 +222,17 @@ module _ (B : Type 0) (program : Program) (well : is_well_typed program ≡ true
         let passed_path = narrowed_below n way.path (negation g) here.path negation_is in
         let flows_in = all_flows set taken body n here.env taken_path here.below in
         let parts = branches_flow set passed rest (λ last. pass_all set last otherwise) flow_in.fresh (env_grows n flow_in.fresh way.env flows_in.grows here.env) (path_grows n flow_in.fresh passed.path flows_in.grows passed_path) (measure_grows n flow_in.fresh entry flows_in.grows here.below)
-            (λ last more led grown. all_flows set last otherwise more led.env led.path_is grown) in
+        (λ last more led grown. all_flows set last otherwise more led.env led.path_is grown) in
         let grown = all_grow locals body in
         subst (λ said. Play B mode i n said (λ handed. after (execute_branches m (with_handed s handed) (branch at guard body rest) (execute_all m (with_handed s handed) otherwise)) go)) (sym (three_parts asked flow_in.said others.said more))
         (play_as B mode i n _ _ (λ handed. after (evaluate m (with_handed s handed) guard) (λ v. after (if truth_of v then execute_all m (with_handed s handed) body else execute_branches m (with_handed s handed) rest (execute_all m (with_handed s handed) otherwise)) go)) (λ handed. after_after (evaluate m (with_handed s handed) guard) _ go)
         (expr_then B mode i n program m (program_of_modular run depth) here.entered_is.program_is locals all (before_branches locals all (branch at guard body rest) within) before way s here.sits here.env here.path guard types.Bool (flow_in.said ++ (others.said ++ more))
-            (λ handed v. after (if truth_of v then execute_all m (with_handed s handed) body else execute_branches m (with_handed s handed) rest (execute_all m (with_handed s handed) otherwise)) go) is.0 none_first.0 (λ known.
+        (λ handed v. after (if truth_of v then execute_all m (with_handed s handed) body else execute_branches m (with_handed s handed) rest (execute_all m (with_handed s handed) otherwise)) go) is.0 none_first.0 (λ known.
         decide B flows.Flow mode i n (flow_in.said ++ (others.said ++ more)) (λ handed. execute_all m (with_handed s handed) body) (λ handed. execute_branches m (with_handed s handed) rest (execute_all m (with_handed s handed) otherwise)) go (truth i g)
         (λ is_true. stmts_then body depth locals in_loop before mode i n taken s (others.said ++ more) go (before_branches deeper all rest within) is.1 declared params le none_first.1 (λ e. sum_left (nesting_all body) (nesting_branches rest) depth (deep e))
-            (narrowed_here mode i n way before s g term_is is_true here)
-            (taken_onward B all (back own) mode i n taken.path passed.path flow_in others one two asked more go flows_in parts taken_path passed_path h (narrowed_true i way.path (negation g) here.sits.there ∙ ap not is_true)))
+        (narrowed_here mode i n way before s g term_is is_true here)
+        (taken_onward B all (back own) mode i n taken.path passed.path flow_in others one two asked more go flows_in parts taken_path passed_path h (narrowed_true i way.path (negation g) here.sits.there ∙ ap not is_true)))
         (λ is_false. passed_play B all (back own) mode i n taken.path passed.path flow_in others one two asked more go flows_in parts taken_path passed_path h
-            (λ handed. after (execute_branches m (with_handed s handed) rest (execute_all m (with_handed s handed) otherwise)) go) (narrowed_true i way.path g here.sits.there ∙ is_false) (λ onward.
-            branches_then rest otherwise depth deeper in_loop before mode i flow_in.fresh passed s more go within is.2 (declared_more (length locals) (length deeper) before grown declared) params (le_trans le grown) none.1 (λ e. sum_right (nesting_all body) (nesting_branches rest) depth (deep e)) last
-                (stands_moves program entry entered all mode mode i i n flow_in.fresh passed before s s flows_in.grows (moves_here mode i n) (λ x. refl) (narrowed_here mode i n way before s (negation g) negation_is (ap not is_false) here)) onward)))))
+        (λ handed. after (execute_branches m (with_handed s handed) rest (execute_all m (with_handed s handed) otherwise)) go) (narrowed_true i way.path g here.sits.there ∙ is_false) (λ onward.
+        branches_then rest otherwise depth deeper in_loop before mode i flow_in.fresh passed s more go within is.2 (declared_more (length locals) (length deeper) before grown declared) params (le_trans le grown) none.1 (λ e. sum_right (nesting_all body) (nesting_branches rest) depth (deep e)) last
+        (stands_moves program entry entered all mode mode i i n flow_in.fresh passed before s s flows_in.grows (moves_here mode i n) (λ x. refl) (narrowed_here mode i n way before s (negation g) negation_is (ap not is_false) here)) onward)))))

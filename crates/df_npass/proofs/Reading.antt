@@ -65,9 +65,10 @@ pub record Sits (mode : Mode) (i : Interpretation) (all : List Ty) (way : Way) (
 hold_on : (i : Interpretation) (locals all : List Ty) (env : Environment) (s : State) → SortedAll i all env → Within locals all → (before : Assigned) → HoldAll i env before s → (uses : List Use) → unassigned before uses ≡ [] → HoldsOn i locals env s uses
 hold_on i locals all env s sorted within Unreached h uses e = absurd h
 hold_on i locals all env s sorted within (Reached set) h [] e = tt
-hold_on i locals all env s sorted within (Reached set) h (u ∷ uses) e =
-    (record { sorted = λ ty there. sorted u.local ty (within.at u.local ty there); term = λ v there. h u.local v (use_has (Reached set) u uses e) there },
-    hold_on i locals all env s sorted within (Reached set) h uses ((parted (Reached set) (u ∷ []) uses e).1))
+hold_on i locals all env s sorted within (Reached set) h (u ∷ uses) e = (
+  record { sorted = λ ty there. sorted u.local ty (within.at u.local ty there); term = λ v there. h u.local v (use_has (Reached set) u uses e) there },
+  hold_on i locals all env s sorted within (Reached set) h uses ((parted (Reached set) (u ∷ []) uses e).1),
+)
 
 abbrev pub values_at : Interpretation → List Term → List Value
 values_at i terms = map (meanings.value i) terms
@@ -124,24 +125,24 @@ module _ (B : Type 0) (mode : Mode) (i : Interpretation) (n : ℕ) where
     told_then [] more run below h = h
     told_then (c ∷ cs) more run below h =
         said_then B mode i n (Owed c.pos c.kind (on_path path c.formula)) (assert_all path cs ++ more) (λ handed. told i (c ∷ cs) (run handed)) (on_path_below n path c.formula path_is below.0)
-            (λ e. play_as B mode i n (assert_all path cs ++ more) _ (λ handed. told i cs (run handed)) (λ handed. ap (λ b. if b then told i cs (run handed) else Wrong c.pos c.kind) (sym (on_it i path c.formula there) ∙ e)) (told_then cs more run below.1 h))
-            (λ e handed. ap (λ b. if b then told i cs (run handed) else Wrong c.pos c.kind) (sym (on_it i path c.formula there) ∙ e))
+        (λ e. play_as B mode i n (assert_all path cs ++ more) _ (λ handed. told i cs (run handed)) (λ handed. ap (λ b. if b then told i cs (run handed) else Wrong c.pos c.kind) (sym (on_it i path c.formula there) ∙ e)) (told_then cs more run below.1 h))
+        (λ e handed. ap (λ b. if b then told i cs (run handed) else Wrong c.pos c.kind) (sym (on_it i path c.formula there) ∙ e))
 
     -- a formula decides between going on and being wrong
     pub checked_then : (at : Pos) (kind : Kind) (formula : Term) (b : Bool) (more : List Said) (run : List Handed → Outcome B) → IsBelow n formula → b ≡ truth i formula → Plays more run
         → Plays (Owed at kind (on_path path formula) ∷ more) (λ handed. if b then run handed else Wrong at kind)
     checked_then at kind formula b more run below same h =
         said_then B mode i n (Owed at kind (on_path path formula)) more (λ handed. if b then run handed else Wrong at kind) (on_path_below n path formula path_is below)
-            (λ e. play_as B mode i n more _ run (λ handed. ap (λ c. if c then run handed else Wrong at kind) (same ∙ sym (on_it i path formula there) ∙ e)) h)
-            (λ e handed. ap (λ c. if c then run handed else Wrong at kind) (same ∙ sym (on_it i path formula there) ∙ e))
+        (λ e. play_as B mode i n more _ run (λ handed. ap (λ c. if c then run handed else Wrong at kind) (same ∙ sym (on_it i path formula there) ∙ e)) h)
+        (λ e handed. ap (λ c. if c then run handed else Wrong at kind) (same ∙ sym (on_it i path formula there) ∙ e))
 
     -- or between going on and a run that does not count
     pub known_then : (formula : Term) (b : Bool) (more : List Said) (run : List Handed → Outcome B) → IsBelow n formula → b ≡ truth i formula → Plays more run
         → Plays (Known (on_path path formula) ∷ more) (λ handed. if b then run handed else Dismissed)
     known_then formula b more run below same h =
         said_then B mode i n (Known (on_path path formula)) more (λ handed. if b then run handed else Dismissed) (on_path_below n path formula path_is below)
-            (λ e. play_as B mode i n more _ run (λ handed. ap (λ c. if c then run handed else Dismissed) (same ∙ sym (on_it i path formula there) ∙ e)) h)
-            (λ e handed. ap (λ c. if c then run handed else Dismissed) (same ∙ sym (on_it i path formula there) ∙ e))
+        (λ e. play_as B mode i n more _ run (λ handed. ap (λ c. if c then run handed else Dismissed) (same ∙ sym (on_it i path formula there) ∙ e)) h)
+        (λ e handed. ap (λ c. if c then run handed else Dismissed) (same ∙ sym (on_it i path formula there) ∙ e))
 
   module _ (p : Program) (m : Meaning) (m_is : m.program ≡ p) (i_is : i.program ≡ p) (locals all : List Ty) (within : Within locals all) (before : Assigned) (way : Way) (s : State) (sits : Sits mode i all way before s) (env_is : EnvBelow n way.env) (path_is : PathBelow n way.path) where
     pub is_term : (e : Expr) (ty : Ty) → is_expr p locals ty e ≡ true → unassigned before (reads e) ≡ [] → IsTerm i way.env e ty (meanings.value i (term_of way.env e))
@@ -164,8 +165,8 @@ module _ (B : Type 0) (mode : Mode) (i : Interpretation) (n : ℕ) where
         by_told : IsOr (evaluate m s e) (told i (conditions_of way.env e) (Gives (meanings.value i (term_of way.env e)))) → (k : Mode) → mode ≡ k → Plays (assert_expr way e ++ more) (λ handed. after (evaluate m (with_handed s handed) e) (go handed))
         by_told (inr t) k is_mode =
             play_as B mode i n (assert_expr way e ++ more) _ (λ handed. told i (conditions_of way.env e) (go handed (meanings.value i (term_of way.env e))))
-                (λ handed. ap (λ o. after o (go handed)) (evaluated e handed ∙ t) ∙ told_after i (conditions_of way.env e) (Gives (meanings.value i (term_of way.env e))) (go handed))
-                (told_then way.path sits.there path_is (conditions_of way.env e) more (λ handed. go handed (meanings.value i (term_of way.env e))) (conditions_below n way.env env_is e) (h (is_term e ty is read)))
+            (λ handed. ap (λ o. after o (go handed)) (evaluated e handed ∙ t) ∙ told_after i (conditions_of way.env e) (Gives (meanings.value i (term_of way.env e))) (go handed))
+            (told_then way.path sits.there path_is (conditions_of way.env e) more (λ handed. go handed (meanings.value i (term_of way.env e))) (conditions_below n way.env env_is e) (h (is_term e ty is read)))
         by_told (inl d) (Taking handed) is_mode =
             subst (λ k. Play B k i n (assert_expr way e ++ more) (λ handed. after (evaluate m (with_handed s handed) e) (go handed))) (sym is_mode)
             (play_silent B i n _ _ (λ at kind w. not_wrong at kind (ap (λ o. after o (go handed)) (evaluated e handed ∙ d)) w))
@@ -183,11 +184,11 @@ module _ (B : Type 0) (mode : Mode) (i : Interpretation) (n : ℕ) where
         let read = parted before (reads clause.condition) (reads_of_clauses others) read in
         let rest = check_then kind others more go are.1 read.1 h in
         subst (λ said. Plays said (λ handed. after (check_all m (with_handed s handed) kind (clause ∷ others)) (go handed)))
-            (sym (three_parts (assert_expr way clause.condition) (assert way.path clause.pos kind (term_of way.env clause.condition)) (assert_clauses at_clause kind way others) more))
+        (sym (three_parts (assert_expr way clause.condition) (assert way.path clause.pos kind (term_of way.env clause.condition)) (assert_clauses at_clause kind way others) more))
         (play_as B mode i n _ _ (λ handed. after (evaluate m (with_handed s handed) clause.condition) (λ v. if truth_of v then after (check_all m (with_handed s handed) kind others) (go handed) else Wrong clause.pos kind))
-            (λ handed. after_if (evaluate m (with_handed s handed) clause.condition) (check_all m (with_handed s handed) kind others) (Wrong clause.pos kind) (go handed) (Wrong clause.pos kind) refl)
-            (expr_then clause.condition types.Bool (assert way.path clause.pos kind (term_of way.env clause.condition) ++ (assert_clauses at_clause kind way others ++ more)) _ are.0 read.0 (λ h.
-            checked_then way.path sits.there path_is clause.pos kind (term_of way.env clause.condition) _ (assert_clauses at_clause kind way others ++ more) _ (term_below n way.env env_is clause.condition) (condition_is clause.condition _ h) rest)))
+        (λ handed. after_if (evaluate m (with_handed s handed) clause.condition) (check_all m (with_handed s handed) kind others) (Wrong clause.pos kind) (go handed) (Wrong clause.pos kind) refl)
+        (expr_then clause.condition types.Bool (assert way.path clause.pos kind (term_of way.env clause.condition) ++ (assert_clauses at_clause kind way others ++ more)) _ are.0 read.0 (λ h.
+        checked_then way.path sits.there path_is clause.pos kind (term_of way.env clause.condition) _ (assert_clauses at_clause kind way others ++ more) _ (term_below n way.env env_is clause.condition) (condition_is clause.condition _ h) rest)))
 
     pub call_then : (at : Pos) (clauses : List Clause) (more : List Said) (go : List Handed → State → Outcome B) → are_clauses p locals clauses ≡ true → unassigned before (reads_of_clauses clauses) ≡ []
         → Plays more (λ handed. go handed (with_handed s handed)) → Plays (assert_clauses (λ clause. at) kinds.Requires way clauses ++ more) (λ handed. after (check_call m (with_handed s handed) at clauses) (go handed))
@@ -197,11 +198,11 @@ module _ (B : Type 0) (mode : Mode) (i : Interpretation) (n : ℕ) where
         let read = parted before (reads clause.condition) (reads_of_clauses others) read in
         let rest = call_then at others more go are.1 read.1 h in
         subst (λ said. Plays said (λ handed. after (check_call m (with_handed s handed) at (clause ∷ others)) (go handed)))
-            (sym (three_parts (assert_expr way clause.condition) (assert way.path at kinds.Requires (term_of way.env clause.condition)) (assert_clauses (λ clause. at) kinds.Requires way others) more))
+        (sym (three_parts (assert_expr way clause.condition) (assert way.path at kinds.Requires (term_of way.env clause.condition)) (assert_clauses (λ clause. at) kinds.Requires way others) more))
         (play_as B mode i n _ _ (λ handed. after (evaluate m (with_handed s handed) clause.condition) (λ v. if truth_of v then after (check_call m (with_handed s handed) at others) (go handed) else Wrong at kinds.Requires))
-            (λ handed. after_if (evaluate m (with_handed s handed) clause.condition) (check_call m (with_handed s handed) at others) (Wrong at kinds.Requires) (go handed) (Wrong at kinds.Requires) refl)
-            (expr_then clause.condition types.Bool (assert way.path at kinds.Requires (term_of way.env clause.condition) ++ (assert_clauses (λ clause. at) kinds.Requires way others ++ more)) _ are.0 read.0 (λ h.
-            checked_then way.path sits.there path_is at kinds.Requires (term_of way.env clause.condition) _ (assert_clauses (λ clause. at) kinds.Requires way others ++ more) _ (term_below n way.env env_is clause.condition) (condition_is clause.condition _ h) rest)))
+        (λ handed. after_if (evaluate m (with_handed s handed) clause.condition) (check_call m (with_handed s handed) at others) (Wrong at kinds.Requires) (go handed) (Wrong at kinds.Requires) refl)
+        (expr_then clause.condition types.Bool (assert way.path at kinds.Requires (term_of way.env clause.condition) ++ (assert_clauses (λ clause. at) kinds.Requires way others ++ more)) _ are.0 read.0 (λ h.
+        checked_then way.path sits.there path_is at kinds.Requires (term_of way.env clause.condition) _ (assert_clauses (λ clause. at) kinds.Requires way others ++ more) _ (term_below n way.env env_is clause.condition) (condition_is clause.condition _ h) rest)))
 
     pub require_then : (clauses : List Clause) (more : List Said) (go : List Handed → State → Outcome B) → are_clauses p locals clauses ≡ true → unassigned before (reads_of_clauses clauses) ≡ []
         → Plays more (λ handed. go handed (with_handed s handed)) → Plays (require_all way clauses ++ more) (λ handed. after (assume_each m (with_handed s handed) clauses) (go handed))
@@ -211,11 +212,11 @@ module _ (B : Type 0) (mode : Mode) (i : Interpretation) (n : ℕ) where
         let read = parted before (reads clause.condition) (reads_of_clauses others) read in
         let rest = require_then others more go are.1 read.1 h in
         subst (λ said. Plays said (λ handed. after (assume_each m (with_handed s handed) (clause ∷ others)) (go handed)))
-            (sym (three_parts (assert_expr way clause.condition) (assume way.path (term_of way.env clause.condition)) (require_all way others) more))
+        (sym (three_parts (assert_expr way clause.condition) (assume way.path (term_of way.env clause.condition)) (require_all way others) more))
         (play_as B mode i n _ _ (λ handed. after (evaluate m (with_handed s handed) clause.condition) (λ v. if truth_of v then after (assume_each m (with_handed s handed) others) (go handed) else Dismissed))
-            (λ handed. after_if (evaluate m (with_handed s handed) clause.condition) (assume_each m (with_handed s handed) others) Dismissed (go handed) Dismissed refl)
-            (expr_then clause.condition types.Bool (assume way.path (term_of way.env clause.condition) ++ (require_all way others ++ more)) _ are.0 read.0 (λ h.
-            known_then way.path sits.there path_is (term_of way.env clause.condition) _ (require_all way others ++ more) _ (term_below n way.env env_is clause.condition) (condition_is clause.condition _ h) rest)))
+        (λ handed. after_if (evaluate m (with_handed s handed) clause.condition) (assume_each m (with_handed s handed) others) Dismissed (go handed) Dismissed refl)
+        (expr_then clause.condition types.Bool (assume way.path (term_of way.env clause.condition) ++ (require_all way others ++ more)) _ are.0 read.0 (λ h.
+        known_then way.path sits.there path_is (term_of way.env clause.condition) _ (require_all way others ++ more) _ (term_below n way.env env_is clause.condition) (condition_is clause.condition _ h) rest)))
 
     -- clauses of what is handed in; what they read may be without a value
     pub assume_then : (clauses : List Clause) (more : List Said) (go : List Handed → State → Outcome B) → are_clauses p locals clauses ≡ true → unassigned before (reads_of_clauses clauses) ≡ []
@@ -228,30 +229,33 @@ module _ (B : Type 0) (mode : Mode) (i : Interpretation) (n : ℕ) where
       where
         e : Expr
         e = clause.condition
+
         v : Value
         v = meanings.value i (term_of way.env e)
+
         by_told : (others : List Clause) → is_expr p locals types.Bool e ≡ true → unassigned before (reads e) ≡ [] → Plays (assume_clauses way others ++ more) (λ handed. after (or_dismissed (assume_each m (with_handed s handed) others)) (go handed))
             → IsOr (evaluate m s e) (told i (conditions_of way.env e) (Gives v)) → (k : Mode) → mode ≡ k
             → Plays (assume_clauses way (clause ∷ others) ++ more) (λ handed. after (or_dismissed (assume_each m (with_handed s handed) (clause ∷ others))) (go handed))
         by_told others is read rest (inr t) k is_mode =
             subst (λ said. Plays said (λ handed. after (or_dismissed (assume_each m (with_handed s handed) (clause ∷ others))) (go handed)))
-                (sym (three_parts (assume_all way.path (conditions_of way.env e)) (assume way.path (term_of way.env e)) (assume_clauses way others) more))
+            (sym (three_parts (assume_all way.path (conditions_of way.env e)) (assume way.path (term_of way.env e)) (assume_clauses way others) more))
             (play_as B mode i n _ _ (λ handed. after (or_dismissed (told i (conditions_of way.env e) (if truth_of v then assume_each m (with_handed s handed) others else Dismissed))) (go handed))
-                (λ handed. ap (λ o. after (or_dismissed (after o (λ w. if truth_of w then assume_each m (with_handed s handed) others else Dismissed))) (go handed)) (evaluated e handed ∙ t) ∙ ap (λ o. after (or_dismissed o) (go handed)) (told_after i (conditions_of way.env e) (Gives v) _))
-                (conditions_then (conditions_of way.env e) (assume way.path (term_of way.env e) ++ (assume_clauses way others ++ more)) (λ handed. if truth_of v then assume_each m (with_handed s handed) others else Dismissed) (conditions_below n way.env env_is e)
-                    (play_as B mode i n _ _ (λ handed. if truth_of v then after (or_dismissed (assume_each m (with_handed s handed) others)) (go handed) else Dismissed) (λ handed. if_dismissed handed (truth_of v) (assume_each m (with_handed s handed) others))
-                        (known_then way.path sits.there path_is (term_of way.env e) (truth_of v) (assume_clauses way others ++ more) (λ handed. after (or_dismissed (assume_each m (with_handed s handed) others)) (go handed)) (term_below n way.env env_is e)
-                            (condition_is e v (is_term e types.Bool is read)) rest))))
+            (λ handed. ap (λ o. after (or_dismissed (after o (λ w. if truth_of w then assume_each m (with_handed s handed) others else Dismissed))) (go handed)) (evaluated e handed ∙ t) ∙ ap (λ o. after (or_dismissed o) (go handed)) (told_after i (conditions_of way.env e) (Gives v) _))
+            (conditions_then (conditions_of way.env e) (assume way.path (term_of way.env e) ++ (assume_clauses way others ++ more)) (λ handed. if truth_of v then assume_each m (with_handed s handed) others else Dismissed) (conditions_below n way.env env_is e)
+            (play_as B mode i n _ _ (λ handed. if truth_of v then after (or_dismissed (assume_each m (with_handed s handed) others)) (go handed) else Dismissed) (λ handed. if_dismissed handed (truth_of v) (assume_each m (with_handed s handed) others))
+            (known_then way.path sits.there path_is (term_of way.env e) (truth_of v) (assume_clauses way others ++ more) (λ handed. after (or_dismissed (assume_each m (with_handed s handed) others)) (go handed)) (term_below n way.env env_is e)
+            (condition_is e v (is_term e types.Bool is read)) rest))))
           where
             if_dismissed : (handed : List Handed) (b : Bool) (o : Outcome State) → after (or_dismissed (if b then o else Dismissed)) (go handed) ≡ (if b then after (or_dismissed o) (go handed) else Dismissed)
             if_dismissed handed true o = refl
             if_dismissed handed false o = refl
+
             conditions_then : (cs : List Condition) (more : List Said) (run : List Handed → Outcome State) → AreBelow n cs → Plays more (λ handed. after (or_dismissed (run handed)) (go handed)) → Plays (assume_all way.path cs ++ more) (λ handed. after (or_dismissed (told i cs (run handed))) (go handed))
             conditions_then [] more run below h = h
             conditions_then (c ∷ cs) more run below h =
                 said_then B mode i n (Known (on_path way.path c.formula)) (assume_all way.path cs ++ more) (λ handed. after (or_dismissed (told i (c ∷ cs) (run handed))) (go handed)) (on_path_below n way.path c.formula path_is below.0)
-                    (λ f. play_as B mode i n (assume_all way.path cs ++ more) _ (λ handed. after (or_dismissed (told i cs (run handed))) (go handed)) (λ handed. ap (λ b. after (or_dismissed (if b then told i cs (run handed) else Wrong c.pos c.kind)) (go handed)) (sym (on_it i way.path c.formula sits.there) ∙ f)) (conditions_then cs more run below.1 h))
-                    (λ f handed. ap (λ b. after (or_dismissed (if b then told i cs (run handed) else Wrong c.pos c.kind)) (go handed)) (sym (on_it i way.path c.formula sits.there) ∙ f))
+                (λ f. play_as B mode i n (assume_all way.path cs ++ more) _ (λ handed. after (or_dismissed (told i cs (run handed))) (go handed)) (λ handed. ap (λ b. after (or_dismissed (if b then told i cs (run handed) else Wrong c.pos c.kind)) (go handed)) (sym (on_it i way.path c.formula sits.there) ∙ f)) (conditions_then cs more run below.1 h))
+                (λ f handed. ap (λ b. after (or_dismissed (if b then told i cs (run handed) else Wrong c.pos c.kind)) (go handed)) (sym (on_it i way.path c.formula sits.there) ∙ f))
         by_told others is read rest (inl d) (Taking handed) is_mode =
             subst (λ k. Play B k i n (assume_clauses way (clause ∷ others) ++ more) (λ handed. after (or_dismissed (assume_each m (with_handed s handed) (clause ∷ others))) (go handed))) (sym is_mode)
             (play_silent B i n _ _ (λ at kind w. not_wrong at kind (ap (λ o. after (or_dismissed (after o (λ w. if truth_of w then assume_each m (with_handed s handed) others else Dismissed))) (go handed)) (evaluated e handed ∙ d)) w))
@@ -269,7 +273,7 @@ module _ (B : Type 0) (mode : Mode) (i : Interpretation) (n : ℕ) where
         let read = parted before (reads e) (flat_map reads es) read in
         subst (λ said. Plays said (λ handed. after (evaluate_all m (with_handed s handed) (e ∷ es)) (go handed))) (sym (append_assoc (assert_expr way e) (assert_exprs way es) more))
         (play_as B mode i n _ _ (λ handed. after (evaluate m (with_handed s handed) e) (λ v. after (evaluate_all m (with_handed s handed) es) (λ vs. go handed (v ∷ vs)))) (λ handed. after_listed (evaluate m (with_handed s handed) e) (evaluate_all m (with_handed s handed) es) (go handed))
-            (expr_then e ty (assert_exprs way es ++ more) _ are.0 read.0 (λ one. exprs_then tys es more (λ handed vs. go handed (meanings.value i (term_of way.env e) ∷ vs)) are.1 read.1 (λ others. h (one.sorted, others)))))
+        (expr_then e ty (assert_exprs way es ++ more) _ are.0 read.0 (λ one. exprs_then tys es more (λ handed vs. go handed (meanings.value i (term_of way.env e) ∷ vs)) are.1 read.1 (λ others. h (one.sorted, others)))))
 
     -- ---- measures
 
@@ -285,4 +289,4 @@ module _ (B : Type 0) (mode : Mode) (i : Interpretation) (n : ℕ) where
         let read = parted before (reads measure.value) (reads_of_measures (Some others)) read in
         subst (λ said. Plays said (λ handed. after (measure_values m (with_handed s handed) (measure ∷ others)) (go handed))) (sym (append_assoc (assert_expr way measure.value) (assert_measure way others) more))
         (play_as B mode i n _ _ (λ handed. after (evaluate m (with_handed s handed) measure.value) (λ v. after (measure_values m (with_handed s handed) others) (λ vs. go handed (v ∷ vs)))) (λ handed. after_listed (evaluate m (with_handed s handed) measure.value) (measure_values m (with_handed s handed) others) (go handed))
-            (expr_then measure.value measure.ty (assert_measure way others ++ more) _ are.0 read.0 (λ one. measures_then others more (λ handed vs. go handed (meanings.value i (term_of way.env measure.value) ∷ vs)) are.1 read.1 (λ more. h (one.sorted, more)))))
+        (expr_then measure.value measure.ty (assert_measure way others ++ more) _ are.0 read.0 (λ one. measures_then others more (λ handed vs. go handed (meanings.value i (term_of way.env measure.value) ∷ vs)) are.1 read.1 (λ more. h (one.sorted, more)))))

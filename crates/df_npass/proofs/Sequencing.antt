@@ -97,20 +97,27 @@ module _ (B : Type 0) (all : List Ty) (back : Assigned) (mode : Mode) (i : Inter
       where
         still : (j u : Interpretation) → SameBelow first.fresh j u → (ways : List Way) → AllLead first.fresh path ways → AllOff j ways → AllOff u ways
         still j u same ways leads off = off_moves j u first.fresh path ways leads same off
+
         by_flow : (l : Mode) (u : Interpretation) (f : flows.Flow) → Moves k j first.fresh l u → Comes l u all back (last_of rest) two.behind two.breaks f → Play B l u rest.fresh more (λ handed. go (hand f handed))
         by_flow l u (flows.Next t) moved comes =
             h.on l u (flows.Next t) (moves_then mode k l i j u n first.fresh flows_first.grows moves moved)
             (comes.0, off_append u first.breaks rest.breaks (still j u moved.same first.breaks flows_first.breaks no_break) comes.1, off_append u first.returns rest.returns (still j u moved.same first.returns flows_first.returns no_return) comes.2)
         by_flow l u (flows.Break t) moved comes =
             let reached = one_reached l u all rest.breaks two.breaks t comes.0 in
-            h.on l u (flows.Break t) (moves_then mode k l i j u n first.fresh flows_first.grows moves moved)
-            (one_right l u all first.breaks rest.breaks (meet one.breaks two.breaks) t (still j u moved.same first.breaks flows_first.breaks no_break)
-                (one_less l u all rest.breaks two.breaks (meet one.breaks two.breaks) t (reached_right one.breaks two.breaks reached) (λ x has. join_right one.breaks two.breaks x reached has) comes.0),
-            comes.1, off_append u first.returns rest.returns (still j u moved.same first.returns flows_first.returns no_return) comes.2, or_right first.loses rest.loses comes.3)
+            h.on l u (flows.Break t) (moves_then mode k l i j u n first.fresh flows_first.grows moves moved) (
+              one_right l u all first.breaks rest.breaks (meet one.breaks two.breaks) t (still j u moved.same first.breaks flows_first.breaks no_break)
+                  (one_less l u all rest.breaks two.breaks (meet one.breaks two.breaks) t (reached_right one.breaks two.breaks reached) (λ x has. join_right one.breaks two.breaks x reached has) comes.0),
+              comes.1,
+              off_append u first.returns rest.returns (still j u moved.same first.returns flows_first.returns no_return) comes.2,
+              or_right first.loses rest.loses comes.3,
+            )
         by_flow l u (flows.Return t) moved comes =
-            h.on l u (flows.Return t) (moves_then mode k l i j u n first.fresh flows_first.grows moves moved)
-            (one_right l u all first.returns rest.returns back t (still j u moved.same first.returns flows_first.returns no_return) comes.0,
-            comes.1, off_append u first.breaks rest.breaks (still j u moved.same first.breaks flows_first.breaks no_break) comes.2, or_right first.loses rest.loses comes.3)
+            h.on l u (flows.Return t) (moves_then mode k l i j u n first.fresh flows_first.grows moves moved) (
+              one_right l u all first.returns rest.returns back t (still j u moved.same first.returns flows_first.returns no_return) comes.0,
+              comes.1,
+              off_append u first.breaks rest.breaks (still j u moved.same first.breaks flows_first.breaks no_break) comes.2,
+              or_right first.loses rest.loses comes.3,
+            )
 
     first_onward : ((k : Mode) (j : Interpretation) (t : State) → Moves mode i n k j → Sits k j all on one.behind t → Onward B all back k j first.fresh (last_of rest) two.behind two.breaks more go → Play B k j first.fresh (rest.said ++ more) (λ handed. after (next (with_handed t handed)) go))
         → Onward B all back mode i n (last_of first) one.behind one.breaks (rest.said ++ more) on_next
@@ -128,9 +135,12 @@ module _ (B : Type 0) (all : List Ty) (back : Assigned) (mode : Mode) (i : Inter
             let off = past j comes.1 in
             let others = rest_off j off in
             let reached = one_reached k j all first.breaks one.breaks t comes.0 in
-            skipped k j (flows.Break t) off (h.on k j (flows.Break t) moves
-            (one_left k j all first.breaks rest.breaks (meet one.breaks two.breaks) t (one_less k j all first.breaks one.breaks (meet one.breaks two.breaks) t (reached_left one.breaks two.breaks reached) (λ x has. join_left one.breaks two.breaks x reached has) comes.0) others.1,
-            others.0, off_append j first.returns rest.returns comes.2 others.2, or_left first.loses rest.loses comes.3))
+            skipped k j (flows.Break t) off (h.on k j (flows.Break t) moves (
+              one_left k j all first.breaks rest.breaks (meet one.breaks two.breaks) t (one_less k j all first.breaks one.breaks (meet one.breaks two.breaks) t (reached_left one.breaks two.breaks reached) (λ x has. join_left one.breaks two.breaks x reached has) comes.0) others.1,
+              others.0,
+              off_append j first.returns rest.returns comes.2 others.2,
+              or_left first.loses rest.loses comes.3,
+            ))
         by_flow k j (flows.Return t) moves comes =
             let off = past j comes.1 in
             let others = rest_off j off in
@@ -140,7 +150,7 @@ module _ (B : Type 0) (all : List Ty) (back : Assigned) (mode : Mode) (i : Inter
   pub then_play : Flows n path first → ((on : Way) → Leads first.fresh path on → Flows first.fresh on.path (second on))
       → ((said : List Said) → Onward B all back mode i n (last_of first) one.behind one.breaks said on_next → Play B mode i n (first.said ++ said) (λ handed. after (run handed) on_next))
       → ((on : Way) (k : Mode) (j : Interpretation) (t : State) → Leads first.fresh path on → Moves mode i n k j → Sits k j all on one.behind t → Onward B all back k j first.fresh (last_of (second on)) two.behind two.breaks more go
-          → Play B k j first.fresh ((second on).said ++ more) (λ handed. after (next (with_handed t handed)) go))
+      → Play B k j first.fresh ((second on).said ++ more) (λ handed. after (next (with_handed t handed)) go))
       → Onward B all back mode i n (last_of (whole first.way)) two.behind (meet one.breaks two.breaks) more go
       → Play B mode i n ((whole first.way).said ++ more) (λ handed. after (after (run handed) (goes next)) go)
   then_play flows_first flows_second play_first play_second h =

@@ -71,7 +71,7 @@ sits_given mode i all way before s local ty a typed is h =
       there = h.there;
       sorted = λ k t e. by_bool (k == local)
           (λ here. subst (λ x. IsSorted t (meanings.value i x)) (sym (if_true (k == local) a (way.env k) here))
-              (subst (λ (u : Ty). IsSorted u v) (some_equal ty t (sym typed ∙ subst (λ (x : ℕ). slice_get all x ≡ Some t) (eqb-true k local here) e)) is))
+          (subst (λ (u : Ty). IsSorted u v) (some_equal ty t (sym typed ∙ subst (λ (x : ℕ). slice_get all x ≡ Some t) (eqb-true k local here) e)) is))
           (λ other. subst (λ x. IsSorted t (meanings.value i x)) (sym (if_false (k == local) a (way.env k) other)) (h.sorted k t e));
       holds = hold_make i (with_term way.env local a) (mark true before local) (with_local s local v) (reached_mark before local reached) (λ k w has e. by_bool (k == local)
           (λ here. ap (meanings.value i) (if_true (k == local) a (way.env k) here) ∙ some_equal v w (sym (if_true (k == local) (Some v) (s.locals k) here) ∙ e))

@@ -47,6 +47,7 @@ unchanged c others n e = (λ same. apart same, rest (c.local == n) e)
     rest : (b : Bool) → (b || is_changed others n) ≡ false → is_changed others n ≡ false
     rest true e = cc
     rest false e = e
+
     apart : n ≡ c.local → ⊥
     apart same = let is : (c.local == n) ≡ true = subst (λ (k : ℕ). (c.local == k) ≡ true) (sym same) (eq-eqb c.local c.local refl) in
         let whole : (true || is_changed others n) ≡ false = subst (λ b. (b || is_changed others n) ≡ false) is e in cc
@@ -62,12 +63,14 @@ join_locals_stay [] ways fresh env path n e = refl
 join_locals_stay (c ∷ others) ways fresh env path n e =
     let u = unchanged c others n e in
     by_test (are_same (env c.local) ways c.local) (join_locals_stay others ways fresh env path n u.1)
-        (join_locals_stay others ways (suc fresh) (with_term env c.local (free_of fresh c.ty)) path n u.1 ∙ other_term env c.local (free_of fresh c.ty) n u.0)
+    (join_locals_stay others ways (suc fresh) (with_term env c.local (free_of fresh c.ty)) path n u.1 ∙ other_term env c.local (free_of fresh c.ty) n u.0)
   where
     same : Moved
     same = join_locals others ways fresh env path
+
     apart : Moved
     apart = join_locals others ways (suc fresh) (with_term env c.local (free_of fresh c.ty)) path
+
     by_test : (b : Bool) → same.way.env n ≡ env n → apart.way.env n ≡ env n
         → (if b then same else (record { said = assume_joined c.ty c.local (free_of fresh c.ty) ways ++ apart.said; fresh = apart.fresh; way = apart.way })).way.env n ≡ env n
     by_test true h g = h
@@ -202,7 +205,7 @@ module _ (setting : Setting) where
     all_stay way (next stmt others) fresh n e =
         let parts = neither (changed_by stmt) (changed_by_all others) n e in
         then_stays n way.env (pass_stmt setting way stmt fresh) (λ more on. pass_all setting on others more) (stmt_stays way stmt fresh n parts.0)
-            (λ on same. flow_as n way.env on.env (pass_all setting on others (pass_stmt setting way stmt fresh).fresh) same (all_stay on others (pass_stmt setting way stmt fresh).fresh n parts.1))
+        (λ on same. flow_as n way.env on.env (pass_all setting on others (pass_stmt setting way stmt fresh).fresh) same (all_stay on others (pass_stmt setting way stmt fresh).fresh n parts.1))
 
     pub branches_stay : (way : Way) (branches : Branches) (otherwise : Way → ℕ → Flow) (fresh n : ℕ) → is_changed (changed_by_branches branches) n ≡ false → ((last : Way) (more : ℕ) → FlowStays n last.env (otherwise last more))
         → PartsStay n way.env (pass_branches setting way branches otherwise fresh)

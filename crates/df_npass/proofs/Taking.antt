@@ -159,7 +159,7 @@ pub any_typed : (i : Interpretation) (path : Option Term) (params : List Param) 
 any_typed i path [] n there all = refl
 any_typed i path (param ∷ params) n there all =
     joined (has_type i.program param.ty (meanings.value i (free_of n param.ty))) _ (type_said i path param.ty (free_of n param.ty) there (free_sorted i n param.ty) (all_front i (assume_type path param.ty (free_of n param.ty)) _ all))
-        (any_typed i path params (suc n) there (all_rest i (assume_type path param.ty (free_of n param.ty)) _ all))
+    (any_typed i path params (suc n) there (all_rest i (assume_type path param.ty (free_of n param.ty)) _ all))
 
 -- the values of the terms, of the sorts of the types
 pub record AreResults (i : Interpretation) (path : Option Term) (params : List Param) (n : ℕ) (vs : List Value) : Type 0 where
@@ -187,8 +187,8 @@ module _ (B : Type 0) (n : ℕ) (path : Option Term) (program : Program) (method
       known_then_follow B i n (any_values path method.results n).said more _ (any_known path method.results n) (λ all.
       let vs = values_at i (any_values path method.results n).terms in
       play_handed B i n more _ (λ handed. go (returned vs [] handed)) (HandedGiven vs [])
-          (λ handed. if_typed (have_types program (types_of method.results) vs) (returned vs [] handed) go (subst (λ p. have_types p (types_of method.results) vs ≡ true) same (any_typed i path method.results n there all)))
-          (h Following i vs [] (moves_here Following i n) (record { are = refl; sorted = any_sorted i path method.results n })))
+      (λ handed. if_typed (have_types program (types_of method.results) vs) (returned vs [] handed) go (subst (λ p. have_types p (types_of method.results) vs ≡ true) same (any_typed i path method.results n there all)))
+      (h Following i vs [] (moves_here Following i n) (record { are = refl; sorted = any_sorted i path method.results n })))
   results_then (Taking []) i there same h le below = play_silent B i n _ _ (λ at kind w. not_wrong at kind refl w)
   results_then (Taking (Turned locals text ∷ rest)) i there same h le below = play_silent B i n _ _ (λ at kind w. not_wrong at kind refl w)
   results_then (Taking (HandedGiven vs text ∷ left)) i there same h le below = by_types (have_types program (types_of method.results) vs) refl

@@ -58,6 +58,7 @@ turned_is p (c ∷ others) handed s = by_test (may_have p c.ty (handed c.local))
   where
     t : State
     t = with_locals s (set_local s.locals c.local (handed c.local))
+
     by_test : (b : Bool) → turned p others handed t ≡ (if all_may p others handed then Gives (turned_state others handed t) else Dismissed)
         → (if b then turned p others handed t else Dismissed) ≡ (if (b && all_may p others handed) then Gives (turned_state others handed t) else Dismissed)
     by_test true e = e
@@ -124,9 +125,11 @@ once_there out (c ∷ others) k apart h = by_local (c.local == k) refl h (λ r. 
     with_it : (is_changed (each_once out others) k ≡ true) → (is_changed (each_once (c.local ∷ out) others) k ≡ true) → (b : Bool) → is_changed (if b then each_once out others else c ∷ each_once (c.local ∷ out) others) k ≡ true
     with_it f g true = f
     with_it f g false = later (c.local == k) (is_changed (each_once (c.local ∷ out) others) k) g
+
     first_one : (b : Bool) → list_any (λ (n : ℕ). n == c.local) out ≡ b → c.local ≡ k → (c.local == k) ≡ true → is_changed (if b then each_once out others else c ∷ each_once (c.local ∷ out) others) k ≡ true
     first_one true f same e = let bad : list_any (λ (n : ℕ). n == k) out ≡ true = subst (λ (x : ℕ). list_any (λ (n : ℕ). n == x) out ≡ true) same f in let c : true ≡ false = sym bad ∙ apart in cc
     first_one false f same e = rw (e) refl
+
     by_local : (b : Bool) → (c.local == k) ≡ b → (b || is_changed others k) ≡ true → (is_changed others k ≡ true → is_changed (each_once out others) k ≡ true)
         → ((c.local == k) ≡ false → is_changed others k ≡ true → is_changed (each_once (c.local ∷ out) others) k ≡ true) → is_changed (each_once out (c ∷ others)) k ≡ true
     by_local false e r f g = with_it (f r) (g e r) (list_any (λ (n : ℕ). n == c.local) out)

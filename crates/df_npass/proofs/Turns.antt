@@ -108,9 +108,9 @@ module _ (B : Type 0) (p : Program) (all : List Ty) (n : ℕ) (way : Way) (s : S
         let once = list_once (λ (d : Changed). option_map_or (same_type d.ty) (slice_get all d.local) false) out every there in
         joined (may_have p c.ty (read i c.local)) (all_may p cs (read i))
         (by_bool (is_changed changed c.local)
-            (λ e. ap (may_have p c.ty) (if_true (is_changed changed c.local) _ _ e)
-                ∙ subst (λ q. has_type q c.ty (meanings.value i (turning.env c.local)) ≡ true) program (havoc_typed i all c.local c.ty (type_there all c are.0) changed n way once here said e))
-            (λ e. ap (may_have p c.ty) (if_false (is_changed changed c.local) _ _ e)))
+        (λ e. ap (may_have p c.ty) (if_true (is_changed changed c.local) _ _ e)
+        ∙ subst (λ q. has_type q c.ty (meanings.value i (turning.env c.local)) ≡ true) program (havoc_typed i all c.local c.ty (type_there all c are.0) changed n way once here said e))
+        (λ e. ap (may_have p c.ty) (if_false (is_changed changed c.local) _ _ e)))
         (may_read i program here said cs are.1)
 
     pub turn_then : (mode : Mode) (i : Interpretation) (more : List Said) (go : State → Outcome B) → i.program ≡ p → is_well_typed p ≡ true → list_all (λ (c : Changed). is_type p c.ty) every ≡ true
@@ -121,10 +121,10 @@ module _ (B : Type 0) (p : Program) (all : List Ty) (n : ℕ) (way : Way) (s : S
         known_then_follow B i n (havoc changed n way).said more _ (havoc_known changed n way) (λ said.
         let may = may_read i program sits.there said every there in
         play_handed B i n more _ (λ handed. go (with_handed (state_of (read i) []) handed)) (Turned (read i) []) (λ handed. given_turn (read i) [] handed go may)
-            (h Following i (state_of (read i) []) (moves_here Following i n)
-                (turned_sits Following Following i i (moves_here Following i n) sits (read i) []
-                    (λ k v c e. some_equal _ v (sym (if_true (is_changed changed k) (Some (meanings.value i (turning.env k))) None c) ∙ e))
-                    (λ following k c. ap is_some (if_true (is_changed changed k) (Some (meanings.value i (turning.env k))) None c)))))
+        (h Following i (state_of (read i) []) (moves_here Following i n)
+        (turned_sits Following Following i i (moves_here Following i n) sits (read i) []
+        (λ k v c e. some_equal _ v (sym (if_true (is_changed changed k) (Some (meanings.value i (turning.env k))) None c) ∙ e))
+        (λ following k c. ap is_some (if_true (is_changed changed k) (Some (meanings.value i (turning.env k))) None c)))))
     turn_then (Taking []) i more go program well are grows below sits h = play_silent B i n _ _ (λ at kind w. not_wrong at kind refl w)
     turn_then (Taking (HandedGiven vs text ∷ rest)) i more go program well are grows below sits h = play_silent B i n _ _ (λ at kind w. not_wrong at kind refl w)
     turn_then (Taking (Turned locals text ∷ rest)) i more go program well are grows below sits h = by_may (all_may p every locals) refl
@@ -141,7 +141,7 @@ module _ (B : Type 0) (p : Program) (all : List Ty) (n : ℕ) (way : Way) (s : S
             (play_taking B rest i took.to n fresh (said ++ more) run grows took.same
             (play_behind B (Taking rest) took.to fresh said more run (λ j agrees. all_same fresh took.to j agrees said below took.all)
             (h (Taking rest) took.to (state_of locals text) moves
-                (turned_sits (Taking (Turned locals text ∷ rest)) (Taking rest) i took.to moves sits locals text (λ k v c f. took.are k v c f) (λ following. absurd (taking_not following))))))
+            (turned_sits (Taking (Turned locals text ∷ rest)) (Taking rest) i took.to moves sits locals text (λ k v c f. took.are k v c f) (λ following. absurd (taking_not following))))))
           where
             taking_not : true ≡ false → ⊥
             taking_not c = cc

@@ -99,9 +99,10 @@ distinct_is i (taken ∷ earlier) local v = by_local (taken.local == local) (sam
   where
     others : List passing.Taken
     others = filter (λ (one : passing.Taken). one.local == local) earlier
+
     by_local : (b same : Bool) → is_distinct (taken_values i earlier) local v ≡ not (all_equal i v (map (λ (one : passing.Taken). one.value) others))
         → ((b && not (same_value (meanings.value i taken.value) v)) || is_distinct (taken_values i earlier) local v)
-            ≡ not (all_equal i v (map (λ (one : passing.Taken). one.value) (if b then taken ∷ others else others)))
+        ≡ not (all_equal i v (map (λ (one : passing.Taken). one.value) (if b then taken ∷ others else others)))
     by_local true same e = rw (e) (de_morgan (same_value (meanings.value i taken.value) v) (all_equal i v (map (λ (one : passing.Taken). one.value) others)))
       where
         de_morgan : (x y : Bool) → (not x || not y) ≡ not (x && y)
@@ -160,7 +161,7 @@ module _ (B : Type 0) (mode : Mode) (i : Interpretation) (n : ℕ) (path : Optio
       let told_is : converted m.program c.source c.target at v ≡ told i conditions (Gives v) = subst (λ q. converted q c.source c.target at v ≡ told i conditions (Gives v)) (sym same) (conversion_told i c.source c.target at a are.0) in
       subst (λ said. Play B mode i n said (λ handed. after (convert_all m at (c ∷ cs) (v ∷ values_at i others)) (go handed))) (sym (append_assoc (assert_all way.path conditions) (assert_conversions at way cs others) more))
       (play_as B mode i n _ _ (λ handed. told i conditions (after (convert_all m at cs (values_at i others)) (λ vs. go handed (v ∷ vs))))
-          (λ handed. after_listed (converted m.program c.source c.target at v) (convert_all m at cs (values_at i others)) (go handed) ∙ (ap (λ o. after o (λ w. after (convert_all m at cs (values_at i others)) (λ vs. go handed (w ∷ vs)))) told_is ∙ told_after i conditions (Gives v) _))
+      (λ handed. after_listed (converted m.program c.source c.target at v) (convert_all m at cs (values_at i others)) (go handed) ∙ (ap (λ o. after o (λ w. after (convert_all m at cs (values_at i others)) (λ vs. go handed (w ∷ vs)))) told_is ∙ told_after i conditions (Gives v) _))
       (subst (λ p. Play B mode i n (assert_all p conditions ++ (assert_conversions at way cs others ++ more)) (λ handed. told i conditions (after (convert_all m at cs (values_at i others)) (λ vs. go handed (v ∷ vs))))) (sym is_path)
       (told_then B mode i n path there path_is conditions (assert_conversions at way cs others ++ more) (λ handed. after (convert_all m at cs (values_at i others)) (λ vs. go handed (v ∷ vs))) (narrowing_below n c.source c.target at a below.0) rest)))
 
@@ -180,9 +181,9 @@ module _ (B : Type 0) (program : Program) (well : is_well_typed program ≡ true
   call_play : (mode : Mode) (i : Interpretation) (n : ℕ) (way : Way) (s : State) (call : Call) (more : List Said) (go : Values → Outcome B) (o : Option Method) → method_at program call.callee ≡ o
       → option_map_or (λ (method : Method). are_exprs program locals (types_of method.parameters) call.arguments) o false ≡ true → unassigned before (reads_of_call call) ≡ [] → Here mode i n way before s
       → Goes mode i n s (option_map_or (λ (method : Method). types_of method.results) o [])
-          (given_behind (assert_exprs way call.arguments) (option_map_or (λ (method : Method). pass_method_call set call method (map (term_of way.env) call.arguments) way n) o (record { said = []; fresh = n; terms = [] }))) more go
+      (given_behind (assert_exprs way call.arguments) (option_map_or (λ (method : Method). pass_method_call set call method (map (term_of way.env) call.arguments) way n) o (record { said = []; fresh = n; terms = [] }))) more go
       → Play B mode i n ((given_behind (assert_exprs way call.arguments) (option_map_or (λ (method : Method). pass_method_call set call method (map (term_of way.env) call.arguments) way n) o (record { said = []; fresh = n; terms = [] }))).said ++ more)
-          (λ handed. after (execute_call m (with_handed s handed) call) go)
+      (λ handed. after (execute_call m (with_handed s handed) call) go)
   call_play mode i n way s call more go None found is read here h = cc
   call_play mode i n way s call more go (Some method) found is read here h =
       let terms = map (term_of way.env) call.arguments in
@@ -191,13 +192,13 @@ module _ (B : Type 0) (program : Program) (well : is_well_typed program ≡ true
       let run = running B program well groups number entry entered in
       subst (λ said. Play B mode i n said (λ handed. after (execute_call m (with_handed s handed) call) go)) (sym (append_assoc (assert_exprs way call.arguments) inner.said more))
       (play_as B mode i n _ _ (λ handed. after (evaluate_all m (with_handed s handed) call.arguments) (λ arguments. after (modular_call run call.pos call.callee arguments (store_with s.store.text handed)) (go_on handed)))
-          (λ handed. after_after (evaluate_all m (with_handed s handed) call.arguments) _ go
-              ∙ then_same (evaluate_all m (with_handed s handed) call.arguments) _ _ (λ arguments. after_after (m.call call.pos call.callee arguments (store_with s.store.text handed)) _ go
-              ∙ ap (λ c. after (c call.pos call.callee arguments (store_with s.store.text handed)) (go_on handed)) call_is))
+      (λ handed. after_after (evaluate_all m (with_handed s handed) call.arguments) _ go
+      ∙ then_same (evaluate_all m (with_handed s handed) call.arguments) _ _ (λ arguments. after_after (m.call call.pos call.callee arguments (store_with s.store.text handed)) _ go
+      ∙ ap (λ c. after (c call.pos call.callee arguments (store_with s.store.text handed)) (go_on handed)) call_is))
       (exprs_then B mode i n program m m_is here.entered_is.program_is locals all within before way s here.sits here.env here.path (types_of method.parameters) call.arguments (inner.said ++ more)
-          (λ handed arguments. after (modular_call run call.pos call.callee arguments (store_with s.store.text handed)) (go_on handed)) is read (λ are.
+      (λ handed arguments. after (modular_call run call.pos call.callee arguments (store_with s.store.text handed)) (go_on handed)) is read (λ are.
       method_call_then B program well groups number entry entered mode i n way call method terms s.store.text more (go_on []) here.path here.sits.there (exprs_below n way.env here.env call.arguments) here.below here.entered_is found are
-          (λ k j later moves results. h k j later moves results))))
+      (λ k j later moves results. h k j later moves results))))
 
   pub call_plays : (mode : Mode) (i : Interpretation) (n : ℕ) (way : Way) (s : State) (call : Call) (more : List Said) (go : Values → Outcome B) → is_call (place program locals own in_loop) call ≡ true → unassigned before (reads_of_call call) ≡ []
       → Here mode i n way before s → Goes mode i n s (option_map_or (λ (method : Method). types_of method.results) (method_at program call.callee) []) (pass_call set call way n) more go
@@ -220,7 +221,7 @@ module _ (B : Type 0) (program : Program) (well : is_well_typed program ≡ true
   source_then mode i n way s (Results call results) more go is read here h =
       let is = both (is_call (place program locals own in_loop) call) (are_results program call results) is in
       let results_is = both (option_map_or (λ (method : Method). are_same_types (map (λ (c : Conversion). c.source) results) (types_of method.results)) (method_at program call.callee) false)
-          (list_all (λ (c : Conversion). is_type program c.target && converts c.source c.target) results) is.1 in
+      (list_all (λ (c : Conversion). is_type program c.target && converts c.source c.target) results) is.1 in
       let given = pass_call set call way n in
       let giving = call_giving set call way n here.path here.env here.below in
       let owed = assert_conversions call.pos way results given.terms in
@@ -230,9 +231,9 @@ module _ (B : Type 0) (program : Program) (well : is_well_typed program ≡ true
       (call_plays mode i n way s call (owed ++ more) on is.0 read here (λ k j text moves are.
       let program_is = sym moves.same.program ∙ here.entered_is.program_is in
       conversions_then B k j given.fresh way.path (sym (path_same n i j moves.same way.path here.path) ∙ here.sits.there) (path_grows n given.fresh way.path giving.grows here.path) m (m_is ∙ sym program_is) call.pos way refl results given.terms more
-          (λ handed vs. go (given_values vs (with_handed (printed_state s text) handed)))
-          (subst (λ tys. AreOf j tys given.terms) (results_are call (method_at program call.callee) results results_is.0) are)
-          (subst (λ q. list_all (λ (c : Conversion). is_type q c.target && converts c.source c.target) results ≡ true) (sym m_is) results_is.1) giving.terms (λ converted_are. h k j text moves converted_are))))
+      (λ handed vs. go (given_values vs (with_handed (printed_state s text) handed)))
+      (subst (λ tys. AreOf j tys given.terms) (results_are call (method_at program call.callee) results results_is.0) are)
+      (subst (λ q. list_all (λ (c : Conversion). is_type q c.target && converts c.source c.target) results ≡ true) (sym m_is) results_is.1) giving.terms (λ converted_are. h k j text moves converted_are))))
 
   pub sources_then : (sources : List Source) (mode : Mode) (i : Interpretation) (n : ℕ) (way : Way) (s : State) (more : List Said) (go : Values → Outcome B) → list_all (is_source (place program locals own in_loop)) sources ≡ true → unassigned before (flat_map reads_of_source sources) ≡ []
       → Here mode i n way before s → Goes mode i n s (flat_map source_types sources) (pass_sources set sources way n) more go
@@ -247,13 +248,13 @@ module _ (B : Type 0) (program : Program) (well : is_well_typed program ≡ true
       let on : Values → Outcome B = (λ g. after (execute_sources m g.state others) (λ r. go (given_values (g.values ++ r.values) r.state))) in
       subst (λ said. Play B mode i n said (λ handed. after (execute_sources m (with_handed s handed) (source ∷ others)) go)) (sym (append_assoc given.said rest.said more))
       (play_as B mode i n _ _ (λ handed. after (execute_source m (with_handed s handed) source) on)
-          (λ handed. after_after (execute_source m (with_handed s handed) source) _ go ∙ then_same (execute_source m (with_handed s handed) source) _ _ (λ g. after_after (execute_sources m g.state others) _ go))
+      (λ handed. after_after (execute_source m (with_handed s handed) source) _ go ∙ then_same (execute_source m (with_handed s handed) source) _ _ (λ g. after_after (execute_sources m g.state others) _ go))
       (source_then mode i n way s source (rest.said ++ more) on is.0 read.0 here (λ k j text moves are.
       sources_then others k j given.fresh way (printed_state s text) more (λ r. go (given_values (values_at j given.terms ++ r.values) r.state)) is.1 read.1
-          (stands_moves program entry entered all mode k i j n given.fresh way before s (printed_state s text) giving.grows moves (λ x. refl) here) (λ l u later moved more_are.
+      (stands_moves program entry entered all mode k i j n given.fresh way before s (printed_state s text) giving.grows moves (λ x. refl) here) (λ l u later moved more_are.
       subst (λ vs. Play B l u rest.fresh more (λ handed. go (given_values vs (with_handed (printed_state s later) handed))))
-          (values_append u given.terms rest.terms ∙ ap (λ vs. vs ++ values_at u rest.terms) (sym (values_move given.fresh j u moved.same given.terms giving.terms)))
-          (h l u later (moves_then mode k l i j u n given.fresh giving.grows moves moved) (of_append u (source_types source) (flat_map source_types others) given.terms rest.terms (of_moves given.fresh j u moved.same (source_types source) given.terms giving.terms are) more_are))))))
+      (values_append u given.terms rest.terms ∙ ap (λ vs. vs ++ values_at u rest.terms) (sym (values_move given.fresh j u moved.same given.terms giving.terms)))
+      (h l u later (moves_then mode k l i j u n given.fresh giving.grows moves moved) (of_append u (source_types source) (flat_map source_types others) given.terms rest.terms (of_moves given.fresh j u moved.same (source_types source) given.terms giving.terms are) more_are))))))
 
 -- ---- places take their values
 
@@ -282,9 +283,9 @@ module _ (B : Type 0) (program : Program) (entry : List Measured) (entered : Lis
       let more_taken : AreTaken i n all later = ((below.0, λ ty e. subst (λ (u : Ty). IsSorted u v) (some_type t.ty ty (sym typed ∙ e)) of.0), taken) in
       subst (λ said. Play B mode i n said (λ handed. after (give_all (with_handed s handed) (taken_values i earlier) (t ∷ ts) (v ∷ values_at i others)) go)) (sym (append_assoc equal rest.said more))
       (play_as B mode i n _ _ (λ handed. if all_equal i v (taken_by t.local earlier) then after (give_all (with_handed (with_local s t.local v) handed) (taken_values i later) ts (values_at i others)) go else Wrong t.pos kinds.Distinct)
-          (λ handed. after_choice (is_distinct (taken_values i earlier) t.local v) (all_equal i v (taken_by t.local earlier)) t.pos kinds.Distinct (give_all (with_handed (with_local s t.local v) handed) (taken_values i later) ts (values_at i others)) go (distinct_is i earlier t.local v))
+      (λ handed. after_choice (is_distinct (taken_values i earlier) t.local v) (all_equal i v (taken_by t.local earlier)) t.pos kinds.Distinct (give_all (with_handed (with_local s t.local v) handed) (taken_values i later) ts (values_at i others)) go (distinct_is i earlier t.local v))
       (equal_then B mode i n way.path here.sits.there here.path t a (taken_by t.local earlier) (rest.said ++ more) (λ handed. after (give_all (with_handed (with_local s t.local v) handed) (taken_values i later) ts (values_at i others)) go) of.0
-          (taken_sorted i n all t.local t.ty typed earlier taken) (taken_are_below i n all t.local t.ty a below.0 earlier taken)
+      (taken_sorted i n all t.local t.ty typed earlier taken) (taken_are_below i n all t.local t.ty a below.0 earlier taken)
       (give_then ts others later next (mark true before t.local) (with_local s t.local v) more go are.1 of.1 below.1 more_taken (stands_given program entry entered all mode i n way before s t.local t.ty a typed below.0 of.0 here) h)))
     where
       some_type : (t u : Ty) → Some t ≡ Some u → t ≡ u
@@ -311,8 +312,8 @@ module _ (B : Type 0) (program : Program) (well : is_well_typed program ≡ true
       (play_as B mode i n _ _ (λ handed. after (execute_sources m (with_handed s handed) update.sources) on) (λ handed. after_after (execute_sources m (with_handed s handed) update.sources) _ go)
       (sources_then B program well groups number entry entered m m_is call_is own locals all within in_loop before update.sources mode i n way s (moved.said ++ more) on is.1 read here (λ k j text moves are.
       give_then B program entry entered m own locals all within in_loop k j given.fresh update.targets given.terms [] way before (printed_state s text) more go is.0
-          (subst (λ tys. AreOf j tys given.terms) (same_types_are (flat_map source_types update.sources) (map (λ (t : Target). t.ty) update.targets) is.2) are) giving.terms tt
-          (stands_moves program entry entered all mode k i j n given.fresh way before s (printed_state s text) giving.grows moves (λ x. refl) here) (λ t there. h k j t moves there))))
+      (subst (λ tys. AreOf j tys given.terms) (same_types_are (flat_map source_types update.sources) (map (λ (t : Target). t.ty) update.targets) is.2) are) giving.terms tt
+      (stands_moves program entry entered all mode k i j n given.fresh way before s (printed_state s text) giving.grows moves (λ x. refl) here) (λ t there. h k j t moves there))))
 
   pub optional_then : (update : Option Update) (mode : Mode) (i : Interpretation) (n : ℕ) (way : Way) (s : State) (more : List Said) (go : State → Outcome B) → may_update (place program locals own in_loop) update ≡ true → unassigned before (reads_of_update update) ≡ []
       → Stands program entry entered all mode i n way before s → Onward mode i n (assign_all before update) (pass_optional (setting B program well groups number entry entered) update way n) more go

@@ -1,3 +1,37 @@
 //! Obligations of programs: passing over statements by single assignment, with calls and loops, and what the
 //! obligations have to do with modular runs.
 #![tactic(auto)]
+
+ghost use Rattle.df_npass.specs.Laws.{WrongIsRefuted, RefutedIsWrong, ValidIsSafe, SafeIsValid, AllValidIsSafe, RefutedMemberIsWrong};
+
+/// Where a modular run of a method is wrong, an obligation of that kind at that place is refuted: by an assignment
+/// that makes all its hypotheses true and its goal false.
+pub fn wrong_is_refuted()
+    ensures { WrongIsRefuted }
+{}
+
+/// Where an obligation of a method is refuted, a modular run of it is wrong at its place by its kind, on arguments
+/// and on what is handed in at calls and loops that the assignment gives.
+pub fn refuted_is_wrong()
+    ensures { RefutedIsWrong }
+{}
+
+/// Where all obligations of a method are valid, no modular run of it is wrong.
+pub fn valid_is_safe()
+    ensures { ValidIsSafe }
+{}
+
+/// Where no modular run of a method is wrong, all its obligations are valid: none is asked for too much.
+pub fn safe_is_valid()
+    ensures { SafeIsValid }
+{}
+
+/// Where all obligations of a program over its groups are valid, the program is safe.
+pub fn all_valid_is_safe()
+    ensures { AllValidIsSafe }
+{}
+
+/// Where one of them is refuted, a modular run of the method that it is an obligation of is wrong there.
+pub fn refuted_member_is_wrong()
+    ensures { RefutedMemberIsWrong }
+{}
