@@ -2,9 +2,9 @@
 use Rattle.std.proofs.Common.{◌≡◌, ℕ, pos, true, false, List, [], ◌∷◌, map, None, Some, refl}
 use Rattle.df_lang.specs.declared.expr.Comparison.TheVariants as comparisons
 use Rattle.df_lang.specs.declared.ty.Ty.TheVariants as types
-use Rattle.df_lang.specs.Stmt.{done, next, Assert}
+use Rattle.df_lang.specs.Stmt.{done, next, Assert, Break}
 use Rattle.df_lang.specs.Program.{Program, Method}
-use Rattle.df_lang.proofs.Samples.{at, N, num, loc, compared, parity, parities, below, alone, counting, bounded, forgetting, standing, returning, broken, swapping, meeting, main_of, cheated, twos, taking, narrow, printing, staying}
+use Rattle.df_lang.proofs.Samples.{at, N, num, loc, compared, parity, parities, below, alone, counting, bounded, forgetting, standing, returning, broken, leaving, swapping, meeting, main_of, cheated, twos, taking, narrow, printing, staying}
 use Rattle.df_meaning.specs.declared.kind.Kind.{Kind}
 use Rattle.df_meaning.specs.declared.kind.Kind.TheVariants.{Assert as Asserted, Requires, Ensures, Entry, Turn, Decreases, Divisor, Range, Distinct}
 use Rattle.df_npass.specs.Methods.{Obligation, obligations_of_method}
@@ -19,12 +19,53 @@ p column kind = record { column = column; kind = kind }
 abbrev places : List Obligation → List Place
 places obligations = map (λ (o : Obligation). p o.pos.col o.kind) obligations
 
+abbrev in_groups : List ℕ → Program → ℕ → Method → List Place
+in_groups groups program number method = places (obligations_of_method program groups number method)
+
 abbrev in_program : Program → ℕ → Method → List Place
-in_program program number method = places (obligations_of_method program (0 ∷ 1 ∷ 1 ∷ []) number method)
+in_program program number method = in_groups (0 ∷ 1 ∷ 1 ∷ []) program number method
 
 even : in_program (parities below) 1 (parity true 2 below) ≡ p 2 Range ∷ p 2 Range ∷ p 2 Range ∷ p 6 Range ∷ p 2 Range ∷ p 11 Requires ∷ p 11 Decreases ∷ []
 even = refl
 
+-- the same calls, where each method is a group of its own
+even_alone : in_groups (0 ∷ 1 ∷ 2 ∷ []) (parities below) 1 (parity true 2 below) ≡ p 2 Range ∷ p 2 Range ∷ p 2 Range ∷ p 6 Range ∷ p 2 Range ∷ p 11 Requires ∷ []
+even_alone = refl
+
 -- `r := 0; while r < n invariant r <= n { r := r + 1; } assert r == n;`
 counts : in_program (alone counting) 1 counting ≡ p 2 Range ∷ p 7 Entry ∷ p 2 Range ∷ p 6 Range ∷ p 7 Turn ∷ p 14 Decreases ∷ p 15 Asserted ∷ []
 counts = refl
+
+-- behind a `break` no turn ends, so nothing is owed there
+breaks : in_program (alone broken) 1 broken ≡ p 2 Range ∷ p 2 Range ∷ p 6 Range ∷ p 2 Range ∷ p 15 Asserted ∷ []
+breaks = refl
+
+-- a loop ends inside two ifs: the other runs come to the end of the turn
+leaves : in_program (alone (leaving (Break (at 16)))) 1 (leaving (Break (at 16))) ≡ p 2 Range ∷ p 2 Range ∷ p 6 Range ∷ p 2 Range ∷ p 14 Decreases ∷ p 2 Range ∷ p 6 Range ∷ []
+leaves = refl
+
+-- a `return` in a loop: the postcondition is owed once, of all ends
+returns : in_program (alone returning) 1 returning ≡ p 2 Range ∷ p 2 Range ∷ p 2 Range ∷ p 7 Ensures ∷ []
+returns = refl
+
+-- an assertion that no run comes to is owed; and the measure of a loop without members, which never falls
+stays : in_program (alone staying) 1 staying ≡ p 2 Range ∷ p 17 Asserted ∷ p 14 Decreases ∷ p 2 Range ∷ p 15 Asserted ∷ []
+stays = refl
+
+-- two results of one call, each narrowed
+narrows : in_groups (0 ∷ 1 ∷ 2 ∷ []) (twos (taking narrow narrow types.Nat types.Nat)) 2 (taking narrow narrow types.Nat types.Nat) ≡ p 11 Range ∷ p 11 Range ∷ []
+narrows = refl
+
+-- a call as a right side, and what is known of what it gave
+calls : in_groups (0 ∷ 1 ∷ 2 ∷ []) cheated 2 main_of ≡ p 2 Range ∷ p 2 Range ∷ p 15 Asserted ∷ []
+calls = refl
+
+swaps : in_program (alone swapping) 1 swapping ≡ p 2 Range ∷ p 2 Range ∷ []
+swaps = refl
+
+-- places that meet are owed equal values
+meets : in_program (alone (meeting (loc 0))) 1 (meeting (loc 0)) ≡ p 2 Range ∷ p 2 Range ∷ p 20 Distinct ∷ []
+meets = refl
+
+prints : in_program (alone printing) 1 printing ≡ []
+prints = refl

@@ -1,21 +1,26 @@
 -- The laws of terms.
-use Rattle.std.proofs.Common.{◌≡◌, ◌⊎◌, inl, inr, true, List, [], ◌∷◌, is_some, Some, refl, sym, ap, subst, ◌∙◌}
+use Rattle.std.proofs.Common.{◌≡◌, ◌⊎◌, inl, inr, true, List, [], ◌∷◌, ◌++◌, map, is_some, Some, refl, sym, ap, subst, ◌∙◌}
+use Rattle.std.specs.List.{list_all, flat_map}
 use Rattle.df_lang.specs.declared.ty.Ty.{Ty}
 use Rattle.df_lang.specs.Expr.{Expr}
+use Rattle.df_lang.specs.Stmt.{Measure}
 use Rattle.df_lang.specs.Typing.{is_expr}
 use Rattle.df_lang.specs.Assignment.{Use, Reached, reads, unassigned}
 use Rattle.df_mean.specs.Value.{Value}
-use Rattle.df_mean.specs.Outcome.{Outcome, Gives, Dismissed}
+use Rattle.df_mean.specs.Outcome.{Outcome, Gives, Dismissed, after}
 use Rattle.df_mean.specs.State.{State}
 use Rattle.df_mean.specs.Meaning.{Meaning}
 use Rattle.df_mean.specs.Evaluation.{evaluate}
+use Rattle.df_mean.specs.Modular.{measure_values}
+use Rattle.df_mean.proofs.Cases.{both}
 use Rattle.df_mean.proofs.Same.{evaluate_same}
 use Rattle.df_mean.proofs.Counting.{evaluate_counts, not_dismissed, use_there}
 use Rattle.df_nterm.specs.Meaning.{Interpretation, value}
 use Rattle.df_nterm.specs.Expressions.{Environment, term_of, conditions_of}
-use Rattle.df_nterm.specs.Laws.{Agrees, AgreesOn, told, EvaluationIsAnswered, BelowIsOrder}
-use Rattle.df_nterm.proofs.Told.{IsOr}
-use Rattle.df_nterm.proofs.Sorted.{Holds, HoldsOn}
+use Rattle.df_nterm.specs.Measuring.{Measured, measured, conditions_of_measure}
+use Rattle.df_nterm.specs.Laws.{Agrees, AgreesOn, told, EvaluationIsAnswered, MeasuresAreAnswered, BelowIsOrder}
+use Rattle.df_nterm.proofs.Told.{IsOr, told_appended, told_after}
+use Rattle.df_nterm.proofs.Sorted.{Holds, HoldsOn, term_sorted}
 use Rattle.df_nterm.proofs.Answering.{over, evaluation_told}
 use Rattle.df_nterm.proofs.Ordering.{below_orders}
 
@@ -49,3 +54,26 @@ evaluation_is_answered m i locals env s ty e same is agrees = counted (evaluatio
 
 pub below_is_order : BelowIsOrder
 below_is_order = below_orders
+
+-- ---- measures
+
+agrees_split : (i : Interpretation) (locals : List Ty) (env : Environment) (s : State) (uses more : List Use) → AgreesOn i locals env s (uses ++ more) → AgreesOn i locals env s uses × AgreesOn i locals env s more
+agrees_split i locals env s [] more h = (tt, h)
+agrees_split i locals env s (u ∷ uses) more h = let rest = agrees_split i locals env s uses more h.1 in ((h.0, rest.0), rest.1)
+
+pub measures_are_answered : MeasuresAreAnswered
+measures_are_answered m i locals env s [] same are agrees = (refl, tt)
+measures_are_answered m i locals env s (measure ∷ others) same are agrees =
+    let are = both (is_expr m.program locals measure.ty measure.value) (list_all (λ (one : Measure). is_expr m.program locals one.ty one.value) others) are in
+    let agrees = agrees_split i locals env s (reads measure.value) (flat_map (λ (one : Measure). reads one.value) others) agrees in
+    let v = value i (term_of env measure.value) in
+    let vs = map (λ (one : Measured). value i one.value) (measured env others) in
+    let conditions = conditions_of env measure.value in
+    let more = conditions_of_measure env others in
+    let first = evaluation_is_answered m i locals env s measure.ty measure.value same are.0 agrees.0 in
+    let rest = measures_are_answered m i locals env s others same are.1 agrees.1 in
+    let on : Value → Outcome (List Value) = (λ w. after (measure_values m s others) (λ ws. Gives (w ∷ ws))) in
+    let told_is : measure_values m s (measure ∷ others) ≡ told i (conditions ++ more) (Gives (v ∷ vs)) =
+    ap (λ o. after o on) first ∙ (told_after i conditions (Gives v) on ∙ (ap (λ o. told i conditions (after o (λ ws. Gives (v ∷ ws)))) rest.0
+    ∙ (ap (told i conditions) (told_after i more (Gives vs) (λ ws. Gives (v ∷ ws))) ∙ sym (told_appended i conditions more (Gives (v ∷ vs)))))) in
+    (told_is, (term_sorted i m.program locals env s measure.value measure.ty are.0 (agrees_holds i locals env s (reads measure.value) agrees.0), rest.1))

@@ -1,8 +1,9 @@
 -- What terms of expressions have to do with their values.
 use Rattle.std.specs.Prelude.{◌≡◌, ℕ, true, List, [], ◌∷◌, Some, if◌then◌else◌, map, slice_get}
-use Rattle.std.specs.List.{AllByRecursion}
+use Rattle.std.specs.List.{AllByRecursion, list_all, flat_map}
 use Rattle.df_lang.specs.declared.ty.Ty.{Ty}
 use Rattle.df_lang.specs.Expr.{Expr}
+use Rattle.df_lang.specs.Stmt.{Measure}
 use Rattle.df_lang.specs.Typing.{is_expr}
 use Rattle.df_lang.specs.Assignment.{Use, reads}
 use Rattle.df_mean.specs.Value.{Value, Truth}
@@ -10,12 +11,13 @@ use Rattle.df_mean.specs.Outcome.{Outcome, Gives, Wrong}
 use Rattle.df_mean.specs.State.{State}
 use Rattle.df_mean.specs.Meaning.{Meaning}
 use Rattle.df_mean.specs.Evaluation.{evaluate}
+use Rattle.df_mean.specs.Modular.{measure_values}
 use Rattle.df_mean.specs.Order as order
 use Rattle.df_nterm.specs.Term.{Term, sort_of_type}
 use Rattle.df_nterm.specs.Meaning.{Interpretation, has_sort, value, truth}
 use Rattle.df_nterm.specs.Meaning as meanings
 use Rattle.df_nterm.specs.Expressions.{Environment, Condition, term_of, conditions_of}
-use Rattle.df_nterm.specs.Measuring.{Measured, are_below}
+use Rattle.df_nterm.specs.Measuring.{Measured, measured, conditions_of_measure, are_below}
 
 -- a local that is read has a value of the sort of its type, which is that of its term
 pub record Agrees (i : Interpretation) (locals : List Ty) (env : Environment) (s : State) (local : ℕ) : Type 0 where
@@ -43,6 +45,14 @@ EvaluationIsAnswered = (m : Meaning) (i : Interpretation) (locals : List Ty) (en
 -- each has a value of its sort
 abbrev pub AreMeasured : Interpretation → List Measured → Type 0
 AreMeasured i members = AllByRecursion (λ (one : Measured). has_sort (sort_of_type one.ty) (value i one.value) ≡ true) members
+
+-- The first condition that is false tells where the evaluation of a measure is wrong; where all are true its members
+-- have the values of their terms, each of the sort of its type.
+abbrev pub MeasuresAreAnswered : Type 0
+MeasuresAreAnswered = (m : Meaning) (i : Interpretation) (locals : List Ty) (env : Environment) (s : State) (measures : List Measure)
+    → i.program ≡ m.program → list_all (λ (measure : Measure). is_expr m.program locals measure.ty measure.value) measures ≡ true
+    → AgreesOn i locals env s (flat_map (λ (measure : Measure). reads measure.value) measures)
+    → (measure_values m s measures ≡ told i (conditions_of_measure env measures) (Gives (map (λ (one : Measured). value i one.value) (measured env measures)))) × AreMeasured i (measured env measures)
 
 -- the formula is the order on the values
 abbrev pub BelowIsOrder : Type 0
