@@ -1,8 +1,7 @@
 -- Terms of arguments and results: a method begins with their values.
-use Rattle.std.proofs.Common.{◌≡◌, ℕ, zero, suc, pos, ◌+◌, ◌<◌, Bool, true, false, ◌&&◌, List, [], ◌∷◌, ◌++◌, map, length, slice_get, slice_index_or, Option, None, Some, refl, sym, ap, ◌∙◌, subst, arith}
+use Rattle.std.proofs.Common.{◌≡◌, ℕ, zero, suc, true, List, [], ◌∷◌, ◌++◌, length, slice_get, Some, refl, ap, ◌∙◌, subst}
 use Rattle.std.proofs.lemmas.List.{length-map}
 use Rattle.df_lang.specs.declared.ty.Ty.{Ty}
-use Rattle.df_lang.specs.Expr.{Expr}
 use Rattle.df_lang.specs.Program.{Param, types_of}
 use Rattle.df_lang.specs.Typing.{same_type, are_same_types}
 use Rattle.df_mean.specs.Value.{Value}
@@ -14,7 +13,6 @@ use Rattle.df_mean.proofs.DefiniteRuns.{first_locals, begun_assigned}
 use Rattle.df_nterm.specs.Term.{Term}
 use Rattle.df_nterm.specs.Meaning.{Interpretation}
 use Rattle.df_nterm.specs.Meaning as meanings
-use Rattle.df_nterm.specs.Expressions.{Environment, term_of}
 use Rattle.df_nterm.proofs.Sorted.{IsSorted}
 use Rattle.df_nterm.proofs.Below.{SameBelow, value_same}
 use Rattle.df_npass.specs.Rules.{Way, over}

@@ -1,29 +1,26 @@
 -- A method begins with its arguments; passing over the whole of it tells of its runs.
-use Rattle.std.proofs.Common.{◌≡◌, ◌⊎◌, inl, inr, ℕ, zero, suc, pos, ◌≤◌, ◌<◌, ◌+◌, Bool, true, false, ◌&&◌, if◌then◌else◌, List, [], ◌∷◌, ◌++◌, map, length, slice_get, slice_index_or, Option, None, Some, refl, sym, ap, ◌∙◌, subst, length-append, arith}
+use Rattle.std.proofs.Common.{◌≡◌, ℕ, zero, suc, pos, ◌≤◌, ◌+◌, true, false, List, [], ◌∷◌, ◌++◌, map, length, slice_get, slice_index_or, Option, None, Some, refl, sym, ◌∙◌, subst, length-append, arith}
 use Rattle.std.proofs.lemmas.Bool.{ltb-true, lt-ltb}
 use Rattle.std.proofs.lemmas.List.{length-map}
-use Rattle.std.specs.List.{list_all}
 use Rattle.std.specs.Option.{option_map_or}
 use Rattle.df_lang.specs.declared.ty.Ty.{Ty}
-use Rattle.df_lang.specs.declared.ty.Ty.TheVariants as types
 use Rattle.df_lang.specs.Stmt.{Measure}
 use Rattle.df_lang.specs.Program.{Param, Method, Program, types_of}
 use Rattle.df_lang.specs.Measures.{method_measure}
-use Rattle.df_lang.specs.Typing.{is_type, is_method, is_well_typed, locals_after_all}
-use Rattle.df_lang.specs.Assignment.{Assigned, has_value, at_entry, results_at, unassigned, unassigned_in, reads_of_clauses, reads_of_measures, Flowing, flow_all}
+use Rattle.df_lang.specs.Typing.{is_method, is_well_typed}
+use Rattle.df_lang.specs.Assignment.{at_entry, results_at, unassigned, unassigned_in, reads_of_clauses, reads_of_measures, Flowing, flow_all}
 use Rattle.df_mean.specs.Value.{Value}
 use Rattle.df_mean.specs.Outcome.{Outcome, after}
-use Rattle.df_mean.specs.State.{Handed, State, Store, store_with, begin}
-use Rattle.df_mean.specs.Meaning as flows
+use Rattle.df_mean.specs.State.{State, store_with, begin}
 use Rattle.df_mean.specs.Definite.{AreDeclared}
-use Rattle.df_mean.specs.Execution.{check_all, execute_all}
+use Rattle.df_mean.specs.Execution.{check_all}
 use Rattle.df_mean.specs.Whole.{end_of, run_body}
-use Rattle.df_mean.specs.Modular.{assume_all as assume_each, measure_values, modular, modular_run, plain_meaning, Running}
+use Rattle.df_mean.specs.Modular.{measure_values, modular, modular_run, plain_meaning, Running}
 use Rattle.df_meaning.specs.declared.kind.Kind.TheVariants as kinds
 use Rattle.df_mean.proofs.Counting.{nothing_missing}
-use Rattle.df_mean.proofs.Assigning.{Carries, all_carry}
+use Rattle.df_mean.proofs.Assigning.{all_carry}
 use Rattle.df_mean.proofs.Stating.{Within, before_all, within_front}
-use Rattle.df_mean.proofs.DefiniteRuns.{first_locals, first_have, begun_assigned}
+use Rattle.df_mean.proofs.DefiniteRuns.{first_locals, begun_assigned}
 use Rattle.df_mean.proofs.Modulars.{program_of_modular}
 use Rattle.df_nterm.specs.Term.{Sort, Numbers, Truths, Characters, Term, literal, sort_of_type}
 use Rattle.df_nterm.specs.Meaning.{Interpretation, has_sort}
@@ -34,17 +31,17 @@ use Rattle.df_nterm.proofs.Sorted.{IsSorted}
 use Rattle.df_nterm.proofs.Below.{IsBelow}
 use Rattle.df_npass.specs.Rules.{Said, Way}
 use Rattle.df_npass.specs.Statements.{any_values, assert_measure, pass_all}
-use Rattle.df_npass.specs.Methods.{locals_of, some_term, unset, way_in, require_all, ended, setting_of, pass_method}
-use Rattle.df_npass.proofs.Playing.{Mode, Following, Taking, is_taking, Play}
-use Rattle.df_npass.proofs.Proper.{EnvBelow, MeasureBelow, measured_below}
+use Rattle.df_npass.specs.Methods.{locals_of, some_term, unset, way_in, require_all, ended, setting_of}
+use Rattle.df_npass.proofs.Playing.{Mode, is_taking, Play}
+use Rattle.df_npass.proofs.Proper.{EnvBelow, measured_below}
 use Rattle.df_npass.proofs.Leading.{TermsBelow, any_giving}
-use Rattle.df_npass.proofs.Flowing.{Flows, all_flows}
+use Rattle.df_npass.proofs.Flowing.{all_flows}
 use Rattle.df_npass.proofs.Reading.{values_at, AreOf, with_handed, SortedAll, Sits, require_then, measures_then}
 use Rattle.df_npass.proofs.Arguments.{of_long}
 use Rattle.df_npass.proofs.Measures.{method_measure_typed}
 use Rattle.df_npass.proofs.Calling.{Contract, contract_of, first_read, measure_read}
 use Rattle.df_npass.proofs.Declaring.{types_after_all}
-use Rattle.df_npass.proofs.Loops.{nesting_all, few, back, HasParameters}
+use Rattle.df_npass.proofs.Loops.{nesting_all, few, HasParameters}
 use Rattle.df_npass.proofs.Passing.{stmts_then}
 use Rattle.df_npass.proofs.Ending.{ended_onward}
 

@@ -1,26 +1,26 @@
 -- Branches, and what goes on where they come together.
-use Rattle.std.proofs.Common.{◌≡◌, ◌⊎◌, inl, inr, ℕ, ◌≤◌, Bool, true, false, not, ◌||◌, if◌then◌else◌, List, [], ◌∷◌, ◌++◌, Option, None, Some, refl, sym, ap, ◌∙◌, subst, append_assoc, le_trans, le_refl}
+use Rattle.std.proofs.Common.{◌≡◌, inl, ℕ, Bool, true, false, if◌then◌else◌, List, ◌++◌, Option, sym, ap, ◌∙◌, subst}
 use Rattle.df_lang.specs.declared.ty.Ty.{Ty}
 use Rattle.df_lang.specs.Assignment.{Assigned, has_value, join as meet, Flowing}
-use Rattle.df_mean.specs.Outcome.{Outcome, after}
+use Rattle.df_mean.specs.Outcome.{Outcome}
 use Rattle.df_mean.specs.State.{Handed, State}
 use Rattle.df_mean.specs.Meaning as flows
 use Rattle.df_mean.specs.Modular.{Changed}
 use Rattle.df_mean.specs.Agreement.{is_changed}
 use Rattle.df_mean.proofs.Changing.{are_there}
-use Rattle.df_nterm.specs.Term.{Term, negation}
-use Rattle.df_nterm.specs.Meaning.{Interpretation, truth}
-use Rattle.df_nterm.proofs.Below.{IsBelow, SameBelow}
-use Rattle.df_npass.specs.Rules.{Said, Way, narrowed, narrowed_path, paths_of, any_path, join}
+use Rattle.df_nterm.specs.Term.{Term}
+use Rattle.df_nterm.specs.Meaning.{Interpretation}
+use Rattle.df_nterm.proofs.Below.{SameBelow}
+use Rattle.df_npass.specs.Rules.{Said, Way, paths_of, any_path, join}
 use Rattle.df_npass.specs.Statements.{Flow, Parted, ways_of, last_of, first_of, path_behind, rejoined}
-use Rattle.df_npass.proofs.Saying.{AllTrue, path_true, all_appended, narrowed_true, narrowed_false}
-use Rattle.df_npass.proofs.Playing.{Mode, Moves, moves_here, moves_then, same_itself, same_then, Play, play_as, play_behind, play_later, truth_same}
-use Rattle.df_npass.proofs.Proper.{PathBelow, EnvBelow, narrowed_below, path_grows, env_grows}
-use Rattle.df_npass.proofs.Leading.{AllLead, Reaches, JoinGoing, join_going, any_path_reaches}
+use Rattle.df_npass.proofs.Saying.{path_true, all_appended}
+use Rattle.df_npass.proofs.Playing.{Mode, Moves, moves_here, moves_then, same_itself, same_then, Play, play_behind, play_later}
+use Rattle.df_npass.proofs.Proper.{PathBelow, EnvBelow, path_grows, env_grows}
+use Rattle.df_npass.proofs.Leading.{Reaches, JoinGoing, join_going, any_path_reaches}
 use Rattle.df_npass.proofs.Staying.{AllStay}
 use Rattle.df_npass.proofs.Flowing.{Flows, Parts}
-use Rattle.df_npass.proofs.Reading.{SortedAll, Sits}
-use Rattle.df_npass.proofs.Coming.{AllOff, OneSits, off_append, off_left, off_right, off_lead, off_moves, path_same, sorted_moves, one_left, one_right, one_less, one_reached, reached_left, reached_right, join_left, join_right}
+use Rattle.df_npass.proofs.Reading.{SortedAll}
+use Rattle.df_npass.proofs.Coming.{AllOff, OneSits, off_append, off_lead, off_moves, path_same, sorted_moves, one_left, one_right, one_less, one_reached, reached_left, reached_right, join_left, join_right}
 use Rattle.df_npass.proofs.Joining.{Many, join_then}
 use Rattle.df_npass.proofs.Leaving.{no_path, one_path, join_off_said, join_off_way}
 use Rattle.df_npass.proofs.Sequencing.{hand, Comes, Onward, or_left, or_right}

@@ -1,5 +1,5 @@
 -- Calls go on from any results that meet what the callee ensures.
-use Rattle.std.proofs.Common.{◌≡◌, ◌⊎◌, inl, inr, ℕ, ◌≤◌, ◌<◌, ◌==◌, Bool, true, false, ◌&&◌, if◌then◌else◌, List, [], ◌∷◌, ◌++◌, map, length, Option, None, Some, refl, sym, ap, ◌∙◌, subst, append_assoc, arith}
+use Rattle.std.proofs.Common.{◌≡◌, ℕ, ◌≤◌, ◌==◌, Bool, true, false, ◌&&◌, if◌then◌else◌, List, [], ◌∷◌, ◌++◌, map, length, Option, Some, refl, sym, ap, ◌∙◌, subst, append_assoc, arith}
 use Rattle.std.proofs.lemmas.List.{length-map}
 use Rattle.std.specs.List.{list_all}
 use Rattle.std.specs.Option.{option_map_or}
@@ -14,9 +14,8 @@ use Rattle.df_lang.specs.Assignment.{reads_of_clauses, reads_of_measures, unassi
 use Rattle.df_meaning.specs.declared.kind.Kind.{Kind}
 use Rattle.df_meaning.specs.declared.kind.Kind.TheVariants as kinds
 use Rattle.df_mean.specs.Value.{Value, truth_of}
-use Rattle.df_mean.specs.Value as values
 use Rattle.df_mean.specs.Outcome.{Outcome, Gives, Wrong, TooDeep, NoChoice, Dismissed, after}
-use Rattle.df_mean.specs.State.{Handed, State, Store, store_with, begin}
+use Rattle.df_mean.specs.State.{Handed, State, store_with, begin}
 use Rattle.df_mean.specs.Meaning.{Returned}
 use Rattle.df_mean.specs.Order as order
 use Rattle.df_mean.specs.Whole.{check_call}
@@ -32,7 +31,7 @@ use Rattle.df_nterm.specs.Meaning as meanings
 use Rattle.df_nterm.specs.Measuring.{Measured, measured, are_below}
 use Rattle.df_nterm.specs.Laws.{AreMeasured}
 use Rattle.df_nterm.proofs.Sorted.{IsSorted}
-use Rattle.df_nterm.proofs.Below.{IsBelow, SameBelow, value_same}
+use Rattle.df_nterm.proofs.Below.{SameBelow, value_same}
 use Rattle.df_nterm.proofs.Ordering.{below_orders}
 use Rattle.df_npass.specs.Rules.{Said, Way, over, assert}
 use Rattle.df_npass.specs.Statements.{Setting, assert_clauses, assume_clauses, assert_measure, env_of, any_values, assert_decrease, pass_method_call}

@@ -1,7 +1,6 @@
 -- Behind an `if` each local that has a value has the term that it had before, or is joined.
-use Rattle.std.proofs.Common.{◌≡◌, ◌⊎◌, inl, inr, ◌≤◌, ◌<◌, ℕ, ◌==◌, Bool, true, false, ◌&&◌, ◌||◌, if◌then◌else◌, List, [], ◌∷◌, ◌++◌, map, length, Option, None, Some, refl, sym, ap, ◌∙◌, subst, arith}
+use Rattle.std.proofs.Common.{◌≡◌, ◌<◌, ℕ, ◌==◌, Bool, true, false, ◌&&◌, if◌then◌else◌, List, [], ◌∷◌, ◌++◌, map, length, Option, None, Some, refl, sym, ◌∙◌, arith}
 use Rattle.std.proofs.lemmas.Bool.{ne_eqb}
-use Rattle.std.specs.List.{list_all, list_any}
 use Rattle.std.specs.Option.{option_map_or}
 use Rattle.df_lang.specs.declared.ty.Ty.{Ty}
 use Rattle.df_lang.specs.declared.ty.Ty.TheVariants as types
@@ -17,14 +16,14 @@ use Rattle.df_mean.proofs.Assigning.{place, all_grow, branches_grow}
 use Rattle.df_nterm.specs.Term.{Term, negation}
 use Rattle.df_nterm.specs.Expressions.{Environment, term_of}
 use Rattle.df_npass.specs.Rules.{Way, narrowed, join}
-use Rattle.df_npass.specs.Statements.{Setting, Flow, followed_by, then_next, ways_of, Parted, declared_by_all, declared_by_branches, each_once, changed_outside, changed_in_branches, changed_outside_if, pass_stmt, pass_all, pass_branches}
+use Rattle.df_npass.specs.Statements.{Setting, Flow, followed_by, ways_of, Parted, declared_by_all, each_once, changed_outside, changed_in_branches, changed_outside_if, pass_stmt, pass_all, pass_branches}
 use Rattle.df_npass.proofs.Staying.{AllStay, neither, in_both, unchanged, all_stay, branches_stay}
 use Rattle.df_npass.proofs.Coming.{IsReached, reached_left, reached_right, join_left, join_right}
 use Rattle.df_npass.proofs.Turning.{once_there}
 use Rattle.df_npass.proofs.Handing.{by_bool}
 use Rattle.df_npass.proofs.Playing.{apart}
 use Rattle.df_npass.proofs.Joining.{Many}
-use Rattle.df_npass.proofs.Declaring.{is_declared, all_past, branches_past, all_there}
+use Rattle.df_npass.proofs.Declaring.{is_declared, all_past, all_there}
 
 -- ---- what has no value keeps none
 

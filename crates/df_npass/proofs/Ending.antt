@@ -1,16 +1,13 @@
 -- Where a method ends its postconditions are owed.
-use Rattle.std.proofs.Common.{◌≡◌, ◌⊎◌, inl, inr, ℕ, zero, suc, ◌≤◌, ◌<◌, ◌+◌, ◌==◌, nat_lt, Bool, true, false, ◌&&◌, ◌||◌, if◌then◌else◌, List, [], ◌∷◌, ◌++◌, map, length, slice_get, slice_index_or, Option, None, Some, refl, sym, ap, ◌∙◌, subst, append_assoc, append-nil, length-append, arith, le_trans}
-use Rattle.std.proofs.lemmas.Bool.{eq-eqb, ltb-true, lt-ltb, cases_lt}
+use Rattle.std.proofs.Common.{◌≡◌, ◌⊎◌, inl, inr, ℕ, suc, ◌≤◌, ◌<◌, ◌+◌, ◌==◌, Bool, true, false, ◌||◌, List, [], ◌∷◌, ◌++◌, length, slice_get, Option, None, Some, refl, sym, ap, ◌∙◌, subst, append_assoc, append-nil, arith}
+use Rattle.std.proofs.lemmas.Bool.{eq-eqb, ltb-true, cases_lt}
 use Rattle.std.proofs.lemmas.List.{length-map}
-use Rattle.std.specs.List.{list_all}
 use Rattle.std.specs.Option.{option_map_or}
 use Rattle.df_lang.specs.declared.ty.Ty.{Ty}
-use Rattle.df_lang.specs.Stmt.{Clause}
 use Rattle.df_lang.specs.Program.{Param, Method, Program, types_of}
-use Rattle.df_lang.specs.Typing.{same_type, is_expr, are_clauses, are_stmts}
-use Rattle.df_lang.specs.Assignment.{Assigned, has_value, at_entry, results_at, unassigned, Flowing, flow_all}
+use Rattle.df_lang.specs.Typing.{same_type, are_clauses}
+use Rattle.df_lang.specs.Assignment.{Assigned, has_value, results_at, unassigned}
 use Rattle.df_meaning.specs.declared.kind.Kind.TheVariants as kinds
-use Rattle.df_mean.specs.Value.{Value}
 use Rattle.df_mean.specs.Outcome.{Outcome, Gives, Wrong, TooDeep, NoChoice, Dismissed, after}
 use Rattle.df_mean.specs.State.{Handed, State}
 use Rattle.df_mean.specs.Meaning.{Meaning}
@@ -24,24 +21,22 @@ use Rattle.df_mean.proofs.Changing.{are_there}
 use Rattle.df_mean.proofs.Stating.{Within, same_self}
 use Rattle.df_nterm.specs.Term.{Term}
 use Rattle.df_nterm.specs.Meaning.{Interpretation}
-use Rattle.df_nterm.specs.Expressions.{Environment}
-use Rattle.df_nterm.proofs.Below.{SameBelow}
 use Rattle.df_npass.specs.Rules.{Said, Way, paths_of, any_path, Joined, join}
 use Rattle.df_npass.specs.Statements.{Flow, ways_of, last_of, at_clause, assert_clauses}
 use Rattle.df_npass.specs.Methods.{way_in, locals_from, ended}
-use Rattle.df_npass.proofs.Saying.{AllTrue, path_true, all_appended}
-use Rattle.df_npass.proofs.Playing.{Mode, Following, Taking, Moves, moves_then, Play, play_as, play_silent, play_over}
-use Rattle.df_npass.proofs.Proper.{PathBelow, EnvBelow, env_grows, clauses_proper}
+use Rattle.df_npass.proofs.Saying.{AllTrue, all_appended}
+use Rattle.df_npass.proofs.Playing.{Mode, Following, Taking, Moves, Play, play_as, play_silent, play_over}
+use Rattle.df_npass.proofs.Proper.{EnvBelow, env_grows, clauses_proper}
 use Rattle.df_npass.proofs.Leading.{AllLead, append_lead, JoinGoing, join_going, any_path_reaches}
 use Rattle.df_npass.proofs.Staying.{AllStay}
 use Rattle.df_npass.proofs.Flowing.{Flows}
-use Rattle.df_npass.proofs.Reading.{with_handed, SortedAll, Sits, check_then}
+use Rattle.df_npass.proofs.Reading.{with_handed, SortedAll, check_then}
 use Rattle.df_npass.proofs.Coming.{AllOff, OneSits, off_append, sorted_moves, one_left, one_right, one_less}
 use Rattle.df_npass.proofs.Calling.{first_read}
 use Rattle.df_npass.proofs.Joining.{join_then}
 use Rattle.df_npass.proofs.Leaving.{no_path, one_path, join_off_said, join_off_way}
 use Rattle.df_npass.proofs.Sequencing.{hand, Comes, Onward, ended_then}
-use Rattle.df_npass.proofs.Loops.{few, back, HasParameters, back_has}
+use Rattle.df_npass.proofs.Loops.{back, HasParameters, back_has}
 
 -- ---- the first locals
 

@@ -1,23 +1,19 @@
 -- Statements lead on.
-use Rattle.std.proofs.Common.{◌≡◌, ℕ, suc, ◌≤◌, Bool, true, false, if◌then◌else◌, List, [], ◌∷◌, ◌++◌, Option, None, Some, refl, sym, ap, ◌∙◌, subst, le_trans, le_refl}
-use Rattle.std.specs.List.{AllByRecursion, flat_map}
+use Rattle.std.proofs.Common.{◌≡◌, ℕ, ◌≤◌, Bool, true, false, if◌then◌else◌, List, [], ◌∷◌, Option, None, Some, refl, subst, le_trans, le_refl}
 use Rattle.std.specs.Option.{option_map_or}
 use Rattle.df_base.specs.declared.pos.Pos.{Pos}
-use Rattle.df_lang.specs.Expr.{Expr}
-use Rattle.df_lang.specs.Stmt.{Operand, Update, Variable, Clause, Measure, Stmt, Block, Var, Assign, CallOf, If, While, Break, Return, Assert, Print, Stmts, done, next, Branches, no_branch, branch}
+use Rattle.df_lang.specs.Stmt.{Clause, Measure, Stmt, Block, Var, Assign, CallOf, If, While, Break, Return, Assert, Print, Stmts, done, next, Branches, no_branch, branch}
 use Rattle.df_lang.specs.Measures.{loop_measure}
 use Rattle.df_meaning.specs.declared.kind.Kind.TheVariants as kinds
 use Rattle.df_mean.specs.Modular.{Changed}
 use Rattle.df_nterm.specs.Term.{Term, negation}
-use Rattle.df_nterm.specs.Meaning.{Interpretation}
 use Rattle.df_nterm.specs.Expressions.{term_of}
-use Rattle.df_nterm.specs.Measuring.{Measured, measured, are_below}
-use Rattle.df_nterm.proofs.Below.{IsBelow, term_below}
-use Rattle.df_npass.specs.Rules.{Said, Way, narrowed, narrowed_path, over, assert, Moved, havoc, paths_of, any_path, join}
-use Rattle.df_npass.specs.Statements.{Setting, Flow, saying, goes_on, behind, followed_by, then_next, at_clause, assert_clauses, assume_clauses, assert_expr, assert_measure, assert_operand, pass_call, pass_update, pass_optional, changed_outside, changed_outside_if, Parted, ways_of, last_of, first_of, path_behind, rejoined, assert_turn, behind_loop, pass_stmt, pass_all, pass_branches}
-use Rattle.df_npass.proofs.Saying.{path_true, narrowed_false}
-use Rattle.df_npass.proofs.Proper.{PathBelow, EnvBelow, Proper, path_grows, env_grows, proper_grows, nothing_proper, append_proper, wider, owed_proper, expr_proper, clauses_proper, handed_proper, measure_proper, operands_proper, MeasureBelow, measured_below, measure_grows, order_below}
-use Rattle.df_npass.proofs.Leading.{Leads, AllLead, lead_grows, all_lead_grow, append_lead, itself, farther, farther_proper, narrowed_leads, Going, Giving, havoc_going, Reaches, reach_grows, JoinGoing, join_going, any_path_reaches, call_giving, update_going, optional_going}
+use Rattle.df_nterm.specs.Measuring.{Measured, measured}
+use Rattle.df_nterm.proofs.Below.{term_below}
+use Rattle.df_npass.specs.Rules.{Said, Way, narrowed, Moved, havoc, paths_of, any_path, join}
+use Rattle.df_npass.specs.Statements.{Setting, Flow, saying, goes_on, behind, followed_by, then_next, at_clause, assert_clauses, assume_clauses, assert_expr, assert_measure, changed_outside, changed_outside_if, Parted, ways_of, first_of, path_behind, rejoined, assert_turn, behind_loop, pass_stmt, pass_all, pass_branches}
+use Rattle.df_npass.proofs.Proper.{PathBelow, EnvBelow, Proper, path_grows, env_grows, proper_grows, nothing_proper, append_proper, owed_proper, expr_proper, clauses_proper, handed_proper, measure_proper, operands_proper, MeasureBelow, measured_below, measure_grows, order_below}
+use Rattle.df_npass.proofs.Leading.{Leads, AllLead, lead_grows, all_lead_grow, append_lead, itself, farther, farther_proper, narrowed_leads, Going, havoc_going, Reaches, join_going, any_path_reaches, call_giving, update_going, optional_going}
 
 pub record Flows (fresh : ℕ) (path : Option Term) (flow : Flow) : Type 0 where
   pub grows : fresh ≤ flow.fresh

@@ -1,5 +1,5 @@
 -- The turn of a loop that is handed in, and the free terms of the locals that it changes.
-use Rattle.std.proofs.Common.{◌≡◌, ℕ, zero, suc, pos, ◌≤◌, ◌==◌, Bool, true, false, ◌&&◌, ◌||◌, if◌then◌else◌, List, [], ◌∷◌, ◌++◌, slice_get, is_some, Option, None, Some, refl, sym, ap, ◌∙◌, subst, append-nil}
+use Rattle.std.proofs.Common.{◌≡◌, ℕ, suc, ◌==◌, Bool, true, false, ◌||◌, if◌then◌else◌, List, [], ◌∷◌, slice_get, Option, None, Some, refl, sym, ap, ◌∙◌, subst}
 use Rattle.std.proofs.lemmas.Bool.{eqb-true, eq-eqb}
 use Rattle.std.specs.List.{list_all}
 use Rattle.std.specs.Option.{option_map_or}
@@ -8,27 +8,25 @@ use Rattle.df_lang.specs.Program.{Program}
 use Rattle.df_lang.specs.Typing.{same_type, is_type, is_well_typed}
 use Rattle.df_mean.specs.Value.{Value}
 use Rattle.df_mean.specs.Types.{has_type}
-use Rattle.df_mean.specs.Outcome.{Outcome, Gives, Dismissed}
-use Rattle.df_mean.specs.State.{Handed, Given as HandedGiven, Turned, State, Store, Locals, store_with, with_store}
-use Rattle.df_mean.specs.Modular.{Changed, may_have, turned, handed_turn}
+use Rattle.df_mean.specs.State.{Locals}
+use Rattle.df_mean.specs.Modular.{Changed, may_have}
 use Rattle.df_mean.specs.Agreement.{is_changed}
-use Rattle.df_mean.proofs.Cases.{both, joined}
+use Rattle.df_mean.proofs.Cases.{both}
 use Rattle.df_mean.proofs.Types.{same_type_equal}
 use Rattle.df_mean.proofs.Changing.{are_there}
-use Rattle.df_nterm.specs.Term.{Term, sort_of_type}
+use Rattle.df_nterm.specs.Term.{Term}
 use Rattle.df_nterm.specs.Meaning.{Interpretation}
 use Rattle.df_nterm.specs.Meaning as meanings
 use Rattle.df_nterm.specs.Expressions.{Environment}
 use Rattle.df_nterm.proofs.Sorted.{IsSorted, typed_sorted}
 use Rattle.df_nterm.proofs.Below.{SameBelow, value_same}
-use Rattle.df_npass.specs.Rules.{Said, Way, over, with_term, assume_type, free_of, havoc}
+use Rattle.df_npass.specs.Rules.{Way, over, with_term, assume_type, free_of, havoc}
 use Rattle.df_npass.proofs.Saying.{AllTrue, path_true, all_appended, all_front, all_rest}
 use Rattle.df_npass.proofs.Playing.{same_itself, same_then, AreKnown, known_append}
-use Rattle.df_npass.proofs.Reading.{with_handed}
 use Rattle.df_npass.proofs.Leading.{free_below, suc_more}
 use Rattle.df_npass.proofs.Staying.{havoc_stays}
 use Rattle.df_npass.proofs.Taking.{taking, takes_program, free_takes, others_stay, type_true, type_said, free_sorted, type_known}
-use Rattle.df_npass.proofs.Turning.{Typed, any_typed, turned_state, all_may, turned_is, turned_store, turned_local}
+use Rattle.df_npass.proofs.Turning.{any_typed, all_may}
 
 -- the term of a local is the one that it was given last
 pub at_itself : (env : Environment) (k : ℕ) (a : Term) → with_term env k a k ≡ a

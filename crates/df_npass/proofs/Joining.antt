@@ -1,8 +1,7 @@
 -- Where ways come together, one of them is the one that runs come by.
-use Rattle.std.proofs.Common.{◌≡◌, ◌⊎◌, inl, inr, ℕ, suc, ◌≤◌, ◌==◌, Bool, true, false, ◌&&◌, ◌||◌, if◌then◌else◌, List, [], ◌∷◌, ◌++◌, slice_get, Option, None, Some, refl, sym, ap, ◌∙◌, subst}
+use Rattle.std.proofs.Common.{◌≡◌, ◌⊎◌, inl, inr, ℕ, suc, ◌≤◌, Bool, true, false, ◌||◌, if◌then◌else◌, List, [], ◌∷◌, ◌++◌, slice_get, Option, None, Some, refl, sym, ap, ◌∙◌, subst}
 use Rattle.std.proofs.lemmas.Bool.{eqb-true, eq-eqb}
 use Rattle.std.proofs.lemmas.Bool.Decides.{Decides-int_eq}
-use Rattle.std.specs.List.{AllByRecursion, list_all, list_any}
 use Rattle.std.specs.Option.{option_map_or}
 use Rattle.df_lang.specs.declared.ty.Ty.{Ty}
 use Rattle.df_lang.specs.declared.ty.Ty.TheVariants as types
@@ -16,7 +15,7 @@ use Rattle.df_mean.specs.Modular.{Changed}
 use Rattle.df_mean.specs.Agreement.{is_changed}
 use Rattle.df_mean.proofs.Cases.{both}
 use Rattle.df_mean.proofs.Changing.{are_there}
-use Rattle.df_nterm.specs.Term.{Term, terms_of, Numbers, Truths, Characters}
+use Rattle.df_nterm.specs.Term.{Term, terms_of}
 use Rattle.df_nterm.specs.Same.{same_term}
 use Rattle.df_nterm.specs.Meaning.{Interpretation, truth, has_sort}
 use Rattle.df_nterm.specs.Meaning as meanings
@@ -27,9 +26,9 @@ use Rattle.df_nterm.proofs.Equal.{term_is, same_int}
 use Rattle.df_nterm.proofs.Answering.{equal_told}
 use Rattle.df_npass.specs.Rules.{Said, Way, on_path, with_term, free_of, Moved, assume_joined, are_same, join_locals, either_path, paths_of, any_path, join}
 use Rattle.df_npass.proofs.Saying.{AllTrue, path_true, all_appended, all_front, all_rest, off_path, on_it}
-use Rattle.df_npass.proofs.Playing.{Mode, Following, Taking, Moves, moves_here, same_itself, same_then, all_same, Play, play_taking, play_behind, play_later, AreKnown, known_append, known_then_follow}
+use Rattle.df_npass.proofs.Playing.{Mode, Following, Taking, Moves, moves_here, same_itself, same_then, all_same, Play, play_taking, play_behind, AreKnown, known_append, known_then_follow}
 use Rattle.df_npass.proofs.Proper.{PathBelow, EnvBelow, AllBelow}
-use Rattle.df_npass.proofs.Leading.{AllLead, lead_grows, all_lead_grow, free_below, suc_more, any_true, disjunction_truth, JoinGoing}
+use Rattle.df_npass.proofs.Leading.{AllLead, all_lead_grow, free_below, suc_more, any_true, disjunction_truth, JoinGoing}
 use Rattle.df_npass.proofs.Staying.{AllStay, join_locals_stay}
 use Rattle.df_npass.proofs.Reading.{SortedAll, Sits}
 use Rattle.df_npass.proofs.Coming.{AllOff, OneSits, off_moves, path_same, sorted_moves, sits_moves, holds_reached, hold_at, hold_make}

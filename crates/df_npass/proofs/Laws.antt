@@ -1,20 +1,20 @@
 -- The laws of obligations and modular runs.
-use Rattle.std.proofs.Common.{◌≡◌, ℕ, pos, Bool, true, false, List, [], ◌∷◌, ◌++◌, Contains, Option, None, Some, ◌+◌, arith, refl, sym, ap, ◌∙◌, subst, le_refl}
+use Rattle.std.proofs.Common.{◌≡◌, ℕ, pos, true, false, [], ◌++◌, Contains, None, Some, ◌+◌, arith, refl, sym, ◌∙◌, subst, le_refl}
 use Rattle.df_base.specs.declared.pos.Pos.{Pos}
-use Rattle.df_lang.specs.Program.{Param, Method, Program, method_at, types_of}
+use Rattle.df_lang.specs.Program.{Program, method_at, types_of}
 use Rattle.df_meaning.specs.declared.kind.Kind.{Kind}
 use Rattle.df_mean.specs.Value.{Value, Truth, Character, Number}
 use Rattle.df_mean.specs.Types.{have_types}
 use Rattle.df_mean.specs.Outcome.{Wrong}
-use Rattle.df_mean.specs.State.{State, store_with}
+use Rattle.df_mean.specs.State.{store_with}
 use Rattle.df_mean.specs.Modular.{modular_run, IsModularlyWrong}
 use Rattle.df_mean.proofs.Wholes.{method_typed}
 use Rattle.df_nterm.specs.Term.{Sort, Numbers, Truths, Characters, Free}
 use Rattle.df_nterm.specs.Meaning.{Interpretation, has_sort, truth}
 use Rattle.df_npass.specs.Statements.{any_values}
-use Rattle.df_npass.specs.Methods.{Obligation, pass_method, obligations_of_method, obligations}
-use Rattle.df_npass.specs.Laws.{IsRefuted, IsValid, IsOwed, WrongIsRefuted, RefutedIsWrong, ValidIsSafe, SafeIsValid, AllValidIsSafe, RefutedMemberIsWrong}
-use Rattle.df_npass.proofs.Playing.{Mode, Following, Taking, apart, all_same, FirstFalse, first_behind, first_rest, known_first}
+use Rattle.df_npass.specs.Methods.{pass_method, obligations_of_method}
+use Rattle.df_npass.specs.Laws.{WrongIsRefuted, RefutedIsWrong, ValidIsSafe, SafeIsValid, AllValidIsSafe, RefutedMemberIsWrong}
+use Rattle.df_npass.proofs.Playing.{Following, Taking, apart, all_same, FirstFalse, first_behind, first_rest, known_first}
 use Rattle.df_npass.proofs.Leading.{any_giving}
 use Rattle.df_npass.proofs.Reading.{values_at}
 use Rattle.df_npass.proofs.Taking.{AllSorted, take_all, any_known, any_sorted, any_typed}

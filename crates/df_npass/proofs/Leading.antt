@@ -1,29 +1,29 @@
 -- Passing over statements leads on: numbers of free terms grow, and what is said and where it leads is proper.
-use Rattle.std.proofs.Common.{◌≡◌, ℕ, zero, suc, ◌≤◌, ◌<◌, nat_lt, ◌==◌, Bool, true, false, ◌&&◌, ◌||◌, if◌then◌else◌, cond, List, [], ◌∷◌, ◌++◌, map, length, filter, slice_index_or, Option, None, Some, refl, sym, ap, ◌∙◌, subst, arith, le_trans, le_refl}
-use Rattle.std.specs.List.{AllByRecursion, flat_map, list_any, list_all}
+use Rattle.std.proofs.Common.{◌≡◌, ℕ, zero, suc, ◌≤◌, nat_lt, ◌==◌, Bool, true, false, ◌||◌, if◌then◌else◌, List, [], ◌∷◌, ◌++◌, map, filter, Option, None, Some, refl, sym, ◌∙◌, arith, le_trans, le_refl}
+use Rattle.std.specs.List.{AllByRecursion, list_any}
 use Rattle.std.specs.Option.{option_map_or}
 use Rattle.df_base.specs.declared.pos.Pos.{Pos}
 use Rattle.df_lang.specs.declared.ty.Ty.{Ty}
 use Rattle.df_lang.specs.declared.ty.Ty.TheVariants as types
 use Rattle.df_lang.specs.Expr.{Expr}
-use Rattle.df_lang.specs.Stmt.{Operand, Target, Call, Conversion, Source, Single, Results, Update, Variable, Clause, Measure, Stmt, Block, Var, Assign, CallOf, If, While, Break, Return, Assert, Print, Stmts, done, next, Branches, no_branch, branch}
-use Rattle.df_lang.specs.Program.{Param, Method, Program, method_at}
-use Rattle.df_lang.specs.Measures.{loop_measure, method_measure}
+use Rattle.df_lang.specs.Stmt.{Target, Call, Conversion, Source, Single, Results, Update}
+use Rattle.df_lang.specs.Program.{Param, Method, method_at}
+use Rattle.df_lang.specs.Measures.{method_measure}
 use Rattle.df_lang.specs.Groups.{group_at}
 use Rattle.df_meaning.specs.declared.kind.Kind.TheVariants as kinds
-use Rattle.df_mean.specs.Value.{Value, truth_of}
+use Rattle.df_mean.specs.Value.{truth_of}
 use Rattle.df_mean.specs.Modular.{Changed}
-use Rattle.df_mean.proofs.Cases.{both, joined as and_joined}
-use Rattle.df_nterm.specs.Term.{Term, Terms, no_term, term, terms_of, literal, negation, disjunction, conjunction, sort_of_type}
+use Rattle.df_mean.proofs.Cases.{joined as and_joined}
+use Rattle.df_nterm.specs.Term.{Term, Terms, no_term, term, terms_of, disjunction}
 use Rattle.df_nterm.specs.Meaning.{Interpretation, truth}
 use Rattle.df_nterm.specs.Meaning as meanings
-use Rattle.df_nterm.specs.Expressions.{Environment, Condition, term_of, equal_in, narrowing}
-use Rattle.df_nterm.specs.Measuring.{Measured, measured, are_below}
+use Rattle.df_nterm.specs.Expressions.{Environment, term_of, equal_in, narrowing}
+use Rattle.df_nterm.specs.Measuring.{measured, are_below}
 use Rattle.df_nterm.proofs.Below.{IsBelow, below, all_below, below_grows, equal_below, conjunction_below, disjunction_below, narrowing_below, term_below}
-use Rattle.df_npass.specs.Rules.{Said, Known, Way, on_path, narrowed_path, narrowed, over, with_term, assume, assert, assert_all, assume_type, free_of, Moved, havoc, assume_joined, join_locals, are_same, either_path, paths_of, any_path, Joined, join, there}
-use Rattle.df_npass.specs.Statements.{Setting, Flow, saying, goes_on, behind, followed_by, then_next, at_clause, assert_clauses, assume_clauses, assert_expr, assert_exprs, assert_measure, assert_operand, env_of, Given, any_values, assert_decrease, pass_method_call, given_behind, pass_call, assert_conversions, converted, pass_source, pass_sources, Taken, taken_by, assert_equal, give_all, moved_behind, pass_update, pass_optional, changed_outside, changed_outside_if, Parted, ways_of, last_of, first_of, path_behind, rejoined, assert_turn, behind_loop, pass_stmt, pass_all, pass_branches}
-use Rattle.df_npass.proofs.Saying.{formula_of, AllTrue, path_true, off_path, narrowed_false}
-use Rattle.df_npass.proofs.Proper.{AllBelow, PathBelow, EnvBelow, Proper, below_append, said_grows, path_grows, env_grows, proper_grows, nothing_proper, append_proper, narrowed_below, wider, known_proper, owed_proper, asserted_proper, expr_proper, exprs_proper, clauses_proper, handed_proper, measure_proper, operands_proper, MeasureBelow, measured_below, measure_grows, order_below}
+use Rattle.df_npass.specs.Rules.{Said, Way, narrowed, over, with_term, assume, assert, assert_all, assume_type, free_of, Moved, havoc, assume_joined, join_locals, are_same, either_path, paths_of, any_path, Joined, join}
+use Rattle.df_npass.specs.Statements.{Setting, assert_clauses, assert_exprs, assert_measure, env_of, Given, any_values, assert_decrease, pass_method_call, given_behind, pass_call, assert_conversions, pass_source, pass_sources, Taken, taken_by, assert_equal, give_all, pass_update, pass_optional, ways_of}
+use Rattle.df_npass.proofs.Saying.{path_true, narrowed_false}
+use Rattle.df_npass.proofs.Proper.{PathBelow, EnvBelow, Proper, path_grows, env_grows, proper_grows, nothing_proper, append_proper, narrowed_below, known_proper, owed_proper, asserted_proper, expr_proper, exprs_proper, clauses_proper, handed_proper, measure_proper, MeasureBelow, measured_below, measure_grows, order_below}
 
 -- a way that runs on a path come to
 pub record Leads (n : ℕ) (path : Option Term) (way : Way) : Type 0 where

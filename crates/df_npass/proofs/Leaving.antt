@@ -1,13 +1,13 @@
 -- Where no run comes by any of some ways, none comes behind their join.
-use Rattle.std.proofs.Common.{◌≡◌, ◌⊎◌, inl, inr, ℕ, suc, Bool, true, false, ◌||◌, if◌then◌else◌, List, [], ◌∷◌, ◌++◌, Option, None, Some, refl, sym, ap, ◌∙◌}
+use Rattle.std.proofs.Common.{◌≡◌, ℕ, suc, Bool, true, false, if◌then◌else◌, List, [], ◌∷◌, Option, None, Some, refl, ap, ◌∙◌}
 use Rattle.df_lang.specs.declared.ty.Ty.{Ty}
 use Rattle.df_lang.specs.Assignment.{Assigned}
 use Rattle.df_mean.specs.State.{State}
 use Rattle.df_mean.specs.Modular.{Changed}
 use Rattle.df_nterm.specs.Term.{Term}
-use Rattle.df_nterm.specs.Meaning.{Interpretation, truth}
+use Rattle.df_nterm.specs.Meaning.{Interpretation}
 use Rattle.df_nterm.specs.Expressions.{Environment}
-use Rattle.df_npass.specs.Rules.{Said, Way, with_term, free_of, Moved, are_same, assume_joined, join_locals, either_path, paths_of, any_path, join}
+use Rattle.df_npass.specs.Rules.{Way, with_term, free_of, are_same, assume_joined, join_locals, either_path, paths_of, any_path, join}
 use Rattle.df_npass.specs.Statements.{ways_of}
 use Rattle.df_npass.proofs.Saying.{AllTrue, path_true, all_appended}
 use Rattle.df_npass.proofs.Playing.{Mode}

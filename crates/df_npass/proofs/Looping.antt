@@ -1,16 +1,15 @@
 -- The one turn of a loop, and what goes on behind the loop.
-use Rattle.std.proofs.Common.{◌≡◌, ◌⊎◌, inl, inr, ℕ, ◌≤◌, Bool, true, false, not, if◌then◌else◌, List, [], ◌∷◌, ◌++◌, map, Option, None, Some, refl, sym, ap, ◌∙◌, subst, append_assoc, le_trans}
-use Rattle.std.specs.List.{list_all}
+use Rattle.std.proofs.Common.{◌≡◌, inl, inr, ℕ, Bool, true, false, not, if◌then◌else◌, List, [], ◌∷◌, ◌++◌, map, Option, None, Some, refl, sym, ap, ◌∙◌, subst, append_assoc}
 use Rattle.std.specs.Option.{option_map_or}
 use Rattle.df_lang.specs.declared.ty.Ty.{Ty}
-use Rattle.df_lang.specs.Stmt.{Clause, Measure}
+use Rattle.df_lang.specs.Stmt.{Measure}
 use Rattle.df_lang.specs.Program.{Program}
 use Rattle.df_lang.specs.Measures.{loop_measure}
 use Rattle.df_lang.specs.Typing.{are_clauses}
 use Rattle.df_lang.specs.Assignment.{Assigned, Unreached, has_value, join as meet, reads_of_clauses, reads_of_measures, unassigned}
 use Rattle.df_meaning.specs.declared.kind.Kind.TheVariants as kinds
 use Rattle.df_mean.specs.Value.{Value, truth_of}
-use Rattle.df_mean.specs.Outcome.{Outcome, Gives, Wrong, Dismissed, after}
+use Rattle.df_mean.specs.Outcome.{Outcome, Wrong, Dismissed, after}
 use Rattle.df_mean.specs.State.{Handed, State}
 use Rattle.df_mean.specs.Meaning.{Meaning, Loop}
 use Rattle.df_mean.specs.Meaning as flows
@@ -23,16 +22,16 @@ use Rattle.df_mean.proofs.Stating.{Within}
 use Rattle.df_nterm.specs.Term.{Term, negation}
 use Rattle.df_nterm.specs.Meaning.{Interpretation, truth}
 use Rattle.df_nterm.specs.Meaning as meanings
-use Rattle.df_nterm.specs.Expressions.{Environment, term_of}
+use Rattle.df_nterm.specs.Expressions.{term_of}
 use Rattle.df_nterm.specs.Measuring.{Measured, measured, are_below}
 use Rattle.df_nterm.specs.Laws.{AreMeasured}
 use Rattle.df_nterm.proofs.Below.{IsBelow, SameBelow}
 use Rattle.df_nterm.proofs.Ordering.{below_orders}
-use Rattle.df_npass.specs.Rules.{Said, Way, narrowed, narrowed_path, assert, paths_of, any_path, Joined, join}
+use Rattle.df_npass.specs.Rules.{Said, Way, narrowed, assert, paths_of, any_path, Joined, join}
 use Rattle.df_npass.specs.Statements.{Flow, ways_of, last_of, at_clause, assert_clauses, assert_measure, assert_turn, behind_loop}
 use Rattle.df_npass.proofs.Saying.{AllTrue, path_true, all_appended, narrowed_true}
 use Rattle.df_npass.proofs.Playing.{Mode, Moves, moves_here, moves_then, Play, play_as, play_behind, play_later}
-use Rattle.df_npass.proofs.Proper.{PathBelow, EnvBelow, MeasureBelow, path_grows, env_grows, measured_below, measure_grows, narrowed_below, order_below, proper_grows}
+use Rattle.df_npass.proofs.Proper.{PathBelow, EnvBelow, MeasureBelow, env_grows, measured_below, measure_grows, narrowed_below, order_below}
 use Rattle.df_npass.proofs.Leading.{AllLead, lead_grows, farther, narrowed_leads, JoinGoing, join_going, any_path_reaches}
 use Rattle.df_npass.proofs.Staying.{AllStay}
 use Rattle.df_npass.proofs.Flowing.{Flows, turn_proper}

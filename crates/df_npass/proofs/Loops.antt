@@ -1,5 +1,5 @@
 -- Runs of `print` and of loops.
-use Rattle.std.proofs.Common.{◌≡◌, ◌⊎◌, inl, inr, ℕ, zero, suc, ◌≤◌, ◌<◌, ◌+◌, ◌==◌, Bool, true, false, ◌&&◌, if◌then◌else◌, List, [], ◌∷◌, ◌++◌, map, length, slice_get, Option, None, Some, refl, sym, ap, ◌∙◌, subst, append_assoc, length-append, arith, le_trans, le_refl}
+use Rattle.std.proofs.Common.{◌≡◌, ◌⊎◌, inl, inr, ℕ, zero, suc, ◌≤◌, ◌<◌, ◌+◌, ◌==◌, Bool, true, false, ◌&&◌, if◌then◌else◌, List, [], ◌∷◌, ◌++◌, map, length, slice_get, Option, None, Some, refl, sym, ap, ◌∙◌, subst, append_assoc, length-append, arith, le_refl}
 use Rattle.std.proofs.lemmas.Bool.{ltb-true, cases_lt}
 use Rattle.std.proofs.lemmas.List.{length-map}
 use Rattle.std.specs.List.{list_all, flat_map}
@@ -8,59 +8,56 @@ use Rattle.df_base.specs.declared.pos.Pos.{Pos}
 use Rattle.df_lang.specs.declared.ty.Ty.{Ty}
 use Rattle.df_lang.specs.declared.ty.Ty.TheVariants as types
 use Rattle.df_lang.specs.Expr.{Expr}
-use Rattle.df_lang.specs.Stmt.{Operand, Text, Value as Shown, Target, Update, Variable, Clause, Measure, Stmt, Block, Var, Assign, CallOf, If, While, Break, Return, Assert, Print, Stmts, done, next, Branches, no_branch, branch}
+use Rattle.df_lang.specs.Stmt.{Operand, Text, Value as Shown, Target, Update, Clause, Measure, Stmt, Block, Var, Assign, CallOf, If, While, Break, Return, Assert, Print, Stmts, done, next, Branches, no_branch, branch}
 use Rattle.df_lang.specs.Program.{Param, Method, Program, types_of}
 use Rattle.df_lang.specs.Measures.{loop_measure}
-use Rattle.df_lang.specs.Typing.{same_type, is_type, is_expr, are_clauses, are_measures, is_operand, may_update, are_numbered, variable_numbers, variable_types, locals_after, locals_after_all, locals_after_branches, is_measured, is_stmt, are_stmts, are_branches, is_well_typed}
-use Rattle.df_lang.specs.Assignment.{Use, Assigned, Unreached, Reached, has_value, join as meet, mark, declare, assign, assign_all, reads, reads_of_operand, reads_of_clauses, reads_of_measures, reads_of_update, reads_of_call, unassigned, Flowing, results_from, results_at, flow, flow_all, flow_branches}
+use Rattle.df_lang.specs.Typing.{same_type, is_type, is_expr, are_clauses, are_measures, is_operand, locals_after_all, is_measured, is_stmt, are_stmts, is_well_typed}
+use Rattle.df_lang.specs.Assignment.{Use, Assigned, Unreached, Reached, has_value, join as meet, mark, assign, assign_all, reads, reads_of_operand, reads_of_clauses, reads_of_measures, unassigned, Flowing, results_from, results_at, flow, flow_all}
 use Rattle.df_meaning.specs.declared.kind.Kind.TheVariants as kinds
 use Rattle.df_mean.specs.Value.{Value, truth_of}
 use Rattle.df_mean.specs.Value as values
-use Rattle.df_mean.specs.Outcome.{Outcome, Gives, Wrong, TooDeep, Dismissed, after}
+use Rattle.df_mean.specs.Outcome.{Outcome, Gives, TooDeep, after}
 use Rattle.df_mean.specs.State.{Handed, State, printed}
 use Rattle.df_mean.specs.Meaning.{Meaning, Loop}
 use Rattle.df_mean.specs.Meaning as flows
 use Rattle.df_mean.specs.Definite.{AreDeclared}
 use Rattle.df_mean.specs.Evaluation.{evaluate}
-use Rattle.df_mean.specs.Execution.{check_all, declare_all, execute_call, execute_optional, evaluate_operand, print_all, go_on, execute, execute_all, execute_branches}
+use Rattle.df_mean.specs.Execution.{check_all, print_all, execute, execute_all}
 use Rattle.df_mean.specs.Whole.{turns_with}
-use Rattle.df_mean.specs.Modular.{Changed, Running, changed_by, changed_by_all, changed_by_branches, assume_all as assume_each, or_dismissed, measure_values, handed_turn, behind_once, modular_turn, modular_turns, modular_call, modular, plain_meaning}
+use Rattle.df_mean.specs.Modular.{Changed, Running, changed_by_all, changed_by_branches, assume_all as assume_each, or_dismissed, measure_values, handed_turn, behind_once, modular_turn, modular_turns, modular_call, modular, plain_meaning}
 use Rattle.df_mean.specs.Agreement.{is_changed}
-use Rattle.df_mean.proofs.Cases.{both, three, four, joined}
-use Rattle.df_mean.proofs.Changing.{are_there, stmt_there, all_there}
+use Rattle.df_mean.proofs.Cases.{both, four, joined}
+use Rattle.df_mean.proofs.Changing.{are_there, all_there}
 use Rattle.df_mean.proofs.Counting.{nothing_missing, parted, use_has}
-use Rattle.df_mean.proofs.Assigning.{place, Carries, carries, all_carry, declared_more, grows, all_grow, branches_grow}
-use Rattle.df_mean.proofs.Stating.{Within, before as within_before, before_all, before_branches, return_updates}
+use Rattle.df_mean.proofs.Assigning.{place, all_carry}
+use Rattle.df_mean.proofs.Stating.{Within, before_all}
 use Rattle.df_mean.proofs.DefiniteRuns.{first_locals}
 use Rattle.df_mean.proofs.Modulars.{program_of_modular}
-use Rattle.df_nterm.specs.Term.{Term, negation}
+use Rattle.df_nterm.specs.Term.{negation}
 use Rattle.df_nterm.specs.Meaning.{Interpretation, truth}
 use Rattle.df_nterm.specs.Meaning as meanings
-use Rattle.df_nterm.specs.Expressions.{Environment, term_of}
+use Rattle.df_nterm.specs.Expressions.{term_of}
 use Rattle.df_nterm.specs.Measuring.{Measured, measured}
-use Rattle.df_nterm.proofs.Below.{IsBelow, SameBelow, term_below}
-use Rattle.df_npass.specs.Rules.{Said, Way, narrowed, narrowed_path, assert, havoc, paths_of, any_path, join}
+use Rattle.df_nterm.proofs.Below.{term_below}
+use Rattle.df_npass.specs.Rules.{Said, Way, narrowed, havoc, paths_of, any_path, join}
 use Rattle.df_npass.specs.Statements as passing
 use Rattle.df_npass.specs.Statements.{goes_on, saying, at_clause, assert_clauses, assume_clauses, assert_expr, assert_measure, assert_operand, pass_call, pass_optional, declared_by_all, each_once, changed_outside, changed_in_branches, changed_outside_if, Parted, ways_of, last_of, first_of, path_behind, rejoined, assert_turn, behind_loop, pass_stmt, pass_all, pass_branches}
-use Rattle.df_npass.proofs.Saying.{path_true, narrowed_true}
-use Rattle.df_npass.proofs.Playing.{Mode, Following, Taking, is_taking, Moves, moves_here, moves_then, same_then, Play, play_as, play_behind, play_later, play_silent, not_deep}
-use Rattle.df_npass.proofs.Proper.{PathBelow, narrowed_below, measure_grows, measure_proper}
-use Rattle.df_npass.proofs.Leading.{Leads, AllLead, itself, lead_grows, narrowed_leads, havoc_going, call_giving}
-use Rattle.df_npass.proofs.Flowing.{Flows, Parts, stmt_flows, all_flows, branches_flow}
+use Rattle.df_npass.proofs.Saying.{narrowed_true}
+use Rattle.df_npass.proofs.Playing.{Mode, Following, Taking, is_taking, moves_here, moves_then, same_then, Play, play_as, play_behind, play_silent, not_deep}
+use Rattle.df_npass.proofs.Proper.{measure_grows, measure_proper}
+use Rattle.df_npass.proofs.Leading.{narrowed_leads, havoc_going}
+use Rattle.df_npass.proofs.Flowing.{all_flows}
 use Rattle.df_npass.proofs.Staying.{AllStay, all_stay}
-use Rattle.df_npass.proofs.Reading.{with_handed, Sits, after_if, checked_then, expr_then, check_then, assume_then, measures_then}
-use Rattle.df_npass.proofs.Coming.{AllOff, OneSits, IsReached, holds_reached, sits_less, sits_moves, path_same, join_left}
-use Rattle.df_npass.proofs.Turning.{list_once, once_there, once_fewer}
-use Rattle.df_npass.proofs.Handing.{by_bool}
+use Rattle.df_npass.proofs.Reading.{with_handed, Sits, expr_then, check_then, assume_then, measures_then}
+use Rattle.df_npass.proofs.Coming.{IsReached, holds_reached, path_same, join_left}
+use Rattle.df_npass.proofs.Turning.{list_once, once_there}
 use Rattle.df_npass.proofs.Turns.{turn_then, type_there}
-use Rattle.df_npass.proofs.Measures.{AreTyped, loop_measure_typed, loop_measure_reads}
-use Rattle.df_npass.proofs.Calling.{after_after, then_same, setting, running, Entered, entered_moves}
-use Rattle.df_npass.proofs.Standing.{Stands, stands_moves, declared_stands, declared_handed}
-use Rattle.df_npass.proofs.Updating.{printed_state, call_plays, optional_then}
-use Rattle.df_npass.proofs.Declaring.{is_declared, all_past}
-use Rattle.df_npass.proofs.Covering.{if_covers, outside_is}
-use Rattle.df_npass.proofs.Sequencing.{hand, Comes, Onward, then_play}
-use Rattle.df_npass.proofs.Branching.{taken_onward, passed_play, rejoin_onward}
+use Rattle.df_npass.proofs.Measures.{loop_measure_typed, loop_measure_reads}
+use Rattle.df_npass.proofs.Calling.{after_after, then_same, setting, running, entered_moves}
+use Rattle.df_npass.proofs.Standing.{Stands, stands_moves}
+use Rattle.df_npass.proofs.Declaring.{all_past}
+use Rattle.df_npass.proofs.Covering.{outside_is}
+use Rattle.df_npass.proofs.Sequencing.{Onward}
 use Rattle.df_npass.proofs.Looping.{outside_play, inside_onward}
 
 -- how many loops are in it: a depth that is enough

@@ -1,5 +1,5 @@
 -- Measures of well-typed loops and methods are well typed, and read what has a value.
-use Rattle.std.proofs.Common.{◌≡◌, ℕ, suc, ◌+◌, Bool, true, false, ◌&&◌, List, [], ◌∷◌, ◌++◌, length, slice_get, is_some, unwrap_or, Option, None, Some, refl, sym, ap, ◌∙◌, subst, append_assoc, length-append, arith}
+use Rattle.std.proofs.Common.{◌≡◌, ℕ, suc, true, false, ◌&&◌, List, [], ◌∷◌, ◌++◌, length, slice_get, unwrap_or, Option, None, Some, refl, sym, ap, ◌∙◌, subst, append_assoc}
 use Rattle.std.specs.List.{list_all}
 use Rattle.std.specs.Option.{option_map_or}
 use Rattle.df_base.specs.declared.pos.Pos.{Pos}
@@ -8,11 +8,11 @@ use Rattle.df_lang.specs.declared.ty.Ty.TheVariants as types
 use Rattle.df_lang.specs.declared.expr.Junction.TheVariants as junctions
 use Rattle.df_lang.specs.declared.expr.Comparison.{Comparison}
 use Rattle.df_lang.specs.declared.expr.Comparison.TheVariants as comparisons
-use Rattle.df_lang.specs.Expr.{Expr, Local, Junction, Chain, no_link, link}
+use Rattle.df_lang.specs.Expr.{Expr, Junction, Chain, no_link, link}
 use Rattle.df_lang.specs.Stmt.{Measure}
 use Rattle.df_lang.specs.Program.{Param, Method, Program, types_of}
 use Rattle.df_lang.specs.Measures.{distance, comparison_measure, guard_measure, measure_of_number, loop_measure, parameters_from, method_measure}
-use Rattle.df_lang.specs.Typing.{same_type, is_type, is_integer, compares, is_expr, are_members, are_links, are_measures, is_measured, Setting}
+use Rattle.df_lang.specs.Typing.{same_type, is_type, is_integer, compares, is_expr, are_members, are_links, are_measures}
 use Rattle.df_lang.specs.Assignment.{reads, reads_of_members, reads_of_measures, Assigned, unassigned}
 use Rattle.df_mean.proofs.Cases.{both, three, joined}
 use Rattle.df_mean.proofs.Counting.{parted, joined_uses}

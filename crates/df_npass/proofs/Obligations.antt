@@ -1,17 +1,16 @@
 -- The obligation that the first false formula is, and the obligations of declarations.
-use Rattle.std.proofs.Common.{◌≡◌, ◌⊎◌, inl, inr, ℕ, zero, suc, ◌<◌, ◌+◌, Bool, true, false, List, [], ◌∷◌, ◌++◌, length, slice_get, slice_index_or, Contains, Option, None, Some, refl, sym, ap, ◌∙◌, subst, arith}
+use Rattle.std.proofs.Common.{◌≡◌, ◌⊎◌, inl, inr, ℕ, zero, suc, ◌<◌, ◌+◌, true, false, List, [], ◌∷◌, ◌++◌, length, slice_get, slice_index_or, Contains, Some, refl, sym, ap, subst, arith}
 use Rattle.std.proofs.lemmas.List.Elements.{Contains-append_left, Contains-append_right, Contains-append_cases}
 use Rattle.std.specs.List.{AllByRecursion}
 use Rattle.std.specs.Option.{option_and_then}
 use Rattle.df_base.specs.declared.pos.Pos.{Pos}
-use Rattle.df_lang.specs.Program.{Method, Decl, NewtypeDecl, MethodDecl, Program, as_method, method_at}
+use Rattle.df_lang.specs.Program.{Method, Decl, NewtypeDecl, MethodDecl, Program, as_method}
 use Rattle.df_meaning.specs.declared.kind.Kind.{Kind}
 use Rattle.df_nterm.specs.Term.{Term}
 use Rattle.df_nterm.specs.Meaning.{Interpretation, truth}
 use Rattle.df_npass.specs.Rules.{Said, Known, Owed}
-use Rattle.df_npass.specs.Methods.{Obligation, obligations_of, obligations_of_method, obligations_of_decl, obligations_from, obligations}
-use Rattle.df_npass.proofs.Saying.{formula_of}
-use Rattle.df_npass.proofs.Playing.{FirstFalse, IsOwedAt}
+use Rattle.df_npass.specs.Methods.{Obligation, obligations_of, obligations_of_method, obligations_of_decl, obligations_from}
+use Rattle.df_npass.proofs.Playing.{FirstFalse}
 
 abbrev pub AllHold : Interpretation → List Term → Type 0
 AllHold i formulas = AllByRecursion (λ (formula : Term). truth i formula ≡ true) formulas

@@ -1,13 +1,13 @@
 -- A run and what is said of it: what is false first tells where the run is wrong. Either the interpretation is given,
 -- and what is handed in is read from it; or what is handed in is given, and the interpretation takes it.
-use Rattle.std.proofs.Common.{◌≡◌, ◌⊎◌, inl, inr, ℕ, ◌≤◌, Bool, true, false, ◌&&◌, List, [], ◌∷◌, ◌++◌, refl, sym, ap, ◌∙◌, subst, arith, nat_lt}
+use Rattle.std.proofs.Common.{◌≡◌, ◌⊎◌, inl, inr, ℕ, ◌≤◌, Bool, true, false, ◌&&◌, List, [], ◌∷◌, ◌++◌, refl, sym, ap, ◌∙◌, arith}
 use Rattle.df_base.specs.declared.pos.Pos.{Pos}
 use Rattle.df_meaning.specs.declared.kind.Kind.{Kind}
 use Rattle.df_mean.specs.Value.{truth_of}
-use Rattle.df_mean.specs.Outcome.{Outcome, Gives, Wrong, TooDeep, NoChoice, Dismissed}
+use Rattle.df_mean.specs.Outcome.{Outcome, Wrong, TooDeep, Dismissed}
 use Rattle.df_mean.specs.State.{Handed}
 use Rattle.df_mean.proofs.Cases.{both}
-use Rattle.df_nterm.specs.Term.{Term, Free}
+use Rattle.df_nterm.specs.Term.{Term}
 use Rattle.df_nterm.specs.Meaning.{Interpretation, truth}
 use Rattle.df_nterm.proofs.Below.{IsBelow, SameBelow, value_same}
 use Rattle.df_npass.specs.Rules.{Said, Known, Owed}

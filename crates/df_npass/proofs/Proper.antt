@@ -1,26 +1,18 @@
 -- What is said speaks of free terms that stand already, and says nothing of runs that do not come there.
-use Rattle.std.proofs.Common.{◌≡◌, ℕ, suc, ◌≤◌, ◌<◌, nat_lt, Bool, true, false, ◌&&◌, ◌||◌, if◌then◌else◌, cond, List, [], ◌∷◌, ◌++◌, map, length, slice_index_or, Option, None, Some, refl, sym, ap, ◌∙◌, subst, arith, le_trans, le_refl}
-use Rattle.std.specs.List.{AllByRecursion, flat_map, list_any, list_all, filter}
-use Rattle.std.specs.Option.{option_map_or}
+use Rattle.std.proofs.Common.{◌≡◌, ℕ, ◌≤◌, false, List, [], ◌∷◌, ◌++◌, Option, None, Some, refl}
+use Rattle.std.specs.List.{AllByRecursion, flat_map}
 use Rattle.df_base.specs.declared.pos.Pos.{Pos}
-use Rattle.df_lang.specs.declared.ty.Ty.{Ty}
-use Rattle.df_lang.specs.declared.ty.Ty.TheVariants as types
 use Rattle.df_lang.specs.Expr.{Expr}
-use Rattle.df_lang.specs.Stmt.{Clause, Measure, Target, Conversion, Operand, Text, Value as Shown}
-use Rattle.df_lang.specs.Program.{Param}
+use Rattle.df_lang.specs.Stmt.{Clause, Measure, Operand, Text, Value as Shown}
 use Rattle.df_meaning.specs.declared.kind.Kind.{Kind}
-use Rattle.df_meaning.specs.declared.kind.Kind.TheVariants as kinds
-use Rattle.df_mean.specs.Modular.{Changed}
-use Rattle.df_mean.proofs.Cases.{both, joined as and_joined}
 use Rattle.df_nterm.specs.Term.{Term, Terms, no_term, term, terms_of, negation, implies, conjunction, disjunction, truth_term, either, sort_of_type, Numbers, Truths, Characters, Sort}
 use Rattle.df_nterm.specs.Term as ops
-use Rattle.df_nterm.specs.Meaning.{Interpretation, truth}
-use Rattle.df_nterm.specs.Same.{same_term}
-use Rattle.df_nterm.specs.Expressions.{Environment, Condition, term_of, conditions_of, equal_in, narrowing}
+use Rattle.df_nterm.specs.Meaning.{Interpretation}
+use Rattle.df_nterm.specs.Expressions.{Environment, Condition, term_of, conditions_of}
 use Rattle.df_nterm.specs.Measuring.{Measured, measured, below_of, same_of, is_below, is_same, are_below}
-use Rattle.df_nterm.proofs.Below.{IsBelow, below, all_below, below_grows, AreBelow, append_below, two_below, equal_below, conjunction_below, disjunction_below, narrowing_below, term_below, conditions_below}
-use Rattle.df_npass.specs.Rules.{Said, Known, Owed, Way, on_path, narrowed_path, narrowed, over, with_term, assume, assume_all, assert, assert_all, assume_type, free_of, Moved, havoc, assume_joined, join_locals, are_same, either_path, paths_of, any_path, Joined, join}
-use Rattle.df_npass.specs.Statements.{at_clause, assert_clauses, assume_clauses, assert_expr, assert_exprs, assert_measure, assert_operand, env_of}
+use Rattle.df_nterm.proofs.Below.{IsBelow, below_grows, AreBelow, two_below, term_below, conditions_below}
+use Rattle.df_npass.specs.Rules.{Said, Way, on_path, narrowed_path, assume, assume_all, assert, assert_all}
+use Rattle.df_npass.specs.Statements.{assert_clauses, assume_clauses, assert_expr, assert_exprs, assert_measure, assert_operand}
 use Rattle.df_npass.specs.Methods.{require_all}
 use Rattle.df_npass.proofs.Saying.{formula_of, AllTrue, path_true, all_appended, off_path, narrowed_false, assert_off, assume_off}
 

@@ -1,12 +1,11 @@
 -- Obligations of small methods, by computation: the column and the kind of each, in order.
-use Rattle.std.proofs.Common.{◌≡◌, ℕ, pos, true, false, List, [], ◌∷◌, map, None, Some, refl}
-use Rattle.df_lang.specs.declared.expr.Comparison.TheVariants as comparisons
+use Rattle.std.proofs.Common.{◌≡◌, ℕ, true, List, [], ◌∷◌, map, refl}
 use Rattle.df_lang.specs.declared.ty.Ty.TheVariants as types
-use Rattle.df_lang.specs.Stmt.{done, next, Assert, Break}
+use Rattle.df_lang.specs.Stmt.{Break}
 use Rattle.df_lang.specs.Program.{Program, Method}
-use Rattle.df_lang.proofs.Samples.{at, N, num, loc, compared, parity, parities, below, alone, counting, bounded, forgetting, standing, returning, broken, leaving, swapping, meeting, main_of, cheated, twos, taking, narrow, printing, staying}
+use Rattle.df_lang.proofs.Samples.{at, loc, parity, parities, below, alone, counting, returning, broken, leaving, swapping, meeting, main_of, cheated, twos, taking, narrow, printing, staying}
 use Rattle.df_meaning.specs.declared.kind.Kind.{Kind}
-use Rattle.df_meaning.specs.declared.kind.Kind.TheVariants.{Assert as Asserted, Requires, Ensures, Entry, Turn, Decreases, Divisor, Range, Distinct}
+use Rattle.df_meaning.specs.declared.kind.Kind.TheVariants.{Assert as Asserted, Requires, Ensures, Entry, Turn, Decreases, Range, Distinct}
 use Rattle.df_npass.specs.Methods.{Obligation, obligations_of_method}
 
 record Place : Type 0 where

@@ -1,9 +1,9 @@
 -- Where a statement leads a run, and what goes on from there; statements one after the other.
-use Rattle.std.proofs.Common.{◌≡◌, ◌⊎◌, inl, inr, ℕ, ◌≤◌, Bool, true, false, ◌||◌, if◌then◌else◌, List, [], ◌∷◌, ◌++◌, Option, None, Some, refl, sym, ap, ◌∙◌, subst, append_assoc, le_trans}
+use Rattle.std.proofs.Common.{◌≡◌, inl, inr, ℕ, Bool, true, false, ◌||◌, List, [], ◌∷◌, ◌++◌, Option, None, Some, refl, sym, ◌∙◌, subst, append_assoc}
 use Rattle.std.specs.Option.{option_map_or}
 use Rattle.df_lang.specs.declared.ty.Ty.{Ty}
-use Rattle.df_lang.specs.Assignment.{Assigned, has_value, join as meet, Flowing}
-use Rattle.df_mean.specs.Outcome.{Outcome, Gives, Wrong, Dismissed, after}
+use Rattle.df_lang.specs.Assignment.{Assigned, join as meet, Flowing}
+use Rattle.df_mean.specs.Outcome.{Outcome, Dismissed, after}
 use Rattle.df_mean.specs.State.{Handed, State}
 use Rattle.df_mean.specs.Meaning as flows
 use Rattle.df_mean.specs.Execution.{goes}
@@ -14,10 +14,10 @@ use Rattle.df_npass.specs.Rules.{Said, Way}
 use Rattle.df_npass.specs.Statements.{Flow, followed_by, Parted, ways_of, last_of}
 use Rattle.df_npass.proofs.Saying.{AllTrue, path_true, all_appended}
 use Rattle.df_npass.proofs.Playing.{Mode, Following, Taking, Moves, moves_then, same_then, Play, play_as, play_behind, play_later, play_over, play_silent, not_wrong}
-use Rattle.df_npass.proofs.Leading.{Leads, AllLead, farther}
+use Rattle.df_npass.proofs.Leading.{Leads, AllLead}
 use Rattle.df_npass.proofs.Flowing.{Flows}
 use Rattle.df_npass.proofs.Reading.{with_handed, Sits}
-use Rattle.df_npass.proofs.Coming.{AllOff, OneSits, off_append, off_left, off_right, off_lead, off_moves, path_same, one_left, one_right, one_less, one_reached, one_moves, reached_left, reached_right, join_left, join_right}
+use Rattle.df_npass.proofs.Coming.{AllOff, OneSits, off_append, off_lead, off_moves, path_same, one_left, one_right, one_less, one_reached, reached_left, reached_right, join_left, join_right}
 use Rattle.df_npass.proofs.Calling.{after_after}
 
 -- with this still to be handed in

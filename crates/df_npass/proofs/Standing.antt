@@ -1,22 +1,20 @@
 -- What stands where a run has come to a way.
-use Rattle.std.proofs.Common.{◌≡◌, ℕ, ◌≤◌, ◌==◌, Bool, true, false, if◌then◌else◌, List, [], ◌∷◌, slice_get, is_some, Option, None, Some, refl, sym, ap, ◌∙◌, subst}
+use Rattle.std.proofs.Common.{◌≡◌, ℕ, ◌≤◌, ◌==◌, Bool, true, false, if◌then◌else◌, List, [], ◌∷◌, slice_get, is_some, None, Some, refl, sym, ap, ◌∙◌, subst}
 use Rattle.std.proofs.lemmas.Bool.{eqb-true}
 use Rattle.df_lang.specs.declared.ty.Ty.{Ty}
 use Rattle.df_lang.specs.Stmt.{Variable}
 use Rattle.df_lang.specs.Program.{Program}
 use Rattle.df_lang.specs.Assignment.{Assigned, Unreached, Reached, has_value, mark, declare}
 use Rattle.df_mean.specs.Value.{Value}
-use Rattle.df_mean.specs.State.{Handed, State, Locals, set_local, with_local, without_local}
+use Rattle.df_mean.specs.State.{Handed, State, with_local, without_local}
 use Rattle.df_mean.specs.Execution.{declare_all}
-use Rattle.df_mean.specs.Definite.{HasValue}
 use Rattle.df_mean.proofs.Counting.{assigned_has}
 use Rattle.df_nterm.specs.Term.{Term}
 use Rattle.df_nterm.specs.Meaning.{Interpretation}
 use Rattle.df_nterm.specs.Meaning as meanings
-use Rattle.df_nterm.specs.Expressions.{Environment}
 use Rattle.df_nterm.specs.Measuring.{Measured}
 use Rattle.df_nterm.proofs.Sorted.{IsSorted}
-use Rattle.df_nterm.proofs.Below.{IsBelow, SameBelow}
+use Rattle.df_nterm.proofs.Below.{IsBelow}
 use Rattle.df_npass.specs.Rules.{Way, over, with_term}
 use Rattle.df_npass.proofs.Playing.{Mode, Moves}
 use Rattle.df_npass.proofs.Proper.{PathBelow, EnvBelow, MeasureBelow, path_grows, env_grows, measure_grows}

@@ -1,5 +1,5 @@
 -- Interpretations that take values for free terms.
-use Rattle.std.proofs.Common.{◌≡◌, ℕ, suc, ◌≤◌, nat_lt, ◌==◌, Bool, true, false, ◌&&◌, ◌||◌, not, if◌then◌else◌, List, [], ◌∷◌, ◌++◌, map, Option, None, Some, refl, sym, ap, ◌∙◌, subst, arith}
+use Rattle.std.proofs.Common.{◌≡◌, ℕ, suc, ◌≤◌, nat_lt, ◌==◌, Bool, true, false, ◌&&◌, ◌||◌, not, if◌then◌else◌, List, [], ◌∷◌, ◌++◌, Option, None, Some, refl, sym, ap, ◌∙◌, subst, arith}
 use Rattle.std.proofs.lemmas.Bool.{eqb-true, eq-eqb}
 use Rattle.df_lang.specs.declared.ty.Ty.{Ty}
 use Rattle.df_lang.specs.declared.ty.Ty.TheVariants as types
@@ -18,9 +18,9 @@ use Rattle.df_nterm.specs.Same.{same_sort}
 use Rattle.df_nterm.specs.Meaning.{Interpretation, has_sort, truth}
 use Rattle.df_nterm.specs.Meaning as meanings
 use Rattle.df_nterm.proofs.Sorted.{IsSorted, typed_sorted}
-use Rattle.df_nterm.proofs.Below.{IsBelow, SameBelow, value_same}
+use Rattle.df_nterm.proofs.Below.{SameBelow, value_same}
 use Rattle.df_nterm.proofs.Equal.{sort_is}
-use Rattle.df_npass.specs.Rules.{Said, Known, Owed, on_path, assume, assume_type, free_of}
+use Rattle.df_npass.specs.Rules.{Said, on_path, assume_type, free_of}
 use Rattle.df_npass.specs.Statements.{any_values}
 use Rattle.df_npass.proofs.Saying.{AllTrue, path_true, all_appended, all_front, all_rest, on_it}
 use Rattle.df_npass.proofs.Playing.{Mode, Following, Taking, Moves, moves_here, same_itself, same_then, all_same, Play, play_silent, play_handed, play_took, play_taking, play_behind, not_wrong, AreKnown, known_append, known_then_follow}

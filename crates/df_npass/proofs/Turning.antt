@@ -1,23 +1,21 @@
 -- What is handed to a turn of a loop.
-use Rattle.std.proofs.Common.{◌≡◌, ℕ, zero, suc, pos, ◌≤◌, ◌<◌, nat_lt, ◌==◌, Bool, true, false, ◌&&◌, ◌||◌, not, if◌then◌else◌, List, [], ◌∷◌, ◌++◌, map, length, slice_get, is_some, Option, None, Some, refl, sym, ap, ◌∙◌, subst, append-nil, arith}
+use Rattle.std.proofs.Common.{◌≡◌, ℕ, zero, suc, pos, ◌==◌, Bool, true, false, ◌&&◌, ◌||◌, if◌then◌else◌, List, [], ◌∷◌, slice_get, is_some, Option, None, Some, refl, sym, ◌∙◌, subst}
 use Rattle.std.proofs.lemmas.Bool.{eqb-true, eq-eqb}
 use Rattle.std.specs.List.{list_all, list_any}
-use Rattle.std.specs.Option.{option_map_or, option_and_then}
+use Rattle.std.specs.Option.{option_and_then}
 use Rattle.df_lang.specs.declared.ty.Ty.{Ty}
 use Rattle.df_lang.specs.declared.ty.Ty.TheVariants as types
 use Rattle.df_lang.specs.Newtype.{Newtype}
 use Rattle.df_lang.specs.Program.{Decl, NewtypeDecl, MethodDecl, Program, as_newtype, newtype_at}
-use Rattle.df_lang.specs.Typing.{same_type, is_type, is_newtype, is_decl, is_well_typed}
+use Rattle.df_lang.specs.Typing.{is_type, is_newtype, is_decl, is_well_typed}
 use Rattle.df_mean.specs.Value.{Value}
 use Rattle.df_mean.specs.Value as values
 use Rattle.df_mean.specs.Types.{has_type}
-use Rattle.df_mean.specs.Outcome.{Outcome, Gives, Dismissed}
-use Rattle.df_mean.specs.State.{Handed, Given as HandedGiven, Turned, State, Store, Locals, store_with, set_local, with_locals, with_store}
-use Rattle.df_mean.specs.Modular.{Changed, may_have, turned, handed_turn}
+use Rattle.df_mean.specs.Outcome.{Gives, Dismissed}
+use Rattle.df_mean.specs.State.{State, Store, Locals, set_local, with_locals, with_store}
+use Rattle.df_mean.specs.Modular.{Changed, may_have, turned}
 use Rattle.df_mean.specs.Agreement.{is_changed}
 use Rattle.df_mean.proofs.Cases.{both, joined}
-use Rattle.df_mean.proofs.Types.{same_type_equal}
-use Rattle.df_mean.proofs.Changing.{are_there}
 use Rattle.df_npass.specs.Statements.{each_once}
 
 -- ---- each type has a value

@@ -1,5 +1,5 @@
 -- A turn of a loop that is handed in goes on from any values of the locals that the loop changes.
-use Rattle.std.proofs.Common.{◌≡◌, ℕ, ◌≤◌, ◌==◌, Bool, true, false, ◌&&◌, ◌||◌, if◌then◌else◌, List, [], ◌∷◌, ◌++◌, slice_get, is_some, Option, None, Some, refl, sym, ap, ◌∙◌, subst}
+use Rattle.std.proofs.Common.{◌≡◌, ℕ, ◌≤◌, Bool, true, false, if◌then◌else◌, List, [], ◌∷◌, ◌++◌, slice_get, is_some, Option, None, Some, refl, sym, ap, ◌∙◌, subst}
 use Rattle.std.specs.List.{list_all}
 use Rattle.std.specs.Option.{option_map_or}
 use Rattle.df_lang.specs.declared.ty.Ty.{Ty}
@@ -8,30 +8,28 @@ use Rattle.df_lang.specs.Typing.{same_type, is_type, is_well_typed}
 use Rattle.df_lang.specs.Assignment.{Assigned, has_value}
 use Rattle.df_mean.specs.Value.{Value}
 use Rattle.df_mean.specs.Types.{has_type}
-use Rattle.df_mean.specs.Outcome.{Outcome, Gives, Dismissed, after}
-use Rattle.df_mean.specs.State.{Handed, Given as HandedGiven, Turned, State, Store, Locals, store_with, with_store}
-use Rattle.df_mean.specs.Definite.{HasValue}
-use Rattle.df_mean.specs.Modular.{Changed, may_have, turned, handed_turn}
+use Rattle.df_mean.specs.Outcome.{Outcome, Dismissed, after}
+use Rattle.df_mean.specs.State.{Handed, Given as HandedGiven, Turned, State, Locals, store_with, with_store}
+use Rattle.df_mean.specs.Modular.{Changed, may_have, handed_turn}
 use Rattle.df_mean.specs.Agreement.{is_changed}
 use Rattle.df_mean.proofs.Cases.{both, joined}
 use Rattle.df_mean.proofs.Types.{same_type_equal}
 use Rattle.df_mean.proofs.Changing.{are_there}
 use Rattle.df_mean.proofs.Counting.{assigned_has}
-use Rattle.df_nterm.specs.Term.{Term}
 use Rattle.df_nterm.specs.Meaning.{Interpretation}
 use Rattle.df_nterm.specs.Meaning as meanings
 use Rattle.df_nterm.proofs.Sorted.{IsSorted}
-use Rattle.df_nterm.proofs.Below.{SameBelow, value_same}
+use Rattle.df_nterm.proofs.Below.{value_same}
 use Rattle.df_npass.specs.Rules.{Said, Way, over, with_term, free_of, havoc}
 use Rattle.df_npass.specs.Statements.{each_once}
 use Rattle.df_npass.proofs.Saying.{AllTrue, path_true}
-use Rattle.df_npass.proofs.Playing.{Mode, Following, Taking, is_taking, Moves, moves_here, same_itself, all_same, Play, play_silent, play_handed, play_took, play_taking, play_behind, not_wrong, known_then_follow}
+use Rattle.df_npass.proofs.Playing.{Mode, Following, Taking, is_taking, Moves, moves_here, all_same, Play, play_silent, play_handed, play_took, play_taking, play_behind, not_wrong, known_then_follow}
 use Rattle.df_npass.proofs.Proper.{PathBelow, EnvBelow, AllBelow}
 use Rattle.df_npass.proofs.Reading.{with_handed, Sits}
 use Rattle.df_npass.proofs.Staying.{havoc_stays, once_less}
 use Rattle.df_npass.proofs.Coming.{holds_reached, hold_at, hold_make, assigned_make, path_same}
 use Rattle.df_npass.proofs.Turning.{turned_state, all_may, turned_is, turned_store, turned_local, list_once}
-use Rattle.df_npass.proofs.Handing.{by_bool, havoc_sorted, havoc_typed, havoc_known, TookTurn, take_turn}
+use Rattle.df_npass.proofs.Handing.{by_bool, havoc_sorted, havoc_typed, havoc_known, take_turn}
 
 pub havoc_path : (changed : List Changed) (fresh : ℕ) (way : Way) → (havoc changed fresh way).way.path ≡ way.path
 havoc_path [] fresh way = refl

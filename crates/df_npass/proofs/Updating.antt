@@ -1,25 +1,23 @@
 -- Right sides give the values of their terms, and places take them.
-use Rattle.std.proofs.Common.{◌≡◌, ℕ, ◌≤◌, ◌==◌, Bool, true, false, ◌&&◌, ◌||◌, not, if◌then◌else◌, List, [], ◌∷◌, ◌++◌, map, filter, slice_get, Option, None, Some, refl, sym, ap, ◌∙◌, subst, append_assoc, append-nil, le_trans}
+use Rattle.std.proofs.Common.{◌≡◌, ℕ, ◌==◌, Bool, true, false, ◌&&◌, ◌||◌, not, if◌then◌else◌, List, [], ◌∷◌, ◌++◌, map, filter, slice_get, Option, None, Some, refl, sym, ap, ◌∙◌, subst, append_assoc}
 use Rattle.std.proofs.lemmas.Bool.{eqb-true}
-use Rattle.std.specs.List.{AllByRecursion, list_all, list_any, flat_map}
+use Rattle.std.specs.List.{AllByRecursion, list_all, flat_map}
 use Rattle.std.specs.Option.{option_map_or}
 use Rattle.df_base.specs.declared.pos.Pos.{Pos}
 use Rattle.df_lang.specs.declared.ty.Ty.{Ty}
-use Rattle.df_lang.specs.declared.ty.Ty.TheVariants as types
 use Rattle.df_lang.specs.Stmt.{Target, Call, Conversion, Source, Single, Results, Update}
 use Rattle.df_lang.specs.Program.{Method, Program, method_at, types_of}
 use Rattle.df_lang.specs.Typing.{are_same_types, is_type, converts, is_expr, are_exprs, is_call, are_results, is_source, source_types, is_target, is_update, may_update, is_well_typed}
-use Rattle.df_lang.specs.Assignment.{Assigned, mark, assign, assign_all, reads, reads_of_call, reads_of_source, reads_of_update, unassigned}
+use Rattle.df_lang.specs.Assignment.{Assigned, mark, assign, assign_all, reads_of_call, reads_of_source, reads_of_update, unassigned}
 use Rattle.df_meaning.specs.declared.kind.Kind.{Kind}
 use Rattle.df_meaning.specs.declared.kind.Kind.TheVariants as kinds
-use Rattle.df_mean.specs.Value.{Value, truth_of, same_truth, same_value}
-use Rattle.df_mean.specs.Value as values
-use Rattle.df_mean.specs.Outcome.{Outcome, Gives, Wrong, Dismissed, after}
-use Rattle.df_mean.specs.State.{Handed, State, Store, store_with, with_store, with_local}
+use Rattle.df_mean.specs.Value.{Value, truth_of, same_value}
+use Rattle.df_mean.specs.Outcome.{Outcome, Gives, Wrong, after}
+use Rattle.df_mean.specs.State.{Handed, State, store_with, with_store, with_local}
 use Rattle.df_mean.specs.Meaning.{Meaning, Returned}
 use Rattle.df_mean.specs.Evaluation.{evaluate, converted}
 use Rattle.df_mean.specs.Execution.{Values, Taken, evaluate_all, execute_call, convert_all, execute_source, execute_sources, is_distinct, give_all, execute_update, execute_optional}
-use Rattle.df_mean.specs.Modular.{Running, modular_call}
+use Rattle.df_mean.specs.Modular.{modular_call}
 use Rattle.df_mean.proofs.Cases.{both, three, joined}
 use Rattle.df_mean.proofs.Stating.{Within, target_there}
 use Rattle.df_mean.proofs.Assigning.{place}
@@ -27,21 +25,21 @@ use Rattle.df_mean.proofs.Counting.{parted}
 use Rattle.df_nterm.specs.Term.{Term, Terms, no_term, term, terms_of, conjunction}
 use Rattle.df_nterm.specs.Meaning.{Interpretation, truth, has_sort}
 use Rattle.df_nterm.specs.Meaning as meanings
-use Rattle.df_nterm.specs.Expressions.{Environment, term_of, equal_in, narrowing}
+use Rattle.df_nterm.specs.Expressions.{term_of, equal_in, narrowing}
 use Rattle.df_nterm.specs.Measuring.{Measured}
 use Rattle.df_nterm.specs.Laws.{told}
 use Rattle.df_nterm.proofs.Told.{told_after}
 use Rattle.df_nterm.proofs.Sorted.{IsSorted, converted_sort}
-use Rattle.df_nterm.proofs.Below.{IsBelow, SameBelow, value_same, narrowing_below, equal_below, conjunction_below, all_below}
+use Rattle.df_nterm.proofs.Below.{IsBelow, narrowing_below, equal_below, conjunction_below, all_below}
 use Rattle.df_nterm.proofs.Answering.{conversion_told, equal_told}
-use Rattle.df_npass.specs.Rules.{Said, Way, Moved, over, with_term, assert, assert_all}
+use Rattle.df_npass.specs.Rules.{Said, Way, Moved, over, with_term, assert_all}
 use Rattle.df_npass.specs.Statements as passing
 use Rattle.df_npass.specs.Statements.{Given, given_behind, assert_exprs, assert_expr, pass_method_call, pass_call, assert_conversions, pass_source, pass_sources, taken_by, assert_equal, pass_update, pass_optional}
 use Rattle.df_npass.proofs.Saying.{path_true}
 use Rattle.df_npass.proofs.Playing.{Mode, Moves, moves_here, moves_then, Play, play_as}
-use Rattle.df_npass.proofs.Proper.{PathBelow, EnvBelow, path_grows}
+use Rattle.df_npass.proofs.Proper.{PathBelow, path_grows}
 use Rattle.df_npass.proofs.Leading.{TermsBelow, exprs_below, call_giving, source_giving, sources_giving}
-use Rattle.df_npass.proofs.Reading.{values_at, AreOf, with_handed, Sits, after_listed, told_then, checked_then, expr_then, exprs_then}
+use Rattle.df_npass.proofs.Reading.{values_at, AreOf, with_handed, after_listed, told_then, checked_then, expr_then, exprs_then}
 use Rattle.df_npass.proofs.Coming.{path_same}
 use Rattle.df_npass.proofs.Joining.{values_equal}
 use Rattle.df_npass.proofs.Arguments.{of_moves, values_move, of_append, values_append, same_types_are}

@@ -3,7 +3,6 @@ use Rattle.std.specs.Prelude.{ℕ, suc, pos, Bool, true, false, ◌==◌, ◌||�
 use Rattle.std.specs.Option.{option_map_or}
 use Rattle.std.specs.List.{list_any, flat_map}
 use Rattle.df_base.specs.declared.pos.Pos.{Pos}
-use Rattle.df_lang.specs.declared.ty.Ty.{Ty}
 use Rattle.df_lang.specs.Expr.{Expr}
 use Rattle.df_lang.specs.Stmt.{Operand, Text, Value, Target, Call, Conversion, Source, Single, Results, Update, Variable, Clause, Measure, Stmt, Block, Var, Assign, CallOf, If, While, Break, Return, Assert, Print, Stmts, done, next, Branches, no_branch, branch}
 use Rattle.df_lang.specs.Program.{Param, Method, Program, method_at}
@@ -11,7 +10,7 @@ use Rattle.df_lang.specs.Measures.{loop_measure, method_measure}
 use Rattle.df_lang.specs.Groups.{group_at}
 use Rattle.df_meaning.specs.declared.kind.Kind.{Kind}
 use Rattle.df_meaning.specs.declared.kind.Kind.TheVariants as kinds
-use Rattle.df_mean.specs.Modular.{Changed, changed_by_all, changed_by_branches}
+use Rattle.df_mean.specs.Modular.{Changed, changed_by_all}
 use Rattle.df_nterm.specs.Term.{Term, terms_of, literal, negation, conjunction}
 use Rattle.df_nterm.specs.Expressions.{Environment, term_of, conditions_of, equal_in, narrowing}
 use Rattle.df_nterm.specs.Measuring.{Measured, measured, are_below}
