@@ -1,0 +1,12 @@
+mod Lists
+mod Order
+mod Firsts
+mod Uses
+mod Sets
+mod Carrying
+mod Ways
+mod Points
+mod Finds
+mod Steps
+mod Methods
+mod Programs

@@ -1,0 +1,6 @@
+use Rattle.std.proofs.Common.{◌≡◌, drop}
+use Rattle.df_nghost.specs.Known.{cleared}
+use Rattle.df_nghost.proofs.assigned.clear.Given as goal
+
+abbrev pub invariant-loop-local : goal.invariant-loop-local
+invariant-loop-local l = cleared l.values.items (drop l.local-index l.locals) ≡ cleared l.fn.values.items l.locals
