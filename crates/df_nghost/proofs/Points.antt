@@ -1,10 +1,10 @@
 -- Points of a body as the code keeps them: what is taken, what is cleared, what joins.
-use Rattle.std.proofs.Common.{◌≡◌, ◌≤◌, ◌<◌, ◌+◌, ℕ, zero, suc, ◌==◌, nat_lt, Bool, true, false, ◌&&◌, ◌||◌, not, if◌then◌else◌, ◌⊎◌, inl, inr, List, [], ◌∷◌, ◌++◌, length, take, drop, replicate, get_or, set, filter, refl, sym, ap, subst, ◌∙◌, append_assoc, append-nil, length-append, arith}
+use Rattle.std.proofs.Common.{◌≡◌, ◌≤◌, ◌+◌, ℕ, zero, suc, ◌==◌, Bool, true, false, ◌&&◌, ◌||◌, not, if◌then◌else◌, List, [], ◌∷◌, ◌++◌, length, take, drop, get_or, set, filter, refl, sym, ap, subst, ◌∙◌, append_assoc, append-nil, length-append, arith}
 use mathlib.Core.Bool.{or-false, and-true, and-false, or_assoc}
-use Rattle.std.proofs.lemmas.Bool.{eqb-true, eqb-false, ltb-true, lt-ltb, cases_lt, or_parts, or_left, false_from_ne_true}
+use Rattle.std.proofs.lemmas.Bool.{eqb-true, eqb-false, or_parts, or_left}
 use Rattle.std.proofs.lemmas.List.Prefix.{front_rest}
-use Rattle.std.proofs.lemmas.List.{get_or-set_same, get_or-set_other}
-use Rattle.df_lang.specs.Assignment.{Assigned, Unreached, Reached, has_value, join, mark}
+use Rattle.std.proofs.lemmas.List.{get_or-set_other}
+use Rattle.df_lang.specs.Assignment.{Assigned, Unreached, Reached, join, mark}
 use Rattle.df_nghost.specs.declared.assigned.Assigned as declared
 use Rattle.df_nghost.specs.declared.join.Join.{Join}
 use Rattle.df_nghost.specs.Known.{holds, set_of, assigned_of, among, Extends, IsBack, cleared, joined_with, joined_of, Joins}
@@ -25,9 +25,6 @@ reached_same s t h = λ i. Reached (λ k. h k i)
 
 pub extends_same : (a b : Point) → b.taken.items ≡ a.taken.items → ((k : ℕ) → holds b.values.items k ≡ holds a.values.items k) → Extends a b
 extends_same a b taken values = record { more = []; taken = taken ∙ sym (append-nil a.taken.items); values = λ k. values k ∙ sym (or-false (holds a.values.items k)); fresh = λ k e. absurd (let f : false ≡ true = e in cc) }
-
-pub extends_back : (a b : Point) → IsBack a b → Extends a b
-extends_back a b back = extends_same a b back.taken back.values
 
 pub extends_on : (a b c : Point) → Extends a b → Extends b c → Extends a c
 extends_on a b c one other = record {
@@ -116,131 +113,9 @@ back_on a b c one other = record { reached = other.reached ∙ one.reached; take
 pub back_same : (a b : Point) → b ≡ a → IsBack a b
 back_same a b e = record { reached = ap (λ (p : Point). p.reached) e; taken = ap (λ (p : Point). p.taken.items) e; values = λ k. ap (λ (p : Point). holds p.values.items k) e }
 
--- ---- a local takes a value
+-- ---- locals take a value
 
-marks_same : (s : ℕ → Bool) (local k : ℕ) (b : Bool) → (k == local) ≡ b → s local ≡ true → s k ≡ (if b then true else s k)
-marks_same s local k true same has = let is : k ≡ local = eqb-true k local same in ap s is ∙ has
-marks_same s local k false same has = refl
-
--- where it has one
-pub marked_same : (r : Bool) (values : List Bool) (local : ℕ) → has_value (set_of r values) local ≡ true → set_of r values ≡ mark true (set_of r values) local
-marked_same true values local has = λ i. Reached (λ k. marks_same (λ j. holds values j) local k (k == local) refl has i)
-marked_same false values local has = refl
-
-set_marks : (values one : List Bool) (local k : ℕ) (b : Bool) → (k == local) ≡ b → ((j : ℕ) → holds one j ≡ holds values j) → local < length one → holds (set one local true) k ≡ (if b then true else holds values k)
-set_marks values one local k true is same less =
-    let e : k ≡ local = eqb-true k local is in
-    subst (λ (n : ℕ). holds (set one local true) n ≡ true) (sym e) (get_or-set_same one local true false less)
-set_marks values one local k false is same less = get_or-set_other one local k true false (eqb-false k local is) ∙ same k
-
--- where it has none
-pub marked_new : (r : Bool) (values one : List Bool) (local : ℕ) → has_value (set_of r values) local ≡ false → ((j : ℕ) → holds one j ≡ holds values j) → local < length one
-    → set_of r (set one local true) ≡ mark true (set_of r values) local
-marked_new true values one local none same less = λ i. Reached (λ k. set_marks values one local k (k == local) refl same less i)
-marked_new false values one local none same less = absurd (let f : true ≡ false = none in cc)
-
-holds_none : (r : Bool) (values : List Bool) (local : ℕ) → has_value (set_of r values) local ≡ false → holds values local ≡ false
-holds_none true values local none = none
-holds_none false values local none = absurd (let f : true ≡ false = none in cc)
-
-one_among : (has b : Bool) → (if b then true else has) ≡ (has || (b || false))
-one_among true true = refl
-one_among false true = refl
-one_among true false = refl
-one_among false false = refl
-
-only_one : (b : Bool) → (b || false) ≡ true → b ≡ true
-only_one true e = refl
-only_one false e = e
-
-pub extends_new : (a b : Point) (one : List Bool) (local : ℕ) → has_value (assigned_of a) local ≡ false → ((j : ℕ) → holds one j ≡ holds a.values.items j) → local < length one
-    → b.values.items ≡ set one local true → b.taken.items ≡ a.taken.items ++ local ∷ [] → Extends a b
-extends_new a b one local none same less values taken = record {
-  more = local ∷ [];
-  taken = taken;
-  values = λ k. ap (λ (vs : List Bool). holds vs k) values ∙ set_marks a.values.items one local k (k == local) refl same less ∙ one_among (holds a.values.items k) (k == local);
-  fresh = λ k e.
-      let is : k ≡ local = eqb-true k local (only_one (k == local) e) in
-      subst (λ (n : ℕ). holds a.values.items n ≡ false) (sym is) (holds_none a.reached a.values.items local none);
-}
-
--- a list that is one longer
-pub holds_pushed : (values : List Bool) (k : ℕ) → holds (values ++ false ∷ []) k ≡ holds values k
-holds_pushed [] zero = refl
-holds_pushed [] (suc k) = refl
-holds_pushed (v ∷ vs) zero = refl
-holds_pushed (v ∷ vs) (suc k) = holds_pushed vs k
-
--- where a body opens
-holds_first : (count k : ℕ) → k < count → holds (replicate count true) k ≡ true
-holds_first zero k less = absurd (omega arith)
-holds_first (suc count) zero less = refl
-holds_first (suc count) (suc k) less = holds_first count k (omega arith)
-
-holds_past : (count k : ℕ) → count ≤ k → holds (replicate count true) k ≡ false
-holds_past zero k le = refl
-holds_past (suc count) zero le = absurd (omega arith)
-holds_past (suc count) (suc k) le = holds_past count k (omega arith)
-
-pub first_hold : (count k : ℕ) → holds (replicate count true) k ≡ nat_lt k count
-first_hold count k = by_cases (cases_lt k count)
-  where
-    by_cases : (k < count) ⊎ (count ≤ k) → holds (replicate count true) k ≡ nat_lt k count
-    by_cases (inl less) = holds_first count k less ∙ sym (lt-ltb k count less)
-    by_cases (inr le) = holds_past count k le ∙ sym (false_from_ne_true (nat_lt k count) (λ r. let less = ltb-true k count r in omega (arith, le, less)))
-
-pub entry_is : (r : Bool) (values : List Bool) (count : ℕ) → r ≡ true → values ≡ replicate count true → set_of r values ≡ Reached (λ k. nat_lt k count)
-entry_is r values count reached is = ap (λ (b : Bool). set_of b values) reached ∙ ap (λ (vs : List Bool). Reached (λ k. holds vs k)) is ∙ reached_same (λ k. holds (replicate count true) k) (λ k. nat_lt k count) (first_hold count)
-
--- ---- where ways join
-
-pub join_unreached : (a : Assigned) → a ≡ join a Unreached
-join_unreached Unreached = refl
-join_unreached (Reached s) = refl
-
-among_filtered : (p : ℕ → Bool) (locals : List ℕ) (k : ℕ) → among (filter p locals) k ≡ (among locals k && p k)
-among_filtered p [] k = refl
-among_filtered p (t ∷ ts) k = by_test (p t) (k == t) refl refl (among_filtered p ts k)
-  where
-    by_test : (kept same : Bool) → p t ≡ kept → (k == t) ≡ same → among (filter p ts) k ≡ (among ts k && p k) → among (if kept then t ∷ filter p ts else filter p ts) k ≡ ((same || among ts k) && p k)
-    by_test true true e is others = let at : k ≡ t = eqb-true k t is in ap (λ (b : Bool). b || among (filter p ts) k) is ∙ sym (ap p at ∙ e)
-    by_test true false e is others = ap (λ (b : Bool). b || among (filter p ts) k) is ∙ others
-    by_test false true e is others = let at : k ≡ t = eqb-true k t is in others ∙ ap (λ (b : Bool). among ts k && b) (ap p at ∙ e) ∙ and-false (among ts k) ∙ sym (ap p at ∙ e)
-    by_test false false e is others = others
-
-or_and : (b t w : Bool) → (b ≡ true → w ≡ true) → (b || (t && w)) ≡ ((b || t) && w)
-or_and true t w h = sym (h refl)
-or_and false t w h = refl
-
--- no path comes on the way
-pub joins_none : (one way : Point) (old new : Join) (count : ℕ) → new ≡ old → way.reached ≡ false → Joins old new way count
-joins_none one way old new count same none before e is =
-    ap (joined_of before) same ∙ join_unreached (joined_of before old) ∙ ap (λ (b : Bool). join (joined_of before old) (set_of b way.values.items)) (sym none)
-
--- the first way on which one comes
-pub joins_first : (way : Point) (old new : Join) (count : ℕ) → way.reached ≡ true → old.reached ≡ false → new.reached ≡ true → new.taken.items ≡ drop count way.taken.items → Joins old new way count
-joins_first way old new count comes none reached taken before e is =
-    ap (λ (b : Bool). joined_with b before.values.items new.taken.items) reached
-    ∙ ap (λ (ts : List ℕ). joined_with true before.values.items ts) (taken ∙ more_dropped before way e count (sym is))
-    ∙ reached_same (λ k. holds before.values.items k || among e.more k) (λ k. holds way.values.items k) (λ k. sym (e.values k))
-    ∙ ap (λ (b : Bool). set_of b way.values.items) (sym comes)
-    ∙ ap (λ (b : Bool). join (joined_with b before.values.items old.taken.items) (assigned_of way)) (sym none)
-
--- one more
-pub joins_more : (way : Point) (old new : Join) (count : ℕ) → way.reached ≡ true → old.reached ≡ true → new.reached ≡ true → new.taken.items ≡ filter (λ k. holds way.values.items k) old.taken.items → Joins old new way count
-joins_more way old new count comes some reached taken before e is =
-    ap (λ (b : Bool). joined_with b before.values.items new.taken.items) reached
-    ∙ ap (λ (ts : List ℕ). joined_with true before.values.items ts) taken
-    ∙ reached_same (λ k. holds before.values.items k || among (filter (λ j. holds way.values.items j) old.taken.items) k) (λ k. (holds before.values.items k || among old.taken.items k) && holds way.values.items k) each
-    ∙ ap (λ (b : Bool). join (joined_with true before.values.items old.taken.items) (set_of b way.values.items)) (sym comes)
-    ∙ ap (λ (b : Bool). join (joined_with b before.values.items old.taken.items) (assigned_of way)) (sym some)
-  where
-    each : (k : ℕ) → (holds before.values.items k || among (filter (λ j. holds way.values.items j) old.taken.items) k) ≡ ((holds before.values.items k || among old.taken.items k) && holds way.values.items k)
-    each k =
-        ap (λ (b : Bool). holds before.values.items k || b) (among_filtered (λ j. holds way.values.items j) old.taken.items k)
-        ∙ or_and (holds before.values.items k) (among old.taken.items k) (holds way.values.items k) (λ has. e.values k ∙ or_left (holds before.values.items k) (among e.more k) has)
-
--- locals take a value one after another
+-- one after another
 abbrev pub marks : Assigned → List ℕ → Assigned
 marks a [] = a
 marks a (k ∷ ks) = marks (mark true a k) ks
@@ -262,3 +137,33 @@ all_marked s (k ∷ ks) = all_marked (λ j. if j == k then true else s j) ks ∙
 pub marks_joined : (r : Bool) (values : List Bool) (ks : List ℕ) → marks (set_of r values) ks ≡ joined_with r values ks
 marks_joined true values ks = all_marked (λ k. holds values k) ks
 marks_joined false values ks = none_marked ks
+
+-- ---- where ways join
+
+among_filtered : (p : ℕ → Bool) (locals : List ℕ) (k : ℕ) → among (filter p locals) k ≡ (among locals k && p k)
+among_filtered p [] k = refl
+among_filtered p (t ∷ ts) k = by_test (p t) (k == t) refl refl (among_filtered p ts k)
+  where
+    by_test : (kept same : Bool) → p t ≡ kept → (k == t) ≡ same → among (filter p ts) k ≡ (among ts k && p k) → among (if kept then t ∷ filter p ts else filter p ts) k ≡ ((same || among ts k) && p k)
+    by_test true true e is others = let at : k ≡ t = eqb-true k t is in ap (λ (b : Bool). b || among (filter p ts) k) is ∙ sym (ap p at ∙ e)
+    by_test true false e is others = ap (λ (b : Bool). b || among (filter p ts) k) is ∙ others
+    by_test false true e is others = let at : k ≡ t = eqb-true k t is in others ∙ ap (λ (b : Bool). among ts k && b) (ap p at ∙ e) ∙ and-false (among ts k) ∙ sym (ap p at ∙ e)
+    by_test false false e is others = others
+
+or_and : (b t w : Bool) → (b ≡ true → w ≡ true) → (b || (t && w)) ≡ ((b || t) && w)
+or_and true t w h = sym (h refl)
+or_and false t w h = refl
+
+-- one more
+pub joins_more : (way : Point) (old new : Join) (count : ℕ) → way.reached ≡ true → old.reached ≡ true → new.reached ≡ true → new.taken.items ≡ filter (λ k. holds way.values.items k) old.taken.items → Joins old new way count
+joins_more way old new count comes some reached taken before e is =
+    ap (λ (b : Bool). joined_with b before.values.items new.taken.items) reached
+    ∙ ap (λ (ts : List ℕ). joined_with true before.values.items ts) taken
+    ∙ reached_same (λ k. holds before.values.items k || among (filter (λ j. holds way.values.items j) old.taken.items) k) (λ k. (holds before.values.items k || among old.taken.items k) && holds way.values.items k) each
+    ∙ ap (λ (b : Bool). join (joined_with true before.values.items old.taken.items) (set_of b way.values.items)) (sym comes)
+    ∙ ap (λ (b : Bool). join (joined_with b before.values.items old.taken.items) (assigned_of way)) (sym some)
+  where
+    each : (k : ℕ) → (holds before.values.items k || among (filter (λ j. holds way.values.items j) old.taken.items) k) ≡ ((holds before.values.items k || among old.taken.items k) && holds way.values.items k)
+    each k =
+        ap (λ (b : Bool). holds before.values.items k || b) (among_filtered (λ j. holds way.values.items j) old.taken.items k)
+        ∙ or_and (holds before.values.items k) (among old.taken.items k) (holds way.values.items k) (λ has. e.values k ∙ or_left (holds before.values.items k) (among e.more k) has)

@@ -17,7 +17,7 @@ use Rattle.df_nghost.specs.declared.assigned.Assigned as declared
 use Rattle.df_nghost.specs.declared.join.Join.{Join}
 use Rattle.df_nghost.specs.declared.flow.Flow.{Flow}
 use Rattle.df_nghost.specs.Parts.{stmts_in, branch_of, branches_in}
-use Rattle.df_nghost.specs.Known.{assigned_of, joined_with, joined_of, Extends, IsBack, Joins}
+use Rattle.df_nghost.specs.Known.{assigned_of, joined_with, joined_of, IsBack}
 use Rattle.df_nghost.specs.mirror.Way.{Known, known, ways_of, look, turned, way_of, begun, returned, go, go_all, go_branches}
 use Rattle.df_nghost.proofs.Points.{marks, back_assigned, back_joined, back_on, back_same}
 use Rattle.df_nghost.proofs.Ways.{with_first}
@@ -41,14 +41,6 @@ pub turn_back : (m : Method) (old mid new : Flow) (body : Stmts) → IsBack old.
 turn_back m old mid new body back first one =
     let told : new.first ≡ (go_all m (known old) body).first = first ∙ ap (λ (k : Known). k.first) one in
     λ i. with_first (back_assigned old.assigned new.assigned back i) (told i)
-
--- a way has joined
-pub way_joins : (m : Method) (old mid new : Flow) (one other : Join) (count : ℕ) (body : Stmts) → Extends old.assigned mid.assigned → count ≡ length old.assigned.taken.items → Joins one other mid.assigned count
-    → new.first ≡ mid.first → known mid ≡ go_all m (known old) body → ways_of old.assigned other new.first ≡ way_of (ways_of old.assigned one old.first) (go_all m (known old) body)
-way_joins m old mid new one other count body extends is joins first gone =
-    let joined : joined_of old.assigned other ≡ join (joined_of old.assigned one) (go_all m (known old) body).at = joins old.assigned extends (sym is) ∙ ap (λ (k : Known). join (joined_of old.assigned one) k.at) gone in
-    let told : new.first ≡ (go_all m (known old) body).first = first ∙ ap (λ (k : Known). k.first) gone in
-    λ i. with_first (joined i) (told i)
 
 -- a branch has joined: s before its guard, r behind it, t behind its body
 pub branch_goes : (m : Method) (a : declared.Assigned) (s r t : Flow) (one other : Join) (whole : Known) (items : List Branch) (i : ℕ) (x : Branch) → i < length items → x ≡ get_or items i x

@@ -8,7 +8,7 @@ ghost use Rattle.df_lang.specs.DeclView.{method_of};
 ghost use Rattle.df_lang.specs.Assignment as pure;
 ghost use Rattle.df_nghost.specs.Parts.{stmts_in, branches_in};
 ghost use Rattle.df_nghost.specs.Known.{Extends, IsBack, assigned_of};
-ghost use Rattle.df_nghost.specs.mirror.Way.{known, ways_of, look, updated, way_of, go, go_all, go_branches, turned};
+ghost use Rattle.df_nghost.specs.mirror.Way.{known, ways_of, look, updated, returned, way_of, go, go_all, go_branches, turned};
 
 use crate::assigned::Assigned;
 use crate::join::Join;
@@ -98,6 +98,22 @@ impl Flow {
         }
     }
 
+    /// The method returns at `pos`, behind the update, and no path goes on.
+    fn return_at(
+        &mut self,
+        method: &Method,
+        pos: Pos,
+        update: &Option<Update>,
+    ) -> Result<(), Memory>
+        ensures known { OnOk result (known self.new ≡ returned (look (updated (known self.old) (option_map update_of update.now)) (pure.results_at (method_of method.now) pos))) }
+        ensures extends { OnOk result (Extends self.old.assigned self.new.assigned) }
+    {
+        self.optional(update)?;
+        self.results(method, pos);
+        self.assigned.leave();
+        Ok(())
+    }
+
     /// One statement is run.
     #[cycle(flow)]
     fn stmt(&mut self, method: &Method, stmt: &Stmt) -> Result<(), Memory>
@@ -129,11 +145,7 @@ impl Flow {
                 self.turn(method, body)?;
             }
             Stmt::Break { .. } => self.assigned.leave(),
-            Stmt::Return { pos, update } => {
-                self.optional(update)?;
-                self.results(method, *pos);
-                self.assigned.leave();
-            }
+            Stmt::Return { pos, update } => self.return_at(method, *pos, update)?,
             Stmt::Assert { condition, .. } => self.read(condition),
             Stmt::Print { operands, .. } => self.print(operands),
         }

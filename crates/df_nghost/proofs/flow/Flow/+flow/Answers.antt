@@ -48,11 +48,6 @@ turn-returns-clause-known t c =
     turn_back (method_of c.args.method.now) c.args.self.now c.stmts.new.self new (stmts_in c.args.body.now.items)
     (back_to c.args.self.now.assigned c.stmts.new.self.assigned c.back.new.self c.in_ok-stmts.ensures.extends c.len-count.result (search rules) c.back.ensures.reached c.back.ensures.values c.back.ensures.taken) refl c.in_ok-stmts.ensures.known
 
-pub stmt-returns-in_ok-optional-in-Return-clause-extends : goal.stmt-returns-in_ok-optional-in-Return-clause-extends
-stmt-returns-in_ok-optional-in-Return-clause-extends t c =
-    extends_on c.args.self.now.assigned c.results.new.self.assigned c.leave-in-Return.new.self
-    (rw c.results.ensures.same c.in_ok-optional-in-Return.ensures.extends) c.leave-in-Return.ensures.extends
-
 pub stmt-returns-in_ok-go_on-in-If-clause-known : goal.stmt-returns-in_ok-go_on-in-If-clause-known
 stmt-returns-in_ok-go_on-in-If-clause-known t c =
     let new : Flow = record c.way.new.self { assigned = c.go_on.new.self } in
