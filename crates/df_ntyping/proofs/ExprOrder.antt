@@ -87,7 +87,7 @@ pub type_order : (env : Environment) (start : ℕ) (ty : TreeType) → Segment s
 type_order env start (trees.Basic basic pos) = no_nodes start start (suc start)
 type_order env start (trees.Named ident) = token_alone env _ start
 
-cast_order : (env : Environment) (start : ℕ) (pos : Option Pos) (word : ℕ) (source : Option Ty) (all : List TreeType) → start ≤ word → Segment start word (word + (length all + length all)) (cast_nodes env start pos word source all)
+pub cast_order : (env : Environment) (start : ℕ) (pos : Option Pos) (word : ℕ) (source : Option Ty) (all : List TreeType) → start ≤ word → Segment start word (word + (length all + length all)) (cast_nodes env start pos word source all)
 cast_order env start pos word source [] p = no_nodes start word (word + 0)
 cast_order env start pos word source (ty ∷ others) p =
     then_more start word (word + 2) (word + (suc (length others) + suc (length others))) (type_nodes env (suc word) ty) _ _
@@ -176,7 +176,7 @@ mutual
   expr_order env start (Leading operations) g =
       run_order env (first_group operations) start start None (Some types.Bool) (start + width (Leading operations)) operations g.0 g.3 (omega arith) refl
 
-  run_order : (env : Environment) (group : Option Group) (start sign : ℕ) (wanted left : Option Ty) (after : ℕ) (rest : Members) (g : Group) → AreOf rest g → start ≤ sign → after ≡ sign + length (spell_members rest)
+  pub run_order : (env : Environment) (group : Option Group) (start sign : ℕ) (wanted left : Option Ty) (after : ℕ) (rest : Members) (g : Group) → AreOf rest g → start ≤ sign → after ≡ sign + length (spell_members rest)
       → Segment start sign after (run_nodes env group start sign wanted left after rest)
   run_order env group start sign wanted left after end g all p q = no_nodes start sign after
   run_order env (Some groups.Implication) start sign wanted left after (more operator pos operand rest) g all p q =

@@ -1,7 +1,7 @@
 -- The least fault of nodes that are in order, found from the first on: a walk that tells the first fault that it meets tells
 -- the least of its stage. Nodes that are at one place with the first are the only ones that are still to be looked at.
-use Rattle.std.proofs.Common.{◌≡◌, ℕ, zero, suc, ◌<◌, ◌≤◌, Bool, true, false, List, [], ◌∷◌, ◌++◌, refl, sym, ap, subst, ◌∙◌, ◌⊎◌, inl, inr, arith}
-use Rattle.std.specs.Prelude.{Contains, nat_le, nat_lt, ◌==◌}
+use Rattle.std.proofs.Common.{◌≡◌, ℕ, zero, suc, ◌<◌, ◌≤◌, true, false, List, [], ◌∷◌, ◌++◌, refl, sym, subst, ◌∙◌, ◌⊎◌, inl, inr, arith}
+use Rattle.std.specs.Prelude.{Contains, nat_le, nat_lt}
 use Rattle.std.specs.List.{AllByRecursion}
 use Rattle.std.proofs.lemmas.Bool.{leb-true}
 use Rattle.std.proofs.lemmas.List.Elements.{Contains-append_left, Contains-append_right, Contains-append_cases}
@@ -10,8 +10,8 @@ use Rattle.df_ntyping.specs.Node.{Occurrence}
 use Rattle.df_ntyping.specs.Rule.{Rule, stage_of, code_number, rule_number}
 use Rattle.df_ntyping.specs.Breaks.{Breaks}
 use Rattle.df_ntyping.specs.Laws.{AreInOrder}
-use Rattle.df_ntyping.specs.Least.{Fault, IsLeast, IsFault, IsLeastBroken, Tells, IsTold, IsToldIn, IsFaultIn, BreaksNoneIn, by_number, comes_before}
-use Rattle.df_ntyping.proofs.LeastExists.{by_self, by_greater, by_less, three, true_not_false}
+use Rattle.df_ntyping.specs.Least.{Fault, IsLeast, IsFault, IsLeastBroken, Tells, IsToldIn, IsFaultIn, BreaksNoneIn, by_number, comes_before}
+use Rattle.df_ntyping.proofs.LeastExists.{by_self, by_greater, three, true_not_false}
 
 -- the least of a stage
 abbrev pub IsLeastIn : ℕ → List Occurrence → Fault → Type 0

@@ -74,7 +74,7 @@ asym : (f g : Fault) → comes_before f g ≡ true → comes_before g f ≡ fals
 asym f g =
     by_asym (stage_of f.rule) (stage_of g.rule) _ _ (by_asym f.at.after g.at.after _ _ (by_asym g.at.start f.at.start _ _ (by_asym (code_number f.rule) (code_number g.rule) _ _ (less_asym (rule_number f.rule) (rule_number g.rule)))))
 
-neg : (f g h : Fault) → comes_before f g ≡ false → comes_before g h ≡ false → comes_before f h ≡ false
+pub neg : (f g h : Fault) → comes_before f g ≡ false → comes_before g h ≡ false → comes_before f h ≡ false
 neg f g h =
     by_neg (stage_of f.rule) (stage_of g.rule) (stage_of h.rule) _ _ _ (by_neg f.at.after g.at.after h.at.after _ _ _ (starts (by_neg (code_number f.rule) (code_number g.rule) (code_number h.rule) _ _ _ (less_neg (rule_number f.rule) (rule_number g.rule) (rule_number h.rule))))) where
       starts : {r s t : Bool} → (r ≡ false → s ≡ false → t ≡ false) → by_number g.at.start f.at.start r ≡ false → by_number h.at.start g.at.start s ≡ false → by_number h.at.start f.at.start t ≡ false

@@ -17,3 +17,19 @@ mod WellTyped
 mod TypedIsWellTyped
 mod Elaborations
 mod Rows
+mod FirstFault
+mod Breaking
+mod MeetingTypes
+mod OpenExprs
+mod Fitting
+mod Silent
+mod Standing
+mod Found
+mod Verdict
+mod Giving
+mod Runs
+mod RunRows
+mod Implications
+mod Wholes
+mod Judged
+pub mod WantedTold

@@ -1,6 +1,6 @@
 -- Nodes come in the order of where their texts end, and of two that end together the inner one comes first.
-use Rattle.std.proofs.Common.{◌≡◌, ℕ, ◌<◌, ◌≤◌, Bool, true, false, List, [], ◌∷◌, ◌++◌, refl, ◌⊎◌, inl, inr, arith}
-use Rattle.std.specs.Prelude.{None, filter, cond, nat_lt, nat_le, ◌||◌}
+use Rattle.std.proofs.Common.{◌≡◌, ℕ, zero, suc, ◌<◌, ◌≤◌, Bool, true, false, List, [], ◌∷◌, ◌++◌, refl, subst, ◌⊎◌, inl, inr, arith}
+use Rattle.std.specs.Prelude.{None, filter, cond, nat_lt, nat_le, ◌||◌, Contains}
 use Rattle.std.specs.List.{AllByRecursion}
 use Rattle.std.proofs.lemmas.Bool.{cases_lt, lt-ltb, le-leb}
 use Rattle.df_lemmas.proofs.Numbers.{equal_self}
@@ -109,6 +109,16 @@ ended low above high xs one h p q r n = record {
   within = within_append low above high xs (one ∷ []) h.within (record { begins = omega arith; behind = omega arith; ends = omega arith }, tt);
   sorted = behind_all low above high xs one h.within h.sorted q r n;
 }
+
+-- each node lies within
+each_within : (low above high : ℕ) (xs : List Occurrence) → AreWithin low above high xs → (one : Occurrence) → Contains xs one → IsWithin low above high one
+unfolding AreWithin
+each_within low above high [] h one (k, p, q) = absurd (omega arith)
+each_within low above high (x ∷ xs) h one (zero, p, q) = subst (λ (y : Occurrence). IsWithin low above high y) q h.0
+each_within low above high (x ∷ xs) h one (suc k, p, q) = each_within low above high xs h.1 one (k, omega arith, q)
+
+pub lies_within : (low above high : ℕ) (xs : List Occurrence) → Segment low above high xs → (one : Occurrence) → Contains xs one → IsWithin low above high one
+lies_within low above high xs h one c = each_within low above high xs h.within one c
 
 -- ---- some of the nodes
 

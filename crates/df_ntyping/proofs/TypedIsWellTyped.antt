@@ -33,11 +33,11 @@ use Rattle.df_ntyping.proofs.WellTyped.{Valid, own_valid, owns_valid, valid_at, 
 
 -- ---- ranges
 
-all_left : (xs ys : List Piece) → AreInRange (xs ++ ys) → AreInRange xs
+pub all_left : (xs ys : List Piece) → AreInRange (xs ++ ys) → AreInRange xs
 all_left [] ys h = refl
 all_left (x ∷ xs) ys h = let parts = and_parts (is_in_range x) (list_all is_in_range (xs ++ ys)) h in rw (parts.0) (all_left xs ys parts.1)
 
-all_right : (xs ys : List Piece) → AreInRange (xs ++ ys) → AreInRange ys
+pub all_right : (xs ys : List Piece) → AreInRange (xs ++ ys) → AreInRange ys
 all_right [] ys h = h
 all_right (x ∷ xs) ys h = let parts = and_parts (is_in_range x) (list_all is_in_range (xs ++ ys)) h in all_right xs ys parts.1
 

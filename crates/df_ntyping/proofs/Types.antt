@@ -21,7 +21,7 @@ use Rattle.df_ntyping.proofs.Complete.{same_self}
 
 -- ---- types
 
-counted_twice : (ty : Ty) → counted (counted ty) ≡ counted ty
+pub counted_twice : (ty : Ty) → counted (counted ty) ≡ counted ty
 counted_twice (types.Newtype a) = refl
 counted_twice types.Int = refl
 counted_twice types.Nat = refl
@@ -51,7 +51,7 @@ open_counted expected e = counted_twice (literal_type (counted_of expected)) ∙
 
 -- ---- options and truths
 
-value_of : {A : Type 0} {a b : A} → Some a ≡ Some b → a ≡ b
+pub value_of : {A : Type 0} {a b : A} → Some a ≡ Some b → a ≡ b
 value_of {A} {a} p = ap (λ (o : Option A). unwrap_or o a) p
 
 -- ---- operands that are not open
@@ -61,7 +61,7 @@ AllCount : Ty → List (Option Ty) → Type 0
 AllCount of [] = Unit {0}
 AllCount of (own ∷ others) = ((source : Ty) × (own ≡ Some source) × (counted source ≡ of)) × AllCount of others
 
-one_integer : (left right : Ty) → is_integer left ≡ true → is_integer right ≡ true → counted left ≡ counted right → are_one_integer left right ≡ true
+pub one_integer : (left right : Ty) → is_integer left ≡ true → is_integer right ≡ true → counted left ≡ counted right → are_one_integer left right ≡ true
 one_integer left right p q r = rw (p, q, r) (same_self (counted right))
 
 sum_of_two : (of source : Ty) → counted of ≡ of → is_integer of ≡ true → counted source ≡ of → arithmetic (Some of) (Some source) ≡ Some of
@@ -97,7 +97,7 @@ unfolding AllCount
 of_part true of own others one all = all
 of_part false of own others one all = (one refl, all)
 
-none_open : (env : Environment) (rest : Members) → are_open rest ≡ true → own_types env rest ≡ []
+pub none_open : (env : Environment) (rest : Members) → are_open rest ≡ true → own_types env rest ≡ []
 none_open env end p = refl
 none_open env (more operator pos operand rest) p =
     let parts = and_parts (is_open operand) (are_open rest) p in
@@ -111,7 +111,7 @@ and_false : (b c : Bool) → (b && c) ≡ false → b ≡ true → c ≡ false
 and_false true c h p = h
 and_false false c h p = absurd cc
 
-not_all_open : (env : Environment) (rest : Members) → are_open rest ≡ false → own_types env rest ≢ []
+pub not_all_open : (env : Environment) (rest : Members) → are_open rest ≡ false → own_types env rest ≢ []
 not_all_open env end p = absurd cc
 not_all_open env (more operator pos operand rest) p =
     some_own (is_open operand) (own_type env operand) (own_types env rest) (λ q. not_all_open env rest (and_false (is_open operand) (are_open rest) p q))

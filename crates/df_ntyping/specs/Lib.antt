@@ -24,3 +24,4 @@ pub mod Literals
 pub mod Unassigned
 pub mod Stages
 pub mod Laws
+pub mod mirror

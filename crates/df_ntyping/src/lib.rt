@@ -2,7 +2,7 @@
 //! told, and which typed program a file elaborates to.
 #![tactic(auto)]
 
-ghost use Rattle.df_ntyping.specs.Laws.{OneTyping, OneType, OneProgram, NodesAreInOrder, LeastExists, TypedIsWellTyped, OneMissingTold};
+ghost use Rattle.df_ntyping.specs.Laws.{OneTyping, OneType, OneProgram, NodesAreInOrder, LeastExists, TypedIsWellTyped, OneMissingTold, FaultlessIsTyped, TypedIsFaultless, FaultlessIsWanted, WantedIsFaultless};
 
 /// An expression has one type and one typed expression at most.
 pub fn one_typing()
@@ -37,4 +37,25 @@ pub fn least_exists()
 /// At most one use of a local without a value is told of a program.
 pub fn one_missing_told()
     ensures { OneMissingTold }
+{}
+
+/// What elaborates breaks nothing.
+pub fn typed_is_faultless()
+    ensures { TypedIsFaultless }
+{}
+
+/// An expression that breaks nothing, and whose locals have types, elaborates.
+pub fn faultless_is_typed()
+    ensures { FaultlessIsTyped }
+{}
+
+/// What elaborates to what is asked breaks nothing, nor is anything broken that is asked.
+pub fn wanted_is_faultless()
+    ensures { WantedIsFaultless }
+{}
+
+/// An expression that breaks nothing, of which nothing that is asked is broken, and whose locals have types, elaborates to
+/// what is asked.
+pub fn faultless_is_wanted()
+    ensures { FaultlessIsWanted }
 {}
