@@ -33,3 +33,27 @@ mod Implications
 mod Wholes
 mod Judged
 pub mod WantedTold
+mod AllNodes
+mod ExprStands
+mod StatementStands
+mod FileStands
+mod KnownTypes
+mod SameBehind
+mod KnownBehind
+mod KeptTypes
+mod ScopedLocals
+mod Ranges
+mod ClauseExprs
+mod GuardMeasures
+mod Fits
+mod CoveredLocals
+mod SidesWellTyped
+mod StatementsWellTyped
+mod Unmarked
+mod FirstLocals
+mod ProgramWellTyped
+mod MovedNodes
+mod SoundNodes
+mod SoundSides
+mod SoundStatements
+mod SoundFiles

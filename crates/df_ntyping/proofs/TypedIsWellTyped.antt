@@ -48,7 +48,7 @@ converted_by : (program : Program) (locals : List Ty) (b : Bool) (source target 
 converted_by program locals true source target e inner t p h good c = rw h (subst (λ (ty : Ty). is_expr program locals ty inner ≡ true) (same_equal source target p) good)
 converted_by program locals false source target e inner t p (at, found, q) good c = rw (q, same_self target, c p, good) refl
 
-converted : (program : Program) (locals : List Ty) (source target : Ty) (e : Expr) (inner t : typed.Expr) → Converts source target e inner t
+pub converted : (program : Program) (locals : List Ty) (source target : Ty) (e : Expr) (inner t : typed.Expr) → Converts source target e inner t
     → is_expr program locals source inner ≡ true → (same_type source target ≡ false → converts source target ≡ true) → is_expr program locals target t ≡ true
 converted program locals source target e inner t h good c = converted_by program locals (same_type source target) source target e inner t refl h good c
 

@@ -26,7 +26,7 @@ use Rattle.df_ntyping.specs.Types.{counted, is_integer, casts, fits_or_narrows, 
 
 -- ---- types
 
-or_false : (b : Bool) → (b || false) ≡ true → b ≡ true
+pub or_false : (b : Bool) → (b || false) ≡ true → b ≡ true
 or_false true p = refl
 or_false false p = p
 
@@ -140,10 +140,10 @@ casts_of program types.Bool types.Bool p q r = absurd cc
 
 -- ---- types that are known are the program's
 
-pub Valid : Program → Option Ty → Type 0
+unfoldable pub Valid : Program → Option Ty → Type 0
 Valid program own = (ty : Ty) → own ≡ Some ty → is_type program ty ≡ true
 
-pub AllValid : Program → List (Option Ty) → Type 0
+unfoldable pub AllValid : Program → List (Option Ty) → Type 0
 AllValid program [] = Unit {0}
 AllValid program (own ∷ others) = Valid program own × AllValid program others
 
@@ -158,7 +158,7 @@ pub none_valid : (program : Program) → Valid program None
 unfolding Valid
 none_valid program other p = absurd cc
 
-if_valid : (program : Program) (b : Bool) (one other : Option Ty) → Valid program one → Valid program other → Valid program (if b then one else other)
+pub if_valid : (program : Program) (b : Bool) (one other : Option Ty) → Valid program one → Valid program other → Valid program (if b then one else other)
 if_valid program true one other h k = h
 if_valid program false one other h k = k
 
@@ -167,18 +167,18 @@ unfolding Valid
 counted_valid program None h = λ ty p. absurd cc
 counted_valid program (Some ty) h = some_valid program (counted ty) (counted_type program ty (h ty refl))
 
-arithmetic_valid : (program : Program) (left right : Option Ty) → Valid program left → Valid program (arithmetic left right)
+pub arithmetic_valid : (program : Program) (left right : Option Ty) → Valid program left → Valid program (arithmetic left right)
 unfolding Valid
 arithmetic_valid program None right h = none_valid program
 arithmetic_valid program (Some left) None h = none_valid program
 arithmetic_valid program (Some left) (Some right) h =
     if_valid program (are_one_integer left right) (Some (counted left)) None (some_valid program (counted left) (counted_type program left (h left refl))) (none_valid program)
 
-arithmetic_all_valid : (program : Program) (left : Option Ty) (others : List (Option Ty)) → Valid program left → Valid program (arithmetic_all left others)
+pub arithmetic_all_valid : (program : Program) (left : Option Ty) (others : List (Option Ty)) → Valid program left → Valid program (arithmetic_all left others)
 arithmetic_all_valid program left [] h = h
 arithmetic_all_valid program left (right ∷ others) h = arithmetic_all_valid program (arithmetic left right) others (arithmetic_valid program left right h)
 
-common_valid : (program : Program) (own : List (Option Ty)) → AllValid program own → Valid program (common_type own)
+pub common_valid : (program : Program) (own : List (Option Ty)) → AllValid program own → Valid program (common_type own)
 unfolding AllValid
 common_valid program [] h = none_valid program
 common_valid program (first ∷ others) h = arithmetic_all_valid program (arithmetic first first) others (arithmetic_valid program first first h.0)
@@ -199,7 +199,7 @@ type_valid program env (trees.Basic basics.Bool pos) h = some_valid program type
 type_valid program env (trees.Basic basics.Char pos) h = some_valid program types.Char refl
 type_valid program env (trees.Named ident) h = named_valid program (newtype_of env.table.newtypes ident.name) (λ id p. h ident.name id p)
 
-last_valid : (program : Program) (env : Environment) (all : List TreeType) → NewtypesHold program env → Valid program (last_type env all)
+pub last_valid : (program : Program) (env : Environment) (all : List TreeType) → NewtypesHold program env → Valid program (last_type env all)
 last_valid program env [] h = none_valid program
 last_valid program env (tree ∷ []) h = type_valid program env tree h
 last_valid program env (tree ∷ next ∷ others) h = last_valid program env (next ∷ others) h
@@ -210,7 +210,7 @@ meaning_valid program env locals name None h p = none_valid program
 meaning_valid program env locals name (Some (TheMethod id signature)) h p = none_valid program
 meaning_valid program env locals name (Some (TheLocal local)) h p = λ ty q. (h name local ty p q).1
 
-part_valid : (program : Program) (b : Bool) (own : Option Ty) (others : List (Option Ty)) → Valid program own → AllValid program others → AllValid program ((if b then [] else own ∷ []) ++ others)
+pub part_valid : (program : Program) (b : Bool) (own : Option Ty) (others : List (Option Ty)) → Valid program own → AllValid program others → AllValid program ((if b then [] else own ∷ []) ++ others)
 unfolding AllValid
 part_valid program true own others h k = k
 part_valid program false own others h k = (h, k)

@@ -2,7 +2,7 @@
 //! told, and which typed program a file elaborates to.
 #![tactic(auto)]
 
-ghost use Rattle.df_ntyping.specs.Laws.{OneTyping, OneType, OneProgram, NodesAreInOrder, LeastExists, TypedIsWellTyped, OneMissingTold, FaultlessIsTyped, TypedIsFaultless, FaultlessIsWanted, WantedIsFaultless};
+ghost use Rattle.df_ntyping.specs.Laws.{OneTyping, OneType, OneProgram, NodesAreInOrder, LeastExists, TypedIsWellTyped, ElaboratedIsWellTyped, ElaboratedIsFaultless, FaultIsTold, OneMissingTold, FaultlessIsTyped, TypedIsFaultless, FaultlessIsWanted, WantedIsFaultless};
 
 /// An expression has one type and one typed expression at most.
 pub fn one_typing()
@@ -29,9 +29,19 @@ pub fn typed_is_well_typed()
     ensures { TypedIsWellTyped }
 {}
 
+/// The program that a file elaborates to is well typed.
+pub fn elaborated_is_well_typed()
+    ensures { ElaboratedIsWellTyped }
+{}
+
 /// Where nodes break rules, there is a least fault.
 pub fn least_exists()
     ensures { LeastExists }
+{}
+
+/// A file that breaks a rule has a refusal that tells the least one.
+pub fn fault_is_told()
+    ensures { FaultIsTold }
 {}
 
 /// At most one use of a local without a value is told of a program.
@@ -58,4 +68,9 @@ pub fn wanted_is_faultless()
 /// what is asked.
 pub fn faultless_is_wanted()
     ensures { FaultlessIsWanted }
+{}
+
+/// A file that elaborates breaks nothing.
+pub fn elaborated_is_faultless()
+    ensures { ElaboratedIsFaultless }
 {}
