@@ -51,7 +51,7 @@ all_valid program (ty ∷ others) h = let parts = and_parts (is_type program ty)
 
 -- ---- methods that are called
 
-Meant : Environment → ℕ → ℕ → Signature → Type 0
+abbrev pub Meant : Environment → ℕ → ℕ → Signature → Type 0
 Meant env name id signature = (named : NamedMethod) × (method_of env.table.methods name ≡ Some named) × (named.id ≡ id) × (named.signature ≡ signature)
 
 id_or : ℕ → Option Meaning → ℕ
@@ -63,8 +63,8 @@ signature_or s (Some (TheMethod id signature)) = signature
 signature_or s meaning = s
 
 -- a method's name is in the table
-meant : (env : Environment) (name id : ℕ) (signature : Signature) → meaning_of env name ≡ Some (TheMethod id signature) → Meant env name id signature
-unfolding Meant id_or signature_or
+pub meant : (env : Environment) (name id : ℕ) (signature : Signature) → meaning_of env name ≡ Some (TheMethod id signature) → Meant env name id signature
+unfolding id_or signature_or
 meant env name id signature h = by_local (last_local (locals_of env) name) refl where
   by_method : (o : Option NamedMethod) → method_of env.table.methods name ≡ o → method_meaning o ≡ Some (TheMethod id signature) → Meant env name id signature
   by_method (Some named) p q = (named, p, ap (id_or id) q, ap (signature_or signature) q)
@@ -77,7 +77,6 @@ meant env name id signature h = by_local (last_local (locals_of env) name) refl 
 -- and its signature is that of a method of the program
 pub called_method : (program : Program) (env : Environment) (name id : ℕ) (signature : Signature) → TableHolds program env.table → meaning_of env name ≡ Some (TheMethod id signature)
     → (method : Method) × (method_at program id ≡ Some method) × IsSignatureOf program method signature
-unfolding Meant
 called_method program env name id signature t h =
     let (named, p, q, r) = meant env name id signature h in
     let (method, found, same) = t.methods name named p in

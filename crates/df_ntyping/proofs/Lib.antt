@@ -57,3 +57,8 @@ mod SoundNodes
 mod SoundSides
 mod SoundStatements
 mod SoundFiles
+mod LikeEnvironments
+mod WholeTypes
+mod DeclaredLocals
+mod BehindLengths
+mod FaultlessNodes

@@ -35,6 +35,7 @@ use Rattle.df_ntyping.proofs.KnownTypes.{known}
 use Rattle.df_ntyping.proofs.AllNodes.{none, front, only, both}
 use Rattle.df_ntyping.proofs.SoundNodes as kinds
 use Rattle.df_ntyping.proofs.SoundNodes.{AllSound, sound}
+use Rattle.df_ntyping.proofs.DeclaredLocals.{declared_from, declared_are}
 use Rattle.df_ntyping.proofs.SoundSides.{expr_sound, condition_sound, call_sound, sources_sound, sources_enough, targets_sound, targets_types}
 
 -- ---- updates
@@ -83,28 +84,15 @@ variables_sound env start values (local ∷ others) variables (ty, rest, is, hs,
       moved one other number [] vs e h = h
       moved one other number (x ∷ xs) vs e (own, more, known_own, k, r) = (own, more, rw e known_own, moved one other (suc number) xs more e k, r)
 
--- what is declared
-declared_from : ℕ → List declared_local.Local → List Local
-declared_from number [] = []
-declared_from number (local ∷ others) = record { name = local.name.name; number = number; role = Variable_role } ∷ declared_from (suc number) others
-
-declared_inner : (env : Environment) (locals : List declared_local.Local) → (declare_variables env locals).inner ≡ env.inner ++ declared_from env.next locals
-unfolding declared_from
-declared_inner env [] = sym (append-nil env.inner)
-declared_inner env (local ∷ others) =
-    declared_inner (declare env Variable_role local.name.name) others ∙ append_assoc env.inner (record { name = local.name.name; number = env.next; role = Variable_role } ∷ []) (declared_from (suc env.next) others)
-
 declared_types : (env : Environment) (number : ℕ) (locals : List declared_local.Local) (variables : List typed.Variable) → AreVariables env number locals variables
     → types_of_locals env (declared_from number locals) ≡ known (types_of_targets (map as_target variables))
-unfolding declared_from
 declared_types env number [] variables h = rw h refl
 declared_types env number (local ∷ others) variables (ty, rest, is, hs, q) = rw (q, is, declared_types env (suc number) others rest hs) refl
 
 variables_types : (env : Environment) (locals : List declared_local.Local) (variables : List typed.Variable) → AreVariables env env.next locals variables
     → types_of_locals env (declared_by env locals) ≡ known (types_of_targets (map as_target variables))
 variables_types env locals variables h =
-    let all : declared_by env locals ≡ declared_from env.next locals = ap (λ (xs : List Local). drop (length env.inner) xs) (declared_inner env locals) ∙ drop_at env.inner (declared_from env.next locals) (length env.inner) refl in
-    ap (λ (xs : List Local). types_of_locals env xs) all ∙ declared_types env env.next locals variables h
+    ap (λ (xs : List Local). types_of_locals env xs) (declared_are env locals) ∙ declared_types env env.next locals variables h
 
 returned_types : (env : Environment) (pos : Pos) (results : List Local) (targets : List typed.Target) → AreReturned env pos results targets → types_of_locals env results ≡ known (types_of_targets targets)
 returned_types env pos [] targets h = rw h refl
