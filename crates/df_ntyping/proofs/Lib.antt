@@ -62,3 +62,6 @@ mod WholeTypes
 mod DeclaredLocals
 mod BehindLengths
 mod FaultlessNodes
+mod WalkedTypes
+mod WalkedVariables
+mod WalkedStatements
