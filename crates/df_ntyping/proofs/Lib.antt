@@ -65,3 +65,5 @@ mod FaultlessNodes
 mod WalkedTypes
 mod WalkedVariables
 mod WalkedStatements
+mod ElaboratedSides
+mod ElaboratedStatements

@@ -89,12 +89,12 @@ declared_types : (env : Environment) (number : ℕ) (locals : List declared_loca
 declared_types env number [] variables h = rw h refl
 declared_types env number (local ∷ others) variables (ty, rest, is, hs, q) = rw (q, is, declared_types env (suc number) others rest hs) refl
 
-variables_types : (env : Environment) (locals : List declared_local.Local) (variables : List typed.Variable) → AreVariables env env.next locals variables
+pub variables_types : (env : Environment) (locals : List declared_local.Local) (variables : List typed.Variable) → AreVariables env env.next locals variables
     → types_of_locals env (declared_by env locals) ≡ known (types_of_targets (map as_target variables))
 variables_types env locals variables h =
     ap (λ (xs : List Local). types_of_locals env xs) (declared_are env locals) ∙ declared_types env env.next locals variables h
 
-returned_types : (env : Environment) (pos : Pos) (results : List Local) (targets : List typed.Target) → AreReturned env pos results targets → types_of_locals env results ≡ known (types_of_targets targets)
+pub returned_types : (env : Environment) (pos : Pos) (results : List Local) (targets : List typed.Target) → AreReturned env pos results targets → types_of_locals env results ≡ known (types_of_targets targets)
 returned_types env pos [] targets h = rw h refl
 returned_types env pos (result ∷ others) targets (ty, rest, is, hs, q) = rw (q, is, returned_types env pos others rest hs) refl
 
