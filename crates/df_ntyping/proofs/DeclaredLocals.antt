@@ -1,5 +1,5 @@
 -- The locals that a statement declares, by their numbers.
-use Rattle.std.proofs.Common.{◌≡◌, ℕ, suc, ◌+◌, List, [], ◌∷◌, ◌++◌, length, drop, refl, sym, ap, ◌∙◌, append_assoc}
+use Rattle.std.proofs.Common.{◌≡◌, ℕ, suc, List, [], ◌∷◌, ◌++◌, length, drop, refl, sym, ap, ◌∙◌, append_assoc}
 use Rattle.std.proofs.lemmas.List.{append-nil, drop_at}
 use Rattle.df_ntree.specs.declared.file.Local as declared_local
 use Rattle.df_ntyping.specs.Environment.{Local, Environment, Variable_role, declare, declare_variables}

@@ -1,20 +1,18 @@
 -- Left and right sides that break nothing elaborate, where all locals have types.
-use Rattle.std.proofs.Common.{◌≡◌, ◌≢◌, ℕ, zero, suc, ◌+◌, ◌<◌, ◌≤◌, Bool, true, false, not, ◌&&◌, List, [], ◌∷◌, ◌++◌, length, map, Option, Some, None, refl, sym, ap, subst, ◌∙◌, arith}
-use Rattle.std.specs.Prelude.{◌==◌, slice_get, is_some, option_map}
+use Rattle.std.proofs.Common.{◌≡◌, ℕ, suc, ◌+◌, ◌<◌, ◌≤◌, Bool, true, false, not, List, [], ◌∷◌, ◌++◌, length, Option, Some, None, refl, sym, ap, subst, ◌∙◌, arith}
+use Rattle.std.specs.Prelude.{◌==◌, option_map}
 use Rattle.std.specs.List.{AllByRecursion, list_all}
 use Rattle.std.proofs.lemmas.Bool.{and_parts, eqb-true}
-use Rattle.std.proofs.lemmas.Option.{same_Some}
 use Rattle.df_lang.specs.declared.ty.Ty.{Ty}
 use Rattle.df_lang.specs.declared.ty.Ty.TheVariants as types
 use Rattle.df_lang.specs.Expr as typed_expr
 use Rattle.df_lang.specs.Stmt as typed
-use Rattle.df_ntree.specs.Expr.{Expr, Number, Character, Truth, Name, Parentheses, Call, Unary, Cast, Operations, Leading, Arguments, no_more, argument}
+use Rattle.df_ntree.specs.Expr.{Expr, Name, Call, Arguments, no_more, argument}
 use Rattle.df_ntree.specs.ExprSpelling.{IsExpr, AreArguments as AreTreeArguments}
-use Rattle.df_ntree.specs.FileSpelling.{IsPrimary}
 use Rattle.df_ntyping.specs.Types.{fits_or_narrows, if_known, if_type_known}
 use Rattle.df_ntyping.specs.Table.{Signature}
-use Rattle.df_ntyping.specs.Environment.{Local, Inferred, Environment, fixed_type, local_type}
-use Rattle.df_ntyping.specs.Meaning.{Meaning, TheLocal, TheMethod, Means, meaning_of, as_method, called_signature}
+use Rattle.df_ntyping.specs.Environment.{Local, Environment, local_type}
+use Rattle.df_ntyping.specs.Meaning.{Meaning, TheLocal, TheMethod, Means, meaning_of, called_signature}
 use Rattle.df_ntyping.specs.Places.{pos_of}
 use Rattle.df_ntyping.specs.ExprTypes.{type_in}
 use Rattle.df_ntyping.specs.Sides.{values_of, is_count, are_enough, results_of_call}
@@ -23,10 +21,10 @@ use Rattle.df_ntyping.specs.rules.Values.{are_given}
 use Rattle.df_ntyping.specs.rules.Truths.{is_truth}
 use Rattle.df_ntyping.specs.rules.Calls.{takes}
 use Rattle.df_ntyping.specs.rules.Assignments.{keeps_its_value, may_be_assigned, is_place}
-use Rattle.df_ntyping.specs.ExprNodes.{width, first_place, other_places, places_of, count, callee_nodes, expr_nodes, argument_nodes, value_nodes, condition_nodes, call_nodes}
+use Rattle.df_ntyping.specs.ExprNodes.{width, places_of, count, callee_nodes, expr_nodes, argument_nodes, value_nodes, condition_nodes, call_nodes}
 use Rattle.df_ntyping.specs.StatementNodes.{place_nodes, all_places, source_nodes, sources_apart, sources_nodes}
 use Rattle.df_ntyping.specs.ExprElaboration.{Elaborates, ElaboratesAt, ElaboratesTruth}
-use Rattle.df_ntyping.specs.SideElaboration.{IsCall, AreArguments, AreResults, IsSource, AreApart, AreSources, IsTarget, AreTargets, AreReturned}
+use Rattle.df_ntyping.specs.SideElaboration.{IsCall, AreArguments, AreResults, IsSource, AreApart, AreSources, IsTarget, AreTargets}
 use Rattle.df_ntyping.specs.Laws.{HasTypes}
 use Rattle.df_ntyping.specs.mirror.Parts.{Typed, or_start}
 use Rattle.df_ntyping.specs.mirror.Signs.{converted_to}
@@ -35,7 +33,7 @@ use Rattle.df_ntyping.proofs.WellTyped.{same_equal}
 use Rattle.df_ntyping.proofs.Standing.{converts_there}
 use Rattle.df_ntyping.proofs.KnownTypes.{known}
 use Rattle.df_ntyping.proofs.ScopedLocals.{IsScoped, found_in_scope}
-use Rattle.df_ntyping.proofs.AllNodes.{Alls, only, both, head, tail, left, right}
+use Rattle.df_ntyping.proofs.AllNodes.{only, both, head, tail, left, right}
 use Rattle.df_ntyping.proofs.FaultlessNodes.{AllFaultless, typed_there, holds_of, HasKnown, TableKnown, signature_known}
 use Rattle.df_ntyping.proofs.WalkedTypes.{signature_there}
 
@@ -74,7 +72,7 @@ value_at env start place e r g h =
     let (source, inner, k) = typed_there env (Some place) start e g (ready_types env e r) (left (expr_nodes env start e) _ h) in
     let p : type_in env (Some place) e ≡ Some source = one_type env (Some place) e source inner g k in
     let q : if_known fits_or_narrows (type_in env (Some place) e) (Some place) ≡ true =
-        holds_of (if_known fits_or_narrows (type_in env (Some place) e) (Some place)) (λ b. (head (right (expr_nodes env start e) _ h)).holds (Typing Given) b) in
+    holds_of (if_known fits_or_narrows (type_in env (Some place) e) (Some place)) (λ b. (head (right (expr_nodes env start e) _ h)).holds (Typing Given) b) in
     let fits : fits_or_narrows source place ≡ true = subst (λ (o : Option Ty). if_known fits_or_narrows o (Some place) ≡ true) p q in
     let one : Typed = record { ty = source; expr = inner } in
     (converted_to place (or_start (pos_of e)) one, (source, inner, k, fits, converts_there place e one g))

@@ -1,40 +1,38 @@
 -- Statements that break nothing elaborate, where all locals have types.
-use Rattle.std.proofs.Common.{◌≡◌, ◌≢◌, ℕ, zero, suc, ◌+◌, ◌<◌, ◌≤◌, Bool, true, false, not, ◌&&◌, ◌||◌, List, [], ◌∷◌, ◌++◌, length, map, Option, Some, None, refl, sym, ap, subst, ◌∙◌, arith}
-use Rattle.std.specs.Prelude.{slice_get, if◌then◌else◌}
+use Rattle.std.proofs.Common.{◌≡◌, ◌≢◌, ℕ, suc, ◌+◌, ◌<◌, ◌≤◌, Bool, true, false, ◌||◌, List, [], ◌∷◌, ◌++◌, length, map, Option, Some, None, refl, sym, ap, subst, ◌∙◌, arith}
+use Rattle.std.specs.Prelude.{slice_get}
 use Rattle.std.specs.List.{AllByRecursion, list_all, list_any}
 use Rattle.df_base.specs.declared.pos.Pos.{Pos}
 use Rattle.df_lemmas.proofs.Alls.{all_joined}
 use Rattle.df_lang.specs.declared.ty.Ty.{Ty}
-use Rattle.df_lang.specs.Expr as typed_expr
 use Rattle.df_lang.specs.Stmt as typed
 use Rattle.df_ntree.specs.declared.file.Local as declared_local
-use Rattle.df_ntree.specs.declared.file.ConditionKind.{ConditionKind}
 use Rattle.df_ntree.specs.declared.file.ConditionKind.TheVariants as conditions
-use Rattle.df_ntree.specs.Expr.{Expr, Name, Call}
+use Rattle.df_ntree.specs.Expr.{Expr, Call}
 use Rattle.df_ntree.specs.ExprSpelling.{IsExpr}
 use Rattle.df_ntree.specs.File as file
 use Rattle.df_ntree.specs.File.{Clause, Condition, Decreases, PrintOperand, Text, Value, Statement, Nested, Var, Assign, Expression, If, While, Return, Break, Assert, Print, Statements, done, next, Branches, Otherwise, without, otherwise}
 use Rattle.df_ntree.specs.FileSpelling as grammar
 use Rattle.df_ntree.specs.FileSpelling.{spell_clause, spell_statement, spell_statements, spell_branches}
 use Rattle.df_ntyping.specs.Table.{Table}
-use Rattle.df_ntyping.specs.Environment.{Local, Inferred, Environment, fixed_type, local_type, enter, inside_loop, past}
+use Rattle.df_ntyping.specs.Environment.{Local, Inferred, Environment, fixed_type, enter, inside_loop, past}
 use Rattle.df_ntyping.specs.Scopes.{behind, locals_in, locals_in_all, locals_in_branches, locals_in_otherwise}
 use Rattle.df_ntyping.specs.Places.{beginning_of_first}
-use Rattle.df_ntyping.specs.Sides.{are_enough, place_types, types_of_locals}
+use Rattle.df_ntyping.specs.Sides.{are_enough, types_of_locals}
 use Rattle.df_ntyping.specs.Node.{Owner, OfLoop}
 use Rattle.df_ntyping.specs.Rule.{Typing, Calls, Assigned, Returned, Broken, Clauses}
 use Rattle.df_ntyping.specs.rules.Assignments.{gives_all}
 use Rattle.df_ntyping.specs.rules.Loops.{belongs, is_decreases, has_measure}
 use Rattle.df_ntyping.specs.ExprNodes.{width, expr_nodes, condition_nodes, exprs_nodes}
-use Rattle.df_ntyping.specs.StatementNodes.{widths, local_widths, clause_widths, all_places, sources_nodes, variable_nodes, declared_by, update_nodes, clause_nodes, clauses_nodes, operand_nodes, whole_nodes, statement_nodes, statements_nodes, branches_nodes, otherwise_nodes}
-use Rattle.df_ntyping.specs.SideElaboration.{AreSources, AreTargets, AreReturned, types_of_targets}
-use Rattle.df_ntyping.specs.StatementElaboration.{as_target, AreVariables, MayUpdate, is_of_kind, conditions_of, AreConditions, measures_in, AreMeasures, MayDecrease, IsDecreases, AreOperands, IsWhole, IsStatement, AreStatements, AreBranches, IsOtherwise}
+use Rattle.df_ntyping.specs.StatementNodes.{widths, local_widths, clause_widths, all_places, sources_nodes, variable_nodes, update_nodes, clause_nodes, clauses_nodes, operand_nodes, whole_nodes, statement_nodes, statements_nodes, branches_nodes, otherwise_nodes}
+use Rattle.df_ntyping.specs.SideElaboration.{AreSources, AreReturned, types_of_targets}
+use Rattle.df_ntyping.specs.StatementElaboration.{as_target, AreVariables, MayUpdate, conditions_of, AreConditions, measures_in, AreMeasures, MayDecrease, AreOperands, IsWhole, IsStatement, AreStatements, AreBranches, IsOtherwise}
 use Rattle.df_ntyping.proofs.Standing.{begins}
 use Rattle.df_ntyping.proofs.KnownTypes.{known}
 use Rattle.df_ntyping.proofs.SameBehind.{same_behind, next_behind}
-use Rattle.df_ntyping.proofs.ScopedLocals.{IsScoped, enter_scoped, past_scoped, behind_scoped}
-use Rattle.df_ntyping.proofs.ClauseExprs.{condition_exprs, measure_exprs}
-use Rattle.df_ntyping.proofs.AllNodes.{Alls, head, tail, left, right}
+use Rattle.df_ntyping.proofs.ScopedLocals.{enter_scoped, past_scoped, behind_scoped}
+use Rattle.df_ntyping.proofs.ClauseExprs.{condition_exprs}
+use Rattle.df_ntyping.proofs.AllNodes.{head, left, right}
 use Rattle.df_ntyping.proofs.SoundSides.{targets_types}
 use Rattle.df_ntyping.proofs.SoundStatements.{IsTyped, IsTrueOrFalse, variables_types, returned_types}
 use Rattle.df_ntyping.proofs.FaultlessNodes.{AllFaultless, TableKnown, holds_of}
@@ -195,7 +193,7 @@ var_elaborates env start pos locals values r g room h =
     let after = start + length (spell_statement (Var pos locals values)) in
     let (variables, are) = variables_elaborate env env.next locals r room in
     let (update, may) = update_elaborates env start sign after (Some pos) (map as_target variables) values r g
-        (subst (λ (places : List (Option Ty)). AllFaultless (update_nodes env start sign after (Some pos) places values)) (variables_types env locals variables are) (right (variable_nodes env (suc start) values locals) _ h)) in
+    (subst (λ (places : List (Option Ty)). AllFaultless (update_nodes env start sign after (Some pos) places values)) (variables_types env locals variables are) (right (variable_nodes env (suc start) values locals) _ h)) in
     (typed.Var pos variables update, (variables, update, are, may, refl))
 
 assign_elaborates : (env : Environment) (start : ℕ) (targets values : List Expr) (pos : Pos) → beginning_of_first targets ≡ Some pos → IsReady env → values ≢ [] → AllByRecursion IsExpr values
@@ -205,7 +203,7 @@ assign_elaborates env start targets values pos p r some g h =
     let after = start + length (spell_statement (Assign targets values)) in
     let (all, are) = targets_elaborate env start targets r (left (all_places env start targets) _ h) in
     let (sources, given) = assigned_sources env start sign after (beginning_of_first targets) all values some r g
-        (subst (λ (places : List (Option Ty)). AllFaultless (update_nodes env start sign after (beginning_of_first targets) places values)) (targets_types env targets all are) (right (all_places env start targets) _ h)) in
+    (subst (λ (places : List (Option Ty)). AllFaultless (update_nodes env start sign after (beginning_of_first targets) places values)) (targets_types env targets all are) (right (all_places env start targets) _ h)) in
     (typed.Assign pos (record { targets = all; sources = sources }), (pos, all, sources, p, are, given, refl))
 
 return_elaborates : (env : Environment) (start : ℕ) (pos : Pos) (values : List Expr) → IsReady env → AllByRecursion IsExpr values → AllFaultless (statement_nodes env start (Return pos values)) → (stmt : typed.Stmt) × IsStatement env (Return pos values) stmt
@@ -218,8 +216,8 @@ return_elaborates env start pos (value ∷ values) r g h =
     let all : gives_all env (value ∷ values) ≡ true = holds_of (gives_all env (value ∷ values)) (λ b. (head (right sources _ h)).holds (Typing Returned) b) in
     let size : length env.results ≡ length (types_of_targets targets) = sym (locals_count env.results) ∙ ap (λ (xs : List (Option Ty)). length xs) same ∙ known_count (types_of_targets targets) in
     let (given, is) = sources_elaborate env (suc start) (types_of_targets targets) (value ∷ values) r g
-        (subst (λ (ps : List (Option Ty)). AllFaultless (sources_nodes env (suc start) ps (value ∷ values))) same (left sources _ h))
-        (subst (λ (n : ℕ). are_enough env n (value ∷ values) ≡ true) size all) in
+    (subst (λ (ps : List (Option Ty)). AllFaultless (sources_nodes env (suc start) ps (value ∷ values))) same (left sources _ h))
+    (subst (λ (n : ℕ). are_enough env n (value ∷ values) ≡ true) size all) in
     (typed.Return pos (Some (record { targets = targets; sources = given })), (targets, Some (record { targets = targets; sources = given }), are, (given, is, refl), refl)) where
       locals_count : (xs : List Local) → length (types_of_locals env xs) ≡ length xs
       locals_count [] = refl
@@ -253,7 +251,7 @@ mutual
       let (inner, b) = statements_elaborate (enter env) (suc opening) body (enter_ready env r) g.1 (omega arith) (right guard_nodes _ two) in
       let (rest, bs) = branches_elaborate first behind_body others (past_ready env count (omega arith) r) g.2 (omega arith) (right (guard_nodes ++ body_nodes) _ three) in
       let (final, o) = otherwise_elaborates second (behind_body + length (spell_branches others)) last (past_ready first more (omega arith) (past_ready env count (omega arith) r)) g.3 (omega arith)
-          (right (guard_nodes ++ body_nodes ++ others_nodes) _ h) in
+      (right (guard_nodes ++ body_nodes ++ others_nodes) _ h) in
       (typed.If (typed.branch pos condition inner rest) final, (condition, inner, rest, final, k, b, bs, o, refl))
   statement_elaborates env start (While pos guard clauses opens body) r g room h =
       let at_clauses = start + 1 + width guard in
@@ -268,7 +266,7 @@ mutual
       let (invariants, i) = conditions_elaborate env (conditions_of conditions.Invariant clauses) (condition_exprs conditions.Invariant clauses g.1) c.invariants in
       let (decreases, d) = decreases_elaborate env (list_any is_decreases clauses) clauses c.measures in
       let measured : (list_any is_decreases clauses || has_measure env guard) ≡ true =
-          holds_of (list_any is_decreases clauses || has_measure env guard) (λ b. (head (right (guard_nodes ++ the_clauses ++ body_nodes) _ h)).holds (Typing Clauses) b) in
+      holds_of (list_any is_decreases clauses || has_measure env guard) (λ b. (head (right (guard_nodes ++ the_clauses ++ body_nodes) _ h)).holds (Typing Clauses) b) in
       let (inner, b) = statements_elaborate (inside_loop (enter env)) (suc opening) body (loop_ready (enter env) (enter_ready env r)) g.2 room (right (guard_nodes ++ the_clauses) _ three) in
       (typed.While pos condition invariants decreases inner, (condition, invariants, decreases, inner, k, c.belong, i, d, measured, b, refl))
   statement_elaborates env start (Return pos values) r g room h = return_elaborates env start pos values r g h

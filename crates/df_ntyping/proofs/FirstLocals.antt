@@ -26,17 +26,15 @@ use Rattle.df_ntyping.proofs.StatementsWellTyped.{Returns, Inside}
 
 -- ---- lists
 
-pub fixed : List Ty → List Inferred
+abbrev pub fixed : List Ty → List Inferred
 fixed [] = []
 fixed (ty ∷ others) = Fixed (Some ty) ∷ fixed others
 
 fixed_joined : (xs ys : List Ty) → fixed xs ++ fixed ys ≡ fixed (xs ++ ys)
-unfolding fixed
 fixed_joined [] ys = refl
 fixed_joined (x ∷ xs) ys = ap (λ (all : List Inferred). Fixed (Some x) ∷ all) (fixed_joined xs ys)
 
-get_fixed : (all : List Ty) (k : ℕ) (ty : Ty) → slice_get all k ≡ Some ty → slice_get (fixed all) k ≡ Some (Fixed (Some ty))
-unfolding fixed
+pub get_fixed : (all : List Ty) (k : ℕ) (ty : Ty) → slice_get all k ≡ Some ty → slice_get (fixed all) k ≡ Some (Fixed (Some ty))
 get_fixed [] k ty p = absurd cc
 get_fixed (x ∷ xs) zero ty p = let same : x ≡ ty = cc in rw same refl
 get_fixed (x ∷ xs) (suc k) ty p = get_fixed xs k ty p
@@ -54,7 +52,6 @@ get_there (x ∷ before) ty others = get_there before ty others
 -- ---- parameters and results
 
 pub params_fixed : (names : List (List ℕ)) (table : Table) (env : Environment) (trees : List Parameter) (params : List program.Param) → env.table ≡ table → AreParameters names table trees params → fixed_by env trees ≡ fixed (types_of params)
-unfolding fixed
 params_fixed names table env [] params e h = rw h refl
 params_fixed names table env (tree ∷ others) params e (declared, ty, rest, d, is, hs, q) = rw (q, e, is, params_fixed names table env others rest e hs) refl
 
@@ -68,27 +65,25 @@ params_valid one names table [] params n h = rw h refl
 params_valid one names table (tree ∷ others) params n (declared, ty, rest, d, is, hs, q) =
     rw (q, known_valid one ty (type_of table.newtypes tree.ty) (type_valid one (empty_environment table) tree.ty n) is) (params_valid one names table others rest n hs)
 
-params_count : (names : List (List ℕ)) (table : Table) (trees : List Parameter) (params : List program.Param) → AreParameters names table trees params → length params ≡ length trees
+pub params_count : (names : List (List ℕ)) (table : Table) (trees : List Parameter) (params : List program.Param) → AreParameters names table trees params → length params ≡ length trees
 params_count names table [] params h = rw h refl
 params_count names table (tree ∷ others) params (declared, ty, rest, d, is, hs, q) = rw q (ap suc (params_count names table others rest hs))
 
-types_count : (params : List program.Param) → length (types_of params) ≡ length params
+pub types_count : (params : List program.Param) → length (types_of params) ≡ length params
 types_count [] = refl
 types_count (param ∷ others) = ap suc (types_count others)
 
 -- ---- what is declared
 
-declared_from : ℕ → Role → List Parameter → List Local
+abbrev pub declared_from : ℕ → Role → List Parameter → List Local
 declared_from number role [] = []
 declared_from number role (x ∷ others) = record { name = x.name.name; number = number; role = role } ∷ declared_from (suc number) role others
 
 declared_count : (number : ℕ) (role : Role) (xs : List Parameter) → length (declared_from number role xs) ≡ length xs
-unfolding declared_from
 declared_count number role [] = refl
 declared_count number role (x ∷ others) = ap suc (declared_count (suc number) role others)
 
 declared_inner : (env : Environment) (role : Role) (xs : List Parameter) → (declare_parameters env role xs).inner ≡ env.inner ++ declared_from env.next role xs
-unfolding declared_from
 declared_inner env role [] = sym (append-nil env.inner)
 declared_inner env role (x ∷ others) =
     declared_inner (declare env role x.name.name) role others ∙ append_assoc env.inner (record { name = x.name.name; number = env.next; role = role } ∷ []) (declared_from (suc env.next) role others)
@@ -99,21 +94,14 @@ declared_same env role (x ∷ others) =
     let rest = declared_same (declare env role x.name.name) role others in
     record { table = rest.table; types = rest.types; results = rest.results; in_loop = rest.in_loop }
 
-declared_next : (env : Environment) (role : Role) (xs : List Parameter) → (declare_parameters env role xs).next ≡ env.next + length xs
+pub declared_next : (env : Environment) (role : Role) (xs : List Parameter) → (declare_parameters env role xs).next ≡ env.next + length xs
 declared_next env role [] = omega arith
 declared_next env role (x ∷ others) = omega (arith, declared_next (declare env role x.name.name) role others)
 
 -- ---- environments
 
-params_env : Table → MethodDeclaration → Environment
-params_env table tree = declare_parameters (empty_environment table) Parameter_role tree.parameters
-
-both_env : Table → MethodDeclaration → Environment
-both_env table tree = declare_parameters (over_parameters table tree) Result_role (results_of tree)
-
 -- the results of a method are declared behind the parameters
-results_declared : (table : Table) (tree : MethodDeclaration) → (over_both table tree).results ≡ declared_from (length tree.parameters) Result_role (results_of tree)
-unfolding declared_from
+pub results_declared : (table : Table) (tree : MethodDeclaration) → (over_both table tree).results ≡ declared_from (length tree.parameters) Result_role (results_of tree)
 results_declared table tree =
     let before = declared_from 0 Parameter_role tree.parameters in
     let first : (over_parameters table tree).inner ≡ before = declared_inner (empty_environment table) Parameter_role tree.parameters in
@@ -127,7 +115,6 @@ results_declared table tree =
 
 params_return : (names : List (List ℕ)) (table : Table) (trees : List Parameter) (params : List program.Param) (types : List Inferred) (number : ℕ) (before : List Ty) (role : Role) → number ≡ length before
     → AreParameters names table trees params → HaveTypes types (before ++ types_of params) → Returns types number (declared_from number role trees) (types_of params)
-unfolding declared_from
 params_return names table [] params types number before role p h k = subst (λ (ps : List program.Param). Returns types number [] (types_of ps)) (sym h) tt
 params_return names table (tree ∷ others) params types number before role p (declared, ty, rest, d, is, hs, q) k =
     let known_here : HaveTypes types (before ++ ty ∷ types_of rest) = subst (λ (ps : List program.Param). HaveTypes types (before ++ types_of ps)) q k in
@@ -151,20 +138,21 @@ parameters_fit one names table tree method t h =
       same = subst (λ (all : List Inferred). HaveTypes all (types_of method.parameters)) (sym (params_fixed names table (declare_parameters (empty_environment table) Parameter_role tree.parameters) tree.parameters method.parameters same.table h.parameters)) (fixed_have (types_of method.parameters));
     }
 
-both_fixed : (names : List (List ℕ)) (table : Table) (tree : MethodDeclaration) (method : Method) → IsMethod names table tree method → (over_both table tree).types ≡ fixed (types_of method.parameters ++ types_of method.results)
-both_fixed names table tree method h =
+pub both_fixed : (names : List (List ℕ)) (table : Table) (tree : MethodDeclaration) (ps rs : List program.Param) → AreParameters names table tree.parameters ps → AreParameters names table (results_of tree) rs
+    → (over_both table tree).types ≡ fixed (types_of ps ++ types_of rs)
+both_fixed names table tree ps rs h k =
     let first = declared_same (empty_environment table) Parameter_role tree.parameters in
     let second = declared_same (over_parameters table tree) Result_role (results_of tree) in
-    let parameters = params_fixed names table (declare_parameters (empty_environment table) Parameter_role tree.parameters) tree.parameters method.parameters first.table h.parameters in
-    let results = params_fixed names table (declare_parameters (over_parameters table tree) Result_role (results_of tree)) (results_of tree) method.results (second.table ∙ first.table) h.results in
+    let parameters = params_fixed names table (declare_parameters (empty_environment table) Parameter_role tree.parameters) tree.parameters ps first.table h in
+    let results = params_fixed names table (declare_parameters (over_parameters table tree) Result_role (results_of tree)) (results_of tree) rs (second.table ∙ first.table) k in
     ap (λ (all : List Inferred). all ++ fixed_by (declare_parameters (over_parameters table tree) Result_role (results_of tree)) (results_of tree)) parameters
-    ∙ ap (λ (all : List Inferred). fixed (types_of method.parameters) ++ all) results
-    ∙ fixed_joined (types_of method.parameters) (types_of method.results)
+    ∙ ap (λ (all : List Inferred). fixed (types_of ps) ++ all) results
+    ∙ fixed_joined (types_of ps) (types_of rs)
 
-both_next : (table : Table) (tree : MethodDeclaration) → (over_both table tree).next ≡ length tree.parameters + length (results_of tree)
+pub both_next : (table : Table) (tree : MethodDeclaration) → (over_both table tree).next ≡ length tree.parameters + length (results_of tree)
 both_next table tree = omega (arith, declared_next (over_parameters table tree) Result_role (results_of tree), declared_next (empty_environment table) Parameter_role tree.parameters)
 
-both_table : (table : Table) (tree : MethodDeclaration) → (over_both table tree).table ≡ table
+pub both_table : (table : Table) (tree : MethodDeclaration) → (over_both table tree).table ≡ table
 both_table table tree = (declared_same (over_parameters table tree) Result_role (results_of tree)).table ∙ (declared_same (empty_environment table) Parameter_role tree.parameters).table
 
 both_known : (one : Program) (names : List (List ℕ)) (table : Table) (tree : MethodDeclaration) (method : Method) → TableHolds one table → IsMethod names table tree method → AllKnown one (over_both table tree).types
@@ -172,15 +160,16 @@ both_known one names table tree method t h =
     joined (parameters_fit one names table tree method t h).types
     (parameters_known one (declare_parameters (over_parameters table tree) Result_role (results_of tree)) (results_of tree) (subst (λ (x : Table). TableHolds one x) (sym (both_table table tree)) t))
 
-both_width : (names : List (List ℕ)) (table : Table) (tree : MethodDeclaration) (method : Method) → IsMethod names table tree method → (over_both table tree).next ≡ length (types_of method.parameters ++ types_of method.results)
-both_width names table tree method h = omega (
+pub both_width : (names : List (List ℕ)) (table : Table) (tree : MethodDeclaration) (ps rs : List program.Param) → AreParameters names table tree.parameters ps → AreParameters names table (results_of tree) rs
+    → (over_both table tree).next ≡ length (types_of ps ++ types_of rs)
+both_width names table tree ps rs h k = omega (
   arith,
   both_next table tree,
-  length-append (types_of method.parameters) (types_of method.results),
-  params_count names table tree.parameters method.parameters h.parameters,
-  params_count names table (results_of tree) method.results h.results,
-  types_count method.parameters,
-  types_count method.results,
+  length-append (types_of ps) (types_of rs),
+  params_count names table tree.parameters ps h,
+  params_count names table (results_of tree) rs k,
+  types_count ps,
+  types_count rs,
 )
 
 both_scoped : (one : Program) (names : List (List ℕ)) (table : Table) (tree : MethodDeclaration) (method : Method) → TableHolds one table → IsMethod names table tree method → IsScoped (length method.parameters) (over_both table tree)
@@ -197,8 +186,8 @@ both_fit one names table tree method t h = record {
   table = subst (λ (x : Table). TableHolds one x) (sym (both_table table tree)) t;
   types = both_known one names table tree method t h;
   scoped = both_scoped one names table tree method t h;
-  wide = omega (arith, both_width names table tree method h);
-  same = subst (λ (all : List Inferred). HaveTypes all (types_of method.parameters ++ types_of method.results)) (sym (both_fixed names table tree method h)) (fixed_have (types_of method.parameters ++ types_of method.results));
+  wide = omega (arith, both_width names table tree method.parameters method.results h.parameters h.results);
+  same = subst (λ (all : List Inferred). HaveTypes all (types_of method.parameters ++ types_of method.results)) (sym (both_fixed names table tree method.parameters method.results h.parameters h.results)) (fixed_have (types_of method.parameters ++ types_of method.results));
 }
 
 -- what fixes the types in a body keeps those of parameters and results
@@ -206,14 +195,14 @@ body_have : (names : List (List ℕ)) (table : Table) (tree : MethodDeclaration)
 body_have names table tree method h =
     let both = types_of method.parameters ++ types_of method.results in
     let kept = all_behind_kept (enter (over_both table tree)) tree.body.statements in
-    fixed_kept both (over_body table tree).types (subst (λ (all : List Inferred). Kept all (over_body table tree).types) (both_fixed names table tree method h) kept)
+    fixed_kept both (over_body table tree).types (subst (λ (all : List Inferred). Kept all (over_body table tree).types) (both_fixed names table tree method.parameters method.results h.parameters h.results) kept)
 
 pub body_inside : (one : Program) (names : List (List ℕ)) (table : Table) (tree : MethodDeclaration) (method : Method) → TableHolds one table → IsMethod names table tree method
     → Inside (record { program = one; method = method; locals = types_of method.parameters ++ types_of method.results; in_loop = false }) (over_body table tree)
 body_inside one names table tree method t h =
     let both = both_fit one names table tree method t h in
     let entered = enter_scoped (length method.parameters) (over_both table tree) both.scoped in
-    let width = both_width names table tree method h in
+    let width = both_width names table tree method.parameters method.results h.parameters h.results in
     let count = params_count names table tree.parameters method.parameters h.parameters in
     let same = declared_same (over_parameters table tree) Result_role (results_of tree) in
     let first = declared_same (empty_environment table) Parameter_role tree.parameters in

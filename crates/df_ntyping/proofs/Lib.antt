@@ -67,3 +67,5 @@ mod WalkedVariables
 mod WalkedStatements
 mod ElaboratedSides
 mod ElaboratedStatements
+mod ReadyMethods
+mod ElaboratedFiles

@@ -1,6 +1,6 @@
 -- Two environments with the same scopes over the same table: names mean the same, and an expression has one type in both
 -- where its locals have.
-use Rattle.std.proofs.Common.{◌≡◌, ℕ, suc, ◌+◌, Bool, true, false, List, [], ◌∷◌, ◌++◌, length, Option, Some, None, refl, sym, ap, ◌∙◌, arith}
+use Rattle.std.proofs.Common.{◌≡◌, ℕ, suc, ◌+◌, Bool, true, false, List, [], ◌∷◌, ◌++◌, Option, Some, refl, ap, arith}
 use Rattle.std.specs.Prelude.{if◌then◌else◌, Contains}
 use Rattle.std.proofs.lemmas.List.Elements.{Contains-append_left, Contains-append_right}
 use Rattle.df_lang.specs.declared.ty.Ty.{Ty}
@@ -13,8 +13,8 @@ use Rattle.df_ntree.specs.ExprSpelling.{first_group}
 use Rattle.df_ntree.specs.File.{Statement, Nested, Var, Assign, Expression, If, While, Return, Break, Assert, Print}
 use Rattle.df_ntyping.specs.Types.{arithmetic}
 use Rattle.df_ntyping.specs.Table.{Table, type_of}
-use Rattle.df_ntyping.specs.Environment.{Role, Variable_role, Local, Environment, locals_of, local_type, enter, past, declare, declare_variables}
-use Rattle.df_ntyping.specs.Meaning.{Meaning, TheLocal, TheMethod, meaning_of, called_signature}
+use Rattle.df_ntyping.specs.Environment.{Role, Variable_role, Local, Environment, enter, past, declare, declare_variables}
+use Rattle.df_ntyping.specs.Meaning.{Meaning, meaning_of, called_signature}
 use Rattle.df_ntyping.specs.Scopes.{behind, locals_in}
 use Rattle.df_ntyping.specs.LocalTypes.{names_in, names_in_members}
 use Rattle.df_ntyping.specs.ExprTypes.{is_arithmetic, is_open, common_type, type_of_meaning, type_of_call, last_type, own_type, own_types, type_in}

@@ -1,10 +1,9 @@
 -- Statements that elaborate break no rule of types.
-use Rattle.std.proofs.Common.{◌≡◌, ◌≢◌, ℕ, suc, ◌+◌, Bool, true, false, List, [], ◌∷◌, ◌++◌, length, map, drop, Option, Some, None, refl, sym, ap, subst, ◌∙◌, append_assoc}
+use Rattle.std.proofs.Common.{◌≡◌, ◌≢◌, ℕ, suc, ◌+◌, Bool, true, false, List, [], ◌∷◌, length, map, Option, Some, None, refl, sym, ap, subst, ◌∙◌}
 use Rattle.std.specs.Prelude.{slice_get}
 use Rattle.std.specs.List.{AllByRecursion, list_all, list_any}
 use Rattle.df_base.specs.declared.pos.Pos.{Pos}
 use Rattle.df_lemmas.proofs.Alls.{all_front, all_back}
-use Rattle.std.proofs.lemmas.List.{append-nil, drop_at}
 use Rattle.df_lang.specs.declared.ty.Ty.{Ty}
 use Rattle.df_lang.specs.Expr as typed_expr
 use Rattle.df_lang.specs.Stmt as typed
@@ -19,7 +18,7 @@ use Rattle.df_ntree.specs.File as file
 use Rattle.df_ntree.specs.File.{Clause, Condition, Decreases, PrintOperand, Text, Value, Statement, Nested, Var, Assign, Expression, If, While, Return, Break, Assert, Print, Statements, done, next, Branches, Otherwise, without, otherwise}
 use Rattle.df_ntree.specs.FileSpelling as grammar
 use Rattle.df_ntree.specs.FileSpelling.{spell_local, spell_clause, spell_statement, spell_statements, spell_branches}
-use Rattle.df_ntyping.specs.Environment.{Local, Inferred, Open, Used, Fixed, Environment, Variable_role, fixed_type, local_type, enter, inside_loop, past, declare, declare_variables}
+use Rattle.df_ntyping.specs.Environment.{Local, Inferred, Open, Used, Fixed, Environment, Variable_role, fixed_type, local_type, enter, inside_loop, past, declare}
 use Rattle.df_ntyping.specs.Scopes.{behind, locals_in_all, locals_in_branches}
 use Rattle.df_ntyping.specs.Places.{beginning_of_first}
 use Rattle.df_ntyping.specs.Sides.{are_enough, types_of_locals}

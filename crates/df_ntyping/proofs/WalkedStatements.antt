@@ -1,12 +1,12 @@
 -- A walk through statements that break nothing leaves no type missing.
-use Rattle.std.proofs.Common.{◌≡◌, ◌≢◌, ℕ, zero, suc, ◌+◌, ◌<◌, ◌≤◌, Bool, true, false, List, [], ◌∷◌, ◌++◌, length, map, Option, Some, None, refl, sym, ap, subst, ◌∙◌, ◌⊎◌, inl, inr, arith, length-append}
+use Rattle.std.proofs.Common.{◌≡◌, ◌≢◌, ℕ, suc, ◌+◌, ◌<◌, ◌≤◌, true, List, [], ◌∷◌, ◌++◌, length, Option, Some, refl, sym, ap, subst, ◌∙◌, ◌⊎◌, inl, inr, arith}
 use Rattle.std.specs.Prelude.{slice_get}
 use Rattle.std.specs.List.{AllByRecursion, flat_map}
 use Rattle.std.proofs.lemmas.Bool.{cases_lt}
 use Rattle.df_base.specs.declared.pos.Pos.{Pos}
 use Rattle.df_lang.specs.declared.ty.Ty.{Ty}
 use Rattle.df_ntree.specs.declared.file.Local as declared_local
-use Rattle.df_ntree.specs.Expr.{Expr, Name, Call}
+use Rattle.df_ntree.specs.Expr.{Expr}
 use Rattle.df_ntree.specs.ExprSpelling.{IsExpr}
 use Rattle.df_ntree.specs.File as file
 use Rattle.df_ntree.specs.File.{Statement, Nested, Var, Assign, Expression, If, While, Return, Break, Assert, Print, Statements, done, next, Branches, Otherwise, without, otherwise}
@@ -17,23 +17,22 @@ use Rattle.df_ntyping.specs.Environment as scope_local
 use Rattle.df_ntyping.specs.Environment.{Inferred, Fixed, Environment, enter, inside_loop, past}
 use Rattle.df_ntyping.specs.Scopes.{behind, locals_in, locals_in_all, locals_in_branches, locals_in_otherwise}
 use Rattle.df_ntyping.specs.Places.{beginning_of_first}
-use Rattle.df_ntyping.specs.Sides.{are_enough, place_type, place_types, types_of_locals}
+use Rattle.df_ntyping.specs.Sides.{are_enough, place_types, types_of_locals}
 use Rattle.df_ntyping.specs.LocalTypes.{names_in, used_names, used, types_of_values, used_inside, taken_all, inferred_all, used_in_clause, used_in_operand, over, inferred_behind, inferred_behind_all, inferred_behind_branches, inferred_behind_otherwise}
 use Rattle.df_ntyping.specs.Node.{Owner}
 use Rattle.df_ntyping.specs.Rule.{Typing, Assigned}
 use Rattle.df_ntyping.specs.ExprNodes.{width, condition_nodes}
 use Rattle.df_ntyping.specs.StatementNodes.{widths, local_widths, clause_widths, all_places, sources_nodes, variable_nodes, declared_by, update_nodes, clauses_nodes, statement_nodes, statements_nodes, branches_nodes, otherwise_nodes}
-use Rattle.df_ntyping.proofs.KnownTypes.{known}
-use Rattle.df_ntyping.proofs.KeptTypes.{Kept, kept_then, kept_grown, used_kept, names_kept, takens_kept, all_behind_kept, branches_kept, otherwise_kept}
+use Rattle.df_ntyping.proofs.KeptTypes.{Kept, kept_then, kept_grown, takens_kept, all_behind_kept, branches_kept, otherwise_kept}
 use Rattle.df_ntyping.proofs.SameBehind.{same_behind, next_behind}
-use Rattle.df_ntyping.proofs.ScopedLocals.{IsScoped, enter_scoped, past_scoped, behind_scoped}
+use Rattle.df_ntyping.proofs.ScopedLocals.{enter_scoped, past_scoped, behind_scoped}
 use Rattle.df_ntyping.proofs.WholeTypes.{AreWhole, whole_joined, names_whole, takens_whole, names_length}
 use Rattle.df_ntyping.proofs.BehindLengths.{used_length, behind_length, all_behind_length, branches_behind_length}
 use Rattle.df_ntyping.proofs.LikeEnvironments.{AreLike, enter_like, past_like, behind_like}
 use Rattle.df_ntyping.proofs.DeclaredLocals.{declared_from, declared_are, declared_count}
-use Rattle.df_ntyping.proofs.AllNodes.{Alls, head, left, right}
+use Rattle.df_ntyping.proofs.AllNodes.{head, left, right}
 use Rattle.df_ntyping.proofs.FaultlessNodes.{AllFaultless, TableKnown, holds_of}
-use Rattle.df_ntyping.proofs.WalkedTypes.{AreFixed, Walks, among_left, among_right, HaveTypesOf, values_typed}
+use Rattle.df_ntyping.proofs.WalkedTypes.{AreFixed, Walks, among_right, values_typed}
 use Rattle.df_ntyping.proofs.WalkedVariables.{opens_whole, values_whole, fixed_ahead}
 
 -- behind the statements
@@ -112,8 +111,8 @@ assigned_whole one whole start sign after pos targets (value ∷ values) w kept 
     let marks = used_names one names one.types in
     let places = place_types whole targets in
     let typed = values_typed one whole names (suc sign) places (length places) (value ∷ values) w
-        (kept_then (takens_kept one targets (types_of_values one (value ∷ values)) marks) kept) (among_right (flat_map used_inside targets) (flat_map names_in (value ∷ values))) g
-        (sources_there whole start sign after pos places value values h) (enough_there whole start sign after pos places value values h) in
+    (kept_then (takens_kept one targets (types_of_values one (value ∷ values)) marks) kept) (among_right (flat_map used_inside targets) (flat_map names_in (value ∷ values))) g
+    (sources_there whole start sign after pos places value values h) (enough_there whole start sign after pos places value values h) in
     subst (λ (given : List (Option Ty)). AreWhole (taken_all one targets given marks)) (sym typed.types)
     (takens_whole one targets typed.tys marks (typed.counted ∙ places_length whole targets) (names_whole one names one.types w.known_types))
 
@@ -132,8 +131,8 @@ variables_whole one whole start sign after pos locals (value ∷ values) w kept 
     let names = flat_map names_in (value ∷ values) in
     let places = types_of_locals whole (declared_by whole locals) in
     let typed = values_typed one whole names (suc sign) places (length places) (value ∷ values) w
-        (kept_then (kept_grown (used one (value ∷ values)) (inferred_all one locals (value ∷ values) (types_of_values one (value ∷ values)))) kept) (λ name c. c) g
-        (sources_there whole start sign after pos places value values h) (enough_there whole start sign after pos places value values h) in
+    (kept_then (kept_grown (used one (value ∷ values)) (inferred_all one locals (value ∷ values) (types_of_values one (value ∷ values)))) kept) (λ name c. c) g
+    (sources_there whole start sign after pos places value values h) (enough_there whole start sign after pos places value values h) in
     subst (λ (given : List (Option Ty)). AreWhole (inferred_all one locals (value ∷ values) given)) (sym typed.types)
     (values_whole one whole (suc start) locals value values typed.tys w.like.table (typed.counted ∙ locals_length whole locals) v)
 
@@ -220,7 +219,7 @@ mutual
       let later = start + length (spell_statement statement) in
       let at_first = statement_walked one whole start statement w (kept_then (all_behind_kept behind_one others) kept) g.0 (omega arith) (left here _ h) in
       let at_others = statements_walked behind_one (behind whole statement) later others (behind_walks one whole statement w at_first)
-          (subst (λ (types : List Inferred). Kept (inferred_behind_all behind_one others) types) (sym same.types) kept) g.1 (rw (same.types) (omega (arith, number))) (right here _ h) in
+      (subst (λ (types : List Inferred). Kept (inferred_behind_all behind_one others) types) (sym same.types) kept) g.1 (rw (same.types) (omega (arith, number))) (right here _ h) in
       let fixed_there = subst (λ (types : List Inferred). AreFixed types ((behind whole statement).next + locals_in_all others)) same.types at_others.ahead in
       record { known_types = at_others.known_types; ahead = record { fixed = λ k lt. fixed_there.fixed k (omega (arith, number)) } }
 

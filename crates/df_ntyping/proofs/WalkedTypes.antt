@@ -1,14 +1,14 @@
 -- A walk through statements that break nothing: where types were fixed they are known, in the environment of the walk and
 -- in that of the whole method.
-use Rattle.std.proofs.Common.{◌≡◌, ℕ, zero, suc, ◌+◌, ◌<◌, ◌≤◌, Bool, true, false, not, ◌&&◌, List, [], ◌∷◌, ◌++◌, length, map, Option, Some, None, refl, sym, ap, subst, ◌∙◌, arith, length-append}
-use Rattle.std.specs.Prelude.{Contains, slice_get, is_some, ◌==◌, option_map}
+use Rattle.std.proofs.Common.{◌≡◌, ℕ, suc, ◌+◌, ◌<◌, true, List, [], ◌∷◌, ◌++◌, length, map, Option, Some, None, refl, sym, ap, ◌∙◌, arith}
+use Rattle.std.specs.Prelude.{Contains, slice_get, is_some, ◌==◌}
 use Rattle.std.specs.List.{AllByRecursion, list_all, flat_map}
 use Rattle.std.proofs.lemmas.Bool.{and_parts, eqb-true}
 use Rattle.std.proofs.lemmas.Option.{same_Some}
 use Rattle.std.proofs.lemmas.List.Elements.{Contains-append_left, Contains-append_right}
 use Rattle.df_lemmas.proofs.Lists.{get_below}
 use Rattle.df_lang.specs.declared.ty.Ty.{Ty}
-use Rattle.df_ntree.specs.Expr.{Expr, Name, Call, Arguments}
+use Rattle.df_ntree.specs.Expr.{Expr, Call, Arguments}
 use Rattle.df_ntree.specs.ExprSpelling.{IsExpr}
 use Rattle.df_ntyping.specs.Table.{Signature}
 use Rattle.df_ntyping.specs.Environment.{Local, Inferred, Open, Used, Fixed, Environment, fixed_type, local_type}
@@ -16,19 +16,18 @@ use Rattle.df_ntyping.specs.Meaning.{Meaning, TheLocal, TheMethod, Means, meanin
 use Rattle.df_ntyping.specs.ExprTypes.{type_of_meaning, type_in}
 use Rattle.df_ntyping.specs.Sides.{values_of, is_count, are_enough, results_of_call}
 use Rattle.df_ntyping.specs.LocalTypes.{names_in, used_names, types_of_value, next_type, types_of_values}
-use Rattle.df_ntyping.specs.Node as nodes
 use Rattle.df_ntyping.specs.Rule.{Typing, Calls}
-use Rattle.df_ntyping.specs.ExprNodes.{width, first_place, other_places, places_of, count, callee_nodes, expr_nodes, argument_nodes, value_nodes, call_nodes}
+use Rattle.df_ntyping.specs.ExprNodes.{width, first_place, other_places, places_of, callee_nodes, expr_nodes, argument_nodes, call_nodes}
 use Rattle.df_ntyping.specs.StatementNodes.{source_nodes, sources_apart, sources_nodes}
 use Rattle.df_ntyping.specs.Laws.{HasTypes}
 use Rattle.df_ntyping.proofs.Types.{one_type}
 use Rattle.df_ntyping.proofs.KnownTypes.{known}
 use Rattle.df_ntyping.proofs.KeptTypes.{Kept, names_kept}
 use Rattle.df_ntyping.proofs.ScopedLocals.{IsScoped, found_in_scope}
-use Rattle.df_ntyping.proofs.WholeTypes.{IsWhole, AreWhole, whole_at, marked, used_is_not_open}
+use Rattle.df_ntyping.proofs.WholeTypes.{AreWhole, whole_at, marked, used_is_not_open}
 use Rattle.df_ntyping.proofs.LikeEnvironments.{AreLike, same_meaning, same_called, HaveOneType, type_same}
-use Rattle.df_ntyping.proofs.AllNodes.{Alls, head, left, right}
-use Rattle.df_ntyping.proofs.FaultlessNodes.{AllFaultless, typed_there, holds_of, HasKnown, TableKnown, signature_known}
+use Rattle.df_ntyping.proofs.AllNodes.{head, left, right}
+use Rattle.df_ntyping.proofs.FaultlessNodes.{AllFaultless, typed_there, holds_of, TableKnown, signature_known}
 
 -- so many locals have a type that is fixed, known or not
 pub record AreFixed (types : List Inferred) (count : ℕ) : Type 0 where

@@ -1,5 +1,5 @@
 -- A walk over declared locals that break nothing.
-use Rattle.std.proofs.Common.{◌≡◌, ℕ, zero, suc, ◌+◌, ◌<◌, ◌≤◌, Bool, true, false, List, [], ◌∷◌, ◌++◌, length, map, Option, Some, None, refl, sym, ap, subst, ◌∙◌, ◌⊎◌, inl, inr, arith, length-append, append_assoc}
+use Rattle.std.proofs.Common.{◌≡◌, ℕ, suc, ◌+◌, ◌<◌, ◌≤◌, true, List, [], ◌∷◌, ◌++◌, length, Option, Some, None, refl, sym, ap, subst, ◌∙◌, ◌⊎◌, inl, inr, arith, length-append, append_assoc}
 use Rattle.std.specs.Prelude.{slice_get, is_some, option_map}
 use Rattle.std.proofs.lemmas.Bool.{cases_lt}
 use Rattle.df_lemmas.proofs.Lists.{get_below, get_grown, get_last}
@@ -21,7 +21,7 @@ use Rattle.df_ntyping.specs.rules.Names.{is_unfixed}
 use Rattle.df_ntyping.proofs.KnownTypes.{known}
 use Rattle.df_ntyping.proofs.KeptTypes.{Kept}
 use Rattle.df_ntyping.proofs.WholeTypes.{IsWhole, AreWhole, no_type, one_type}
-use Rattle.df_ntyping.proofs.AllNodes.{Alls, head, tail, left, right}
+use Rattle.df_ntyping.proofs.AllNodes.{head, tail, left, right}
 use Rattle.df_ntyping.proofs.FaultlessNodes.{AllFaultless, holds_of}
 
 -- ---- written types

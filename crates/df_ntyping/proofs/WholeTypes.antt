@@ -1,19 +1,18 @@
 -- What fixes the types of locals: where no type is missing, names that are used leave none missing, and a name that was
 -- used is open no more.
-use Rattle.std.proofs.Common.{◌≡◌, ℕ, zero, suc, ◌+◌, ◌<◌, ◌≤◌, List, [], ◌∷◌, ◌++◌, length, Option, Some, None, refl, sym, ap, ◌∙◌, arith, ◌⊎◌, inl, inr}
+use Rattle.std.proofs.Common.{◌≡◌, ℕ, zero, suc, List, [], ◌∷◌, ◌++◌, length, Option, Some, None, refl, ap, ◌∙◌, arith, ◌⊎◌, inl, inr}
 use Rattle.std.specs.Prelude.{Contains, slice_get}
 use Rattle.std.specs.List.{AllByRecursion}
 use Rattle.std.proofs.lemmas.Option.{same_Some}
 use Rattle.std.proofs.lemmas.List.Elements.{Contains-append_cases}
 use Rattle.df_lemmas.proofs.Alls.{all_joined}
-use Rattle.df_lemmas.proofs.Lists.{get_below}
 use Rattle.df_lang.specs.declared.ty.Ty.{Ty}
 use Rattle.df_ntree.specs.Expr.{Expr, Name}
 use Rattle.df_ntyping.specs.Environment.{Local, Inferred, Open, Used, Fixed, Environment}
 use Rattle.df_ntyping.specs.Meaning.{Meaning, TheLocal, TheMethod, meaning_of}
 use Rattle.df_ntyping.specs.LocalTypes.{if_open, at_number, fix_meaning, used_names, next_type, other_types, taken, taken_all}
 use Rattle.df_ntyping.proofs.KnownTypes.{known}
-use Rattle.df_ntyping.proofs.KeptTypes.{Kept, names_kept}
+use Rattle.df_ntyping.proofs.KeptTypes.{names_kept}
 
 -- a type that is fixed is known
 abbrev pub IsWhole : Inferred → Type 0

@@ -2,7 +2,7 @@
 //! told, and which typed program a file elaborates to.
 #![tactic(auto)]
 
-ghost use Rattle.df_ntyping.specs.Laws.{OneTyping, OneType, OneProgram, NodesAreInOrder, LeastExists, TypedIsWellTyped, ElaboratedIsWellTyped, ElaboratedIsFaultless, FaultIsTold, OneMissingTold, FaultlessIsTyped, TypedIsFaultless, FaultlessIsWanted, WantedIsFaultless};
+ghost use Rattle.df_ntyping.specs.Laws.{OneTyping, OneType, OneProgram, NodesAreInOrder, LeastExists, TypedIsWellTyped, ElaboratedIsWellTyped, ElaboratedIsFaultless, FaultlessIsElaborated, FaultIsTold, OneMissingTold, FaultlessIsTyped, TypedIsFaultless, FaultlessIsWanted, WantedIsFaultless};
 
 /// An expression has one type and one typed expression at most.
 pub fn one_typing()
@@ -73,4 +73,9 @@ pub fn faultless_is_wanted()
 /// A file that elaborates breaks nothing.
 pub fn elaborated_is_faultless()
     ensures { ElaboratedIsFaultless }
+{}
+
+/// A file that breaks nothing elaborates, where each name that it declares has a text.
+pub fn faultless_is_elaborated()
+    ensures { FaultlessIsElaborated }
 {}
