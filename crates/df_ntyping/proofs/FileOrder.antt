@@ -15,7 +15,7 @@ use Rattle.df_ntyping.specs.ExprNodes.{width, token_at, type_nodes, expr_nodes}
 use Rattle.df_ntyping.specs.StatementNodes.{clause_widths}
 use Rattle.df_ntyping.specs.FileNodes.{empty_environment, over_parameters, over_body, over_clause, use_nodes, witness_nodes, newtype_nodes, parameter_nodes, clauses_of_method, method_nodes, declared_name, declaration_nodes, declarations_nodes, file_nodes}
 use Rattle.df_ntyping.specs.Laws.{NodesAreInOrder}
-use Rattle.df_ntyping.proofs.Order.{Segment, no_nodes, weaker, joined, ended, some_order, all_ordered, AreApart, all_apart}
+use Rattle.df_ntyping.proofs.Order.{Segment, no_nodes, weaker, joined, ended, later_apart, some_order, all_ordered, AreApart, all_apart, AreAllAlike, all_alike}
 use Rattle.df_ntyping.proofs.ExprOrder.{token_alone, type_order, expr_order}
 use Rattle.df_ntyping.proofs.PartOrder.{later, and_then, separated_more, separated_one, type_width, clause_order, clauses_width}
 use Rattle.df_ntyping.proofs.StatementOrder.{braces_width, statements_order}
@@ -39,12 +39,10 @@ newtype_order env start x g =
     let after = start + length (spell_declaration (Newtype x)) in
     let inner = declare env Variable_role x.variable.name in
     let witness = length (optional spell_witness x.witness) in
+    let parts = and_then predicate middle middle after (use_nodes inner predicate x.predicate) (witness_nodes env middle x.witness) (use_order inner predicate x.predicate g.0.0)
+        (later middle middle (middle + witness) after _ (witness_order env middle x.witness g.1) (omega arith) (omega (arith, newtype_width x))) (omega arith) (omega arith) (omega (arith, newtype_width x)) in
     ended start (start + 2) after (use_nodes inner predicate x.predicate ++ witness_nodes env middle x.witness) _
-    (weaker predicate predicate after start (start + 2) after _
-    (and_then predicate middle middle after (use_nodes inner predicate x.predicate) (witness_nodes env middle x.witness) (use_order inner predicate x.predicate g.0.0)
-    (later middle middle (middle + witness) after _ (witness_order env middle x.witness g.1) (omega arith) (omega (arith, newtype_width x))) (omega arith) (omega arith) (omega (arith, newtype_width x)))
-    (omega arith) (omega arith) (omega arith))
-    (omega (arith, newtype_width x)) refl refl refl
+    (weaker predicate predicate after start (start + 2) after _ parts (omega arith) (omega arith) (omega arith)) (omega (arith, newtype_width x)) refl refl refl (later_apart predicate predicate after _ _ parts (omega arith))
 
 -- ---- methods
 
@@ -142,3 +140,7 @@ nodes_are_in_order file g = all_ordered (file_nodes file) (declarations_order (t
 -- of two nodes at one place the later one is no name
 pub names_are_apart : (file : File) → IsFile file → AreApart (file_nodes file)
 names_are_apart file g = all_apart (file_nodes file) (declarations_order (table_of file) [] 0 file.declarations g).sorted
+
+-- of two nodes at one place both are told alike
+pub nodes_are_alike : (file : File) → IsFile file → AreAllAlike (file_nodes file)
+nodes_are_alike file g = all_alike (file_nodes file) (declarations_order (table_of file) [] 0 file.declarations g).sorted

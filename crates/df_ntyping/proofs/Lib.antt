@@ -69,3 +69,4 @@ mod ElaboratedSides
 mod ElaboratedStatements
 mod ReadyMethods
 mod ElaboratedFiles
+mod Alike

@@ -4,9 +4,13 @@ use Rattle.std.specs.Prelude.{None, filter, cond, nat_lt, nat_le, ◌||◌, Cont
 use Rattle.std.specs.List.{AllByRecursion}
 use Rattle.std.proofs.lemmas.Bool.{cases_lt, lt-ltb, le-leb}
 use Rattle.df_lemmas.proofs.Numbers.{equal_self}
+use Rattle.df_ntree.specs.Expr.{Expr}
+use Rattle.df_ntyping.specs.Environment.{Environment}
 use Rattle.df_ntyping.specs.Node.{Occurrence, node_name}
 use Rattle.df_ntyping.specs.Least.{by_number}
 use Rattle.df_ntyping.specs.Laws.{AreInOrder}
+use Rattle.df_ntyping.proofs.AllNodes.{Alls, none, front}
+use Rattle.df_ntyping.proofs.Alike.{AreToldAlike, IsApart, IsRoot}
 
 -- it begins at a token or later, and ends behind one and not behind another
 pub record IsWithin (low above high : ℕ) (one : Occurrence) : Type 0 where
@@ -14,9 +18,11 @@ pub record IsWithin (low above high : ℕ) (one : Occurrence) : Type 0 where
   pub behind : above < one.after
   pub ends : one.after ≤ high
 
--- it ends before the other, or with it and begins no earlier, and then the other is no name
+-- it ends before the other, or with it and begins no earlier, and then the other is no name; at one place they are told alike
 pub IsBefore : Occurrence → Occurrence → Type 0
-IsBefore one other = (one.after ≤ other.after) × (other.after ≤ one.after → other.start ≤ one.start) × (other.after ≤ one.after → node_name other.node ≡ None)
+IsBefore one other =
+    (one.after ≤ other.after) × (other.after ≤ one.after → other.start ≤ one.start) × (other.after ≤ one.after → node_name other.node ≡ None)
+    × (one.start ≡ other.start → one.after ≡ other.after → AreToldAlike one other)
 
 pub AreWithin : ℕ → ℕ → ℕ → List Occurrence → Type 0
 AreWithin low above high [] = Unit {0}
@@ -64,7 +70,10 @@ all_behind one low above high [] p h = tt
 all_behind one low above high (y ∷ ys) p h =
     let node = h.0 in
     let b : above < y.after = node.behind in
-    ((omega arith, λ (q : y.after ≤ one.after). absurd (omega arith), λ (q : y.after ≤ one.after). absurd (omega arith)), all_behind one low above high ys p h.1)
+    (
+      (omega arith, λ (q : y.after ≤ one.after). absurd (omega arith), λ (q : y.after ≤ one.after). absurd (omega arith), λ (q : one.start ≡ y.start) (r : one.after ≡ y.after). absurd (omega (arith, r))),
+      all_behind one low above high ys p h.1,
+    )
 
 sorted_append : (low above middle high : ℕ) (xs ys : List Occurrence) → AreWithin low above middle xs → AreWithin low middle high ys → AreSorted xs → AreSorted ys → AreSorted (xs ++ ys)
 unfolding AreSorted AreWithin
@@ -93,21 +102,55 @@ unfolding AreWithin AreSorted AllBehind
 alone low above high one h = record { within = (h, tt); sorted = (tt, tt) }
 
 -- the whole behind its parts
-behind_all : (low above high : ℕ) (xs : List Occurrence) (one : Occurrence) → AreWithin low above high xs → AreSorted xs → one.start ≡ low → one.after ≡ high → node_name one.node ≡ None → AreSorted (xs ++ one ∷ [])
+behind_all : (low above high : ℕ) (xs : List Occurrence) (one : Occurrence) → AreWithin low above high xs → AreSorted xs → one.start ≡ low → one.after ≡ high → node_name one.node ≡ None → Alls (IsApart one) xs → AreSorted (xs ++ one ∷ [])
 unfolding AreWithin AreSorted AllBehind IsBefore
-behind_all low above high [] one h k p q n = (tt, tt)
-behind_all low above high (x ∷ xs) one h k p q n =
+behind_all low above high [] one h k p q n others = (tt, tt)
+behind_all low above high (x ∷ xs) one h k p q n others =
     let node = h.0 in
     let a : low ≤ x.start = node.begins in
     let c : x.after ≤ high = node.ends in
-    (behind_append x xs (one ∷ []) k.0 ((omega arith, λ (r : one.after ≤ x.after). omega arith, λ (r : one.after ≤ x.after). n), tt), behind_all low above high xs one h.1 k.1 p q n)
+    (
+      behind_append x xs (one ∷ []) k.0 ((omega arith, λ (r : one.after ≤ x.after). omega arith, λ (r : one.after ≤ x.after). n, others.each.0.alike), tt),
+      behind_all low above high xs one h.1 k.1 p q n (record { each = others.each.1 }),
+    )
+
+-- nodes that begin behind where the whole does stand elsewhere
+pub later_apart : (low above high : ℕ) (xs : List Occurrence) (one : Occurrence) → Segment low above high xs → one.start < low → Alls (IsApart one) xs
+unfolding AreWithin
+later_apart low above high xs one h p = apart xs h.within where
+  apart : (ys : List Occurrence) → AreWithin low above high ys → Alls (IsApart one) ys
+  apart [] w = none
+  apart (y ∷ ys) w = let a = w.0.begins in front (record { alike = λ q r. absurd (omega (arith, q, a, p)) }) (apart ys w.1)
+
+-- so do those that end before it does
+pub shorter_apart : (low above high : ℕ) (xs : List Occurrence) (one : Occurrence) → Segment low above high xs → high < one.after → Alls (IsApart one) xs
+unfolding AreWithin
+shorter_apart low above high xs one h p = apart xs h.within where
+  apart : (ys : List Occurrence) → AreWithin low above high ys → Alls (IsApart one) ys
+  apart [] w = none
+  apart (y ∷ ys) w = let a = w.0.ends in front (record { alike = λ q r. absurd (omega (arith, r, a, p)) }) (apart ys w.1)
+
+pub later_roots : (env : Environment) (e : Expr) (start after low above high : ℕ) (xs : List Occurrence) → Segment low above high xs → start < low → Alls (IsRoot env e start after) xs
+unfolding AreWithin
+later_roots env e start after low above high xs h p = roots xs h.within where
+  roots : (ys : List Occurrence) → AreWithin low above high ys → Alls (IsRoot env e start after) ys
+  roots [] w = none
+  roots (y ∷ ys) w = let a = w.0.begins in front (record { breaks_so = λ q r rule n b. absurd (omega (arith, q, a, p)) }) (roots ys w.1)
+
+pub shorter_roots : (env : Environment) (e : Expr) (start after low above high : ℕ) (xs : List Occurrence) → Segment low above high xs → high < after → Alls (IsRoot env e start after) xs
+unfolding AreWithin
+shorter_roots env e start after low above high xs h p = roots xs h.within where
+  roots : (ys : List Occurrence) → AreWithin low above high ys → Alls (IsRoot env e start after) ys
+  roots [] w = none
+  roots (y ∷ ys) w = let a = w.0.ends in front (record { breaks_so = λ q r rule n b. absurd (omega (arith, r, a, p)) }) (roots ys w.1)
 
 -- and the whole is no name
-pub ended : (low above high : ℕ) (xs : List Occurrence) (one : Occurrence) → Segment low above high xs → above < high → one.start ≡ low → one.after ≡ high → node_name one.node ≡ None → Segment low above high (xs ++ one ∷ [])
+pub ended : (low above high : ℕ) (xs : List Occurrence) (one : Occurrence) → Segment low above high xs → above < high → one.start ≡ low → one.after ≡ high → node_name one.node ≡ None → Alls (IsApart one) xs
+    → Segment low above high (xs ++ one ∷ [])
 unfolding AreWithin
-ended low above high xs one h p q r n = record {
+ended low above high xs one h p q r n a = record {
   within = within_append low above high xs (one ∷ []) h.within (record { begins = omega arith; behind = omega arith; ends = omega arith }, tt);
-  sorted = behind_all low above high xs one h.within h.sorted q r n;
+  sorted = behind_all low above high xs one h.within h.sorted q r n a;
 }
 
 -- each node lies within
@@ -191,3 +234,18 @@ pub all_apart : (all : List Occurrence) → AreSorted all → AreApart all
 unfolding AreSorted AreApart
 all_apart [] h = tt
 all_apart (one ∷ others) h = (none_beside one others h.0, all_apart others h.1)
+
+-- of two nodes at one place both are told alike
+unfoldable pub AreAllAlike : List Occurrence → Type 0
+AreAllAlike [] = Unit {0}
+AreAllAlike (one ∷ others) = AllByRecursion (λ (other : Occurrence). one.start ≡ other.start → one.after ≡ other.after → AreToldAlike one other) others × AreAllAlike others
+
+alike_behind : (one : Occurrence) (others : List Occurrence) → AllBehind one others → AllByRecursion (λ (other : Occurrence). one.start ≡ other.start → one.after ≡ other.after → AreToldAlike one other) others
+unfolding AllBehind IsBefore
+alike_behind one [] h = tt
+alike_behind one (other ∷ others) h = (h.0.3, alike_behind one others h.1)
+
+pub all_alike : (all : List Occurrence) → AreSorted all → AreAllAlike all
+unfolding AreSorted AreAllAlike
+all_alike [] h = tt
+all_alike (one ∷ others) h = (alike_behind one others h.0, all_alike others h.1)

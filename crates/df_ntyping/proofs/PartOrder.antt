@@ -14,8 +14,11 @@ use Rattle.df_ntyping.specs.Environment.{Environment, declare_variables, names_o
 use Rattle.df_ntyping.specs.Node.{Node, Occurrence, Owner}
 use Rattle.df_ntyping.specs.ExprNodes.{width, token_at, expr_nodes}
 use Rattle.df_ntyping.specs.StatementNodes.{widths, typed_nodes, untyped_nodes, variable_nodes, local_widths, clause_nodes, clauses_nodes, clause_widths, operand_nodes, whole_nodes}
-use Rattle.df_ntyping.proofs.Order.{Segment, no_nodes, weaker, joined, ended}
-use Rattle.df_ntyping.proofs.ExprOrder.{some_width, token_alone, type_order, expr_order}
+use Rattle.df_ntyping.proofs.AllNodes.{only}
+use Rattle.df_ntyping.proofs.SoundNodes.{new_name}
+use Rattle.df_ntyping.proofs.Alike.{quiet_apart, aspect_apart, no_call_aspect}
+use Rattle.df_ntyping.proofs.Order.{Segment, no_nodes, weaker, joined, ended, later_apart}
+use Rattle.df_ntyping.proofs.ExprOrder.{some_width, token_alone, type_order, expr_order, expr_roots}
 use Rattle.df_ntyping.proofs.SideOrder.{separated_widths, condition_order, exprs_order, whole_call_order}
 
 -- ---- lists
@@ -53,7 +56,7 @@ head_order env start local values (Some ty) p =
     (omega arith) (omega arith) (omega (arith, type_width ty)))
 head_order env start local [] None p =
     rw p (and_then start (start + 1) (start + 1) (start + 1) _ [] (ended start start (start + 1) (token_at env (Node.NewName (names_of env.inner) local.name) start ∷ []) (token_at env (Node.Untyped env.next local.name) start)
-    (later start start (suc start) (start + 1) _ (token_alone env _ start) (omega arith) (omega arith)) (omega arith) refl (omega arith) refl) (no_nodes (start + 1) (start + 1) (start + 1)) (omega arith) (omega arith) (omega arith))
+    (later start start (suc start) (start + 1) _ (token_alone env _ start) (omega arith) (omega arith)) (omega arith) refl (omega arith) refl (only (quiet_apart (new_name env (names_of env.inner) local.name)))) (no_nodes (start + 1) (start + 1) (start + 1)) (omega arith) (omega arith) (omega arith))
 head_order env start local (value ∷ values) None p =
     rw p (and_then start (suc start) (start + 1) (start + 1) _ [] (token_alone env _ start) (no_nodes (start + 1) (start + 1) (start + 1)) (omega arith) (omega arith) (omega arith))
 
@@ -79,9 +82,11 @@ locals_width (local ∷ other ∷ others) = omega (arith, separated_more spell_l
 pub clause_order : (env : Environment) (owner : Owner) (start : ℕ) (clause : Clause) → IsClause clause → Segment start start (start + length (spell_clause clause)) (clause_nodes env owner start clause)
 clause_order env owner start (Condition kind pos condition) g =
     ended start start (start + suc (width condition)) _ _ (later start (suc start) (suc start + width condition) (start + suc (width condition)) _ (condition_order env (suc start) condition g) (omega arith) (omega arith)) (omega arith) refl refl refl
+    (later_apart (suc start) (suc start) (suc start + width condition) _ _ (condition_order env (suc start) condition g) (omega arith))
 clause_order env owner start (Decreases pos values) g =
     ended start start (start + suc (length (separated spell values))) _ _
     (later start (suc start) (suc start + widths values) (start + suc (length (separated spell values))) _ (exprs_order env (suc start) values g.1) (omega arith) (omega (arith, separated_widths values))) (omega arith) refl refl refl
+    (later_apart (suc start) (suc start) (suc start + widths values) _ _ (exprs_order env (suc start) values g.1) (omega arith))
 
 pub clauses_order : (env : Environment) (owner : Owner) (start : ℕ) (clauses : List Clause) → AllByRecursion IsClause clauses → Segment start start (start + clause_widths clauses) (clauses_nodes env owner start clauses)
 clauses_order env owner start [] g = no_nodes start start (start + 0)
@@ -112,4 +117,5 @@ operands_order env start (Value e ∷ other ∷ others) g =
 
 pub whole_order : (env : Environment) (start : ℕ) (e : Expr) → IsExpr e → Segment start start (start + width e) (whole_nodes env start e)
 whole_order env start (Call callee arguments) g = whole_call_order env start callee arguments g
-whole_order env start e g = ended start start (start + width e) (expr_nodes env start e) _ (expr_order env start e g) (omega (arith, some_width e g)) refl refl refl
+whole_order env start e g =
+    ended start start (start + width e) (expr_nodes env start e) _ (expr_order env start e g) (omega (arith, some_width e g)) refl refl refl (aspect_apart (expr_nodes env start e) (no_call_aspect env e) (expr_roots env start e g))

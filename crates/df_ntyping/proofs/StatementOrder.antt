@@ -17,7 +17,8 @@ use Rattle.df_ntyping.specs.Sides.{place_types, types_of_locals}
 use Rattle.df_ntyping.specs.Node.{Occurrence, Owner}
 use Rattle.df_ntyping.specs.ExprNodes.{width, condition_nodes}
 use Rattle.df_ntyping.specs.StatementNodes.{all_places, widths, variable_nodes, declared_by, local_widths, clause_widths, statement_nodes, statements_nodes, branches_nodes, otherwise_nodes}
-use Rattle.df_ntyping.proofs.Order.{Segment, no_nodes, joined, ended}
+use Rattle.df_ntyping.proofs.AllNodes.{none}
+use Rattle.df_ntyping.proofs.Order.{Segment, no_nodes, joined, ended, later_apart}
 use Rattle.df_ntyping.proofs.SideOrder.{separated_widths, condition_order, all_places_order, sources_order, update_order}
 use Rattle.df_ntyping.proofs.PartOrder.{later, and_then, variable_order, locals_width, clauses_order, clauses_width, operands_order, whole_order}
 
@@ -120,21 +121,20 @@ mutual
       let opening = at_clauses + clause_widths clauses in
       let after = start + length (spell_statement (While pos guard clauses opens body)) in
       let size = while_width pos opens guard clauses body in
-      ended start start after _ _
-      (and_then start opening (suc opening) after _ _
-      (and_then start at_clauses at_clauses opening (condition_nodes env (suc start) guard) _
-      (later start (suc start) (suc start + wide) at_clauses _ (condition_order env (suc start) guard g.0) (omega arith) (omega arith))
-      (clauses_order env Owner.OfLoop at_clauses clauses g.1) (omega arith) (omega arith) (omega arith))
-      (later (suc opening) (suc opening) (suc opening + inner) after _ (statements_order (inside_loop (enter env)) (suc opening) body g.2) (omega arith) (omega (arith, size)))
-      (omega arith) (omega arith) (omega (arith, size)))
-      (omega (arith, size)) refl refl refl
+      let parts = and_then (suc start) opening (suc opening) after _ _
+          (and_then (suc start) at_clauses at_clauses opening (condition_nodes env (suc start) guard) _
+          (later (suc start) (suc start) (suc start + wide) at_clauses _ (condition_order env (suc start) guard g.0) (omega arith) (omega arith))
+          (clauses_order env Owner.OfLoop at_clauses clauses g.1) (omega arith) (omega arith) (omega arith))
+          (later (suc opening) (suc opening) (suc opening + inner) after _ (statements_order (inside_loop (enter env)) (suc opening) body g.2) (omega arith) (omega (arith, size)))
+          (omega arith) (omega arith) (omega (arith, size)) in
+      ended start start after _ _ (later start (suc start) after after _ parts (omega arith) (omega arith)) (omega (arith, size)) refl refl refl (later_apart (suc start) (suc start) after _ _ parts (omega arith))
   statement_order env start (Return pos values) g =
       let after = start + length (spell_statement (Return pos values)) in
       let size = length-append (separated spell values) semicolon in
       ended start start after _ _
       (later start (suc start) (suc start + widths values) after _ (sources_order env (suc start) (types_of_locals env env.results) values g) (omega arith) (omega (arith, size, separated_widths values)))
-      (omega arith) refl refl refl
-  statement_order env start (Break pos) g = ended start start (start + 2) [] _ (no_nodes start start (start + 2)) (omega arith) refl refl refl
+      (omega arith) refl refl refl (later_apart (suc start) (suc start) (suc start + widths values) _ _ (sources_order env (suc start) (types_of_locals env env.results) values g) (omega arith))
+  statement_order env start (Break pos) g = ended start start (start + 2) [] _ (no_nodes start start (start + 2)) (omega arith) refl refl refl none
   statement_order env start (Assert pos condition) g =
       later start (suc start) (suc start + width condition) (start + length (spell_statement (Assert pos condition))) _ (condition_order env (suc start) condition g) (omega arith) (omega (arith, length-append (spell condition) semicolon))
   statement_order env start (Print pos operands) g =
