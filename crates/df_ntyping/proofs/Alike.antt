@@ -1,14 +1,14 @@
 -- Nodes at one place that break one rule of types are told at one position.
-use Rattle.std.proofs.Common.{◌≡◌, ℕ, ◌+◌, Bool, true, false, not, List, [], ◌∷◌, ◌++◌, Option, Some, None, refl, sym, ◌∙◌}
+use Rattle.std.proofs.Common.{◌≡◌, ℕ, true, not, List, Option, Some, None}
 use Rattle.df_lang.specs.declared.ty.Ty.{Ty}
 use Rattle.df_lang.specs.declared.ty.Ty.TheVariants as types
-use Rattle.df_ntree.specs.Expr.{Expr, Members}
+use Rattle.df_ntree.specs.Expr.{Expr}
 use Rattle.df_ntyping.specs.Environment.{Environment}
 use Rattle.df_ntyping.specs.ExprTypes.{type_in}
 use Rattle.df_ntyping.specs.Node as nodes
 use Rattle.df_ntyping.specs.Node.{Node, Occurrence, node_pos}
 use Rattle.df_ntyping.specs.Places.{beginning_of}
-use Rattle.df_ntyping.specs.Rule.{Rule, Unknown, Twice, Typing, Uninferred, Range, Given, Arithmetic, Order, Equality, Direction, Truths, ArgumentCount, Calls, Casts, Assigned, Returned, Broken, Clauses, stage_of}
+use Rattle.df_ntyping.specs.Rule.{Rule, Typing, Given, Truths, Calls, Assigned, stage_of}
 use Rattle.df_ntyping.specs.Breaks.{breaks}
 use Rattle.df_ntyping.specs.rules.Truths.{is_truth}
 use Rattle.df_ntyping.specs.Types.{if_type_known}

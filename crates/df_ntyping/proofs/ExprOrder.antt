@@ -24,7 +24,7 @@ use Rattle.df_ntyping.specs.Places.{beginning_of}
 use Rattle.df_ntyping.specs.ExprTypes.{type_in, wanted_first, wanted_behind}
 use Rattle.df_ntyping.specs.ExprNodes.{count, first_place, other_places, width, token_at, type_nodes, cast_nodes, chain_nodes, places_of, callee_nodes, expr_nodes, run_nodes, argument_nodes}
 use Rattle.df_ntyping.specs.rules.Truths.{is_logical}
-use Rattle.df_ntyping.specs.Rule.{Typing, Rule, Unknown, Twice, Uninferred, Range, Given, Arithmetic, Order, Equality, Direction, Truths, ArgumentCount, Calls, Casts, Assigned, Returned, Broken, Clauses, stage_of}
+use Rattle.df_ntyping.specs.Rule.{Typing, Rule, Given, Direction, Truths, Calls, Assigned, stage_of}
 use Rattle.df_ntyping.specs.Breaks.{breaks}
 use Rattle.df_ntyping.specs.ExprTypes.{is_arithmetic}
 use Rattle.df_ntree.specs.Operator.{group_of}

@@ -40,7 +40,7 @@ newtype_order env start x g =
     let inner = declare env Variable_role x.variable.name in
     let witness = length (optional spell_witness x.witness) in
     let parts = and_then predicate middle middle after (use_nodes inner predicate x.predicate) (witness_nodes env middle x.witness) (use_order inner predicate x.predicate g.0.0)
-        (later middle middle (middle + witness) after _ (witness_order env middle x.witness g.1) (omega arith) (omega (arith, newtype_width x))) (omega arith) (omega arith) (omega (arith, newtype_width x)) in
+    (later middle middle (middle + witness) after _ (witness_order env middle x.witness g.1) (omega arith) (omega (arith, newtype_width x))) (omega arith) (omega arith) (omega (arith, newtype_width x)) in
     ended start (start + 2) after (use_nodes inner predicate x.predicate ++ witness_nodes env middle x.witness) _
     (weaker predicate predicate after start (start + 2) after _ parts (omega arith) (omega arith) (omega arith)) (omega (arith, newtype_width x)) refl refl refl (later_apart predicate predicate after _ _ parts (omega arith))
 

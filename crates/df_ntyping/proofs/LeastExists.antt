@@ -125,7 +125,7 @@ unfolding Outcome AtRule
 at_rule one rule true p = inr (record { at = one; rule = rule }, record { broken = (refl, refl, p); least = λ f h. rw (h.0, h.1) (irreflexive (record { at = one; rule = rule })) })
 at_rule one rule false p = inl (λ f h. true_not_false (breaks one.env one.node rule) (rw (h.0, h.1) at h.2) p)
 
-first_or_rest : {X : Type 0} (x : X) (xs : List X) (y : X) → Contains (x ∷ xs) y → (x ≡ y) ⊎ Contains xs y
+pub first_or_rest : {X : Type 0} (x : X) (xs : List X) (y : X) → Contains (x ∷ xs) y → (x ≡ y) ⊎ Contains xs y
 first_or_rest x xs y (zero, p, q) = inl q
 first_or_rest x xs y (suc k, p, q) = inr (k, omega arith, q)
 

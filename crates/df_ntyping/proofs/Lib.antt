@@ -70,3 +70,4 @@ mod ElaboratedStatements
 mod ReadyMethods
 mod ElaboratedFiles
 mod Alike
+mod OneRefusal

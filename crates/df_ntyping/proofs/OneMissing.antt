@@ -8,14 +8,14 @@ use Rattle.df_ntyping.specs.Least.{by_number}
 use Rattle.df_ntyping.specs.Unassigned.{Missing, end_number, comes_before}
 use Rattle.df_ntyping.proofs.LeastExists.{true_not_false, by_self, by_less, three}
 
-by_equal : (a b : ℕ) (r s : Bool) → by_number a b r ≡ false → by_number b a s ≡ false → (a ≡ b) × (r ≡ false) × (s ≡ false)
+pub by_equal : (a b : ℕ) (r s : Bool) → by_number a b r ≡ false → by_number b a s ≡ false → (a ≡ b) × (r ≡ false) × (s ≡ false)
 by_equal a b r s p q = by_cases (three a b) where
   by_cases : (a < b) ⊎ ((a ≡ b) ⊎ (b < a)) → (a ≡ b) × (r ≡ false) × (s ≡ false)
   by_cases (inl x) = absurd (true_not_false (by_number a b r) (by_less a b r x) p)
   by_cases (inr (inl x)) = (x, sym (by_self b r) ∙ subst (λ (z : ℕ). by_number z b r ≡ false) x p, sym (by_self b s) ∙ subst (λ (z : ℕ). by_number b z s ≡ false) x q)
   by_cases (inr (inr x)) = absurd (true_not_false (by_number b a s) (by_less b a s x) q)
 
-less_equal : (a b : ℕ) → nat_lt a b ≡ false → nat_lt b a ≡ false → a ≡ b
+pub less_equal : (a b : ℕ) → nat_lt a b ≡ false → nat_lt b a ≡ false → a ≡ b
 less_equal a b p q = by_cases (three a b) where
   by_cases : (a < b) ⊎ ((a ≡ b) ⊎ (b < a)) → a ≡ b
   by_cases (inl x) = absurd (true_not_false (nat_lt a b) (lt-ltb a b x) p)

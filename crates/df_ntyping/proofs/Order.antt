@@ -69,8 +69,7 @@ unfolding AllBehind AreWithin IsBefore
 all_behind one low above high [] p h = tt
 all_behind one low above high (y ∷ ys) p h =
     let node = h.0 in
-    let b : above < y.after = node.behind in
-    (
+    let b : above < y.after = node.behind in (
       (omega arith, λ (q : y.after ≤ one.after). absurd (omega arith), λ (q : y.after ≤ one.after). absurd (omega arith), λ (q : one.start ≡ y.start) (r : one.after ≡ y.after). absurd (omega (arith, r))),
       all_behind one low above high ys p h.1,
     )
@@ -108,8 +107,7 @@ behind_all low above high [] one h k p q n others = (tt, tt)
 behind_all low above high (x ∷ xs) one h k p q n others =
     let node = h.0 in
     let a : low ≤ x.start = node.begins in
-    let c : x.after ≤ high = node.ends in
-    (
+    let c : x.after ≤ high = node.ends in (
       behind_append x xs (one ∷ []) k.0 ((omega arith, λ (r : one.after ≤ x.after). omega arith, λ (r : one.after ≤ x.after). n, others.each.0.alike), tt),
       behind_all low above high xs one h.1 k.1 p q n (record { each = others.each.1 }),
     )

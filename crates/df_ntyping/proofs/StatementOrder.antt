@@ -122,11 +122,11 @@ mutual
       let after = start + length (spell_statement (While pos guard clauses opens body)) in
       let size = while_width pos opens guard clauses body in
       let parts = and_then (suc start) opening (suc opening) after _ _
-          (and_then (suc start) at_clauses at_clauses opening (condition_nodes env (suc start) guard) _
-          (later (suc start) (suc start) (suc start + wide) at_clauses _ (condition_order env (suc start) guard g.0) (omega arith) (omega arith))
-          (clauses_order env Owner.OfLoop at_clauses clauses g.1) (omega arith) (omega arith) (omega arith))
-          (later (suc opening) (suc opening) (suc opening + inner) after _ (statements_order (inside_loop (enter env)) (suc opening) body g.2) (omega arith) (omega (arith, size)))
-          (omega arith) (omega arith) (omega (arith, size)) in
+      (and_then (suc start) at_clauses at_clauses opening (condition_nodes env (suc start) guard) _
+      (later (suc start) (suc start) (suc start + wide) at_clauses _ (condition_order env (suc start) guard g.0) (omega arith) (omega arith))
+      (clauses_order env Owner.OfLoop at_clauses clauses g.1) (omega arith) (omega arith) (omega arith))
+      (later (suc opening) (suc opening) (suc opening + inner) after _ (statements_order (inside_loop (enter env)) (suc opening) body g.2) (omega arith) (omega (arith, size)))
+      (omega arith) (omega arith) (omega (arith, size)) in
       ended start start after _ _ (later start (suc start) after after _ parts (omega arith) (omega arith)) (omega (arith, size)) refl refl refl (later_apart (suc start) (suc start) after _ _ parts (omega arith))
   statement_order env start (Return pos values) g =
       let after = start + length (spell_statement (Return pos values)) in

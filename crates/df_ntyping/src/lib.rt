@@ -2,7 +2,7 @@
 //! told, and which typed program a file elaborates to.
 #![tactic(auto)]
 
-ghost use Rattle.df_ntyping.specs.Laws.{OneTyping, OneType, OneProgram, NodesAreInOrder, LeastExists, TypedIsWellTyped, ElaboratedIsWellTyped, ElaboratedIsFaultless, FaultlessIsElaborated, FaultIsTold, OneMissingTold, FaultlessIsTyped, TypedIsFaultless, FaultlessIsWanted, WantedIsFaultless};
+ghost use Rattle.df_ntyping.specs.Laws.{OneTyping, OneType, OneProgram, NodesAreInOrder, LeastExists, TypedIsWellTyped, ElaboratedIsWellTyped, ElaboratedIsFaultless, FaultlessIsElaborated, FaultIsTold, OneRefusal, OneMissingTold, FaultlessIsTyped, TypedIsFaultless, FaultlessIsWanted, WantedIsFaultless};
 
 /// An expression has one type and one typed expression at most.
 pub fn one_typing()
@@ -78,4 +78,9 @@ pub fn elaborated_is_faultless()
 /// A file that breaks nothing elaborates, where each name that it declares has a text.
 pub fn faultless_is_elaborated()
     ensures { FaultlessIsElaborated }
+{}
+
+/// A file has one refusal.
+pub fn one_refusal()
+    ensures { OneRefusal }
 {}
