@@ -32,7 +32,7 @@ use Rattle.df_nterm.proofs.Below.{IsBelow}
 use Rattle.df_npass.specs.Rules.{Said, Way}
 use Rattle.df_npass.specs.Statements.{any_values, assert_measure, pass_all}
 use Rattle.df_npass.specs.Methods.{locals_of, some_term, unset, way_in, require_all, ended, setting_of}
-use Rattle.df_npass.proofs.Playing.{Mode, is_taking, Play}
+use Rattle.df_npass.proofs.Playing.{some_equal, Mode, is_taking, Play}
 use Rattle.df_npass.proofs.Proper.{EnvBelow, measured_below}
 use Rattle.df_npass.proofs.Leading.{TermsBelow, any_giving}
 use Rattle.df_npass.proofs.Flowing.{all_flows}
@@ -41,7 +41,8 @@ use Rattle.df_npass.proofs.Arguments.{of_long}
 use Rattle.df_npass.proofs.Measures.{method_measure_typed}
 use Rattle.df_npass.proofs.Calling.{Contract, contract_of, first_read, measure_read}
 use Rattle.df_npass.proofs.Declaring.{types_after_all}
-use Rattle.df_npass.proofs.Loops.{nesting_all, few, HasParameters}
+use Rattle.df_npass.proofs.Nesting.{nesting_all}
+use Rattle.df_npass.proofs.Returning.{few, HasParameters}
 use Rattle.df_npass.proofs.Passing.{stmts_then}
 use Rattle.df_npass.proofs.Ending.{ended_onward}
 
@@ -78,10 +79,7 @@ over_sorted : (i : Interpretation) (tys : List Ty) (terms : List Term) (at : ℕ
 over_sorted i [] [] at env of within h k ty e = h k ty e
 over_sorted i [] (a ∷ terms) at env of within h k ty e = absurd of
 over_sorted i (t ∷ tys) [] at env of within h k ty e = absurd of
-over_sorted i (t ∷ tys) (a ∷ terms) at env of within h zero ty e = subst (λ (x : Ty). IsSorted x (meanings.value i a)) (some_type t ty (sym (within 0 t refl) ∙ e)) of.0
-  where
-    some_type : (t u : Ty) → Some t ≡ Some u → t ≡ u
-    some_type t u e = cc
+over_sorted i (t ∷ tys) (a ∷ terms) at env of within h zero ty e = subst (λ (x : Ty). IsSorted x (meanings.value i a)) (some_equal t ty (sym (within 0 t refl) ∙ e)) of.0
 over_sorted i (t ∷ tys) (a ∷ terms) at env of within h (suc k) ty e = over_sorted i tys terms (λ x. at (suc x)) (λ x. env (suc x)) of.1 (λ x u f. within (suc x) u f) (λ x u f. h (suc x) u f) k ty e
 
 over_value : (i : Interpretation) (terms : List Term) (env : Environment) (k : ℕ) (v : Value) → slice_get (values_at i terms) k ≡ Some v → meanings.value i (slice_index_or terms k (env k)) ≡ v

@@ -1,8 +1,8 @@
 -- Where runs come to: one of some ways, and the flow of definite assignment there.
-use Rattle.std.proofs.Common.{◌≡◌, ◌⊎◌, inl, inr, ℕ, true, false, List, [], ◌∷◌, ◌++◌, Option, None, Some, refl, sym, ◌∙◌, subst}
+use Rattle.std.proofs.Common.{Bool, ◌≡◌, ◌⊎◌, inl, inr, ℕ, true, false, List, [], ◌∷◌, ◌++◌, Option, None, Some, refl, sym, ◌∙◌, subst}
 use Rattle.std.specs.List.{AllByRecursion}
 use Rattle.df_lang.specs.declared.ty.Ty.{Ty}
-use Rattle.df_lang.specs.Assignment.{Assigned, Unreached, Reached, has_value, join}
+use Rattle.df_lang.specs.Assignment.{Assigned, Unreached, Reached, has_value, join, mark}
 use Rattle.df_mean.specs.Value.{Value}
 use Rattle.df_mean.specs.State.{State}
 use Rattle.df_mean.specs.Definite.{HasValue, AreAssigned}
@@ -41,6 +41,10 @@ hold_make i env (Reached set) s r h = h
 pub assigned_make : (before : Assigned) (s : State) → IsReached before → ((k : ℕ) → has_value before k ≡ true → HasValue s k) → AreAssigned before s
 assigned_make Unreached s r h = r
 assigned_make (Reached set) s r h = h
+
+pub reached_mark : (value : Bool) (a : Assigned) (local : ℕ) → IsReached a → IsReached (mark value a local)
+reached_mark value Unreached local r = r
+reached_mark value (Reached set) local r = r
 
 pub reached_left : (a b : Assigned) → IsReached a → IsReached (join a b)
 reached_left Unreached b r = absurd r

@@ -18,7 +18,7 @@ use Rattle.df_nterm.specs.Expressions.{Environment, term_of}
 use Rattle.df_npass.specs.Rules.{Way, narrowed, join}
 use Rattle.df_npass.specs.Statements.{Setting, Flow, followed_by, ways_of, Parted, declared_by_all, each_once, changed_outside, changed_in_branches, changed_outside_if, pass_stmt, pass_all, pass_branches}
 use Rattle.df_npass.proofs.Staying.{AllStay, neither, in_both, unchanged, all_stay, branches_stay}
-use Rattle.df_npass.proofs.Coming.{IsReached, reached_left, reached_right, join_left, join_right}
+use Rattle.df_npass.proofs.Coming.{IsReached, reached_mark, reached_left, reached_right, join_left, join_right}
 use Rattle.df_npass.proofs.Turning.{once_there}
 use Rattle.df_npass.proofs.Handing.{by_bool}
 use Rattle.df_npass.proofs.Playing.{apart}
@@ -40,10 +40,6 @@ none_right (Reached set) (Reached other) k r e = and_false (set k) (other k) e
     and_false : (x y : Bool) → y ≡ false → (x && y) ≡ false
     and_false true y e = e
     and_false false y e = refl
-
-reached_mark : (value : Bool) (a : Assigned) (local : ℕ) → IsReached a → IsReached (mark value a local)
-reached_mark value Unreached local r = r
-reached_mark value (Reached set) local r = r
 
 none_marked : (a : Assigned) (local k : ℕ) → IsReached a → (k == local) ≡ false → has_value a k ≡ false → has_value (mark true a local) k ≡ false
 none_marked Unreached local k r e h = absurd r

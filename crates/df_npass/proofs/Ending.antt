@@ -1,5 +1,5 @@
 -- Where a method ends its postconditions are owed.
-use Rattle.std.proofs.Common.{◌≡◌, ◌⊎◌, inl, inr, ℕ, suc, ◌≤◌, ◌<◌, ◌+◌, ◌==◌, Bool, true, false, ◌||◌, List, [], ◌∷◌, ◌++◌, length, slice_get, Option, None, Some, refl, sym, ap, ◌∙◌, subst, append_assoc, append-nil, arith}
+use Rattle.std.proofs.Common.{◌≡◌, ◌⊎◌, inl, inr, ℕ, suc, ◌≤◌, ◌<◌, ◌+◌, ◌==◌, Bool, true, false, ◌||◌, List, [], ◌∷◌, ◌++◌, length, Option, None, Some, refl, sym, ap, ◌∙◌, subst, append_assoc, append-nil, arith}
 use Rattle.std.proofs.lemmas.Bool.{eq-eqb, ltb-true, cases_lt}
 use Rattle.std.proofs.lemmas.List.{length-map}
 use Rattle.std.specs.Option.{option_map_or}
@@ -36,7 +36,8 @@ use Rattle.df_npass.proofs.Calling.{first_read}
 use Rattle.df_npass.proofs.Joining.{join_then}
 use Rattle.df_npass.proofs.Leaving.{no_path, one_path, join_off_said, join_off_way}
 use Rattle.df_npass.proofs.Sequencing.{hand, Comes, Onward, ended_then}
-use Rattle.df_npass.proofs.Loops.{back, HasParameters, back_has}
+use Rattle.df_npass.proofs.Measures.{get_at, one_longer}
+use Rattle.df_npass.proofs.Returning.{back, HasParameters, back_has}
 
 -- ---- the first locals
 
@@ -51,14 +52,6 @@ locals_cover from (param ∷ params) k more less = by_order (cases_lt k (suc fro
     by_order : (k < suc from) ⊎ (suc from ≤ k) → (suc from ≤ k → is_changed (locals_from (suc from) params) k ≡ true) → is_changed (locals_from from (param ∷ params)) k ≡ true
     by_order (inl l) g = let same : from ≡ k = omega (arith, l, more) in ap (λ (b : Bool). b || is_changed (locals_from (suc from) params) k) (eq-eqb from k same)
     by_order (inr l) g = ap (λ (b : Bool). (from == k) || b) (g l) ∙ or_true (from == k)
-
-get_at : (front : List Ty) (ty : Ty) (rest : List Ty) → slice_get (front ++ ty ∷ rest) (length front) ≡ Some ty
-get_at [] ty rest = refl
-get_at (t ∷ ts) ty rest = get_at ts ty rest
-
-one_longer : (front : List Ty) (ty : Ty) → length (front ++ ty ∷ []) ≡ suc (length front)
-one_longer [] ty = refl
-one_longer (t ∷ ts) ty = ap suc (one_longer ts ty)
 
 locals_there : (all front : List Ty) (params : List Param) → Within (front ++ types_of params) all → are_there all (locals_from (length front) params) ≡ true
 locals_there all front [] within = refl

@@ -20,7 +20,7 @@ use Rattle.df_npass.proofs.Reading.{values_at}
 use Rattle.df_npass.proofs.Taking.{AllSorted, take_all, any_known, any_sorted, any_typed}
 use Rattle.df_npass.proofs.Arguments.{params_of}
 use Rattle.df_npass.proofs.Handing.{by_bool}
-use Rattle.df_npass.proofs.Loops.{nesting_all}
+use Rattle.df_npass.proofs.Nesting.{nesting_all}
 use Rattle.df_npass.proofs.Obligations.{first_refuted, refuted_first, of_declaration, of_method_there, there_of_method}
 use Rattle.df_npass.proofs.Beginning.{behind_arguments, method_play}
 

@@ -22,6 +22,9 @@ pub mod Covering
 pub mod Sequencing
 pub mod Branching
 pub mod Looping
+pub mod Nesting
+pub mod Returning
+pub mod Altering
 pub mod Loops
 pub mod Passing
 pub mod Obligations

@@ -43,7 +43,7 @@ use Rattle.df_npass.proofs.Joining.{join_then}
 use Rattle.df_npass.proofs.Leaving.{no_path, one_path, join_off_said, join_off_way}
 use Rattle.df_npass.proofs.Sequencing.{hand, Comes, Onward, only, ended_then}
 
-three_parts : {A : Type 0} (xs ys zs more : List A) → (xs ++ (ys ++ zs)) ++ more ≡ xs ++ (ys ++ (zs ++ more))
+pub three_parts : {A : Type 0} (xs ys zs more : List A) → (xs ++ (ys ++ zs)) ++ more ≡ xs ++ (ys ++ (zs ++ more))
 three_parts xs ys zs more = append_assoc xs (ys ++ zs) more ∙ ap (λ r. xs ++ r) (append_assoc ys zs more)
 
 negated : (i : Interpretation) (a : Term) (b : Bool) → truth i a ≡ b → truth i (negation a) ≡ not b

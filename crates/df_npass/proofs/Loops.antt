@@ -1,37 +1,34 @@
 -- Runs of `print` and of loops.
-use Rattle.std.proofs.Common.{◌≡◌, ◌⊎◌, inl, inr, ℕ, zero, suc, ◌≤◌, ◌<◌, ◌+◌, ◌==◌, Bool, true, false, ◌&&◌, if◌then◌else◌, List, [], ◌∷◌, ◌++◌, map, length, slice_get, Option, None, Some, refl, sym, ap, ◌∙◌, subst, append_assoc, length-append, arith, le_refl}
-use Rattle.std.proofs.lemmas.Bool.{ltb-true, cases_lt}
-use Rattle.std.proofs.lemmas.List.{length-map}
+use Rattle.std.proofs.Common.{◌≡◌, ℕ, suc, Bool, true, false, ◌&&◌, if◌then◌else◌, List, [], ◌∷◌, ◌++◌, map, length, Option, None, Some, refl, sym, ap, ◌∙◌, subst, append_assoc, le_refl}
 use Rattle.std.specs.List.{list_all, flat_map}
 use Rattle.std.specs.Option.{option_map_or}
 use Rattle.df_base.specs.declared.pos.Pos.{Pos}
 use Rattle.df_lang.specs.declared.ty.Ty.{Ty}
 use Rattle.df_lang.specs.declared.ty.Ty.TheVariants as types
 use Rattle.df_lang.specs.Expr.{Expr}
-use Rattle.df_lang.specs.Stmt.{Operand, Text, Value as Shown, Target, Update, Clause, Measure, Stmt, Block, Var, Assign, CallOf, If, While, Break, Return, Assert, Print, Stmts, done, next, Branches, no_branch, branch}
-use Rattle.df_lang.specs.Program.{Param, Method, Program, types_of}
+use Rattle.df_lang.specs.Stmt.{Operand, Text, Value as Shown, Clause, Measure, While, Stmts}
+use Rattle.df_lang.specs.Program.{Method, Program}
 use Rattle.df_lang.specs.Measures.{loop_measure}
-use Rattle.df_lang.specs.Typing.{same_type, is_type, is_expr, are_clauses, are_measures, is_operand, locals_after_all, is_measured, is_stmt, are_stmts, is_well_typed}
-use Rattle.df_lang.specs.Assignment.{Use, Assigned, Unreached, Reached, has_value, join as meet, mark, assign, assign_all, reads, reads_of_operand, reads_of_clauses, reads_of_measures, unassigned, Flowing, results_from, results_at, flow, flow_all}
+use Rattle.df_lang.specs.Typing.{is_type, is_expr, are_clauses, are_measures, is_operand, locals_after_all, is_measured, is_stmt, are_stmts, is_well_typed}
+use Rattle.df_lang.specs.Assignment.{Assigned, Unreached, has_value, join as meet, reads, reads_of_operand, reads_of_clauses, reads_of_measures, unassigned, Flowing, flow, flow_all}
 use Rattle.df_meaning.specs.declared.kind.Kind.TheVariants as kinds
 use Rattle.df_mean.specs.Value.{Value, truth_of}
 use Rattle.df_mean.specs.Value as values
 use Rattle.df_mean.specs.Outcome.{Outcome, Gives, TooDeep, after}
-use Rattle.df_mean.specs.State.{Handed, State, printed}
+use Rattle.df_mean.specs.State.{State, printed}
 use Rattle.df_mean.specs.Meaning.{Meaning, Loop}
 use Rattle.df_mean.specs.Meaning as flows
 use Rattle.df_mean.specs.Definite.{AreDeclared}
 use Rattle.df_mean.specs.Evaluation.{evaluate}
 use Rattle.df_mean.specs.Execution.{check_all, print_all, execute, execute_all}
 use Rattle.df_mean.specs.Whole.{turns_with}
-use Rattle.df_mean.specs.Modular.{Changed, Running, changed_by_all, changed_by_branches, assume_all as assume_each, or_dismissed, measure_values, handed_turn, behind_once, modular_turn, modular_turns, modular_call, modular, plain_meaning}
+use Rattle.df_mean.specs.Modular.{Running, changed_by_all, assume_all as assume_each, or_dismissed, measure_values, handed_turn, behind_once, modular_turn, modular_turns, modular, plain_meaning}
 use Rattle.df_mean.specs.Agreement.{is_changed}
-use Rattle.df_mean.proofs.Cases.{both, four, joined}
+use Rattle.df_mean.proofs.Cases.{both, four}
 use Rattle.df_mean.proofs.Changing.{are_there, all_there}
-use Rattle.df_mean.proofs.Counting.{nothing_missing, parted, use_has}
+use Rattle.df_mean.proofs.Counting.{nothing_missing, parted}
 use Rattle.df_mean.proofs.Assigning.{place, all_carry}
 use Rattle.df_mean.proofs.Stating.{Within, before_all}
-use Rattle.df_mean.proofs.DefiniteRuns.{first_locals}
 use Rattle.df_mean.proofs.Modulars.{program_of_modular}
 use Rattle.df_nterm.specs.Term.{negation}
 use Rattle.df_nterm.specs.Meaning.{Interpretation, truth}
@@ -43,166 +40,32 @@ use Rattle.df_npass.specs.Rules.{Said, Way, narrowed, havoc, paths_of, any_path,
 use Rattle.df_npass.specs.Statements as passing
 use Rattle.df_npass.specs.Statements.{goes_on, saying, at_clause, assert_clauses, assume_clauses, assert_expr, assert_measure, assert_operand, pass_call, pass_optional, declared_by_all, each_once, changed_outside, changed_in_branches, changed_outside_if, Parted, ways_of, last_of, first_of, path_behind, rejoined, assert_turn, behind_loop, pass_stmt, pass_all, pass_branches}
 use Rattle.df_npass.proofs.Saying.{narrowed_true}
-use Rattle.df_npass.proofs.Playing.{Mode, Following, Taking, is_taking, moves_here, moves_then, same_then, Play, play_as, play_behind, play_silent, not_deep}
+use Rattle.df_npass.proofs.Playing.{Mode, is_taking, moves_here, moves_then, same_then, Play, play_as, play_behind}
 use Rattle.df_npass.proofs.Proper.{measure_grows, measure_proper}
 use Rattle.df_npass.proofs.Leading.{narrowed_leads, havoc_going}
 use Rattle.df_npass.proofs.Flowing.{all_flows}
 use Rattle.df_npass.proofs.Staying.{AllStay, all_stay}
 use Rattle.df_npass.proofs.Reading.{with_handed, Sits, expr_then, check_then, assume_then, measures_then}
-use Rattle.df_npass.proofs.Coming.{IsReached, holds_reached, path_same, join_left}
-use Rattle.df_npass.proofs.Turning.{list_once, once_there}
-use Rattle.df_npass.proofs.Turns.{turn_then, type_there}
+use Rattle.df_npass.proofs.Coming.{holds_reached, path_same, join_left}
+use Rattle.df_npass.proofs.Turning.{once_there}
+use Rattle.df_npass.proofs.Turns.{turn_then}
 use Rattle.df_npass.proofs.Measures.{loop_measure_typed, loop_measure_reads}
 use Rattle.df_npass.proofs.Calling.{after_after, then_same, setting, running, entered_moves}
 use Rattle.df_npass.proofs.Standing.{Stands, stands_moves}
 use Rattle.df_npass.proofs.Declaring.{all_past}
 use Rattle.df_npass.proofs.Covering.{outside_is}
 use Rattle.df_npass.proofs.Sequencing.{Onward}
-use Rattle.df_npass.proofs.Looping.{outside_play, inside_onward}
-
--- how many loops are in it: a depth that is enough
-abbrev mutual
-  pub nesting : Stmt → ℕ
-  nesting (Block at body) = nesting_all body
-  nesting (Var at variables update) = 0
-  nesting (Assign at update) = 0
-  nesting (CallOf call) = 0
-  nesting (If branches otherwise) = nesting_branches branches + nesting_all otherwise
-  nesting (While at guard invariants decreases body) = suc (nesting_all body)
-  nesting (Break at) = 0
-  nesting (Return at update) = 0
-  nesting (Assert at condition) = 0
-  nesting (Print at operands) = 0
-
-  pub nesting_all : Stmts → ℕ
-  nesting_all done = 0
-  nesting_all (next stmt others) = nesting stmt + nesting_all others
-
-  pub nesting_branches : Branches → ℕ
-  nesting_branches no_branch = 0
-  nesting_branches (branch at guard body rest) = nesting_all body + nesting_branches rest
-
-pub call_of_modular : (run : Running) (depth : ℕ) → (modular run depth).call ≡ modular_call run
-call_of_modular run zero = refl
-call_of_modular run (suc depth) = refl
-
--- ---- results at a `return`
-
-mark_keeps : (a : Assigned) (local k : ℕ) → has_value a k ≡ true → has_value (mark true a local) k ≡ true
-mark_keeps Unreached local k h = refl
-mark_keeps (Reached set) local k h = by_test (k == local)
-  where
-    by_test : (b : Bool) → (if b then true else set k) ≡ true
-    by_test true = refl
-    by_test false = h
-
-assign_keeps : (targets : List Target) (a : Assigned) (k : ℕ) → has_value a k ≡ true → has_value (assign a targets) k ≡ true
-assign_keeps [] a k h = h
-assign_keeps (t ∷ ts) a k h = assign_keeps ts (mark true a t.local) k (mark_keeps a t.local k h)
-
-pub update_keeps : (update : Option Update) (a : Assigned) (k : ℕ) → has_value a k ≡ true → has_value (assign_all a update) k ≡ true
-update_keeps None a k h = h
-update_keeps (Some update) a k h = assign_keeps update.targets a k h
-
-numbered_have : (at : Pos) (a : Assigned) (from : ℕ) (params : List Param) → unassigned a (results_from at from params) ≡ [] → (k : ℕ) → from ≤ k → k < from + length params → has_value a k ≡ true
-numbered_have at a from [] e k more less = absurd (omega (arith, more, less))
-numbered_have at a from (param ∷ params) e k more less = by_order (cases_lt k (suc from)) (λ later. numbered_have at a (suc from) params (parted a (used ∷ []) (results_from at (suc from) params) e).1 k later (omega (arith, less)))
-  where
-    used : Use
-    used = record { local = from; name = param.declared.name; pos = at }
-
-    by_order : (k < suc from) ⊎ (suc from ≤ k) → (suc from ≤ k → has_value a k ≡ true) → has_value a k ≡ true
-    by_order (inl l) g = let same : from ≡ k = omega (arith, l, more) in subst (λ (x : ℕ). has_value a x ≡ true) same (use_has a used (results_from at (suc from) params) e)
-    by_order (inr l) g = g l
-
--- where a method returns, parameters and results have values
-module _ (own : Method) where
-  abbrev pub few : ℕ
-  few = length own.parameters
-
-  abbrev pub back : Assigned
-  back = first_locals (length (types_of own.parameters ++ types_of own.results))
-
-  abbrev pub HasParameters : Assigned → Type 0
-  HasParameters before = (k : ℕ) → k < few → has_value before k ≡ true
-
-  long : length (types_of own.parameters ++ types_of own.results) ≡ few + length own.results
-  long = length-append (types_of own.parameters) (types_of own.results) ∙ (ap (λ (x : ℕ). x + length (types_of own.results)) (length-map own.parameters (λ (param : Param). param.ty)) ∙ ap (λ (x : ℕ). few + x) (length-map own.results (λ (param : Param). param.ty)))
-
-  pub back_has : (at : Pos) (a : Assigned) → HasParameters a → unassigned a (results_at own at) ≡ [] → (k : ℕ) → has_value back k ≡ true → has_value a k ≡ true
-  back_has at a parameters results k h = by_order (cases_lt k few)
-    where
-      by_order : (k < few) ⊎ (few ≤ k) → has_value a k ≡ true
-      by_order (inl less) = parameters k less
-      by_order (inr more) = numbered_have at a few own.results results k more (let less = ltb-true k (length (types_of own.parameters ++ types_of own.results)) h in omega (arith, less, long))
-
--- ---- lists of what is said
+use Rattle.df_npass.proofs.Looping.{three_parts, outside_play, inside_onward}
+use Rattle.df_npass.proofs.Nesting.{deep_play, decide}
+use Rattle.df_npass.proofs.Returning.{back}
+use Rattle.df_npass.proofs.Altering.{outside_there, types_there, declared_less}
 
 five_parts : {A : Type 0} (a b c d e more : List A) → (a ++ (b ++ (c ++ (d ++ e)))) ++ more ≡ a ++ (b ++ (c ++ (d ++ (e ++ more))))
 five_parts a b c d e more =
     append_assoc a (b ++ (c ++ (d ++ e))) more ∙ ap (λ r. a ++ r) (append_assoc b (c ++ (d ++ e)) more ∙ ap (λ r. b ++ r) (append_assoc c (d ++ e) more ∙ ap (λ r. c ++ r) (append_assoc d e more)))
 
-pub three_parts : {A : Type 0} (a b c more : List A) → (a ++ (b ++ c)) ++ more ≡ a ++ (b ++ (c ++ more))
-three_parts a b c more = append_assoc a (b ++ c) more ∙ ap (λ r. a ++ r) (append_assoc b c more)
-
 while_parts : {A : Type 0} (a b c d e f more : List A) → ((a ++ (b ++ (c ++ (d ++ e)))) ++ f) ++ more ≡ a ++ (b ++ (c ++ (d ++ (e ++ (f ++ more)))))
 while_parts a b c d e f more = append_assoc (a ++ (b ++ (c ++ (d ++ e)))) f more ∙ five_parts a b c d e (f ++ more)
-
--- ---- what is changed
-
-there_split : (all : List Ty) (cs ds : List Changed) → are_there all (cs ++ ds) ≡ true → (are_there all cs ≡ true) × (are_there all ds ≡ true)
-there_split all [] ds h = (refl, h)
-there_split all (c ∷ cs) ds h =
-    let h = both (option_map_or (same_type c.ty) (slice_get all c.local) false) (are_there all (cs ++ ds)) h in
-    let rest = there_split all cs ds h.1 in
-    (joined (option_map_or (same_type c.ty) (slice_get all c.local) false) (are_there all cs) h.0 rest.0, rest.1)
-
-there_join : (all : List Ty) (cs ds : List Changed) → are_there all cs ≡ true → are_there all ds ≡ true → are_there all (cs ++ ds) ≡ true
-there_join all [] ds h g = g
-there_join all (c ∷ cs) ds h g =
-    let h = both (option_map_or (same_type c.ty) (slice_get all c.local) false) (are_there all cs) h in
-    joined (option_map_or (same_type c.ty) (slice_get all c.local) false) (are_there all (cs ++ ds)) h.0 (there_join all cs ds h.1 g)
-
-outside_there : (all : List Ty) (body : Stmts) → are_there all (changed_by_all body) ≡ true → are_there all (changed_outside body) ≡ true
-outside_there all body h = list_once (λ (c : Changed). option_map_or (same_type c.ty) (slice_get all c.local) false) (declared_by_all body) (changed_by_all body) h
-
-in_branches_there : (all : List Ty) (branches : Branches) → are_there all (changed_by_branches branches) ≡ true → are_there all (changed_in_branches branches) ≡ true
-in_branches_there all no_branch h = refl
-in_branches_there all (branch at guard body rest) h =
-    let parts = there_split all (changed_by_all body) (changed_by_branches rest) h in
-    there_join all (changed_outside body) (changed_in_branches rest) (outside_there all body parts.0) (in_branches_there all rest parts.1)
-
-pub if_there : (all : List Ty) (branches : Branches) (otherwise : Stmts) → are_there all (changed_by_branches branches ++ changed_by_all otherwise) ≡ true → are_there all (changed_outside_if branches otherwise) ≡ true
-if_there all branches otherwise h =
-    let parts = there_split all (changed_by_branches branches) (changed_by_all otherwise) h in
-    list_once (λ (c : Changed). option_map_or (same_type c.ty) (slice_get all c.local) false) [] (changed_in_branches branches ++ changed_outside otherwise)
-    (there_join all (changed_in_branches branches) (changed_outside otherwise) (in_branches_there all branches parts.0) (outside_there all otherwise parts.1))
-
-type_in_all : (program : Program) (all : List Ty) (k : ℕ) (ty : Ty) → list_all (is_type program) all ≡ true → slice_get all k ≡ Some ty → is_type program ty ≡ true
-type_in_all program [] k ty are e = cc
-type_in_all program (t ∷ all) zero ty are e = let same : t ≡ ty = cc in subst (λ (x : Ty). is_type program x ≡ true) same (both (is_type program t) (list_all (is_type program) all) are).0
-type_in_all program (t ∷ all) (suc k) ty are e = type_in_all program all k ty (both (is_type program t) (list_all (is_type program) all) are).1 e
-
-types_there : (program : Program) (all : List Ty) (changed : List Changed) → list_all (is_type program) all ≡ true → are_there all changed ≡ true → list_all (λ (c : Changed). is_type program c.ty) changed ≡ true
-types_there program all [] are h = refl
-types_there program all (c ∷ cs) are h =
-    let h = both (option_map_or (same_type c.ty) (slice_get all c.local) false) (are_there all cs) h in
-    joined (is_type program c.ty) (list_all (λ (d : Changed). is_type program d.ty) cs) (type_in_all program all c.local c.ty are (type_there all c h.0)) (types_there program all cs are h.1)
-
-declared_less : (before : Assigned) (size k : ℕ) → AreDeclared size before → IsReached before → has_value before k ≡ true → k < size
-declared_less Unreached size k d r h = absurd r
-declared_less (Reached set) size k d r h = d k h
-
--- too deep, where the interpretation takes what is handed in
-pub deep_play : (B : Type 0) (mode : Mode) (i : Interpretation) (n : ℕ) (said : List Said) → (is_taking mode ≡ false → ⊥) → Play B mode i n said (λ handed. TooDeep)
-deep_play B Following i n said h = absurd (h refl)
-deep_play B (Taking handed) i n said h = play_silent B i n said TooDeep (λ at kind w. not_deep at kind refl w)
-
--- one of two runs, by what is decided
-pub decide : (B : Type 0) (A : Type 0) (mode : Mode) (i : Interpretation) (n : ℕ) (said : List Said) (x y : List Handed → Outcome A) (go : A → Outcome B) (b : Bool)
-    → (b ≡ true → Play B mode i n said (λ handed. after (x handed) go)) → (b ≡ false → Play B mode i n said (λ handed. after (y handed) go)) → Play B mode i n said (λ handed. after (if b then x handed else y handed) go)
-decide B A mode i n said x y go true f g = f refl
-decide B A mode i n said x y go false f g = g refl
 
 module _ (B : Type 0) (program : Program) (well : is_well_typed program ≡ true) (groups : List ℕ) (number : ℕ) (entry : List Measured) (entered : List Value) (own : Method) (all : List Ty) (all_types : list_all (is_type program) all ≡ true) where
   abbrev set : passing.Setting

@@ -33,11 +33,11 @@ module _ (p : Program) (locals : List Ty) where
   parameter_typed : (from : ℕ) (ty : Ty) (o : Option Ty) → slice_get locals from ≡ o → o ≡ Some ty → option_map_or (same_type ty) (slice_get locals from) false ≡ true
   parameter_typed from ty o e f = subst (λ (x : Option Ty). option_map_or (same_type ty) x false ≡ true) (sym (e ∙ f)) (same_self ty)
 
-get_at : (front : List Ty) (ty : Ty) (rest : List Ty) → slice_get (front ++ ty ∷ rest) (length front) ≡ Some ty
+pub get_at : (front : List Ty) (ty : Ty) (rest : List Ty) → slice_get (front ++ ty ∷ rest) (length front) ≡ Some ty
 get_at [] ty rest = refl
 get_at (t ∷ ts) ty rest = get_at ts ty rest
 
-one_longer : (front : List Ty) (ty : Ty) → length (front ++ ty ∷ []) ≡ suc (length front)
+pub one_longer : (front : List Ty) (ty : Ty) → length (front ++ ty ∷ []) ≡ suc (length front)
 one_longer [] ty = refl
 one_longer (t ∷ ts) ty = ap suc (one_longer ts ty)
 

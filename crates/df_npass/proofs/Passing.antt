@@ -45,7 +45,11 @@ use Rattle.df_npass.proofs.Updating.{printed_state, call_plays, optional_then}
 use Rattle.df_npass.proofs.Covering.{if_covers}
 use Rattle.df_npass.proofs.Sequencing.{Onward, then_play}
 use Rattle.df_npass.proofs.Branching.{taken_onward, passed_play, rejoin_onward}
-use Rattle.df_npass.proofs.Loops.{nesting, nesting_all, nesting_branches, call_of_modular, update_keeps, back, few, HasParameters, back_has, three_parts, if_there, decide, print_then, shallow_play, while_play}
+use Rattle.df_npass.proofs.Nesting.{nesting, nesting_all, nesting_branches, call_of_modular, decide}
+use Rattle.df_npass.proofs.Returning.{update_keeps, back, few, HasParameters, back_has}
+use Rattle.df_npass.proofs.Altering.{if_there}
+use Rattle.df_npass.proofs.Looping.{three_parts}
+use Rattle.df_npass.proofs.Loops.{print_then, shallow_play, while_play}
 
 module _ (B : Type 0) (program : Program) (well : is_well_typed program ≡ true) (groups : List ℕ) (number : ℕ) (entry : List Measured) (entered : List Value) (own : Method) (all : List Ty) (all_types : list_all (is_type program) all ≡ true) where
   abbrev set : passing.Setting

@@ -1,6 +1,6 @@
 -- A run and what is said of it: what is false first tells where the run is wrong. Either the interpretation is given,
 -- and what is handed in is read from it; or what is handed in is given, and the interpretation takes it.
-use Rattle.std.proofs.Common.{◌≡◌, ◌⊎◌, inl, inr, ℕ, ◌≤◌, Bool, true, false, ◌&&◌, List, [], ◌∷◌, ◌++◌, refl, sym, ap, ◌∙◌, arith}
+use Rattle.std.proofs.Common.{if◌then◌else◌, Some, ◌≡◌, ◌⊎◌, inl, inr, ℕ, ◌≤◌, Bool, true, false, ◌&&◌, List, [], ◌∷◌, ◌++◌, refl, sym, ap, ◌∙◌, arith}
 use Rattle.df_base.specs.declared.pos.Pos.{Pos}
 use Rattle.df_meaning.specs.declared.kind.Kind.{Kind}
 use Rattle.df_mean.specs.Value.{truth_of}
@@ -21,6 +21,19 @@ pub data Mode : Type 0 where
 abbrev pub is_taking : Mode → Bool
 is_taking Following = false
 is_taking (Taking handed) = true
+
+-- ---- choices
+
+pub if_true : {A : Type 0} (b : Bool) (x y : A) → b ≡ true → (if b then x else y) ≡ x
+if_true true x y e = refl
+if_true false x y e = cc
+
+pub if_false : {A : Type 0} (b : Bool) (x y : A) → b ≡ false → (if b then x else y) ≡ y
+if_false true x y e = cc
+if_false false x y e = refl
+
+pub some_equal : {A : Type 0} (v w : A) → Some v ≡ Some w → v ≡ w
+some_equal v w e = cc
 
 -- ---- interpretations that agree below a number
 

@@ -16,11 +16,11 @@ use Rattle.df_nterm.specs.Measuring.{Measured}
 use Rattle.df_nterm.proofs.Sorted.{IsSorted}
 use Rattle.df_nterm.proofs.Below.{IsBelow}
 use Rattle.df_npass.specs.Rules.{Way, over, with_term}
-use Rattle.df_npass.proofs.Playing.{Mode, Moves}
+use Rattle.df_npass.proofs.Playing.{if_true, if_false, some_equal, Mode, Moves}
 use Rattle.df_npass.proofs.Proper.{PathBelow, EnvBelow, MeasureBelow, path_grows, env_grows, measure_grows}
 use Rattle.df_npass.proofs.Leading.{with_below}
 use Rattle.df_npass.proofs.Reading.{with_handed, Sits}
-use Rattle.df_npass.proofs.Coming.{IsReached, holds_reached, hold_at, hold_make, assigned_make, sits_moves}
+use Rattle.df_npass.proofs.Coming.{IsReached, reached_mark, holds_reached, hold_at, hold_make, assigned_make, sits_moves}
 use Rattle.df_npass.proofs.Handing.{by_bool}
 use Rattle.df_npass.proofs.Calling.{Entered, entered_moves}
 
@@ -40,21 +40,6 @@ sits_as mode i all way before s t same h = record {
   present = λ e. assigned_make before t (holds_reached i way.env before s h.holds) (λ k has. ap is_some (same k) ∙ assigned_has before s k (h.present e) has);
 }
 
-if_true : {A : Type 0} (b : Bool) (x y : A) → b ≡ true → (if b then x else y) ≡ x
-if_true true x y e = refl
-if_true false x y e = cc
-
-if_false : {A : Type 0} (b : Bool) (x y : A) → b ≡ false → (if b then x else y) ≡ y
-if_false true x y e = cc
-if_false false x y e = refl
-
-some_equal : {A : Type 0} (v w : A) → Some v ≡ Some w → v ≡ w
-some_equal v w e = cc
-
-reached_mark : (before : Assigned) (local : ℕ) → IsReached before → IsReached (mark true before local)
-reached_mark Unreached local r = r
-reached_mark (Reached set) local r = r
-
 marked : (before : Assigned) (local k : ℕ) → IsReached before → (k == local) ≡ false → has_value (mark true before local) k ≡ true → has_value before k ≡ true
 marked Unreached local k r e h = absurd r
 marked (Reached set) local k r e h = sym (if_false (k == local) true (set k) e) ∙ h
@@ -71,10 +56,10 @@ sits_given mode i all way before s local ty a typed is h =
           (λ here. subst (λ x. IsSorted t (meanings.value i x)) (sym (if_true (k == local) a (way.env k) here))
           (subst (λ (u : Ty). IsSorted u v) (some_equal ty t (sym typed ∙ subst (λ (x : ℕ). slice_get all x ≡ Some t) (eqb-true k local here) e)) is))
           (λ other. subst (λ x. IsSorted t (meanings.value i x)) (sym (if_false (k == local) a (way.env k) other)) (h.sorted k t e));
-      holds = hold_make i (with_term way.env local a) (mark true before local) (with_local s local v) (reached_mark before local reached) (λ k w has e. by_bool (k == local)
+      holds = hold_make i (with_term way.env local a) (mark true before local) (with_local s local v) (reached_mark true before local reached) (λ k w has e. by_bool (k == local)
           (λ here. ap (meanings.value i) (if_true (k == local) a (way.env k) here) ∙ some_equal v w (sym (if_true (k == local) (Some v) (s.locals k) here) ∙ e))
           (λ other. ap (meanings.value i) (if_false (k == local) a (way.env k) other) ∙ hold_at i way.env before s h.holds k w (marked before local k reached other has) (sym (if_false (k == local) (Some v) (s.locals k) other) ∙ e)));
-      present = λ following. assigned_make (mark true before local) (with_local s local v) (reached_mark before local reached) (λ k has. by_bool (k == local)
+      present = λ following. assigned_make (mark true before local) (with_local s local v) (reached_mark true before local reached) (λ k has. by_bool (k == local)
           (λ here. ap is_some (if_true (k == local) (Some v) (s.locals k) here))
           (λ other. ap is_some (if_false (k == local) (Some v) (s.locals k) other) ∙ assigned_has before s k (h.present following) (marked before local k reached other has)));
     }
@@ -99,10 +84,6 @@ module _ (program : Program) (entry : List Measured) (entered : List Value) (all
 
 -- ---- declared locals have no values yet
 
-reached_unmark : (before : Assigned) (local : ℕ) → IsReached before → IsReached (mark false before local)
-reached_unmark Unreached local r = r
-reached_unmark (Reached set) local r = r
-
 unmarked : (before : Assigned) (local k : ℕ) → IsReached before → has_value (mark false before local) k ≡ true → ((k == local) ≡ false) × (has_value before k ≡ true)
 unmarked Unreached local k r h = absurd r
 unmarked (Reached set) local k r h = by_test (k == local) refl h
@@ -117,10 +98,10 @@ sits_unset mode i all way before s local h =
     record {
       there = h.there;
       sorted = h.sorted;
-      holds = hold_make i way.env (mark false before local) (without_local s local) (reached_unmark before local reached) (λ k v has e.
+      holds = hold_make i way.env (mark false before local) (without_local s local) (reached_mark false before local reached) (λ k v has e.
           let other = unmarked before local k reached has in
           hold_at i way.env before s h.holds k v other.1 (sym (if_false (k == local) None (s.locals k) other.0) ∙ e));
-      present = λ following. assigned_make (mark false before local) (without_local s local) (reached_unmark before local reached) (λ k has.
+      present = λ following. assigned_make (mark false before local) (without_local s local) (reached_mark false before local reached) (λ k has.
           let other = unmarked before local k reached has in
           ap is_some (if_false (k == local) None (s.locals k) other.0) ∙ assigned_has before s k (h.present following) other.1);
     }

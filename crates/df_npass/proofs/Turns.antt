@@ -23,7 +23,7 @@ use Rattle.df_nterm.proofs.Below.{value_same}
 use Rattle.df_npass.specs.Rules.{Said, Way, over, with_term, free_of, havoc}
 use Rattle.df_npass.specs.Statements.{each_once}
 use Rattle.df_npass.proofs.Saying.{AllTrue, path_true}
-use Rattle.df_npass.proofs.Playing.{Mode, Following, Taking, is_taking, Moves, moves_here, all_same, Play, play_silent, play_handed, play_took, play_taking, play_behind, not_wrong, known_then_follow}
+use Rattle.df_npass.proofs.Playing.{if_true, if_false, some_equal, Mode, Following, Taking, is_taking, Moves, moves_here, all_same, Play, play_silent, play_handed, play_took, play_taking, play_behind, not_wrong, known_then_follow}
 use Rattle.df_npass.proofs.Proper.{PathBelow, EnvBelow, AllBelow}
 use Rattle.df_npass.proofs.Reading.{with_handed, Sits}
 use Rattle.df_npass.proofs.Staying.{havoc_stays, once_less}
@@ -42,17 +42,6 @@ type_there all c h = by_type (slice_get all c.local) h
     by_type : (o : Option Ty) → option_map_or (same_type c.ty) o false ≡ true → o ≡ Some c.ty
     by_type None e = cc
     by_type (Some ty) e = ap Some (sym (same_type_equal c.ty ty e))
-
-some_equal : (v w : Value) → Some v ≡ Some w → v ≡ w
-some_equal v w e = cc
-
-if_true : {A : Type 0} (b : Bool) (x y : A) → b ≡ true → (if b then x else y) ≡ x
-if_true true x y e = refl
-if_true false x y e = cc
-
-if_false : {A : Type 0} (b : Bool) (x y : A) → b ≡ false → (if b then x else y) ≡ y
-if_false true x y e = cc
-if_false false x y e = refl
 
 module _ (B : Type 0) (p : Program) (all : List Ty) (n : ℕ) (way : Way) (s : State) (before : Assigned) (out : List ℕ) (every : List Changed) where
   abbrev changed : List Changed

@@ -36,7 +36,7 @@ use Rattle.df_npass.specs.Rules.{Said, Way, Moved, over, with_term, assert_all}
 use Rattle.df_npass.specs.Statements as passing
 use Rattle.df_npass.specs.Statements.{Given, given_behind, assert_exprs, assert_expr, pass_method_call, pass_call, assert_conversions, pass_source, pass_sources, taken_by, assert_equal, pass_update, pass_optional}
 use Rattle.df_npass.proofs.Saying.{path_true}
-use Rattle.df_npass.proofs.Playing.{Mode, Moves, moves_here, moves_then, Play, play_as}
+use Rattle.df_npass.proofs.Playing.{some_equal, Mode, Moves, moves_here, moves_then, Play, play_as}
 use Rattle.df_npass.proofs.Proper.{PathBelow, path_grows}
 use Rattle.df_npass.proofs.Leading.{TermsBelow, exprs_below, call_giving, source_giving, sources_giving}
 use Rattle.df_npass.proofs.Reading.{values_at, AreOf, with_handed, after_listed, told_then, checked_then, expr_then, exprs_then}
@@ -278,16 +278,13 @@ module _ (B : Type 0) (program : Program) (entry : List Measured) (entered : Lis
       let later : List passing.Taken = record { local = t.local; value = a } ∷ earlier in
       let rest = passing.give_all later ts others n next in
       let equal = assert_equal way.path t a (taken_by t.local earlier) in
-      let more_taken : AreTaken i n all later = ((below.0, λ ty e. subst (λ (u : Ty). IsSorted u v) (some_type t.ty ty (sym typed ∙ e)) of.0), taken) in
+      let more_taken : AreTaken i n all later = ((below.0, λ ty e. subst (λ (u : Ty). IsSorted u v) (some_equal t.ty ty (sym typed ∙ e)) of.0), taken) in
       subst (λ said. Play B mode i n said (λ handed. after (give_all (with_handed s handed) (taken_values i earlier) (t ∷ ts) (v ∷ values_at i others)) go)) (sym (append_assoc equal rest.said more))
       (play_as B mode i n _ _ (λ handed. if all_equal i v (taken_by t.local earlier) then after (give_all (with_handed (with_local s t.local v) handed) (taken_values i later) ts (values_at i others)) go else Wrong t.pos kinds.Distinct)
       (λ handed. after_choice (is_distinct (taken_values i earlier) t.local v) (all_equal i v (taken_by t.local earlier)) t.pos kinds.Distinct (give_all (with_handed (with_local s t.local v) handed) (taken_values i later) ts (values_at i others)) go (distinct_is i earlier t.local v))
       (equal_then B mode i n way.path here.sits.there here.path t a (taken_by t.local earlier) (rest.said ++ more) (λ handed. after (give_all (with_handed (with_local s t.local v) handed) (taken_values i later) ts (values_at i others)) go) of.0
       (taken_sorted i n all t.local t.ty typed earlier taken) (taken_are_below i n all t.local t.ty a below.0 earlier taken)
       (give_then ts others later next (mark true before t.local) (with_local s t.local v) more go are.1 of.1 below.1 more_taken (stands_given program entry entered all mode i n way before s t.local t.ty a typed below.0 of.0 here) h)))
-    where
-      some_type : (t u : Ty) → Some t ≡ Some u → t ≡ u
-      some_type t u e = cc
 
 module _ (B : Type 0) (program : Program) (well : is_well_typed program ≡ true) (groups : List ℕ) (number : ℕ) (entry : List Measured) (entered : List Value)
     (m : Meaning) (m_is : m.program ≡ program) (call_is : m.call ≡ modular_call (running B program well groups number entry entered)) (own : Method) (locals all : List Ty) (within : Within locals all) (in_loop : Bool) (before : Assigned) where

@@ -1,0 +1,46 @@
+-- How deep runs of statements go.
+use Rattle.std.proofs.Common.{◌≡◌, ℕ, zero, suc, ◌+◌, Bool, true, false, if◌then◌else◌, List, refl}
+use Rattle.df_lang.specs.Stmt.{Stmt, Block, Var, Assign, CallOf, If, While, Break, Return, Assert, Print, Stmts, done, next, Branches, no_branch, branch}
+use Rattle.df_mean.specs.Outcome.{Outcome, TooDeep, after}
+use Rattle.df_mean.specs.State.{Handed}
+use Rattle.df_mean.specs.Modular.{Running, modular_call, modular}
+use Rattle.df_nterm.specs.Meaning.{Interpretation}
+use Rattle.df_npass.specs.Rules.{Said}
+use Rattle.df_npass.proofs.Playing.{Mode, Following, Taking, is_taking, Play, play_silent, not_deep}
+
+-- how many loops are in it: a depth that is enough
+abbrev mutual
+  pub nesting : Stmt → ℕ
+  nesting (Block at body) = nesting_all body
+  nesting (Var at variables update) = 0
+  nesting (Assign at update) = 0
+  nesting (CallOf call) = 0
+  nesting (If branches otherwise) = nesting_branches branches + nesting_all otherwise
+  nesting (While at guard invariants decreases body) = suc (nesting_all body)
+  nesting (Break at) = 0
+  nesting (Return at update) = 0
+  nesting (Assert at condition) = 0
+  nesting (Print at operands) = 0
+
+  pub nesting_all : Stmts → ℕ
+  nesting_all done = 0
+  nesting_all (next stmt others) = nesting stmt + nesting_all others
+
+  pub nesting_branches : Branches → ℕ
+  nesting_branches no_branch = 0
+  nesting_branches (branch at guard body rest) = nesting_all body + nesting_branches rest
+
+pub call_of_modular : (run : Running) (depth : ℕ) → (modular run depth).call ≡ modular_call run
+call_of_modular run zero = refl
+call_of_modular run (suc depth) = refl
+
+-- too deep, where the interpretation takes what is handed in
+pub deep_play : (B : Type 0) (mode : Mode) (i : Interpretation) (n : ℕ) (said : List Said) → (is_taking mode ≡ false → ⊥) → Play B mode i n said (λ handed. TooDeep)
+deep_play B Following i n said h = absurd (h refl)
+deep_play B (Taking handed) i n said h = play_silent B i n said TooDeep (λ at kind w. not_deep at kind refl w)
+
+-- one of two runs, by what is decided
+pub decide : (B : Type 0) (A : Type 0) (mode : Mode) (i : Interpretation) (n : ℕ) (said : List Said) (x y : List Handed → Outcome A) (go : A → Outcome B) (b : Bool)
+    → (b ≡ true → Play B mode i n said (λ handed. after (x handed) go)) → (b ≡ false → Play B mode i n said (λ handed. after (y handed) go)) → Play B mode i n said (λ handed. after (if b then x handed else y handed) go)
+decide B A mode i n said x y go true f g = f refl
+decide B A mode i n said x y go false f g = g refl
