@@ -7,7 +7,7 @@ use Rattle.std.proofs.lemmas.Bool.{and_parts, and_from, eqb-true, ne_eqb}
 use Rattle.std.proofs.lemmas.Fmt.{decimal_is_IsNumeral_wide}
 use Rattle.std.proofs.lemmas.Str.Parse.{digit_from_value}
 use Rattle.df_lemmas.proofs.Lists.{head_same, tail_same, all_weaker}
-use Rattle.df_nmach.specs.Name.{is_letter, is_digit, begins_identifier, continues_identifier, is_identifier, in_front, dotted, is_name}
+use Rattle.df_nmach.specs.Name.{is_letter, is_digit, begins_identifier, continues_identifier, is_wildcard, is_identifier, in_front, dotted, is_name}
 use Rattle.df_listing.specs.Ordinary.{Fits, Counts}
 
 -- a byte that ends no word
@@ -34,7 +34,8 @@ begins_continues false false false q r e = cc
 identifier_bytes : (w : List ℕ) → is_identifier w ≡ true → list_all continues_identifier w ≡ true
 identifier_bytes [] e = refl
 identifier_bytes (b ∷ bs) e =
-    let both = and_parts (begins_identifier b) (list_all continues_identifier bs) e in
+    let form = and_parts (begins_identifier b && list_all continues_identifier bs) (not (is_wildcard (b ∷ bs))) e in
+    let both = and_parts (begins_identifier b) (list_all continues_identifier bs) form.0 in
     and_from (continues_identifier b) (list_all continues_identifier bs) (begins_continues (is_letter b) (is_digit b) (b == 95) (b == 39) (b == 63) both.0) both.1
 
 front_parts : (test : ℕ → Bool) (b : ℕ) (ts : List (List ℕ)) → list_all (list_all test) (in_front b ts) ≡ true → (test b ≡ true) × (list_all (list_all test) ts ≡ true)

@@ -6,6 +6,7 @@ use Rattle.df_nmach.specs.declared.instruction.BinaryOperator.TheVariants.{Add, 
 use Rattle.df_nmach.specs.declared.instruction.Instruction.{Instruction}
 use Rattle.df_nmach.specs.declared.instruction.Instruction.TheVariants as i
 use Rattle.df_nmach.specs.declared.code.Shape.TheVariants as shapes
+use Rattle.df_nmach.specs.Name.{is_name}
 use Rattle.df_nmach.specs.Value.{Value, Number, Truth, Char}
 use Rattle.df_nmach.specs.State.{Method, Code}
 use Rattle.df_nmach.specs.Step.{Stepped, On, Ended, Fault}
@@ -174,3 +175,13 @@ counts = refl
 pub counts_still : running counting 39 ≡ On (record { heap = []; frames = record { method = 0; next = 13; locals = Number (pos 3) ∷ []; operands = [] } ∷ []; text = codes "012" })
 unfolding digits
 counts_still = refl
+
+-- names: the wildcard is none, and neither is a text with an empty part
+pub a_name : is_name (codes "M_1.C'._x?") ≡ true
+a_name = refl
+
+pub no_wildcard : is_name (codes "C._") ≡ false
+no_wildcard = refl
+
+pub no_empty_part : is_name (codes "C.") ≡ false
+no_empty_part = refl

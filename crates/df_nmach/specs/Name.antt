@@ -1,5 +1,5 @@
 -- The form of a method's name: identifiers parted by dots.
-use Rattle.std.specs.Prelude.{ℕ, Bool, false, ◌==◌, ◌||◌, ◌&&◌, nat_eq, nat_le, cond, List, [], ◌∷◌}
+use Rattle.std.specs.Prelude.{ℕ, Bool, false, not, ◌==◌, ◌||◌, ◌&&◌, nat_eq, nat_le, cond, List, [], ◌∷◌}
 use Rattle.std.specs.List.{list_all}
 
 abbrev pub is_digit : ℕ → Bool
@@ -16,9 +16,15 @@ begins_identifier b = is_letter b || b == 95
 abbrev pub continues_identifier : ℕ → Bool
 continues_identifier b = is_letter b || is_digit b || b == 95 || b == 39 || b == 63
 
+-- `_` alone, which is no identifier
+abbrev pub is_wildcard : List ℕ → Bool
+is_wildcard [] = false
+is_wildcard (b ∷ []) = b == 95
+is_wildcard (b ∷ c ∷ bs) = false
+
 abbrev pub is_identifier : List ℕ → Bool
 is_identifier [] = false
-is_identifier (b ∷ bs) = begins_identifier b && list_all continues_identifier bs
+is_identifier (b ∷ bs) = begins_identifier b && list_all continues_identifier bs && not (is_wildcard (b ∷ bs))
 
 -- the byte in front of the first of some texts
 abbrev pub in_front : ℕ → List (List ℕ) → List (List ℕ)

@@ -10,9 +10,9 @@ use Rattle.df_nvm.specs.declared.halt.Halt.{Halt}
 use Rattle.df_nvm.specs.declared.halt.Turn.{Turn}
 use Rattle.df_nvm.specs.declared.machine.Machine.{Machine}
 use Rattle.df_nvm.specs.Frames.{running_of, waiting_of, state_of}
-use Rattle.df_nvm.specs.Rows.{jump_row}
+use Rattle.df_nvm.specs.mirror.Rows.{jump_row}
 use Rattle.df_nvm.specs.Stack.{operands_of}
-use Rattle.df_nvm.specs.Turns.{Works, Enters, Gives, Puts, Turns}
+use Rattle.df_nvm.specs.mirror.Turns.{Works, Enters, Gives, Puts, Turns}
 use Rattle.df_nvm.proofs.Landing.{worked, entered, given_back, printed}
 
 -- the effect of an instruction on a machine

@@ -6,7 +6,7 @@ use Rattle.df_nmach.specs.declared.instruction.Instruction.TheVariants as instru
 use Rattle.df_nmach.specs.Value.{Value, Number, Truth, Char, Null, Reference, Text}
 use Rattle.df_nmach.specs.State.{Method, Code, Heap, Frame}
 use Rattle.df_nmach.specs.Step.{effect}
-use Rattle.df_nvm.specs.Rows.{set_row, drop_row, unary_row, binary_row, unless_row, print_row}
+use Rattle.df_nvm.specs.mirror.Rows.{set_row, drop_row, unary_row, binary_row, unless_row, print_row}
 
 -- the frame with these operands
 abbrev on_top : Frame → List Value → Frame

@@ -5,7 +5,7 @@ use Rattle.df_nmach.specs.State.{Code, Heap, State}
 use Rattle.df_nmach.specs.View.{heap_of}
 use Rattle.df_nvm.specs.declared.vm.Ran.{Ran}
 use Rattle.df_nvm.specs.declared.vm.Ran.TheVariants as rans
-use Rattle.df_nvm.specs.Finishes.{Finishes}
+use Rattle.df_nvm.specs.mirror.Finishes.{Finishes}
 use Rattle.df_nvm.specs.Runs.{Ends, Runs, GoesOn, IsCut}
 
 -- the results and the heap that are handed back are those of the run

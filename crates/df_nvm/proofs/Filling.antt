@@ -9,7 +9,7 @@ use Rattle.df_nvm.specs.declared.machine.Machine.{Machine}
 use Rattle.df_nvm.specs.Frames.{frames_at, state_of}
 use Rattle.df_nvm.specs.Room.{words_in_frames}
 use Rattle.df_nvm.specs.Stack.{below_of, room_of, words_of}
-use Rattle.df_nvm.specs.Standing.{stands}
+use Rattle.df_nvm.specs.mirror.Standing.{stands}
 use Rattle.df_nvm.proofs.Lists.{length-map_of}
 
 -- the locals and operands of a frame that begins at b and has l locals, above as many values

@@ -8,7 +8,7 @@ use Rattle.df_nvm.specs.declared.halt.Halt.{Halt}
 use Rattle.df_nvm.specs.declared.halt.Halt.TheVariants as halts
 use Rattle.df_nvm.specs.declared.halt.Turn.{Turn}
 use Rattle.df_nvm.specs.declared.halt.Turn.TheVariants as turns
-use Rattle.df_nvm.specs.Turns.{Works, Enters, Gives, Puts, Turns, lands}
+use Rattle.df_nvm.specs.mirror.Turns.{Works, Enters, Gives, Puts, Turns, lands}
 
 -- a state of these frames that has printed nothing
 abbrev pub state : Heap → Frame → List Frame → State
@@ -34,7 +34,7 @@ worked (Ok turns.On) heap heap' f g ws vs operands before now effect h w same wo
   puts = still before now same;
 }
 worked (Ok (turns.Returned k)) heap heap' f g ws vs operands before now effect h w same works = absurd works
-worked (Err halts.Fault) heap heap' f g ws vs operands before now effect h w same works = works
+worked (Err halts.Broken) heap heap' f g ws vs operands before now effect h w same works = works
 worked (Err halts.Write) heap heap' f g ws vs operands before now effect h w same works = absurd works
 worked (Err halts.Memory) heap heap' f g ws vs operands before now effect h w same works = (same_state heap heap' f g ws vs h works w, same)
 
@@ -48,7 +48,7 @@ entered (Ok turns.On) heap heap' f g ws vs operands before now effect h same ent
   puts = still before now same;
 }
 entered (Ok (turns.Returned k)) heap heap' f g ws vs operands before now effect h same enters = absurd enters
-entered (Err halts.Fault) heap heap' f g ws vs operands before now effect h same enters = enters
+entered (Err halts.Broken) heap heap' f g ws vs operands before now effect h same enters = enters
 entered (Err halts.Write) heap heap' f g ws vs operands before now effect h same enters = absurd enters
 entered (Err halts.Memory) heap heap' f g ws vs operands before now effect h same enters = (same_state heap heap' f g ws vs h enters.0 enters.1, same)
 
@@ -91,7 +91,7 @@ given_back (Ok (turns.Returned j)) heap heap' f g ws vs before now k h same give
       same_state heap heap' f g ws vs h stays gives.4,
       same,
     )
-given_back (Err halts.Fault) heap heap' f g ws vs before now k h same gives = too_few f k gives
+given_back (Err halts.Broken) heap heap' f g ws vs before now k h same gives = too_few f k gives
 given_back (Err halts.Write) heap heap' f g ws vs before now k h same gives = absurd gives
 given_back (Err halts.Memory) heap heap' f g ws vs before now k h same gives = absurd gives
 
@@ -105,7 +105,7 @@ printed (Ok turns.On) heap heap' f g ws vs operands before now effect h w puts =
   puts = puts.puts;
 }
 printed (Ok (turns.Returned k)) heap heap' f g ws vs operands before now effect h w puts = absurd puts
-printed (Err halts.Fault) heap heap' f g ws vs operands before now effect h w puts = puts
+printed (Err halts.Broken) heap heap' f g ws vs operands before now effect h w puts = puts
 printed (Err halts.Write) heap heap' f g ws vs operands before now effect h w puts = (
   record { next = record { heap = heap; frames = puts.0.next ∷ ws; text = puts.0.text }; lands_on = ap (λ (e : Effect). lands (state heap f ws) e) puts.0.goes; prints = puts.0.prints; puts = puts.0.puts },
   same_state heap heap' f g ws vs h puts.1 w,

@@ -12,7 +12,7 @@ use Rattle.df_nvm.specs.declared.halt.Halt.{Halt}
 use Rattle.df_nvm.specs.declared.halt.Halt.TheVariants as halts
 use Rattle.df_nvm.specs.declared.halt.Turn.{Turn}
 use Rattle.df_nvm.specs.declared.halt.Turn.TheVariants as turns
-use Rattle.df_nvm.specs.Turns.{Turns}
+use Rattle.df_nvm.specs.mirror.Turns.{Turns}
 use Rattle.df_nvm.proofs.Landing.{state}
 use Rattle.df_nvm.specs.Runs.{GoesOn, IsCut, Ends, HasRun, IsCutAfter}
 
@@ -32,7 +32,7 @@ pub keeps : (r : Result Turn Halt) (code : Code) (heap : Heap) (f : Frame) (ws :
 keeps (Ok turns.On) code heap f ws new operands before now never went =
     behind_front code went.text new (next_never code (state heap f ws) (with_front went.text new) never went.lands_on)
 keeps (Ok (turns.Returned k)) code heap f ws new operands before now never gave = same code (state heap f ws) new gave.2 never
-keeps (Err halts.Fault) code heap f ws new operands before now never broken = absurd (never_broken code heap f ws never broken)
+keeps (Err halts.Broken) code heap f ws new operands before now never broken = absurd (never_broken code heap f ws never broken)
 keeps (Err halts.Write) code heap f ws new operands before now never cut = same code (state heap f ws) new cut.1 never
 keeps (Err halts.Memory) code heap f ws new operands before now never none = same code (state heap f ws) new none.0 never
 

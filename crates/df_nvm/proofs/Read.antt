@@ -4,7 +4,7 @@ use Rattle.std.proofs.lemmas.List.{drop_more, drop_all}
 use Rattle.df_nmach.specs.Value as pure
 use Rattle.df_nmach.specs.Step.{characters}
 use Rattle.df_nmach.specs.View.{value_of, values_of}
-use Rattle.df_nvm.specs.Turns.{char_in}
+use Rattle.df_nvm.specs.mirror.Turns.{char_in}
 use Rattle.df_nmach.specs.declared.value.Value.{Value}
 
 -- what was read, in front of what is left

@@ -3,15 +3,10 @@ pub use Rattle.df_nmach.specs.State
 pub use Rattle.df_nmach.specs.View
 pub use Rattle.df_nmach.specs.Step
 pub use Rattle.df_nmach.specs.Run
-pub mod Fault
 pub mod Stack
-pub mod Standing
 pub mod Frames
-pub mod Rows
 pub mod Quiet
-pub mod Turns
-pub mod Operators
 pub mod Room
 pub mod Vm
 pub mod Runs
-pub mod Finishes
+pub mod mirror

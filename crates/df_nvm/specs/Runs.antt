@@ -1,5 +1,5 @@
 -- What steps and runs answer and put, against the table.
-use Rattle.std.specs.Prelude.{◌≡◌, ◌≢◌, ℕ, ◌≤◌, ◌<◌, ◌++◌, List, [], length, take, reverse, Option}
+use Rattle.std.specs.Prelude.{◌≡◌, ◌≢◌, ℕ, ◌<◌, ◌++◌, List, [], take, Option}
 use Rattle.df_base.specs.Outside.{Appends, AppendsPrefix}
 use Rattle.df_nmach.specs.Value.{Value}
 use Rattle.df_nmach.specs.State.{Code, Heap, State, Final}
@@ -8,8 +8,6 @@ use Rattle.df_nmach.specs.Step as table
 use Rattle.df_nmach.specs.Step.{machine_step}
 use Rattle.df_nmach.specs.Run.{machine_run}
 use Rattle.df_nmach.specs.Front.{with_front}
-use Rattle.df_nvm.specs.declared.vm.Advanced.{Advanced}
-use Rattle.df_nvm.specs.declared.vm.Advanced.TheVariants as advances
 use Rattle.df_nvm.specs.declared.vm.Stepped.{Stepped}
 use Rattle.df_nvm.specs.declared.vm.Stepped.TheVariants as steps
 use Rattle.df_nvm.specs.declared.vm.Ran.{Ran}
@@ -40,14 +38,6 @@ Steps steps.On code old new before now = GoesOn code old new before now
 Steps steps.Ended code old new before now = IsLast code old before now × (new ≡ old)
 Steps steps.Write code old new before now = IsCut code old before now × (new ≡ old)
 Steps steps.Memory code old new before now = (now ≡ before) × (new ≡ old)
-
--- the same, with the number of results, which are the operands on top
-abbrev pub Advances : Advanced → Code → State → State → List Value → Option (List ℕ) → Option (List ℕ) → Type 0
-Advances advances.On code old new operands before now = GoesOn code old new before now
-Advances (advances.Ended k) code old new operands before now =
-    (machine_step code old ≡ table.Ended (record { results = reverse (take k operands); heap = old.heap; text = [] })) × (k ≤ length operands) × (now ≡ before) × (new ≡ old)
-Advances advances.Write code old new operands before now = IsCut code old before now × (new ≡ old)
-Advances advances.Memory code old new operands before now = (now ≡ before) × (new ≡ old)
 
 -- the run ends within so many steps with these results and this heap, and its text is put
 pub record Ends (code : Code) (start : State) (fuel : ℕ) (results : List Value) (heap : Heap) (before now : Option (List ℕ)) : Type 0 where

@@ -19,7 +19,7 @@ pub(crate) enum Turn {
 #[derive(Clone, Copy, Debug, PartialEq, Eq)]
 pub(crate) enum Halt {
     /// A demand is broken.
-    Fault,
+    Broken,
     /// The sink met a fault.
     Write,
     /// Memory was refused.
@@ -43,7 +43,7 @@ impl<T: Drop> From<AllocFailed<T>> for Halt {
 }
 
 impl From<SinkFault> for Halt {
-    ghost use Rattle.df_nvm.specs.Fault.{halt_of};
+    ghost use Rattle.df_nvm.specs.mirror.Halting.{halt_of};
 
     ghost from_gives = { λ fault halt. halt ≡ halt_of fault };
 

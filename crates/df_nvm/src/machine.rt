@@ -5,12 +5,12 @@ ghost use Rattle.df_base.specs.Outside.{HasCause};
 ghost use Rattle.df_nmach.specs.Step.{leaves, beginning};
 ghost use Rattle.df_nmach.specs.Step as table;
 ghost use Rattle.df_nmach.specs.View.{value_of, values_of, heap_of, method_of};
-ghost use Rattle.df_nvm.specs.Rows as rows;
+ghost use Rattle.df_nvm.specs.mirror.Rows as rows;
 ghost use Rattle.df_nvm.specs.Stack.{below_of, operands_of, room_of, words_of};
-ghost use Rattle.df_nvm.specs.Standing.{stands};
+ghost use Rattle.df_nvm.specs.mirror.Standing.{stands};
 ghost use Rattle.df_nvm.specs.Room.{is_word};
-ghost use Rattle.df_nvm.specs.Quiet.{is_quiet};
-ghost use Rattle.df_nvm.specs.Turns.{Works, Enters, Gives, Puts};
+ghost use Rattle.df_nvm.specs.mirror.Quiet.{is_quiet};
+ghost use Rattle.df_nvm.specs.mirror.Turns.{Works, Enters, Gives, Puts};
 
 use crate::halt::{Halt, Turn};
 use crate::operators::{binary, unary};
@@ -114,7 +114,7 @@ impl Machine {
         ensures frames { vec_capacity self.new.waiting ≡ vec_capacity self.old.waiting }
     {
         let Some(value) = self.stack.local(local) else {
-            return Err(Halt::Fault);
+            return Err(Halt::Broken);
         };
         let value = value.copy()?;
         self.push(value)
@@ -131,10 +131,10 @@ impl Machine {
         ensures frames { vec_capacity self.new.waiting ≡ vec_capacity self.old.waiting }
     {
         if local >= self.stack.locals() {
-            return Err(Halt::Fault);
+            return Err(Halt::Broken);
         }
         let Some(value) = self.stack.pop() else {
-            return Err(Halt::Fault);
+            return Err(Halt::Broken);
         };
         self.stack.set(local, value);
         self.next += 1;
@@ -152,7 +152,7 @@ impl Machine {
         ensures frames { vec_capacity self.new.waiting ≡ vec_capacity self.old.waiting }
     {
         let Some(_) = self.stack.pop() else {
-            return Err(Halt::Fault);
+            return Err(Halt::Broken);
         };
         self.next += 1;
         Ok(Turn::On)
@@ -169,10 +169,10 @@ impl Machine {
         ensures frames { vec_capacity self.new.waiting ≡ vec_capacity self.old.waiting }
     {
         let Some(operand) = self.stack.pop() else {
-            return Err(Halt::Fault);
+            return Err(Halt::Broken);
         };
         let Some(value) = unary(operator, &operand) else {
-            return Err(Halt::Fault);
+            return Err(Halt::Broken);
         };
         self.stack.put(value);
         self.next += 1;
@@ -190,13 +190,13 @@ impl Machine {
         ensures frames { vec_capacity self.new.waiting ≡ vec_capacity self.old.waiting }
     {
         let Some(right) = self.stack.pop() else {
-            return Err(Halt::Fault);
+            return Err(Halt::Broken);
         };
         let Some(left) = self.stack.pop() else {
-            return Err(Halt::Fault);
+            return Err(Halt::Broken);
         };
         let Some(value) = binary(operator, &left, &right) else {
-            return Err(Halt::Fault);
+            return Err(Halt::Broken);
         };
         self.stack.put(value);
         self.next += 1;
@@ -213,7 +213,7 @@ impl Machine {
         ensures frames { vec_capacity self.new.waiting ≡ vec_capacity self.old.waiting }
     {
         if place >= count {
-            return Err(Halt::Fault);
+            return Err(Halt::Broken);
         }
         self.next = place;
         Ok(Turn::On)
@@ -230,10 +230,10 @@ impl Machine {
         ensures frames { vec_capacity self.new.waiting ≡ vec_capacity self.old.waiting }
     {
         let Some(Value::Truth(truth)) = self.stack.pop() else {
-            return Err(Halt::Fault);
+            return Err(Halt::Broken);
         };
         if place >= count {
-            return Err(Halt::Fault);
+            return Err(Halt::Broken);
         }
         self.next = if truth { self.next + 1 } else { place };
         Ok(Turn::On)
@@ -249,7 +249,7 @@ impl Machine {
         ensures frames { vec_capacity self.new.waiting ≡ vec_capacity self.old.waiting }
     {
         if count > self.stack.operands() {
-            return Err(Halt::Fault);
+            return Err(Halt::Broken);
         }
         if count > LONGEST {
             return Err(Halt::Memory);
@@ -270,7 +270,7 @@ impl Machine {
         ensures frames { vec_capacity self.old.waiting ≤ vec_capacity self.new.waiting }
     {
         if method.parameters > self.stack.operands() {
-            return Err(Halt::Fault);
+            return Err(Halt::Broken);
         }
         // With this room nothing is refused once the frame has begun.
         self.waiting.reserve(1)?;
@@ -296,7 +296,7 @@ impl Machine {
         ensures frames { vec_capacity self.new.waiting ≡ vec_capacity self.old.waiting }
     {
         if count > self.stack.operands() {
-            return Err(Halt::Fault);
+            return Err(Halt::Broken);
         }
         let Some(waiting) = self.waiting.pop() else {
             return Ok(Turn::Returned(count));
@@ -326,10 +326,10 @@ impl Machine {
         ensures frames { vec_capacity self.new.waiting ≡ vec_capacity self.old.waiting }
     {
         let Some(value) = self.stack.top() else {
-            return Err(Halt::Fault);
+            return Err(Halt::Broken);
         };
         if shape >= shapes.len() {
-            return Err(Halt::Fault);
+            return Err(Halt::Broken);
         }
         print(shapes[shape], value, sink)?;
         drop(self.stack.pop());

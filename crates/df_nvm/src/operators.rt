@@ -4,7 +4,7 @@ ghost use Rattle.std.specs.Prelude.{◌≡◌, ◌≢◌, pos, neg_ℤ, ◌+ℤ�
 ghost use Rattle.std.specs.Int.{int_div_euclid, int_rem_euclid};
 ghost use Rattle.df_nmach.specs.View.{value_of};
 ghost use Rattle.df_nmach.specs.Step as table;
-ghost use Rattle.df_nvm.specs.Operators.{within_if};
+ghost use Rattle.df_nvm.specs.mirror.Operators.{within_if};
 
 use df_nmach::{BinaryOperator, Range, UnaryOperator, Value};
 

@@ -4,8 +4,9 @@ ghost use Rattle.std.specs.Prelude.{◌≡◌, ◌≢◌, [], false, IsTrue, OnO
 ghost use Rattle.df_base.specs.Outside.{Appends, AppendsPrefix, HasCause};
 ghost use Rattle.df_nmach.specs.View.{value_of};
 ghost use Rattle.df_nmach.specs.Printing as meaning;
-ghost use Rattle.df_nvm.specs.Quiet.{is_some, prints};
-ghost use Rattle.df_nvm.specs.Turns.{Prints};
+ghost use Rattle.df_nvm.specs.Quiet.{is_some};
+ghost use Rattle.df_nvm.specs.mirror.Quiet.{prints};
+ghost use Rattle.df_nvm.specs.mirror.Turns.{Prints};
 
 use crate::halt::Halt;
 use df_base::{Sink, SinkFault};
@@ -29,7 +30,7 @@ fn put<S: Sink>(sink: &mut S, text: &[u8]) -> Result<(), SinkFault>
     sink.put(text)
 }
 
-/// Puts the text of a value by a shape. It is a fault if the value is of another kind.
+/// Puts the text of a value by a shape, of whose kind it has to be.
 pub(crate) fn print<S: Sink>(shape: Shape, value: &Value, sink: &mut S) -> Result<(), Halt>
     ensures prints { Prints result (S.taken sink.old) (S.taken sink.new) (meaning.text_of shape (value_of value.now)) }
     ensures quiet { prints (meaning.text_of shape (value_of value.now)) ≡ false → sink.new ≡ sink.old }
@@ -46,7 +47,7 @@ pub(crate) fn print<S: Sink>(shape: Shape, value: &Value, sink: &mut S) -> Resul
         (Shape::Truth, Value::Truth(false)) => put(sink, b"false")?,
         (Shape::Char, Value::Char(character)) => put(sink, &[*character])?,
         (Shape::Text, Value::Text(text)) => put(sink, text.as_slice())?,
-        _ => return Err(Halt::Fault),
+        _ => return Err(Halt::Broken),
     }
     Ok(())
 }

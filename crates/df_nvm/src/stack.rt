@@ -4,7 +4,7 @@ ghost use Rattle.std.specs.Prelude.{◌≡◌, ◌+◌, ◌<◌, ◌≤◌, ◌+
 ghost use Rattle.df_nmach.specs.Step as table;
 ghost use Rattle.df_nmach.specs.Value.{Number};
 ghost use Rattle.df_nmach.specs.View.{value_of, values_of};
-ghost use Rattle.df_nvm.specs.Turns.{Reads};
+ghost use Rattle.df_nvm.specs.mirror.Turns.{Reads};
 
 use crate::halt::Halt;
 use crate::text::characters;
@@ -160,8 +160,8 @@ impl Stack {
         self.values[self.base + local] = value;
     }
 
-    /// The characters that so many operands on top are, the deepest of them first. It is a fault if one of
-    /// them is none.
+    /// The characters that so many operands on top are, the deepest of them first. Each of them has to be
+    /// one.
     pub fn characters(&self, count: usize) -> Result<Vec<u8>, Halt>
         requires { count ≤ length (operands_of self.now) }
         ensures { Reads result (table.characters (reverse (take count (operands_of self.now)))) }

@@ -7,8 +7,8 @@ ghost use Rattle.df_nmach.specs.View.{code_of, method_of, heap_of};
 ghost use Rattle.df_nvm.specs.Frames.{running_of, waiting_of, state_of};
 ghost use Rattle.df_nvm.specs.Stack.{words_of, room_of, operands_of};
 ghost use Rattle.df_nvm.specs.Room.{needs_no_more, next_needs_no_more};
-ghost use Rattle.df_nvm.specs.Quiet.{is_quiet};
-ghost use Rattle.df_nvm.specs.Turns.{Enters, Turns};
+ghost use Rattle.df_nvm.specs.mirror.Quiet.{is_quiet};
+ghost use Rattle.df_nvm.specs.mirror.Turns.{Enters, Turns};
 
 use crate::halt::{Halt, Turn};
 use crate::machine::Machine;
@@ -25,7 +25,7 @@ fn call(code: &Code, machine: &mut Machine, number: usize) -> Result<Turn, Halt>
     ensures frames { vec_capacity machine.old.waiting ≤ vec_capacity machine.new.waiting }
 {
     if number >= code.methods.len() {
-        return Err(Halt::Fault);
+        return Err(Halt::Broken);
     }
     machine.call(number, &code.methods[number])
 }
@@ -77,11 +77,11 @@ pub(crate) fn turn<S: Sink>(code: &Code, machine: &mut Machine, sink: &mut S) ->
     ensures stays { S.takes_memory sink.new ≡ S.takes_memory sink.old }
 {
     if machine.method >= code.methods.len() {
-        return Err(Halt::Fault);
+        return Err(Halt::Broken);
     }
     let method = &code.methods[machine.method];
     if machine.next >= method.instructions.len() {
-        return Err(Halt::Fault);
+        return Err(Halt::Broken);
     }
     act(
         code,

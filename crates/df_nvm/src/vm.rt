@@ -6,7 +6,7 @@ ghost use Rattle.df_nmach.specs.Run.{NeverFaults, start_of};
 ghost use Rattle.df_nmach.specs.Step.{On};
 ghost use Rattle.df_nmach.specs.View.{values_of, heap_of, code_of};
 ghost use Rattle.df_nvm.specs.Frames.{state_of};
-ghost use Rattle.df_nvm.specs.Finishes.{Finishes};
+ghost use Rattle.df_nvm.specs.mirror.Finishes.{Finishes};
 ghost use Rattle.df_nvm.specs.Stack.{operands_of};
 ghost use Rattle.df_nvm.specs.Quiet.{step_prints};
 ghost use Rattle.df_nvm.specs.Room.{step_stays, words_in_frames, StaysWithin};
@@ -74,7 +74,8 @@ fn finish(machine: Machine, count: usize) -> Ran
 
 impl<'a> Vm<'a> {
     ghost use Rattle.df_nvm.specs.Vm.{code_in, machine_of, words_in, frames_in};
-    ghost use Rattle.df_nvm.specs.Runs.{Advances, Steps, Runs};
+    ghost use Rattle.df_nvm.specs.Runs.{Steps, Runs};
+    ghost use Rattle.df_nvm.specs.mirror.Advances.{Advances};
 
     /// The machine at the beginning of a method with these arguments. No number of steps from there may
     /// break a demand. It fails for want of memory.
@@ -120,7 +121,7 @@ impl<'a> Vm<'a> {
         match turn(self.code, &mut self.machine, sink) {
             Ok(Turn::On) => Advanced::On,
             Ok(Turn::Returned(count)) => Advanced::Ended(count),
-            Err(Halt::Fault) => unreachable!(),
+            Err(Halt::Broken) => unreachable!(),
             Err(Halt::Write) => Advanced::Write,
             Err(Halt::Memory) => Advanced::Memory,
         }

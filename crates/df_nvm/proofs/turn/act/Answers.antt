@@ -1,6 +1,6 @@
 use Rattle.std.proofs.Common.{List, refl, ap, ◌∙◌, rules, to_z-of_z}
 use Rattle.df_nmach.specs.declared.code.Shape.{Shape}
-use Rattle.df_nvm.specs.Rows.{print_row}
+use Rattle.df_nvm.specs.mirror.Rows.{print_row}
 use Rattle.df_nmach.specs.View.{heap_of, code_of, method_of}
 use Rattle.df_nvm.specs.Frames.{running_of}
 use Rattle.df_nvm.proofs.Acting.{acted, called, gave, put, number_effect, truth_effect, char_effect, jump_effect}

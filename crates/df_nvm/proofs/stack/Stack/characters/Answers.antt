@@ -3,7 +3,7 @@ use Rattle.std.proofs.lemmas.List.{length-reverse, take_all}
 use Rattle.df_nmach.specs.Value as pure
 use Rattle.df_nmach.specs.Step.{characters}
 use Rattle.df_nmach.specs.View.{value_of, values_of}
-use Rattle.df_nvm.specs.Turns.{Reads}
+use Rattle.df_nvm.specs.mirror.Turns.{Reads}
 use Rattle.df_nvm.proofs.Lists.{length-map_of}
 use Rattle.df_nvm.proofs.Values.{last_values}
 use Rattle.df_nvm.proofs.stack.Stack.characters.Goals as goal

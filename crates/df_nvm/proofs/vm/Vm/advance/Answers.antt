@@ -15,7 +15,7 @@ invariant_of-self g c =
 pub unreachable-requires : goal.unreachable-requires
 unreachable-requires g c =
     let m = c.args.self.now.machine in
-    let broken = rw c.in-Err-Fault.field-0-is at c.in-Err-Fault.ensures.turns in
+    let broken = rw c.in-Err-Broken.field-0-is at c.in-Err-Broken.ensures.turns in
     never_broken (code_of c.args.self.now.code.now) (heap_of m.heap) (running_of m) (waiting_of m) c.args.self.now.never_faults broken
 
 pub returns-in-Err-Memory-clause-within : goal.returns-in-Err-Memory-clause-within

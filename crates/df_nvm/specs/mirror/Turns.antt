@@ -15,7 +15,7 @@ use Rattle.df_nvm.specs.declared.halt.Turn.TheVariants as turns
 abbrev pub Works : Result Turn Halt → Heap → Frame → Frame → Effect → Type 0
 Works (Ok turns.On) heap old new effect = effect ≡ Goes heap new []
 Works (Ok (turns.Returned k)) heap old new effect = ⊥
-Works (Err halts.Fault) heap old new effect = effect ≡ Broken
+Works (Err halts.Broken) heap old new effect = effect ≡ Broken
 Works (Err halts.Write) heap old new effect = ⊥
 Works (Err halts.Memory) heap old new effect = new ≡ old
 
@@ -23,7 +23,7 @@ Works (Err halts.Memory) heap old new effect = new ≡ old
 abbrev pub Enters : Result Turn Halt → Frame → Frame → List Frame → List Frame → Effect → Type 0
 Enters (Ok turns.On) old new before now effect = (f : Frame) × (effect ≡ Calls f new) × (now ≡ f ∷ before)
 Enters (Ok (turns.Returned k)) old new before now effect = ⊥
-Enters (Err halts.Fault) old new before now effect = effect ≡ Broken
+Enters (Err halts.Broken) old new before now effect = effect ≡ Broken
 Enters (Err halts.Write) old new before now effect = ⊥
 Enters (Err halts.Memory) old new before now effect = (new ≡ old) × (now ≡ before)
 
@@ -33,7 +33,7 @@ abbrev pub Gives : Result Turn Halt → Frame → Frame → List Frame → List 
 Gives (Ok turns.On) old new before now count =
     (count ≤ length old.operands) × (f : Frame) × (before ≡ f ∷ now) × (new ≡ at f f.next (take count old.operands ++ f.operands))
 Gives (Ok (turns.Returned k)) old new before now count = (k ≡ count) × (count ≤ length old.operands) × (before ≡ []) × (new ≡ old) × (now ≡ before)
-Gives (Err halts.Fault) old new before now count = length old.operands < count
+Gives (Err halts.Broken) old new before now count = length old.operands < count
 Gives (Err halts.Write) old new before now count = ⊥
 Gives (Err halts.Memory) old new before now count = ⊥
 
@@ -55,7 +55,7 @@ pub record Went (heap : Heap) (new : Frame) (before now : Option (List ℕ)) (ef
 abbrev pub Puts : Result Turn Halt → Heap → Frame → Frame → Option (List ℕ) → Option (List ℕ) → Effect → Type 0
 Puts (Ok turns.On) heap old new before now effect = Went heap new before now effect
 Puts (Ok (turns.Returned k)) heap old new before now effect = ⊥
-Puts (Err halts.Fault) heap old new before now effect = effect ≡ Broken
+Puts (Err halts.Broken) heap old new before now effect = effect ≡ Broken
 Puts (Err halts.Write) heap old new before now effect = Cuts heap before now effect × (new ≡ old)
 Puts (Err halts.Memory) heap old new before now effect = (new ≡ old) × (now ≡ before)
 
@@ -82,21 +82,21 @@ abbrev pub Turns : Result Turn Halt → State → State → List Value → Optio
 Turns (Ok turns.On) old new operands before now effect = GoesOn old new before now effect
 Turns (Ok (turns.Returned k)) old new operands before now effect =
     (lands old effect ≡ Ended (record { results = reverse (take k operands); heap = old.heap; text = [] })) × (k ≤ length operands) × (new ≡ old) × (now ≡ before)
-Turns (Err halts.Fault) old new operands before now effect = effect ≡ Broken
+Turns (Err halts.Broken) old new operands before now effect = effect ≡ Broken
 Turns (Err halts.Write) old new operands before now effect = IsCut old before now effect × (new ≡ old)
 Turns (Err halts.Memory) old new operands before now effect = (new ≡ old) × (now ≡ before)
 
 -- What printing a value answers and puts, against its text.
 abbrev pub Prints : Result (Unit {0}) Halt → Option (List ℕ) → Option (List ℕ) → Option (List ℕ) → Type 0
 Prints (Ok _) before now printed = (text : List ℕ) × (printed ≡ Some text) × Appends before now text
-Prints (Err halts.Fault) before now printed = printed ≡ None
+Prints (Err halts.Broken) before now printed = printed ≡ None
 Prints (Err halts.Write) before now printed = (text : List ℕ) × (printed ≡ Some text) × (text ≢ []) × AppendsPrefix before now text
 Prints (Err halts.Memory) before now printed = now ≡ before
 
 -- the characters that were read, against those that there are
 abbrev pub Reads : Result (Vec ℕ Global) Halt → Option (List ℕ) → Type 0
 Reads (Ok text) characters = characters ≡ Some text.items
-Reads (Err halts.Fault) characters = characters ≡ None
+Reads (Err halts.Broken) characters = characters ≡ None
 Reads (Err halts.Write) characters = ⊥
 Reads (Err halts.Memory) characters = Unit {0}
 
