@@ -1,0 +1,64 @@
+//! Runs layers alone, for their speed. With the name of one and a number it runs that one at that size, and tells
+//! how long it took; with no words it runs each at a small size, and tells what it came to.
+#![tactic(auto)]
+
+mod running;
+mod writing;
+
+use crate::running::{Start, run};
+use crate::writing::write_statements;
+use anyhow::{Context, Result, ensure};
+use std::env;
+use std::time::Duration;
+
+/// A layer.
+#[derive(Clone, Copy, Debug, PartialEq, Eq)]
+enum Layer {
+    /// The machine, from a method.
+    Machine(Start),
+    /// The writer of listings.
+    Listing,
+}
+
+/// What can be run: its name, and a small size.
+const BENCHES: [(&str, Layer, u32); 4] = [
+    ("count", Layer::Machine(Start::Count), 1000),
+    ("fib", Layer::Machine(Start::Fibonacci), 15),
+    ("deep", Layer::Machine(Start::Even), 1000),
+    ("write", Layer::Listing, 1000),
+];
+
+/// The layer of a name.
+fn named(name: &str) -> Option<Layer> {
+    for (known, layer, _) in BENCHES {
+        if known == name {
+            return Some(layer);
+        }
+    }
+    None
+}
+
+/// Runs a layer at a size: what it came to, and how long it took.
+fn timed(rt: &HostRuntime, layer: Layer, size: u32) -> Result<(String, Duration)> {
+    ensure!(size < 1 << 31, "a size is below 2^31");
+    match layer {
+        Layer::Machine(start) => run(rt, start, size),
+        Layer::Listing => write_statements(rt, size),
+    }
+}
+
+fn main(rt: HostRuntime) -> Result<()> {
+    let Some(name) = env::args(&rt)?.nth(1) else {
+        for (name, layer, size) in BENCHES {
+            let (result, _) = timed(&rt, layer, size)?;
+            println!(rt; "{name} {size}: {result}")?;
+        }
+        return Ok(());
+    };
+    let layer = named(name.as_str()).context("count, fib, deep or write")?;
+    let size = env::args(&rt)?.nth(2).context("a size")?.parse::<u32>()?;
+    let (result, time) = timed(&rt, layer, size)?;
+    let micros = time.as_micros();
+    println!(rt; "{name} {size}: {result}, {micros} microseconds")?;
+    Ok(())
+}

@@ -1,0 +1,64 @@
+//! Runs of the machine.
+
+ghost use Rattle.std.specs.Prelude.{◌≡◌, ◌<◌, ◌^◌};
+ghost use Rattle.df_codes.specs.Programs.{programs};
+ghost use Rattle.df_nmach.specs.View.{code_of};
+
+use anyhow::Result;
+use df_base::SureSink;
+use df_codes::{count_vm, even_vm, fib_vm, program_code};
+use df_nmach::{Code, Value};
+use df_nvm::{Ran, Vm};
+use std::alloc::{AllocError, Global};
+use std::time::{Duration, Instant};
+
+/// Where a run begins.
+#[derive(Clone, Copy, Debug, PartialEq, Eq)]
+pub(crate) enum Start {
+    /// A loop that counts up to the size.
+    Count,
+    /// Two calls of itself, for the two sizes before.
+    Fibonacci,
+    /// Two methods that call each other, as deep as the size.
+    Even,
+}
+
+/// The machine at the beginning.
+fn machine<'a>(alloc: Global, code: &'a Code, start: Start, size: u32) -> Result<Vm<'a>, AllocError>
+    requires code { code_of code.now ≡ programs }
+    requires size { size < 2 ^ 31 }
+{
+    match start {
+        Start::Count => count_vm(alloc, code, size),
+        Start::Fibonacci => fib_vm(alloc, code, size),
+        Start::Even => even_vm(alloc, code, size),
+    }
+}
+
+/// What a run came to.
+fn told(alloc: Global, ran: &Ran) -> Result<String, AllocError> {
+    match ran {
+        Ran::Ended(results, _) => match results.as_slice() {
+            [Value::Number(number)] => format!(in alloc; "{number}"),
+            [Value::Truth(truth)] => format!(in alloc; "{truth}"),
+            _ => String::from_str(alloc, "an end"),
+        },
+        Ran::FuelSpent => String::from_str(alloc, "fuel spent"),
+        Ran::Write => String::from_str(alloc, "cannot write"),
+        Ran::Memory => String::from_str(alloc, "out of memory"),
+    }
+}
+
+/// Runs to the end: what it came to, and how long it took.
+pub(crate) fn run(rt: &HostRuntime, start: Start, size: u32) -> Result<(String, Duration)>
+    requires { size < 2 ^ 31 }
+{
+    let alloc = rt.alloc();
+    let code = program_code(alloc)?;
+    let vm = machine(alloc, &code, start, size)?;
+    let mut sink = SureSink::new(alloc);
+    let begun = Instant::now(rt)?;
+    let ran = vm.run(u64::MAX, &mut sink);
+    let time = begun.elapsed(rt)?;
+    Ok((told(alloc, &ran)?, time))
+}

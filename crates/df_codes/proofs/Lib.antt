@@ -1,0 +1,6 @@
+mod Running
+mod Straight
+mod Parity
+mod Counting
+mod Fibonacci
+mod Wide
