@@ -1,5 +1,5 @@
 -- A file that breaks nothing elaborates.
-use Rattle.std.proofs.Common.{◌≡◌, ℕ, suc, ◌+◌, Bool, true, false, List, [], ◌∷◌, ◌++◌, length, Option, Some, None, refl, sym, ap, subst, ◌∙◌, arith}
+use Rattle.std.proofs.Common.{◌≡◌, ℕ, suc, ◌+◌, Bool, true, false, List, [], ◌∷◌, ◌++◌, length, Some, refl, sym, ap, subst, ◌∙◌, arith}
 use Rattle.std.specs.Prelude.{◌==◌, is_some}
 use Rattle.std.specs.List.{AllByRecursion, list_all, list_any}
 use Rattle.std.proofs.lemmas.Option.{same_Some}
@@ -20,7 +20,7 @@ use Rattle.df_ntyping.specs.Environment.{Environment, Parameter_role, Variable_r
 use Rattle.df_ntyping.specs.Node.{OfMethod}
 use Rattle.df_ntyping.specs.Rule.{Range}
 use Rattle.df_ntyping.specs.rules.Loops.{belongs, is_decreases}
-use Rattle.df_ntyping.specs.rules.Newtypes.{Bounds, bounds_of}
+use Rattle.df_ntyping.specs.rules.Newtypes.{bounds_of}
 use Rattle.df_ntyping.specs.ExprNodes.{width, type_nodes, condition_nodes, exprs_nodes}
 use Rattle.df_ntyping.specs.StatementNodes.{clause_nodes, clause_widths, statements_nodes}
 use Rattle.df_ntyping.specs.FileNodes.{empty_environment, over_parameters, over_both, over_body, use_nodes, witness_nodes, newtype_nodes, parameter_nodes, clauses_of_method, method_nodes, declaration_nodes, declarations_nodes, file_nodes}
@@ -31,7 +31,7 @@ use Rattle.df_ntyping.proofs.ClauseExprs.{condition_exprs}
 use Rattle.df_ntyping.proofs.AllNodes.{head, tail, left, right}
 use Rattle.df_ntyping.proofs.SoundStatements.{IsTyped, IsTrueOrFalse}
 use Rattle.df_ntyping.proofs.FirstLocals.{params_signed, declared_same}
-use Rattle.df_ntyping.proofs.FaultlessNodes.{AllFaultless, faultless_of, holds_of, HasKnown, TableKnown}
+use Rattle.df_ntyping.proofs.FaultlessNodes.{AllFaultless, faultless_of, holds_of, some_there, HasKnown, TableKnown}
 use Rattle.df_ntyping.proofs.WalkedVariables.{type_there}
 use Rattle.df_ntyping.proofs.ElaboratedSides.{IsReady, truth_elaborates}
 use Rattle.df_ntyping.proofs.ElaboratedStatements.{exprs_typed, belongs_there, conditions_elaborate, decreases_elaborate, statements_elaborate}
@@ -195,16 +195,12 @@ method_elaborates names table start x t texts g h =
       },
     )
 
-bounds_there : (o : Option Bounds) → is_some o ≡ true → (bounds : Bounds) × (o ≡ Some bounds)
-bounds_there (Some bounds) p = (bounds, refl)
-bounds_there None p = absurd cc
-
 newtype_elaborates : (names : List (List ℕ)) (table : Table) (start : ℕ) (x : NewtypeDeclaration) → HasText names x.name → AllFaultless (newtype_nodes (empty_environment table) start x) → (newtype : newtypes.Newtype) × IsNewtype names x newtype
 newtype_elaborates names table start x text h =
     let predicate = start + 5 + length (spell_typed x.is_typed) in
     let uses = use_nodes (declare (empty_environment table) Variable_role x.variable.name) predicate x.predicate ++ witness_nodes (empty_environment table) (predicate + width x.predicate) x.witness in
     let (declared, d) = declared_there names x.name text in
-    let (bounds, p) = bounds_there (bounds_of x) (holds_of (is_some (bounds_of x)) (λ b. (head (right uses _ h)).holds Range b)) in
+    let (bounds, p) = some_there (bounds_of x) (holds_of (is_some (bounds_of x)) (λ b. (head (right uses _ h)).holds Range b)) in
     (record { declared = declared; low = bounds.low; high = bounds.high; default = bounds.default }, record { declared = d; bounds = p })
 
 declarations_elaborate : (names : List (List ℕ)) (table : Table) (before : List ℕ) (start : ℕ) (trees : List Declaration) → TableKnown table → AllByRecursion (IsDeclaredByText names) trees → AllByRecursion grammar.IsDeclaration trees

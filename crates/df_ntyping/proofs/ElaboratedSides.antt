@@ -1,5 +1,5 @@
 -- Left and right sides that break nothing elaborate, where all locals have types.
-use Rattle.std.proofs.Common.{◌≡◌, ℕ, suc, ◌+◌, ◌<◌, ◌≤◌, Bool, true, false, not, List, [], ◌∷◌, ◌++◌, length, Option, Some, None, refl, sym, ap, subst, ◌∙◌, arith}
+use Rattle.std.proofs.Common.{◌≡◌, ℕ, ◌+◌, ◌<◌, ◌≤◌, Bool, true, false, not, List, [], ◌∷◌, ◌++◌, length, Option, Some, None, refl, sym, ap, subst, ◌∙◌, arith}
 use Rattle.std.specs.Prelude.{◌==◌, option_map}
 use Rattle.std.specs.List.{AllByRecursion, list_all}
 use Rattle.std.proofs.lemmas.Bool.{and_parts, eqb-true}
@@ -31,7 +31,7 @@ use Rattle.df_ntyping.specs.mirror.Signs.{converted_to}
 use Rattle.df_ntyping.proofs.Types.{one_type}
 use Rattle.df_ntyping.proofs.WellTyped.{same_equal}
 use Rattle.df_ntyping.proofs.Standing.{converts_there}
-use Rattle.df_ntyping.proofs.KnownTypes.{known}
+use Rattle.df_ntyping.proofs.KnownTypes.{known, known_count}
 use Rattle.df_ntyping.proofs.ScopedLocals.{IsScoped, found_in_scope}
 use Rattle.df_ntyping.proofs.AllNodes.{only, both, head, tail, left, right}
 use Rattle.df_ntyping.proofs.FaultlessNodes.{AllFaultless, typed_there, holds_of, HasKnown, TableKnown, signature_known}
@@ -110,12 +110,9 @@ named_call env start callee arguments id signature r g p h =
     let counts : (length signature.parameters == count arguments) ≡ true = subst (λ (o : Option Signature). takes o (count arguments) ≡ true) p counted in
     let places : places_of (called_signature env callee) ≡ known k.parameter_types = ap places_of p ∙ k.parameters in
     let nodes = subst (λ (places : List (Option Ty)). AllFaultless (argument_nodes env at places arguments)) places (right callees all (left (callees ++ all) _ h)) in
-    let size : length k.parameter_types ≡ count arguments = sym (known_length k.parameter_types) ∙ ap (λ (xs : List (Option Ty)). length xs) (sym k.parameters) ∙ eqb-true (length signature.parameters) (count arguments) counts in
+    let size : length k.parameter_types ≡ count arguments = sym (known_count k.parameter_types) ∙ ap (λ (xs : List (Option Ty)). length xs) (sym k.parameters) ∙ eqb-true (length signature.parameters) (count arguments) counts in
     let (args, are) = arguments_elaborate env at k.parameter_types arguments r g size nodes in
-    (args, subst (λ (places : List (Option Ty)). AreArguments env places arguments args) (sym k.parameters) are) where
-      known_length : (tys : List Ty) → length (known tys) ≡ length tys
-      known_length [] = refl
-      known_length (ty ∷ others) = ap suc (known_length others)
+    (args, subst (λ (places : List (Option Ty)). AreArguments env places arguments args) (sym k.parameters) are)
 
 pub call_elaborates : (env : Environment) (start : ℕ) (callee : Expr) (arguments : Arguments) → IsReady env → IsExpr (Call callee arguments) → AllFaultless (call_nodes env start callee arguments) → IsCalled env callee arguments
 call_elaborates env start (Name ident) arguments r g h =
@@ -146,10 +143,6 @@ results_elaborate (result ∷ results) (place ∷ places) p h =
     let parts = and_parts (fits_or_narrows result place) (are_given (known places) (known results)) h in
     let (others, are) = results_elaborate results places (omega (arith, p)) parts.1 in
     (record { source = result; target = place } ∷ others, (result, others, refl, parts.0, are, refl))
-
-known_count : (tys : List Ty) → length (known tys) ≡ length tys
-known_count [] = refl
-known_count (ty ∷ others) = ap suc (known_count others)
 
 results_there : (env : Environment) (callee : Expr) (signature : Signature) → called_signature env callee ≡ Some signature → results_of_call env callee ≡ signature.results
 results_there env callee signature p = rw (p, results_of_call) refl

@@ -1,5 +1,6 @@
 -- Statements that break nothing elaborate, where all locals have types.
 use Rattle.std.proofs.Common.{◌≡◌, ◌≢◌, ℕ, suc, ◌+◌, ◌<◌, ◌≤◌, Bool, true, false, ◌||◌, List, [], ◌∷◌, ◌++◌, length, map, Option, Some, None, refl, sym, ap, subst, ◌∙◌, arith}
+use Rattle.std.proofs.lemmas.List.{length-map}
 use Rattle.std.specs.Prelude.{slice_get}
 use Rattle.std.specs.List.{AllByRecursion, list_all, list_any}
 use Rattle.df_base.specs.declared.pos.Pos.{Pos}
@@ -15,7 +16,7 @@ use Rattle.df_ntree.specs.File.{Clause, Condition, Decreases, PrintOperand, Text
 use Rattle.df_ntree.specs.FileSpelling as grammar
 use Rattle.df_ntree.specs.FileSpelling.{spell_clause, spell_statement, spell_statements, spell_branches}
 use Rattle.df_ntyping.specs.Table.{Table}
-use Rattle.df_ntyping.specs.Environment.{Local, Inferred, Environment, fixed_type, enter, inside_loop, past}
+use Rattle.df_ntyping.specs.Environment.{Local, Inferred, Environment, fixed_type, enter, inside_loop, past, local_type}
 use Rattle.df_ntyping.specs.Scopes.{behind, locals_in, locals_in_all, locals_in_branches, locals_in_otherwise}
 use Rattle.df_ntyping.specs.Places.{beginning_of_first}
 use Rattle.df_ntyping.specs.Sides.{are_enough, types_of_locals}
@@ -28,7 +29,8 @@ use Rattle.df_ntyping.specs.StatementNodes.{widths, local_widths, clause_widths,
 use Rattle.df_ntyping.specs.SideElaboration.{AreSources, AreReturned, types_of_targets}
 use Rattle.df_ntyping.specs.StatementElaboration.{as_target, AreVariables, MayUpdate, conditions_of, AreConditions, measures_in, AreMeasures, MayDecrease, AreOperands, IsWhole, IsStatement, AreStatements, AreBranches, IsOtherwise}
 use Rattle.df_ntyping.proofs.Standing.{begins}
-use Rattle.df_ntyping.proofs.KnownTypes.{known}
+use Rattle.df_ntyping.proofs.StatementStands.{first_begins}
+use Rattle.df_ntyping.proofs.KnownTypes.{known, known_count}
 use Rattle.df_ntyping.proofs.SameBehind.{same_behind, next_behind}
 use Rattle.df_ntyping.proofs.ScopedLocals.{enter_scoped, past_scoped, behind_scoped}
 use Rattle.df_ntyping.proofs.ClauseExprs.{condition_exprs}
@@ -72,10 +74,6 @@ behind_ready env s room r =
     }
 
 -- ---- updates
-
-known_count : (tys : List Ty) → length (known tys) ≡ length tys
-known_count [] = refl
-known_count (ty ∷ others) = ap suc (known_count others)
 
 given_sources : (env : Environment) (start sign after : ℕ) (pos : Option Pos) (targets : List typed.Target) (value : Expr) (values : List Expr) → IsReady env → AllByRecursion IsExpr (value ∷ values)
     → AllFaultless (update_nodes env start sign after pos (known (types_of_targets targets)) (value ∷ values)) → (sources : List typed.Source) × AreSources env (types_of_targets targets) (value ∷ values) sources
@@ -214,18 +212,11 @@ return_elaborates env start pos (value ∷ values) r g h =
     let same = returned_types env pos env.results targets are in
     let sources = sources_nodes env (suc start) places (value ∷ values) in
     let all : gives_all env (value ∷ values) ≡ true = holds_of (gives_all env (value ∷ values)) (λ b. (head (right sources _ h)).holds (Typing Returned) b) in
-    let size : length env.results ≡ length (types_of_targets targets) = sym (locals_count env.results) ∙ ap (λ (xs : List (Option Ty)). length xs) same ∙ known_count (types_of_targets targets) in
+    let size : length env.results ≡ length (types_of_targets targets) = sym (length-map env.results (λ (local : Local). local_type env local.number)) ∙ ap (λ (xs : List (Option Ty)). length xs) same ∙ known_count (types_of_targets targets) in
     let (given, is) = sources_elaborate env (suc start) (types_of_targets targets) (value ∷ values) r g
     (subst (λ (ps : List (Option Ty)). AllFaultless (sources_nodes env (suc start) ps (value ∷ values))) same (left sources _ h))
     (subst (λ (n : ℕ). are_enough env n (value ∷ values) ≡ true) size all) in
-    (typed.Return pos (Some (record { targets = targets; sources = given })), (targets, Some (record { targets = targets; sources = given }), are, (given, is, refl), refl)) where
-      locals_count : (xs : List Local) → length (types_of_locals env xs) ≡ length xs
-      locals_count [] = refl
-      locals_count (x ∷ xs) = ap suc (locals_count xs)
-
-first_begins : (es : List Expr) → es ≢ [] → AllByRecursion grammar.IsPrimary es → (at : Pos) × (beginning_of_first es ≡ Some at)
-first_begins [] some g = absurd (some refl)
-first_begins (e ∷ others) some g = begins e g.0.0
+    (typed.Return pos (Some (record { targets = targets; sources = given })), (targets, Some (record { targets = targets; sources = given }), are, (given, is, refl), refl))
 
 -- ---- statements
 

@@ -1,6 +1,6 @@
 -- Nodes that break nothing: what is known of those that elaborate.
 use Rattle.std.proofs.Common.{◌≡◌, ℕ, Bool, true, false, not, List, Option, Some, None, refl, subst, ◌∙◌}
-use Rattle.std.specs.Prelude.{option_map}
+use Rattle.std.specs.Prelude.{option_map, is_some}
 use Rattle.std.proofs.lemmas.Option.{same_Some}
 use Rattle.df_lang.specs.declared.ty.Ty.{Ty}
 use Rattle.df_lang.specs.Expr as typed_expr
@@ -40,6 +40,10 @@ typed_there env expected start e g types h = faultless_is_typed env expected e g
 pub holds_of : (b : Bool) → (not b ≡ true → ⊥) → b ≡ true
 holds_of true h = refl
 holds_of false h = absurd (h refl)
+
+pub some_there : {X : Type 0} (o : Option X) → is_some o ≡ true → (x : X) × (o ≡ Some x)
+some_there (Some x) p = (x, refl)
+some_there None p = absurd cc
 
 -- the types of all signatures are known
 pub record HasKnown (signature : Signature) : Type 0 where

@@ -1,5 +1,6 @@
 -- The types that an environment knows are the program's, where those of its table and of its locals are.
-use Rattle.std.proofs.Common.{◌≡◌, ℕ, zero, suc, true, List, [], ◌∷◌, ◌++◌, Option, Some, None, refl, sym, ap, subst}
+use Rattle.std.proofs.Common.{◌≡◌, ℕ, zero, suc, true, List, [], ◌∷◌, ◌++◌, length, Option, Some, None, refl, sym, ap, subst}
+use Rattle.std.proofs.lemmas.List.{length-map}
 use Rattle.std.specs.Prelude.{if◌then◌else◌, map, slice_get, is_some, option_map}
 use Rattle.std.specs.List.{AllByRecursion, list_all}
 use Rattle.std.proofs.lemmas.Bool.{and_parts}
@@ -19,6 +20,9 @@ use Rattle.df_ntyping.proofs.WellTyped.{Valid, AllValid, some_valid, none_valid,
 
 abbrev pub known : List Ty → List (Option Ty)
 known all = map (λ (ty : Ty). Some ty) all
+
+pub known_count : (all : List Ty) → length (known all) ≡ length all
+known_count all = length-map all (λ (ty : Ty). Some ty)
 
 -- the signature is that of the method, and its types are the program's
 pub record IsSignatureOf (program : Program) (method : Method) (signature : Signature) : Type 0 where

@@ -30,7 +30,7 @@ use Rattle.df_ntyping.specs.SideElaboration.{AreSources, AreReturned, types_of_t
 use Rattle.df_ntyping.specs.StatementElaboration.{as_target, AreVariables, MayUpdate, conditions_of, AreConditions, measures_in, AreMeasures, MayDecrease, AreOperands, IsWhole, IsStatement, AreStatements, AreBranches, IsOtherwise}
 use Rattle.df_ntyping.specs.rules.Names.{is_unfixed}
 use Rattle.df_ntyping.specs.rules.Loops.{belongs, is_decreases}
-use Rattle.df_ntyping.proofs.KnownTypes.{known}
+use Rattle.df_ntyping.proofs.KnownTypes.{known, known_count}
 use Rattle.df_ntyping.proofs.AllNodes.{none, front, only, both}
 use Rattle.df_ntyping.proofs.SoundNodes as kinds
 use Rattle.df_ntyping.proofs.SoundNodes.{AllSound, sound}
@@ -44,10 +44,7 @@ pub update_sound : (env : Environment) (start sign after : ℕ) (pos : Option Po
 update_sound env start sign after pos targets [] update g h = none
 update_sound env start sign after pos targets (value ∷ values) update g (sources, h, q) =
     both (sources_sound env (suc sign) (types_of_targets targets) (value ∷ values) sources g h)
-    (only (sound (kinds.assignment env (length (known (types_of_targets targets))) (value ∷ values) pos (subst (λ (n : ℕ). are_enough env n (value ∷ values) ≡ true) (sym (known_count (types_of_targets targets))) (sources_enough env (types_of_targets targets) (value ∷ values) sources h))))) where
-      known_count : (all : List Ty) → length (known all) ≡ length all
-      known_count [] = refl
-      known_count (ty ∷ others) = ap suc (known_count others)
+    (only (sound (kinds.assignment env (length (known (types_of_targets targets))) (value ∷ values) pos (subst (λ (n : ℕ). are_enough env n (value ∷ values) ≡ true) (sym (known_count (types_of_targets targets))) (sources_enough env (types_of_targets targets) (value ∷ values) sources h)))))
 
 -- ---- declared locals
 

@@ -66,7 +66,7 @@ update_stands : (env : Environment) (start sign after : ℕ) (pos : Option Pos) 
 update_stands env start sign after pos places [] at p g = none
 update_stands env start sign after pos places (e ∷ others) at p g = both (sources_stand env (suc sign) places (e ∷ others) g) (only (kept at p))
 
-first_begins : (es : List Expr) → es ≢ [] → AllByRecursion IsPrimary es → (at : Pos) × (beginning_of_first es ≡ Some at)
+pub first_begins : (es : List Expr) → es ≢ [] → AllByRecursion IsPrimary es → (at : Pos) × (beginning_of_first es ≡ Some at)
 first_begins [] some g = absurd (some refl)
 first_begins (e ∷ others) some g = begins e g.0.0
 

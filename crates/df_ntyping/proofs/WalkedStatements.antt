@@ -1,5 +1,6 @@
 -- A walk through statements that break nothing leaves no type missing.
 use Rattle.std.proofs.Common.{◌≡◌, ◌≢◌, ℕ, suc, ◌+◌, ◌<◌, ◌≤◌, true, List, [], ◌∷◌, ◌++◌, length, Option, Some, refl, sym, ap, subst, ◌∙◌, ◌⊎◌, inl, inr, arith}
+use Rattle.std.proofs.lemmas.List.{length-map}
 use Rattle.std.specs.Prelude.{slice_get}
 use Rattle.std.specs.List.{AllByRecursion, flat_map}
 use Rattle.std.proofs.lemmas.Bool.{cases_lt}
@@ -14,10 +15,10 @@ use Rattle.df_ntree.specs.FileSpelling as grammar
 use Rattle.df_ntree.specs.FileSpelling.{spell_statement, spell_statements, spell_branches}
 use Rattle.df_ntyping.specs.Table.{Table}
 use Rattle.df_ntyping.specs.Environment as scope_local
-use Rattle.df_ntyping.specs.Environment.{Inferred, Fixed, Environment, enter, inside_loop, past}
+use Rattle.df_ntyping.specs.Environment.{Inferred, Fixed, Environment, local_type, enter, inside_loop, past}
 use Rattle.df_ntyping.specs.Scopes.{behind, locals_in, locals_in_all, locals_in_branches, locals_in_otherwise}
 use Rattle.df_ntyping.specs.Places.{beginning_of_first}
-use Rattle.df_ntyping.specs.Sides.{are_enough, place_types, types_of_locals}
+use Rattle.df_ntyping.specs.Sides.{are_enough, place_type, place_types, types_of_locals}
 use Rattle.df_ntyping.specs.LocalTypes.{names_in, used_names, used, types_of_values, used_inside, taken_all, inferred_all, used_in_clause, used_in_operand, over, inferred_behind, inferred_behind_all, inferred_behind_branches, inferred_behind_otherwise}
 use Rattle.df_ntyping.specs.Node.{Owner}
 use Rattle.df_ntyping.specs.Rule.{Typing, Assigned}
@@ -89,10 +90,6 @@ behind_walks one whole s w h =
 
 -- ---- sides
 
-places_length : (env : Environment) (targets : List Expr) → length (place_types env targets) ≡ length targets
-places_length env [] = refl
-places_length env (target ∷ others) = ap suc (places_length env others)
-
 -- as many values as places
 enough_there : (env : Environment) (start sign after : ℕ) (pos : Option Pos) (places : List (Option Ty)) (value : Expr) (values : List Expr) → AllFaultless (update_nodes env start sign after pos places (value ∷ values))
     → are_enough env (length places) (value ∷ values) ≡ true
@@ -114,14 +111,11 @@ assigned_whole one whole start sign after pos targets (value ∷ values) w kept 
     (kept_then (takens_kept one targets (types_of_values one (value ∷ values)) marks) kept) (among_right (flat_map used_inside targets) (flat_map names_in (value ∷ values))) g
     (sources_there whole start sign after pos places value values h) (enough_there whole start sign after pos places value values h) in
     subst (λ (given : List (Option Ty)). AreWhole (taken_all one targets given marks)) (sym typed.types)
-    (takens_whole one targets typed.tys marks (typed.counted ∙ places_length whole targets) (names_whole one names one.types w.known_types))
+    (takens_whole one targets typed.tys marks (typed.counted ∙ length-map targets (place_type whole)) (names_whole one names one.types w.known_types))
 
 locals_length : (env : Environment) (locals : List declared_local.Local) → length (types_of_locals env (declared_by env locals)) ≡ length locals
 locals_length env locals =
-    ap (λ (xs : List scope_local.Local). length (types_of_locals env xs)) (declared_are env locals) ∙ count_of (declared_from env.next locals) ∙ declared_count env.next locals where
-      count_of : (xs : List scope_local.Local) → length (types_of_locals env xs) ≡ length xs
-      count_of [] = refl
-      count_of (x ∷ xs) = ap suc (count_of xs)
+    ap (λ (xs : List scope_local.Local). length (types_of_locals env xs)) (declared_are env locals) ∙ length-map (declared_from env.next locals) (λ (local : scope_local.Local). local_type env local.number) ∙ declared_count env.next locals
 
 variables_whole : (one whole : Environment) (start sign after : ℕ) (pos : Option Pos) (locals : List declared_local.Local) (values : List Expr) → Walks one whole
     → Kept (used one values ++ inferred_all one locals values (types_of_values one values)) whole.types → AllByRecursion IsExpr values → AllFaultless (variable_nodes whole (suc start) values locals)

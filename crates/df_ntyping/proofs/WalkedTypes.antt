@@ -21,13 +21,13 @@ use Rattle.df_ntyping.specs.ExprNodes.{width, first_place, other_places, places_
 use Rattle.df_ntyping.specs.StatementNodes.{source_nodes, sources_apart, sources_nodes}
 use Rattle.df_ntyping.specs.Laws.{HasTypes}
 use Rattle.df_ntyping.proofs.Types.{one_type}
-use Rattle.df_ntyping.proofs.KnownTypes.{known}
+use Rattle.df_ntyping.proofs.KnownTypes.{known, known_count}
 use Rattle.df_ntyping.proofs.KeptTypes.{Kept, names_kept}
 use Rattle.df_ntyping.proofs.ScopedLocals.{IsScoped, found_in_scope}
 use Rattle.df_ntyping.proofs.WholeTypes.{AreWhole, whole_at, marked, used_is_not_open}
 use Rattle.df_ntyping.proofs.LikeEnvironments.{AreLike, same_meaning, same_called, HaveOneType, type_same}
 use Rattle.df_ntyping.proofs.AllNodes.{head, left, right}
-use Rattle.df_ntyping.proofs.FaultlessNodes.{AllFaultless, typed_there, holds_of, TableKnown, signature_known}
+use Rattle.df_ntyping.proofs.FaultlessNodes.{AllFaultless, typed_there, holds_of, some_there, TableKnown, signature_known}
 
 -- so many locals have a type that is fixed, known or not
 pub record AreFixed (types : List Inferred) (count : ℕ) : Type 0 where
@@ -107,20 +107,13 @@ called_there env start callee arguments h =
     holds_of (is_some (called_signature env callee)) (λ b. (head last).holds (Typing Calls) b)
 
 pub signature_there : (env : Environment) (start : ℕ) (callee : Expr) (arguments : Arguments) → AllFaultless (call_nodes env start callee arguments) → (signature : Signature) × (called_signature env callee ≡ Some signature)
-signature_there env start callee arguments h = some_there (called_signature env callee) (called_there env start callee arguments h) where
-  some_there : (o : Option Signature) → is_some o ≡ true → (signature : Signature) × (o ≡ Some signature)
-  some_there (Some signature) p = (signature, refl)
-  some_there None p = absurd cc
+signature_there env start callee arguments h = some_there (called_signature env callee) (called_there env start callee arguments h)
 
 -- the values of a right side have these types
 pub record HasTypesOf (one whole : Environment) (e : Expr) : Type 0 where
   pub tys : List Ty
   pub types : types_of_value one e ≡ known tys
   pub counted : values_of whole e ≡ Some (length tys)
-
-known_length : (all : List Ty) → length (known all) ≡ length all
-known_length [] = refl
-known_length (ty ∷ others) = ap suc (known_length others)
 
 call_value : (one whole : Environment) (start : ℕ) (callee : Expr) (arguments : Arguments) → Walks one whole → AllFaultless (call_nodes whole start callee arguments) → HasTypesOf one whole (Call callee arguments)
 call_value one whole start callee arguments w h =
@@ -129,7 +122,7 @@ call_value one whole start callee arguments w h =
     record {
       tys = k.result_types;
       types = rw (same_called one whole callee w.like ∙ p, results_of_call) (k.results);
-      counted = rw (p, k.results) (ap (λ (n : ℕ). Some n) (known_length k.result_types));
+      counted = rw (p, k.results) (ap (λ (n : ℕ). Some n) (known_count k.result_types));
     }
 
 other_value : (one whole : Environment) (e : Expr) (ty : Ty) → types_of_value one e ≡ type_in one None e ∷ [] → values_of whole e ≡ Some 1 → type_in one None e ≡ Some ty → HasTypesOf one whole e

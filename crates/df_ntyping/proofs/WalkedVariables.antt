@@ -22,13 +22,9 @@ use Rattle.df_ntyping.proofs.KnownTypes.{known}
 use Rattle.df_ntyping.proofs.KeptTypes.{Kept}
 use Rattle.df_ntyping.proofs.WholeTypes.{IsWhole, AreWhole, no_type, one_type}
 use Rattle.df_ntyping.proofs.AllNodes.{head, tail, left, right}
-use Rattle.df_ntyping.proofs.FaultlessNodes.{AllFaultless, holds_of}
+use Rattle.df_ntyping.proofs.FaultlessNodes.{AllFaultless, holds_of, some_there}
 
 -- ---- written types
-
-some_there : (o : Option ℕ) → is_some o ≡ true → (id : ℕ) × (o ≡ Some id)
-some_there (Some id) p = (id, refl)
-some_there None p = absurd cc
 
 pub type_there : (env : Environment) (start : ℕ) (ty : TreeType) → AllFaultless (type_nodes env start ty) → (known_type : Ty) × (type_of env.table.newtypes ty ≡ Some known_type)
 type_there env start (trees.Basic basic pos) h = (basic_type basic, refl)
