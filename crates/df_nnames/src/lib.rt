@@ -20,6 +20,7 @@ mod tables;
 use df_base::{Global, Stop};
 use df_ntree::File;
 use globals::globals_in;
+pub use scope::{Mark, Scope};
 pub use tables::{Method, Signature, Table};
 
 /// The table of a file in which each name has one meaning where it stands. It is refused for the

@@ -20,7 +20,7 @@ pub(crate) struct Local {
 /// The locals in scope. A local is known by its number: they count from 0 in the order of their
 /// declarations.
 #[derive(Drop)]
-pub(crate) struct Scope {
+pub struct Scope {
     locals: Vec<Local>,
     /// How many of them stand in the scopes around the innermost one.
     outer: usize,
@@ -43,7 +43,7 @@ impl Model for Scope {
 
 /// What `leave` needs of the scope before.
 #[derive(Clone, Copy, Debug, PartialEq, Eq)]
-pub(crate) struct Mark {
+pub struct Mark {
     pub outer: usize,
 }
 

@@ -1,0 +1,6 @@
+mod Turning
+mod Opening
+mod Latest
+mod LastWrong
+mod RowsSoFar
+mod Told

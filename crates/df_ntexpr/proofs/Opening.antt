@@ -1,0 +1,66 @@
+-- What the code's expressions are, opened once, and the steps of loops over them.
+use Rattle.std.proofs.Common.{◌≡◌, ℕ, suc, ◌+◌, ◌<◌, Bool, true, false, List, [], ◌∷◌, ◌++◌, length, map, drop, get_or, nat_eq, arith, Box, Vec, Global, Option, Some, None, Result, Ok, Err, refl, sym, ap, ◌∙◌, rules, append_assoc, drop-cons, add-one}
+use Rattle.std.proofs.lemmas.List.{map-append}
+use Rattle.std.proofs.lemmas.Bool.{ne_eqb}
+use Rattle.df_base.specs.declared.pos.Pos.{Pos}
+use Rattle.df_lang.specs.declared.ty.Ty.{Ty}
+use Rattle.df_ntyping.specs.Table.{type_of}
+use Rattle.df_ntyping.specs.Environment.{Environment}
+use Rattle.df_ntyping.specs.ExprTypes.{last_type}
+use Rattle.df_ntyping.specs.ExprNodes.{count}
+use Rattle.df_ntyping.specs.rules.Comparisons.{is_single}
+use Rattle.df_ntree.specs.declared.expr.Expr as declared
+use Rattle.df_ntree.specs.declared.expr.Operation as declared_operation
+use Rattle.df_ntree.specs.declared.expr.TreeType.{TreeType}
+use Rattle.df_ntree.specs.Expr as tree
+use Rattle.df_ntree.specs.Expr.{Members, end, more}
+use Rattle.df_lang.specs.declared.expr.Expr as typed_declared
+use Rattle.df_lang.specs.Expr as typed
+use Rattle.df_lang.specs.ExprView as views
+
+pub operation_seen : (item : declared_operation.Operation) → tree.operation_of item ≡ record { operator = item.operator; pos = item.pos; operand = tree.expr_of item.operand }
+operation_seen item = search (rules, declared_operation.the_lemmas)
+
+pub operations_seen : (first : Box declared.Expr Global) (rest : Vec declared_operation.Operation Global) → tree.expr_of (declared.Operations first rest) ≡ tree.Operations (tree.expr_of first.value) (tree.members_of (map tree.operation_of rest.items))
+operations_seen first rest = search (rules, declared.the_lemmas)
+
+pub leading_seen : (all : Vec declared_operation.Operation Global) → tree.expr_of (declared.Leading all) ≡ tree.Leading (tree.members_of (map tree.operation_of all.items))
+leading_seen all = search (rules, declared.the_lemmas)
+
+pub call_seen : (callee : Box declared.Expr Global) (all : Vec declared.Expr Global) → tree.expr_of (declared.Call callee all) ≡ tree.Call (tree.expr_of callee.value) (tree.arguments_of (map tree.expr_of all.items))
+call_seen callee all = search (rules, declared.the_lemmas)
+
+pub cast_seen : (operand : Box declared.Expr Global) (all : Vec TreeType Global) → tree.expr_of (declared.Cast operand all) ≡ tree.Cast (tree.expr_of operand.value) all.items
+cast_seen operand all = search (rules, declared.the_lemmas)
+
+-- the next operation, and those after it
+pub cut : (items : List declared_operation.Operation) (i : ℕ) (item : declared_operation.Operation) → i < length items → item ≡ get_or items i item
+    → tree.members_of (map tree.operation_of (drop i items)) ≡ more item.operator item.pos (tree.expr_of item.operand) (tree.members_of (map tree.operation_of (drop (i + 1) items)))
+cut items i item lt is =
+    let here : drop i items ≡ item ∷ drop (i + 1) items = drop-cons items i item lt ∙ rw (← is, add-one) refl in
+    ap (λ (all : List declared_operation.Operation). tree.members_of (map tree.operation_of all)) here
+    ∙ ap (λ (x : tree.Operation). more x.operator x.pos x.operand (tree.members_of (map tree.operation_of (drop (i + 1) items)))) (operation_seen item)
+
+-- a run of one operation
+pub single : (items : List declared_operation.Operation) → nat_eq (length items) 1 ≡ is_single (tree.members_of (map tree.operation_of items))
+single [] = refl
+single (x ∷ []) = refl
+single (x ∷ y ∷ items) = ne_eqb (suc (suc (length items))) 1 (λ e. omega (arith, e))
+
+-- the type behind a row of `as`, from the first on
+abbrev pub last_behind : Environment → Option Ty → List TreeType → Option Ty
+last_behind env last [] = last
+last_behind env last (ty ∷ others) = last_behind env (type_of env.table.newtypes ty) others
+
+some_last : (env : Environment) (last : Option Ty) (ty : TreeType) (others : List TreeType) → last_behind env last (ty ∷ others) ≡ last_type env (ty ∷ others)
+some_last env last ty [] = refl
+some_last env last ty (next ∷ others) = some_last env (type_of env.table.newtypes ty) next others
+
+pub last_is : (env : Environment) (types : List TreeType) → last_behind env None types ≡ last_type env types
+last_is env [] = refl
+last_is env (ty ∷ others) = some_last env None ty others
+
+-- as many arguments as expressions
+pub counted : (all : List declared.Expr) → length all ≡ count (tree.arguments_of (map tree.expr_of all))
+counted [] = refl
+counted (x ∷ all) = ap suc (counted all)

@@ -1,0 +1,11 @@
+use Rattle.std.proofs.Common.{◌≡◌, ◌++◌, map, length}
+use Rattle.std.specs.Vec.Iter.{into_iter_items, into_iter_len}
+use Rattle.df_ntexpr.specs.TypedViews.{factor_of}
+use Rattle.df_ntexpr.proofs.Turning.{factor_from}
+use Rattle.df_ntexpr.proofs.runs.factors.Given as goal
+
+-- those so far, and those of the parts that are left, are those of all
+abbrev pub invariant-loop-part : goal.invariant-loop-part
+invariant-loop-part l =
+    (map factor_of l.factors.items ++ map factor_from (into_iter_items l.part-iterator) ≡ map factor_from (into_iter_items l.initial.part-iterator))
+    × (into_iter_len l.part-iterator ≡ length (into_iter_items l.part-iterator))
