@@ -1,9 +1,8 @@
 -- The last local of a name, found by its place among the names.
-use Rattle.std.proofs.Common.{◌≡◌, ℕ, zero, suc, ◌+◌, ◌<◌, Bool, true, false, List, [], ◌∷◌, ◌++◌, length, map, take, drop, slice_get, Option, Some, None, nat_eq, refl, sym, ap, subst, ◌∙◌, arith}
+use Rattle.std.proofs.Common.{◌≡◌, ℕ, ◌<◌, Bool, true, false, List, [], ◌∷◌, ◌++◌, length, map, take, drop, slice_get, Option, Some, None, nat_eq, refl, sym, ap, subst, ◌∙◌, arith}
 use Rattle.std.specs.Prelude.{option_map, if◌then◌else◌}
 use Rattle.std.proofs.lemmas.List.{map-append, take-append-drop, length-map}
 use Rattle.std.proofs.lemmas.Option.{slice_get_within}
-use Rattle.df_ntyping.specs.Environment as pure
 use Rattle.df_ntyping.specs.Meaning.{last_local}
 use Rattle.df_nnames.specs.Latest.{after_first, last_of}
 use Rattle.df_nnames.proofs.Latest.{is_local}

@@ -1,8 +1,6 @@
 -- What the code's expressions are, opened once, and the steps of loops over them.
-use Rattle.std.proofs.Common.{◌≡◌, ℕ, suc, ◌+◌, ◌<◌, Bool, true, false, List, [], ◌∷◌, ◌++◌, length, map, drop, get_or, nat_eq, arith, Box, Vec, Global, Option, Some, None, Result, Ok, Err, refl, sym, ap, ◌∙◌, rules, append_assoc, drop-cons, add-one}
-use Rattle.std.proofs.lemmas.List.{map-append}
+use Rattle.std.proofs.Common.{◌≡◌, ℕ, suc, ◌+◌, ◌<◌, List, [], ◌∷◌, length, map, drop, get_or, nat_eq, arith, Box, Vec, Global, Option, None, refl, ap, ◌∙◌, rules, drop-cons, add-one}
 use Rattle.std.proofs.lemmas.Bool.{ne_eqb}
-use Rattle.df_base.specs.declared.pos.Pos.{Pos}
 use Rattle.df_lang.specs.declared.ty.Ty.{Ty}
 use Rattle.df_ntyping.specs.Table.{type_of}
 use Rattle.df_ntyping.specs.Environment.{Environment}
@@ -14,9 +12,6 @@ use Rattle.df_ntree.specs.declared.expr.Operation as declared_operation
 use Rattle.df_ntree.specs.declared.expr.TreeType.{TreeType}
 use Rattle.df_ntree.specs.Expr as tree
 use Rattle.df_ntree.specs.Expr.{Members, end, more}
-use Rattle.df_lang.specs.declared.expr.Expr as typed_declared
-use Rattle.df_lang.specs.Expr as typed
-use Rattle.df_lang.specs.ExprView as views
 
 pub operation_seen : (item : declared_operation.Operation) → tree.operation_of item ≡ record { operator = item.operator; pos = item.pos; operand = tree.expr_of item.operand }
 operation_seen item = search (rules, declared_operation.the_lemmas)

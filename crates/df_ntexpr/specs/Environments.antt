@@ -1,5 +1,5 @@
 -- The code's environments, without where they lie in memory.
-use Rattle.std.specs.Prelude.{ℕ, List, [], ◌∷◌, map, Option, Some, None}
+use Rattle.std.specs.Prelude.{ℕ, List, map}
 use Rattle.df_ntyping.specs.Environment as pure
 use Rattle.df_ntexpr.specs.declared.environment.Role.{Role}
 use Rattle.df_ntexpr.specs.declared.environment.Role.TheVariants as roles
