@@ -1,5 +1,5 @@
 -- What the code's expressions are, opened once, and the steps of loops over them.
-use Rattle.std.proofs.Common.{◌≡◌, ℕ, suc, ◌+◌, ◌<◌, List, [], ◌∷◌, length, map, drop, get_or, nat_eq, arith, Box, Vec, Global, Option, None, refl, ap, ◌∙◌, rules, drop-cons, add-one}
+use Rattle.std.proofs.Common.{◌≡◌, ℕ, suc, ◌+◌, ◌<◌, List, [], ◌∷◌, length, map, drop, get_or, nat_eq, arith, Option, None, refl, ap, ◌∙◌, rules, drop-cons, add-one}
 use Rattle.std.proofs.lemmas.Bool.{ne_eqb}
 use Rattle.df_lang.specs.declared.ty.Ty.{Ty}
 use Rattle.df_ntyping.specs.Table.{type_of}
@@ -15,18 +15,6 @@ use Rattle.df_ntree.specs.Expr.{Members, end, more}
 
 pub operation_seen : (item : declared_operation.Operation) → tree.operation_of item ≡ record { operator = item.operator; pos = item.pos; operand = tree.expr_of item.operand }
 operation_seen item = search (rules, declared_operation.the_lemmas)
-
-pub operations_seen : (first : Box declared.Expr Global) (rest : Vec declared_operation.Operation Global) → tree.expr_of (declared.Operations first rest) ≡ tree.Operations (tree.expr_of first.value) (tree.members_of (map tree.operation_of rest.items))
-operations_seen first rest = search (rules, declared.the_lemmas)
-
-pub leading_seen : (all : Vec declared_operation.Operation Global) → tree.expr_of (declared.Leading all) ≡ tree.Leading (tree.members_of (map tree.operation_of all.items))
-leading_seen all = search (rules, declared.the_lemmas)
-
-pub call_seen : (callee : Box declared.Expr Global) (all : Vec declared.Expr Global) → tree.expr_of (declared.Call callee all) ≡ tree.Call (tree.expr_of callee.value) (tree.arguments_of (map tree.expr_of all.items))
-call_seen callee all = search (rules, declared.the_lemmas)
-
-pub cast_seen : (operand : Box declared.Expr Global) (all : Vec TreeType Global) → tree.expr_of (declared.Cast operand all) ≡ tree.Cast (tree.expr_of operand.value) all.items
-cast_seen operand all = search (rules, declared.the_lemmas)
 
 -- the next operation, and those after it
 pub cut : (items : List declared_operation.Operation) (i : ℕ) (item : declared_operation.Operation) → i < length items → item ≡ get_or items i item
