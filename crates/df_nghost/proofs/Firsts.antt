@@ -2,20 +2,10 @@
 use Rattle.std.proofs.Common.{◌≡◌, zero, suc, ◌⊎◌, inl, inr, Bool, true, false, List, [], ◌∷◌, Some, None, if◌then◌else◌, Contains, refl, ap, subst, arith}
 use Rattle.std.proofs.lemmas.Option.{none-some, same_Some}
 use Rattle.df_lang.specs.Assignment as pure
+use Rattle.df_ntyping.proofs.LeastExists.{first_or_rest, is_first, is_later}
 use Rattle.df_nghost.specs.declared.reads.Use.{Use}
 use Rattle.df_nghost.specs.mirror.Uses.{precedes, shown, use_of, least}
 use Rattle.df_nghost.proofs.Order.{precedes_asym, precedes_neg, precedes_self}
-
--- to be df_ntyping's own, once they are public there
-contains_here : {A : Type 0} (x : A) (xs : List A) → Contains (x ∷ xs) x
-contains_here x xs = (zero, omega arith, refl)
-
-contains_there : {A : Type 0} (x y : A) (xs : List A) → Contains xs y → Contains (x ∷ xs) y
-contains_there x y xs c = (suc c.0, let lt = c.1 in omega arith, c.2)
-
-first_or_rest : {A : Type 0} (x : A) (xs : List A) (y : A) → Contains (x ∷ xs) y → (x ≡ y) ⊎ Contains xs y
-first_or_rest x xs y (zero, p, q) = inl q
-first_or_rest x xs y (suc k, p, q) = inr (k, omega arith, q)
 
 pub none_contained : {A : Type 0} (xs : List A) (x : A) → xs ≡ [] → Contains xs x → ⊥
 none_contained [] x e (k, lt, q) = absurd (omega arith)
@@ -45,8 +35,8 @@ by_place x xs r first rest other (inl same) = subst (λ (u : pure.Use). precedes
 by_place x xs r first rest other (inr c) = rest other c
 
 where_found : (x : pure.Use) (xs : List pure.Use) (r : Use) → (shown x ≡ r) ⊎ Contains xs (use_of r) → Contains (x ∷ xs) (use_of r)
-where_found x xs r (inl same) = let e : x ≡ use_of r = ap use_of same in subst (λ (u : pure.Use). Contains (x ∷ xs) u) e (contains_here x xs)
-where_found x xs r (inr c) = contains_there x (use_of r) xs c
+where_found x xs r (inl same) = let e : x ≡ use_of r = ap use_of same in subst (λ (u : pure.Use). Contains (x ∷ xs) u) e (is_first x xs)
+where_found x xs r (inr c) = is_later x xs (use_of r) c
 
 least_from : (f : Use) (xs : List pure.Use) (r : Use) → least (Some f) xs ≡ Some r → IsLeastFrom f xs r
 least_from f [] r e =
@@ -63,7 +53,7 @@ least_from f (x ∷ xs) r e = by_test (precedes (shown x) f) refl (least_from (s
 
     kept_there : (f ≡ r) ⊎ Contains xs (use_of r) → (f ≡ r) ⊎ Contains (x ∷ xs) (use_of r)
     kept_there (inl same) = inl same
-    kept_there (inr c) = inr (contains_there x (use_of r) xs c)
+    kept_there (inr c) = inr (is_later x xs (use_of r) c)
 
     kept : IsLeastFrom f xs r → precedes (shown x) f ≡ false → IsLeastFrom f (x ∷ xs) r
     kept l t = record {

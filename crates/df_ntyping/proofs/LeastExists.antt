@@ -129,10 +129,10 @@ pub first_or_rest : {X : Type 0} (x : X) (xs : List X) (y : X) → Contains (x �
 first_or_rest x xs y (zero, p, q) = inl q
 first_or_rest x xs y (suc k, p, q) = inr (k, omega arith, q)
 
-is_first : {X : Type 0} (x : X) (xs : List X) → Contains (x ∷ xs) x
+pub is_first : {X : Type 0} (x : X) (xs : List X) → Contains (x ∷ xs) x
 is_first x xs = (zero, omega arith, refl)
 
-is_later : {X : Type 0} (x : X) (xs : List X) (y : X) → Contains xs y → Contains (x ∷ xs) y
+pub is_later : {X : Type 0} (x : X) (xs : List X) (y : X) → Contains xs y → Contains (x ∷ xs) y
 is_later x xs y (k, p, q) = (suc k, omega arith, q)
 
 at_rules : (one : Occurrence) (rules : List Rule) → Outcome (AtRules one rules)
