@@ -11,10 +11,10 @@ use crate::broken::{Halt, Rule, breach};
 use crate::environment::Environment;
 use crate::looking::{asked_broken, finished, given_broken, goes_to, look};
 use crate::part::Typed;
-use crate::places::pos_of;
 use crate::signs::{is_truth_side, settled, type_of};
 use df_base::Global;
 use df_lang::Ty;
+use df_nrules::pos_of;
 use df_ntree::Expr;
 
 /// What is asked of an expression as a whole.

@@ -19,10 +19,8 @@ mod environment;
 mod literals;
 mod looking;
 mod part;
-mod places;
 mod runs;
 mod signs;
-mod types;
 
 pub use asked::Wanted;
 use broken::Halt;

@@ -10,11 +10,10 @@ ghost use Rattle.df_ntyping.specs.mirror.Literals as literals;
 ghost use Rattle.df_ntyping.specs.mirror.Literals.{limited_value, sum_or_product, opened, opened_parts};
 
 use crate::part::{Part, Typed};
-use crate::places::{beginning_of, first_group};
 use crate::runs::{product, sum};
-use crate::types::counted;
 use df_base::{Global, Pos};
 use df_lang::{Expr, Ty};
+use df_nrules::{beginning_of, counted, first_group};
 use df_ntree as tree;
 use df_ntree::{Group, Literal, Operation};
 use std::alloc::AllocError;

@@ -20,16 +20,17 @@ use crate::broken::{Broken, Halt, Rule, breach};
 use crate::environment::{Environment, called};
 use crate::literals::opened;
 use crate::part::{Row, Typed};
-use crate::places::{beginning_of, first_group, pos_of};
 use crate::signs::{
     converted, is_arithmetic, is_truth_side, left_behind, rule_of, run_of, sign_holds, type_of,
     whole_run,
 };
-use crate::types::{casts, counted, fits_or_narrows, is_integer, is_truth};
 use df_base::{Global, Pos};
 use df_lang as lang;
 use df_lang::Ty;
 use df_nnames::Signature;
+use df_nrules::{
+    beginning_of, casts, counted, first_group, fits_or_narrows, is_integer, is_truth, pos_of,
+};
 use df_ntree::{BinaryOperator, Expr, Group, Ident, Operation, TreeType, UnaryOperator};
 use std::alloc::AllocError;
 

@@ -14,13 +14,13 @@ ghost use Rattle.df_ntyping.specs.mirror.Signs.{beside, rule_of, takes_by, is_im
 use crate::broken::{Broken, Halt, Rule, breach};
 use crate::literals::opened;
 use crate::part::{Part, Row, Typed};
-use crate::places::{pos_of, run_begins};
 use crate::runs::run_expr;
-use crate::types::{
-    are_one_integer, are_ordered, counted, counted_of, is_truth, literal_type, one_fits, same_type,
-};
 use df_base::{Global, Pos};
 use df_lang::{Expr, Ty};
+use df_nrules::{
+    are_one_integer, are_ordered, counted, counted_of, is_truth, literal_type, one_fits, pos_of,
+    run_begins, same_type,
+};
 use df_ntree as tree;
 use df_ntree::{BinaryOperator, Group, Operation};
 use std::alloc::AllocError;

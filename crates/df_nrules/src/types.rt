@@ -10,7 +10,7 @@ ghost use Rattle.df_ntyping.specs.rules.Truths.{is_truth};
 
 use df_lang::Ty;
 
-pub(crate) fn same_type(left: Ty, right: Ty) -> bool
+pub fn same_type(left: Ty, right: Ty) -> bool
     ensures { result ≡ same_type left right }
 {
     match (left, right) {
@@ -24,7 +24,7 @@ pub(crate) fn same_type(left: Ty, right: Ty) -> bool
 }
 
 /// Whether the type is a newtype, `int` or `nat`.
-pub(crate) fn is_integer(ty: Ty) -> bool
+pub fn is_integer(ty: Ty) -> bool
     ensures { result ≡ is_integer ty }
 {
     match ty {
@@ -33,14 +33,14 @@ pub(crate) fn is_integer(ty: Ty) -> bool
     }
 }
 
-pub(crate) fn is_truth(ty: Ty) -> bool
+pub fn is_truth(ty: Ty) -> bool
     ensures { result ≡ is_truth ty }
 {
     same_type(ty, Ty::Bool)
 }
 
 /// Where operands meet, `nat` counts as `int`.
-pub(crate) fn counted(ty: Ty) -> Ty
+pub fn counted(ty: Ty) -> Ty
     ensures { result ≡ counted ty }
 {
     match ty {
@@ -50,7 +50,7 @@ pub(crate) fn counted(ty: Ty) -> Ty
 }
 
 /// The same of a type that may not be known.
-pub(crate) fn counted_of(ty: Option<Ty>) -> Option<Ty>
+pub fn counted_of(ty: Option<Ty>) -> Option<Ty>
     ensures { result ≡ counted_of ty }
 {
     match ty {
@@ -70,7 +70,7 @@ fn fits(source: Ty, target: Ty) -> bool
 }
 
 /// Whether values of the type may stand at a place of the other.
-pub(crate) fn fits_or_narrows(source: Ty, target: Ty) -> bool
+pub fn fits_or_narrows(source: Ty, target: Ty) -> bool
     ensures { result ≡ fits_or_narrows source target }
 {
     match (source, target) {
@@ -80,7 +80,7 @@ pub(crate) fn fits_or_narrows(source: Ty, target: Ty) -> bool
 }
 
 /// Whether `as` goes between the types.
-pub(crate) fn casts(source: Ty, target: Ty) -> bool
+pub fn casts(source: Ty, target: Ty) -> bool
     ensures { result ≡ casts source target }
 {
     match (source, target) {
@@ -91,14 +91,14 @@ pub(crate) fn casts(source: Ty, target: Ty) -> bool
 }
 
 /// Whether the two are of one integer type.
-pub(crate) fn are_one_integer(left: Ty, right: Ty) -> bool
+pub fn are_one_integer(left: Ty, right: Ty) -> bool
     ensures { result ≡ are_one_integer left right }
 {
     is_integer(left) && is_integer(right) && same_type(counted(left), counted(right))
 }
 
 /// Whether values of the two types have an order.
-pub(crate) fn are_ordered(left: Ty, right: Ty) -> bool
+pub fn are_ordered(left: Ty, right: Ty) -> bool
     ensures { result ≡ are_ordered left right }
 {
     match (left, right) {
@@ -108,14 +108,14 @@ pub(crate) fn are_ordered(left: Ty, right: Ty) -> bool
 }
 
 /// Whether one of the types fits the other.
-pub(crate) fn one_fits(left: Ty, right: Ty) -> bool
+pub fn one_fits(left: Ty, right: Ty) -> bool
     ensures { result ≡ one_fits left right }
 {
     fits(left, right) || fits(right, left)
 }
 
 /// The type of a literal where a type is expected.
-pub(crate) fn literal_type(expected: Option<Ty>) -> Ty
+pub fn literal_type(expected: Option<Ty>) -> Ty
     ensures { result ≡ literal_type expected }
 {
     match expected {

@@ -11,7 +11,7 @@ use df_base::Pos;
 use df_ntree::{Expr, Group, Operation};
 
 /// The group of the first sign.
-pub(crate) fn first_group(rest: &[Operation]) -> Option<Group>
+pub fn first_group(rest: &[Operation]) -> Option<Group>
     ensures { result ≡ first_group (members_of (map operation_of rest.now)) }
 {
     match rest {
@@ -90,21 +90,21 @@ fn or_start(pos: Option<Pos>) -> Pos
 }
 
 /// Where the first sign of a run stands.
-pub(crate) fn run_begins(rest: &[Operation]) -> Pos
+pub fn run_begins(rest: &[Operation]) -> Pos
     ensures { result ≡ or_start (places.first_sign (members_of (map operation_of rest.now))) }
 {
     or_start(first_sign(rest))
 }
 
 /// Where an expression begins.
-pub(crate) fn beginning_of(e: &Expr) -> Pos
+pub fn beginning_of(e: &Expr) -> Pos
     ensures { result ≡ or_start (places.beginning_of (expr_of e.now)) }
 {
     or_start(first_token(e))
 }
 
 /// Where an expression stands: at its sign, else at its first token.
-pub(crate) fn pos_of(e: &Expr) -> Pos
+pub fn pos_of(e: &Expr) -> Pos
     ensures { result ≡ or_start (places.pos_of (expr_of e.now)) }
 {
     or_start(place_of(e))
