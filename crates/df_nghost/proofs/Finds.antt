@@ -15,7 +15,7 @@ use Rattle.df_lang.specs.ExprView.{expr_of}
 use Rattle.df_lang.specs.Assignment as pure
 use Rattle.df_lang.specs.Assignment.{Assigned, has_value, reads, reads_of_addends, reads_of_factors, reads_of_members, reads_of_links, results_from}
 use Rattle.df_nghost.specs.declared.reads.Use.{Use}
-use Rattle.df_nghost.specs.Parts.{addend_of, factor_of, member_of, link_of, addends_in, factors_in, members_in, links_in}
+use Rattle.df_nghost.specs.mirror.Parts.{addend_of, factor_of, member_of, link_of, addends_in, factors_in, members_in, links_in}
 use Rattle.df_nghost.specs.mirror.Uses.{pick}
 use Rattle.df_nghost.proofs.Uses.{pick_append}
 use Rattle.df_nghost.proofs.Lists.{here}

@@ -18,9 +18,9 @@ use Rattle.df_ntyping.specs.Least.{by_number}
 use Rattle.df_nghost.specs.declared.reads.Use.{Use}
 use Rattle.df_nghost.specs.mirror.Uses.{precedes, shown, use_of, least, pick}
 use Rattle.df_nghost.specs.declared.flow.Flow.{Flow}
-use Rattle.df_nghost.specs.Parts.{stmts_in}
+use Rattle.df_nghost.specs.mirror.Parts.{stmts_in}
 use Rattle.df_nghost.specs.mirror.Way.{Known, known, look, go_all}
-use Rattle.df_nghost.specs.Refusals.{IsTyped, TellsOf}
+use Rattle.df_nghost.specs.mirror.Refusals.{IsTyped, TellsOf}
 use Rattle.df_nghost.proofs.Firsts.{none_contained, none_missing, IsFirst, first_is}
 use Rattle.df_nghost.proofs.Uses.{pick_least}
 use Rattle.df_nghost.proofs.Carrying.{place}

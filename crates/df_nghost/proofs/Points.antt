@@ -7,7 +7,7 @@ use Rattle.std.proofs.lemmas.List.{get_or-set_other}
 use Rattle.df_lang.specs.Assignment.{Assigned, Unreached, Reached, join, mark}
 use Rattle.df_nghost.specs.declared.assigned.Assigned as declared
 use Rattle.df_nghost.specs.declared.join.Join.{Join}
-use Rattle.df_nghost.specs.Known.{holds, set_of, assigned_of, among, Extends, IsBack, cleared, joined_with, joined_of, Joins}
+use Rattle.df_nghost.specs.mirror.Known.{holds, set_of, assigned_of, among, Extends, IsBack, cleared, joined_with, joined_of, Joins}
 
 abbrev Point : Type 0
 Point = declared.Assigned

@@ -25,7 +25,7 @@ use Rattle.df_ntyping.specs.Unassigned.{Missing, uses_missing, IsMissing, comes_
 use Rattle.df_ntyping.specs.Least.{by_number}
 use Rattle.df_ntyping.proofs.LeastExists.{three, by_self, by_greater}
 use Rattle.df_nghost.specs.mirror.Uses.{precedes, shown}
-use Rattle.df_nghost.specs.Refusals.{IsTyped, TellsOf}
+use Rattle.df_nghost.specs.mirror.Refusals.{IsTyped, TellsOf}
 use Rattle.df_nghost.proofs.Firsts.{none_contained}
 use Rattle.df_nghost.proofs.Methods.{method_told}
 

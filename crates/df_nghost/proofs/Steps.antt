@@ -16,8 +16,8 @@ use Rattle.df_lang.specs.Assignment.{Assigned, join, mark, assign, reads}
 use Rattle.df_nghost.specs.declared.assigned.Assigned as declared
 use Rattle.df_nghost.specs.declared.join.Join.{Join}
 use Rattle.df_nghost.specs.declared.flow.Flow.{Flow}
-use Rattle.df_nghost.specs.Parts.{stmts_in, branch_of, branches_in}
-use Rattle.df_nghost.specs.Known.{assigned_of, joined_with, joined_of, IsBack}
+use Rattle.df_nghost.specs.mirror.Parts.{stmts_in, branch_of, branches_in}
+use Rattle.df_nghost.specs.mirror.Known.{assigned_of, joined_with, joined_of, IsBack}
 use Rattle.df_nghost.specs.mirror.Way.{Known, known, ways_of, look, turned, way_of, begun, returned, go, go_all, go_branches}
 use Rattle.df_nghost.proofs.Points.{marks, back_assigned, back_joined, back_on, back_same}
 use Rattle.df_nghost.proofs.Ways.{with_first}

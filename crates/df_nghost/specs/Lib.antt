@@ -1,5 +1,2 @@
-pub mod Parts
-pub mod Known
 pub mod mirror
 pub mod Definite
-pub mod Refusals

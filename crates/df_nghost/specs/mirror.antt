@@ -1,2 +1,5 @@
+pub mod Parts
+pub mod Known
 pub mod Uses
 pub mod Way
+pub mod Refusals

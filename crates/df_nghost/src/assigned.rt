@@ -3,7 +3,7 @@
 ghost use Rattle.std.specs.Prelude.{◌≡◌, ◌<◌, ◌≤◌, ℕ, true, false, set, nat_lt, length, take, drop, map, IfOk, OnOk};
 ghost use Rattle.df_lang.specs.StmtView.{target_of};
 ghost use Rattle.df_lang.specs.Assignment as pure;
-ghost use Rattle.df_nghost.specs.Known.{holds, assigned_of, joined_of, cleared, Extends};
+ghost use Rattle.df_nghost.specs.mirror.Known.{holds, assigned_of, joined_of, cleared, Extends};
 
 use crate::join::Join;
 use df_base::{Global, Memory};

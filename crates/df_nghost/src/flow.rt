@@ -6,8 +6,8 @@ ghost use Rattle.df_lang.specs.ExprView.{expr_of};
 ghost use Rattle.df_lang.specs.StmtView.{stmt_of, update_of, call_of, clause_of, measure_of, operand_of};
 ghost use Rattle.df_lang.specs.DeclView.{method_of};
 ghost use Rattle.df_lang.specs.Assignment as pure;
-ghost use Rattle.df_nghost.specs.Parts.{stmts_in, branches_in};
-ghost use Rattle.df_nghost.specs.Known.{Extends, IsBack, assigned_of};
+ghost use Rattle.df_nghost.specs.mirror.Parts.{stmts_in, branches_in};
+ghost use Rattle.df_nghost.specs.mirror.Known.{Extends, IsBack, assigned_of};
 ghost use Rattle.df_nghost.specs.mirror.Way.{known, ways_of, look, updated, returned, way_of, go, go_all, go_branches, turned};
 
 use crate::assigned::Assigned;
@@ -19,7 +19,7 @@ use crate::reads::{
 use df_base::{Global, Memory, Pos};
 use df_lang::{Branch, Call, Clause, Expr, Measure, Method, Operand, Stmt, Update};
 
-/// What is known at a point of a body.
+/// What is known at a point of a body. After want of memory it is of no use, and is dropped.
 #[derive(Drop)]
 pub(crate) struct Flow {
     pub(crate) assigned: Assigned,

@@ -1,7 +1,7 @@
 //! Where ways join.
 
 ghost use Rattle.std.specs.Prelude.{◌≡◌, ◌≤◌, false, length, filter, OnOk};
-ghost use Rattle.df_nghost.specs.Known.{holds, Joins};
+ghost use Rattle.df_nghost.specs.mirror.Known.{holds, Joins};
 
 use crate::assigned::Assigned;
 use df_base::{Global, Memory};

@@ -7,7 +7,7 @@ ghost use Rattle.df_base.specs.declared.refusal.Stop.TheVariants as stops;
 ghost use Rattle.df_base.specs.Refusing.{IfRefused};
 ghost use Rattle.df_lang.specs.DeclView.{method_of};
 ghost use Rattle.df_lang.specs.Assignment as pure;
-ghost use Rattle.df_nghost.specs.Refusals.{IsTyped, TellsOf};
+ghost use Rattle.df_nghost.specs.mirror.Refusals.{IsTyped, TellsOf};
 
 use crate::assigned::Assigned;
 use crate::flow::Flow;

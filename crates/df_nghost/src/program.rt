@@ -32,7 +32,8 @@ fn follow_all(alloc: Global, program: &Program) -> Result<(), Stop>
     Ok(())
 }
 
-/// The program, checked. Else the first use without a value is told, and the program handed back.
+/// The program, checked. It is refused for the first use without a value, exactly where there is one; or memory is
+/// refused. Either way it is handed back as it was.
 pub fn check(alloc: Global, program: Program) -> Result<Checked, Rejected>
     ensures same { IfOk result (λ checked. checked.program ≡ program) }
     ensures given_back { IfErr result (λ rejected. rejected.program ≡ program) }

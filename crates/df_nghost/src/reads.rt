@@ -7,8 +7,8 @@ ghost use Rattle.df_lang.specs.StmtView.{operand_of, source_of, clause_of, measu
 ghost use Rattle.df_lang.specs.DeclView.{param_of};
 ghost use Rattle.df_lang.specs.Assignment as pure;
 ghost use Rattle.df_ntyping.specs.Least.{by_number};
-ghost use Rattle.df_nghost.specs.Parts.{addends_in, factors_in, members_in, links_in};
-ghost use Rattle.df_nghost.specs.Known.{assigned_of};
+ghost use Rattle.df_nghost.specs.mirror.Parts.{addends_in, factors_in, members_in, links_in};
+ghost use Rattle.df_nghost.specs.mirror.Known.{assigned_of};
 ghost use Rattle.df_nghost.specs.mirror.Uses as uses;
 
 use crate::assigned::Assigned;

@@ -10,7 +10,7 @@ use Rattle.df_lang.specs.Program.{Method, Program}
 use Rattle.df_lang.specs.Typing.{is_type, is_expr, are_clauses, is_measured, may_update, are_numbered, variable_numbers, variable_types, locals_after, locals_after_all, locals_after_branches, is_stmt, are_stmts, are_branches}
 use Rattle.df_mean.proofs.Cases.{both, three, four, joined}
 use Rattle.df_mean.proofs.Assigning.{place, grows, all_grow, branches_grow}
-use Rattle.df_npass.specs.Statements.{locals_of, declared_by, declared_by_all, declared_by_branches}
+use Rattle.df_npass.specs.Statements.{declared_by, declared_by_all, declared_by_branches}
 
 abbrev pub is_declared : List ℕ → ℕ → Bool
 is_declared declared k = list_any (λ (n : ℕ). n == k) declared
@@ -32,7 +32,7 @@ one_append (x ∷ xs) ys k e = first (x == k) e (λ r. one_append xs ys k r)
     first false e h = h e
 
 -- numbers from one on
-numbered_past : (from k : ℕ) (variables : List Variable) → are_numbered from (variable_numbers variables) ≡ true → k < from → is_declared (locals_of variables) k ≡ false
+numbered_past : (from k : ℕ) (variables : List Variable) → are_numbered from (variable_numbers variables) ≡ true → k < from → is_declared (variable_numbers variables) k ≡ false
 numbered_past from k [] are less = refl
 numbered_past from k (v ∷ vs) are less =
     let are = both (v.local == from) (are_numbered (suc from) (variable_numbers vs)) are in
@@ -42,14 +42,14 @@ numbered_past from k (v ∷ vs) are less =
     or_none : (a b : Bool) → a ≡ false → b ≡ false → (a || b) ≡ false
     or_none a b e f = rw (e) f
 
-numbered_within : (from k : ℕ) (variables : List Variable) → are_numbered from (variable_numbers variables) ≡ true → is_declared (locals_of variables) k ≡ true → k < from + length variables
+numbered_within : (from k : ℕ) (variables : List Variable) → are_numbered from (variable_numbers variables) ≡ true → is_declared (variable_numbers variables) k ≡ true → k < from + length variables
 numbered_within from k [] are h = cc
 numbered_within from k (v ∷ vs) are h =
     let are = both (v.local == from) (are_numbered (suc from) (variable_numbers vs)) are in
     let same = eqb-true v.local from are.0 in
     first (v.local == k) refl h same (λ r. numbered_within (suc from) k vs are.1 r)
   where
-    first : (b : Bool) → (v.local == k) ≡ b → (b || is_declared (locals_of vs) k) ≡ true → v.local ≡ from → (is_declared (locals_of vs) k ≡ true → k < suc from + length vs) → k < from + suc (length vs)
+    first : (b : Bool) → (v.local == k) ≡ b → (b || is_declared (variable_numbers vs) k) ≡ true → v.local ≡ from → (is_declared (variable_numbers vs) k ≡ true → k < suc from + length vs) → k < from + suc (length vs)
     first true e h same g = let is = eqb-true v.local k e in omega (arith, is, same)
     first false e h same g = let less = g h in omega (arith, less)
 

@@ -13,7 +13,7 @@ use Rattle.df_nterm.specs.Term.{Sort, Numbers, Truths, Characters, Free}
 use Rattle.df_nterm.specs.Meaning.{Interpretation, has_sort, truth}
 use Rattle.df_npass.specs.Statements.{any_values}
 use Rattle.df_npass.specs.Methods.{pass_method, obligations_of_method}
-use Rattle.df_npass.specs.Laws.{WrongIsRefuted, RefutedIsWrong, ValidIsSafe, SafeIsValid, AllValidIsSafe, RefutedMemberIsWrong}
+use Rattle.df_npass.specs.Laws.{WrongIsRefuted, RefutedIsWrong, ValidIsSafe, SafeIsValid, AllValidIsSafe, RefutedMemberIsWrong, ValidMembersAreSafe}
 use Rattle.df_npass.proofs.Playing.{Following, Taking, apart, all_same, FirstFalse, first_behind, first_rest, known_first}
 use Rattle.df_npass.proofs.Leading.{any_giving}
 use Rattle.df_npass.proofs.Reading.{values_at}
@@ -96,6 +96,12 @@ safe_is_valid program groups number method obligation well definite found safe t
 
 from_none : (k : ℕ) → 0 + k ≡ k
 from_none k = omega arith
+
+pub valid_members_are_safe : ValidMembersAreSafe
+valid_members_are_safe program groups number method well definite found valid =
+    valid_is_safe program groups number method well definite found (λ obligation there.
+    valid obligation (of_method_there program groups obligation program.decls 0 number method found (subst (λ (k : ℕ). Contains (obligations_of_method program groups k method) obligation) (sym (from_none number)) there))
+    (of_declaration number (pass_method program groups number method) [] obligation there))
 
 pub all_valid_is_safe : AllValidIsSafe
 all_valid_is_safe program groups well definite are_groups valid = record {

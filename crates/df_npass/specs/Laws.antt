@@ -67,3 +67,10 @@ abbrev pub RefutedMemberIsWrong : Type 0
 RefutedMemberIsWrong = (program : Program) (groups : List ℕ) (obligation : Obligation) → is_well_typed program ≡ true → IsDefinitelyAssigned program
     → Contains (obligations program groups) obligation → IsRefuted program obligation
     → (method : Method) × (method_at program obligation.declaration ≡ Some method) × IsModularlyWrong program groups obligation.declaration method obligation.pos obligation.kind
+
+-- And where all obligations of one of its methods are valid, no modular run of that method is wrong.
+abbrev pub ValidMembersAreSafe : Type 0
+ValidMembersAreSafe = (program : Program) (groups : List ℕ) (number : ℕ) (method : Method)
+    → is_well_typed program ≡ true → IsDefinitelyAssigned program → method_at program number ≡ Some method
+    → ((obligation : Obligation) → Contains (obligations program groups) obligation → obligation.declaration ≡ number → IsValid program obligation)
+    → IsModularlySafe program groups number method

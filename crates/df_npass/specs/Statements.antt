@@ -6,6 +6,7 @@ use Rattle.df_base.specs.declared.pos.Pos.{Pos}
 use Rattle.df_lang.specs.Expr.{Expr}
 use Rattle.df_lang.specs.Stmt.{Operand, Text, Value, Target, Call, Conversion, Source, Single, Results, Update, Variable, Clause, Measure, Stmt, Block, Var, Assign, CallOf, If, While, Break, Return, Assert, Print, Stmts, done, next, Branches, no_branch, branch}
 use Rattle.df_lang.specs.Program.{Param, Method, Program, method_at}
+use Rattle.df_lang.specs.Typing.{variable_numbers}
 use Rattle.df_lang.specs.Measures.{loop_measure, method_measure}
 use Rattle.df_lang.specs.Groups.{group_at}
 use Rattle.df_meaning.specs.declared.kind.Kind.{Kind}
@@ -193,13 +194,10 @@ assert_operand way (Value ty value) = assert_expr way value
 
 -- ---- which locals statements change that stand before them
 
-abbrev pub locals_of : List Variable → List ℕ
-locals_of variables = map (λ (variable : Variable). variable.local) variables
-
 abbrev mutual
   pub declared_by : Stmt → List ℕ
   declared_by (Block at body) = declared_by_all body
-  declared_by (Var at variables update) = locals_of variables
+  declared_by (Var at variables update) = variable_numbers variables
   declared_by (Assign at update) = []
   declared_by (CallOf call) = []
   declared_by (If branches otherwise) = declared_by_branches branches ++ declared_by_all otherwise

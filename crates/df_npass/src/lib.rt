@@ -1,17 +1,17 @@
 //! Obligations of programs: passing over statements by single assignment, with calls and loops, and what the
-//! obligations have to do with modular runs.
+//! obligations of well-typed programs that obey definite assignment have to do with modular runs.
 #![tactic(auto)]
 
-ghost use Rattle.df_npass.specs.Laws.{WrongIsRefuted, RefutedIsWrong, ValidIsSafe, SafeIsValid, AllValidIsSafe, RefutedMemberIsWrong};
+ghost use Rattle.df_npass.specs.Laws.{WrongIsRefuted, RefutedIsWrong, ValidIsSafe, SafeIsValid, AllValidIsSafe, RefutedMemberIsWrong, ValidMembersAreSafe};
 
-/// Where a modular run of a method is wrong, an obligation of that kind at that place is refuted: by an assignment
-/// that makes all its hypotheses true and its goal false.
+/// Where a modular run of a method is wrong, an obligation of that kind at that place is refuted: by an
+/// interpretation that makes all its hypotheses true and its goal false.
 pub fn wrong_is_refuted()
     ensures { WrongIsRefuted }
 {}
 
 /// Where an obligation of a method is refuted, a modular run of it is wrong at its place by its kind, on arguments
-/// and on what is handed in at calls and loops that the assignment gives.
+/// and on what is handed in at calls and loops that the interpretation gives.
 pub fn refuted_is_wrong()
     ensures { RefutedIsWrong }
 {}
@@ -31,7 +31,12 @@ pub fn all_valid_is_safe()
     ensures { AllValidIsSafe }
 {}
 
-/// Where one of them is refuted, a modular run of the method that it is an obligation of is wrong there.
+/// Where an obligation of a program is refuted, a modular run of the method that it is an obligation of is wrong there.
 pub fn refuted_member_is_wrong()
     ensures { RefutedMemberIsWrong }
+{}
+
+/// Where all obligations of a program that are of one method are valid, no modular run of that method is wrong.
+pub fn valid_members_are_safe()
+    ensures { ValidMembersAreSafe }
 {}

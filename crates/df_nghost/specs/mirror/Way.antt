@@ -11,7 +11,7 @@ use Rattle.df_nghost.specs.declared.assigned.Assigned as declared
 use Rattle.df_nghost.specs.declared.join.Join as declared_join
 use Rattle.df_nghost.specs.declared.flow.Flow as declared_flow
 use Rattle.df_nghost.specs.mirror.Uses.{pick}
-use Rattle.df_nghost.specs.Known.{assigned_of, joined_of}
+use Rattle.df_nghost.specs.mirror.Known.{assigned_of, joined_of}
 
 pub record Known : Type 0 where
   pub at : Assigned

@@ -1,5 +1,5 @@
 use Rattle.std.proofs.Common.{◌≡◌, drop}
-use Rattle.df_nghost.specs.Known.{cleared}
+use Rattle.df_nghost.specs.mirror.Known.{cleared}
 use Rattle.df_nghost.proofs.assigned.clear.Given as goal
 
 abbrev pub invariant-loop-local : goal.invariant-loop-local

@@ -1,5 +1,5 @@
 use Rattle.std.proofs.Common.{◌≡◌, ◌-◌, ℕ, suc, length}
-use Rattle.df_nghost.specs.Known.{holds}
+use Rattle.df_nghost.specs.mirror.Known.{holds}
 use Rattle.df_nghost.proofs.assigned.list.Given as goal
 
 abbrev pub invariant-loop-values : goal.invariant-loop-values

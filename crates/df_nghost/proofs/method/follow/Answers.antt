@@ -1,7 +1,7 @@
 use Rattle.std.proofs.Common.{◌∙◌, rules}
 use Rattle.df_lemmas.proofs.Options.{none_left}
 use Rattle.df_lang.specs.DeclView.{method_of}
-use Rattle.df_nghost.specs.Known.{assigned_of}
+use Rattle.df_nghost.specs.mirror.Known.{assigned_of}
 use Rattle.df_nghost.proofs.Firsts.{none_missing}
 use Rattle.df_nghost.proofs.Methods.{followed, first_inside, first_at_end, tells_inside, tells_end, nothing_missing}
 use Rattle.df_nghost.proofs.method.follow.Goals as goal

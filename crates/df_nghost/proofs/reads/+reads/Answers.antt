@@ -2,8 +2,8 @@ use Rattle.std.proofs.Common.{rules, inl, inr}
 use Rattle.df_lang.specs.declared.expr.Expr.TheFolds as folds
 use Rattle.df_lang.specs.declared.expr.Expr.TheViews as views
 use Rattle.df_lang.specs.ExprView.{expr_of}
-use Rattle.df_nghost.specs.Parts.{addends_in, factors_in, members_in, links_in}
-use Rattle.df_nghost.specs.Known.{assigned_of}
+use Rattle.df_nghost.specs.mirror.Parts.{addends_in, factors_in, members_in, links_in}
+use Rattle.df_nghost.specs.mirror.Known.{assigned_of}
 use Rattle.df_nghost.proofs.Finds.{addend_goes, factor_goes, member_goes, link_goes, sum_found, product_found, chain_found, junction_found, implication_found, equivalence_found}
 use Rattle.df_nghost.proofs.reads.+reads.Goals as goal
 

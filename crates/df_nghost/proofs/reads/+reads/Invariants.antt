@@ -1,7 +1,7 @@
 use Rattle.std.proofs.Common.{◌≡◌, drop}
 use Rattle.df_lang.specs.Assignment.{reads_of_addends, reads_of_factors, reads_of_members, reads_of_links}
-use Rattle.df_nghost.specs.Parts.{addends_in, factors_in, members_in, links_in}
-use Rattle.df_nghost.specs.Known.{assigned_of}
+use Rattle.df_nghost.specs.mirror.Parts.{addends_in, factors_in, members_in, links_in}
+use Rattle.df_nghost.specs.mirror.Known.{assigned_of}
 use Rattle.df_nghost.specs.mirror.Uses.{pick}
 use Rattle.df_nghost.proofs.reads.+reads.Given as goal
 

@@ -1,7 +1,7 @@
 use Rattle.std.proofs.Common.{◌≡◌, drop, map, flat_map}
 use Rattle.df_lang.specs.ExprView.{expr_of}
 use Rattle.df_lang.specs.Assignment.{reads}
-use Rattle.df_nghost.specs.Known.{assigned_of}
+use Rattle.df_nghost.specs.mirror.Known.{assigned_of}
 use Rattle.df_nghost.specs.mirror.Uses.{pick}
 use Rattle.df_nghost.proofs.reads.first_of_arguments.Given as goal
 

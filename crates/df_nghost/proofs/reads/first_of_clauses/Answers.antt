@@ -1,7 +1,7 @@
 use Rattle.df_lang.specs.StmtView.{clause_of}
 use Rattle.df_lang.specs.Stmt.{Clause}
 use Rattle.df_lang.specs.Assignment.{reads}
-use Rattle.df_nghost.specs.Known.{assigned_of}
+use Rattle.df_nghost.specs.mirror.Known.{assigned_of}
 use Rattle.df_nghost.proofs.Finds.{each_goes}
 use Rattle.df_nghost.proofs.reads.first_of_clauses.Goals as goal
 

@@ -1,6 +1,6 @@
 use Rattle.df_lang.specs.StmtView.{operand_of}
 use Rattle.df_lang.specs.Assignment.{reads_of_operand}
-use Rattle.df_nghost.specs.Known.{assigned_of}
+use Rattle.df_nghost.specs.mirror.Known.{assigned_of}
 use Rattle.df_nghost.proofs.Finds.{each_goes}
 use Rattle.df_nghost.proofs.reads.first_of_operands.Goals as goal
 

@@ -1,7 +1,7 @@
 use Rattle.std.proofs.Common.{◌≡◌, ◌+◌, drop, map, length}
 use Rattle.df_lang.specs.DeclView.{param_of}
 use Rattle.df_lang.specs.Assignment.{results_from}
-use Rattle.df_nghost.specs.Known.{assigned_of}
+use Rattle.df_nghost.specs.mirror.Known.{assigned_of}
 use Rattle.df_nghost.specs.mirror.Uses.{pick}
 use Rattle.df_nghost.proofs.reads.first_of_results.Given as goal
 

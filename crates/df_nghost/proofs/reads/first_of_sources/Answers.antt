@@ -1,6 +1,6 @@
 use Rattle.df_lang.specs.StmtView.{source_of}
 use Rattle.df_lang.specs.Assignment.{reads_of_source}
-use Rattle.df_nghost.specs.Known.{assigned_of}
+use Rattle.df_nghost.specs.mirror.Known.{assigned_of}
 use Rattle.df_nghost.proofs.Finds.{each_goes}
 use Rattle.df_nghost.proofs.reads.first_of_sources.Goals as goal
 

@@ -1,5 +1,5 @@
 use Rattle.std.proofs.Common.{rules}
-use Rattle.df_nghost.specs.Known.{assigned_of}
+use Rattle.df_nghost.specs.mirror.Known.{assigned_of}
 use Rattle.df_nghost.proofs.Points.{extends_on}
 use Rattle.df_nghost.proofs.Steps.{target_goes}
 use Rattle.df_nghost.proofs.assigned.Assigned.assign_targets.Goals as goal

@@ -1,7 +1,7 @@
 use Rattle.std.proofs.Common.{◌≡◌, drop, map}
 use Rattle.df_lang.specs.StmtView.{target_of}
 use Rattle.df_lang.specs.Assignment.{assign}
-use Rattle.df_nghost.specs.Known.{assigned_of, Extends}
+use Rattle.df_nghost.specs.mirror.Known.{assigned_of, Extends}
 use Rattle.df_nghost.proofs.assigned.Assigned.assign_targets.Given as goal
 
 abbrev pub invariant-loop-target : goal.invariant-loop-target

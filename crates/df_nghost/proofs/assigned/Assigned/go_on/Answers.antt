@@ -1,6 +1,6 @@
 use Rattle.std.proofs.Common.{refl, rules}
 use Rattle.df_nghost.specs.declared.assigned.Assigned.{Assigned}
-use Rattle.df_nghost.specs.Known.{assigned_of}
+use Rattle.df_nghost.specs.mirror.Known.{assigned_of}
 use Rattle.df_nghost.proofs.Points.{extends_same, extends_on, marks_joined}
 use Rattle.df_nghost.proofs.Steps.{mark_goes}
 use Rattle.df_nghost.proofs.assigned.Assigned.go_on.Goals as goal

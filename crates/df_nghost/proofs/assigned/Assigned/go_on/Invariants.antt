@@ -1,5 +1,5 @@
 use Rattle.std.proofs.Common.{◌≡◌, drop}
-use Rattle.df_nghost.specs.Known.{assigned_of, joined_of, Extends}
+use Rattle.df_nghost.specs.mirror.Known.{assigned_of, joined_of, Extends}
 use Rattle.df_nghost.proofs.Points.{marks}
 use Rattle.df_nghost.proofs.assigned.Assigned.go_on.Given as goal
 

@@ -3,7 +3,7 @@ use Rattle.df_lang.specs.declared.stmt.Stmt.TheFolds as folds
 use Rattle.df_lang.specs.declared.stmt.Stmt.TheViews as views
 use Rattle.df_lang.specs.StmtView.{stmt_of}
 use Rattle.df_lang.specs.DeclView.{method_of}
-use Rattle.df_nghost.specs.Parts.{stmts_in, branches_in}
+use Rattle.df_nghost.specs.mirror.Parts.{stmts_in, branches_in}
 use Rattle.df_nghost.specs.declared.flow.Flow.{Flow}
 use Rattle.df_nghost.specs.mirror.Way.{known}
 use Rattle.df_nghost.proofs.Points.{extends_on, back_on, back_same, back_to, within}

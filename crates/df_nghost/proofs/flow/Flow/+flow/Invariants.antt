@@ -1,7 +1,7 @@
 use Rattle.std.proofs.Common.{◌≡◌, drop}
 use Rattle.df_lang.specs.DeclView.{method_of}
-use Rattle.df_nghost.specs.Parts.{stmts_in, branches_in}
-use Rattle.df_nghost.specs.Known.{assigned_of, Extends, IsBack}
+use Rattle.df_nghost.specs.mirror.Parts.{stmts_in, branches_in}
+use Rattle.df_nghost.specs.mirror.Known.{assigned_of, Extends, IsBack}
 use Rattle.df_nghost.specs.mirror.Way.{known, ways_of, go_all, go_branches}
 use Rattle.df_nghost.proofs.flow.Flow.+flow.Given as goal
 

@@ -4,7 +4,7 @@ use Rattle.df_lang.specs.declared.stmt.Measure.{Measure}
 use Rattle.df_lang.specs.ExprView.{expr_of}
 use Rattle.df_lang.specs.StmtView.{clause_of, measure_of}
 use Rattle.df_lang.specs.Assignment.{reads, reads_of_clauses, reads_of_measures}
-use Rattle.df_nghost.specs.Known.{assigned_of}
+use Rattle.df_nghost.specs.mirror.Known.{assigned_of}
 use Rattle.df_nghost.proofs.Ways.{with_first}
 use Rattle.df_nghost.proofs.Finds.{three_found}
 use Rattle.df_nghost.proofs.flow.Flow.head.Goals as goal
