@@ -2,7 +2,6 @@
 use Rattle.std.proofs.Common.{◌≡◌, ℕ, zero, suc, ◌⊎◌, inl, inr, List, [], ◌∷◌, ◌++◌, Contains, slice_get, Some, refl, sym, subst, arith, append_assoc, append-nil}
 use Rattle.std.specs.List.{AllZip}
 use Rattle.std.proofs.lemmas.List.Elements.{Contains-append_left, Contains-append_right, Contains-append_cases}
-use Rattle.df_lemmas.proofs.Alls.{none_there}
 use Rattle.df_form.specs.declared.log.Pair.{Pair}
 use Rattle.df_form.specs.Node.{Node}
 use Rattle.df_kern.specs.Classes.{InOneClass}
