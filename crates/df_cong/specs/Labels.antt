@@ -8,7 +8,7 @@ use Rattle.df_cong.specs.Equal.{AreEqual}
 abbrev pub HaveOneLabel : (ℕ → ℕ) → ℕ → ℕ → Type 0
 HaveOneLabel label a b = label a ≡ label b
 
--- Equal nodes alone have one label; the sides of pairs have, and nodes of one operation whose arguments have.
+-- Equal nodes alone have one label; the sides of pairs have, and any two nodes of one operation whose arguments have.
 pub record AreLabels (nodes : List Node) (pairs : List Pair) (label : ℕ → ℕ) : Type 0 where
   pub equal : (a b : ℕ) → HaveOneLabel label a b → AreEqual nodes pairs a b
   pub sides : (pair : Pair) → Contains pairs pair → HaveOneLabel label pair.left pair.right

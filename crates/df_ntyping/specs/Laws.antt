@@ -118,7 +118,7 @@ OneProgram = (names : List (List ℕ)) (file : File) (one other : program.Progra
 abbrev pub ElaboratedIsFaultless : Type 0
 ElaboratedIsFaultless = (names : List (List ℕ)) (file : File) (one : program.Program) → ElaboratesFile names file one → BreaksNothing file
 
--- where each name that a node tells has a text, a file that breaks nothing elaborates
+-- where the names of its declarations, parameters and results have texts, a file that breaks nothing elaborates
 abbrev pub FaultlessIsElaborated : Type 0
 FaultlessIsElaborated = (names : List (List ℕ)) (file : File) → IsFile file → AreTexts names file → BreaksNothing file → (one : program.Program) × ElaboratesFile names file one
 
@@ -129,7 +129,7 @@ ElaboratedIsWellTyped = (names : List (List ℕ)) (file : File) (one : program.P
 abbrev pub FaultIsTold : Type 0
 FaultIsTold = (file : File) (fault : Fault) → IsFile file → IsFault (file_nodes file) fault → (refusal : Refusal) × IsTold (file_nodes file) refusal
 
--- a file has one refusal
+-- a file has at most one refusal
 abbrev pub OneRefusal : Type 0
 OneRefusal = (names : List (List ℕ)) (file : File) (one other : Refusal) → IsFile file → IsRefusedFile names file one → IsRefusedFile names file other → one ≡ other
 

@@ -19,7 +19,7 @@ pub fn one_type()
     ensures { OneType }
 {}
 
-/// The nodes of a file are listed in the order in which they are told; nodes at one place are told by the lower rule.
+/// The nodes of a file are listed by where their texts end, the inner one before the outer one.
 pub fn nodes_are_in_order()
     ensures { NodesAreInOrder }
 {}
@@ -49,7 +49,7 @@ pub fn one_missing_told()
     ensures { OneMissingTold }
 {}
 
-/// What elaborates breaks nothing.
+/// An expression that elaborates breaks nothing.
 pub fn typed_is_faultless()
     ensures { TypedIsFaultless }
 {}
@@ -59,7 +59,7 @@ pub fn faultless_is_typed()
     ensures { FaultlessIsTyped }
 {}
 
-/// What elaborates to what is asked breaks nothing, nor is anything broken that is asked.
+/// An expression that elaborates to what is asked breaks nothing, nor is anything broken that is asked.
 pub fn wanted_is_faultless()
     ensures { WantedIsFaultless }
 {}
@@ -75,12 +75,12 @@ pub fn elaborated_is_faultless()
     ensures { ElaboratedIsFaultless }
 {}
 
-/// A file that breaks nothing elaborates, where each name that it declares has a text.
+/// A file that breaks nothing elaborates, where the names of its declarations, parameters and results have texts.
 pub fn faultless_is_elaborated()
     ensures { FaultlessIsElaborated }
 {}
 
-/// A file has one refusal.
+/// A file has at most one refusal.
 pub fn one_refusal()
     ensures { OneRefusal }
 {}
