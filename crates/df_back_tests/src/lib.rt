@@ -1,7 +1,9 @@
-//! Tests of the back end in its next shape, against the calls that other crates make: codes by hand on the
-//! machine, and their texts.
+//! Tests of the back end in its next shape, against the calls that other crates make: a program that is
+//! compiled, codes by hand on the machine, and their texts.
 #![tactic(auto)]
 
+#[cfg(test)]
+mod compiling;
 #[cfg(test)]
 mod listing;
 #[cfg(test)]

@@ -1,4 +1,4 @@
-mod Running
+pub mod Running
 mod Straight
 mod Parity
 mod Counting
