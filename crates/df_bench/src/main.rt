@@ -2,9 +2,11 @@
 //! how long it took; with no words it runs each at a small size, and tells what it came to.
 #![tactic(auto)]
 
+mod emitting;
 mod running;
 mod writing;
 
+use crate::emitting::emit_statements;
 use crate::running::{Start, run};
 use crate::writing::write_statements;
 use anyhow::{Context, Result, ensure};
@@ -18,14 +20,17 @@ enum Layer {
     Machine(Start),
     /// The writer of listings.
     Listing,
+    /// The emitter.
+    Emitter,
 }
 
 /// What can be run: its name, and a small size.
-const BENCHES: [(&str, Layer, u32); 4] = [
+const BENCHES: [(&str, Layer, u32); 5] = [
     ("count", Layer::Machine(Start::Count), 1000),
     ("fib", Layer::Machine(Start::Fibonacci), 15),
     ("deep", Layer::Machine(Start::Even), 1000),
     ("write", Layer::Listing, 1000),
+    ("emit", Layer::Emitter, 1000),
 ];
 
 /// The layer of a name.
@@ -44,6 +49,7 @@ fn timed(rt: &HostRuntime, layer: Layer, size: u32) -> Result<(String, Duration)
     match layer {
         Layer::Machine(start) => run(rt, start, size),
         Layer::Listing => write_statements(rt, size),
+        Layer::Emitter => emit_statements(rt, size),
     }
 }
 
@@ -55,7 +61,7 @@ fn main(rt: HostRuntime) -> Result<()> {
         }
         return Ok(());
     };
-    let layer = named(name.as_str()).context("count, fib, deep or write")?;
+    let layer = named(name.as_str()).context("count, fib, deep, write or emit")?;
     let size = env::args(&rt)?.nth(2).context("a size")?.parse::<u32>()?;
     let (result, time) = timed(&rt, layer, size)?;
     let micros = time.as_micros();
