@@ -1,27 +1,52 @@
 -- The obligation that the first false formula is, and the obligations of declarations.
-use Rattle.std.proofs.Common.{◌≡◌, ◌⊎◌, inl, inr, ℕ, zero, suc, ◌<◌, ◌+◌, true, false, List, [], ◌∷◌, ◌++◌, length, slice_get, slice_index_or, Contains, Some, refl, sym, ap, subst, arith}
+use Rattle.std.proofs.Common.{◌≡◌, ◌⊎◌, inl, inr, ℕ, zero, suc, ◌<◌, ◌+◌, true, false, List, [], ◌∷◌, ◌++◌, length, slice_get, slice_index_or, Contains, Some, Bool, ◌||◌, if◌then◌else◌, refl, sym, ap, subst, arith}
 use Rattle.std.proofs.lemmas.List.Elements.{Contains-append_left, Contains-append_right, Contains-append_cases}
-use Rattle.std.specs.List.{AllByRecursion}
+use Rattle.std.specs.List.{AllByRecursion, list_any}
 use Rattle.std.specs.Option.{option_and_then}
 use Rattle.df_base.specs.declared.pos.Pos.{Pos}
 use Rattle.df_lang.specs.Program.{Method, Decl, NewtypeDecl, MethodDecl, Program, as_method}
 use Rattle.df_meaning.specs.declared.kind.Kind.{Kind}
 use Rattle.df_nterm.specs.Term.{Term}
 use Rattle.df_nterm.specs.Meaning.{Interpretation, truth}
+use Rattle.df_nterm.specs.Same.{same_term}
+use Rattle.df_nterm.proofs.Equal.{term_is}
 use Rattle.df_npass.specs.Rules.{Said, Known, Owed}
-use Rattle.df_npass.specs.Methods.{Obligation, obligations_of, obligations_of_method, obligations_of_decl, obligations_from}
+use Rattle.df_npass.specs.Methods.{Obligation, known_with, obligations_of, obligations_of_method, obligations_of_decl, obligations_from}
 use Rattle.df_npass.proofs.Playing.{FirstFalse}
 
 abbrev pub AllHold : Interpretation → List Term → Type 0
 AllHold i formulas = AllByRecursion (λ (formula : Term). truth i formula ≡ true) formulas
 
-hold_more : (i : Interpretation) (known : List Term) (formula : Term) → AllHold i known → truth i formula ≡ true → AllHold i (known ++ formula ∷ [])
-hold_more i [] formula h e = (e, tt)
-hold_more i (x ∷ known) formula h e = (h.0, hold_more i known formula h.1 e)
+hold_appended : (i : Interpretation) (known : List Term) (formula : Term) → AllHold i known → truth i formula ≡ true → AllHold i (known ++ formula ∷ [])
+hold_appended i [] formula h e = (e, tt)
+hold_appended i (x ∷ known) formula h e = (h.0, hold_appended i known formula h.1 e)
 
-hold_less : (i : Interpretation) (known : List Term) (formula : Term) → AllHold i (known ++ formula ∷ []) → AllHold i known × (truth i formula ≡ true)
-hold_less i [] formula h = (tt, h.0)
-hold_less i (x ∷ known) formula h = let rest = hold_less i known formula h.1 in ((h.0, rest.0), rest.1)
+hold_before : (i : Interpretation) (known : List Term) (formula : Term) → AllHold i (known ++ formula ∷ []) → AllHold i known × (truth i formula ≡ true)
+hold_before i [] formula h = (tt, h.0)
+hold_before i (x ∷ known) formula h = let rest = hold_before i known formula h.1 in ((h.0, rest.0), rest.1)
+
+-- what is known already is true with the others
+hold_found : (i : Interpretation) (known : List Term) (formula : Term) → list_any (same_term formula) known ≡ true → AllHold i known → truth i formula ≡ true
+hold_found i [] formula e h = cc
+hold_found i (x ∷ known) formula e h = first (same_term formula x) refl e (λ rest. hold_found i known formula rest h.1)
+  where
+    first : (b : Bool) → same_term formula x ≡ b → (b || list_any (same_term formula) known) ≡ true → (list_any (same_term formula) known ≡ true → truth i formula ≡ true) → truth i formula ≡ true
+    first true is e later = subst (λ (y : Term). truth i y ≡ true) (sym (term_is formula x is)) h.0
+    first false is e later = later e
+
+hold_more : (i : Interpretation) (known : List Term) (formula : Term) → AllHold i known → truth i formula ≡ true → AllHold i (known_with known formula)
+hold_more i known formula h e = by_test (list_any (same_term formula) known)
+  where
+    by_test : (b : Bool) → AllHold i (if b then known else known ++ formula ∷ [])
+    by_test true = h
+    by_test false = hold_appended i known formula h e
+
+hold_less : (i : Interpretation) (known : List Term) (formula : Term) → AllHold i (known_with known formula) → AllHold i known × (truth i formula ≡ true)
+hold_less i known formula h = by_test (list_any (same_term formula) known) refl h
+  where
+    by_test : (b : Bool) → list_any (same_term formula) known ≡ b → AllHold i (if b then known else known ++ formula ∷ []) → AllHold i known × (truth i formula ≡ true)
+    by_test true e h = (h, hold_found i known formula e h)
+    by_test false e h = hold_before i known formula h
 
 head_there : {X : Type 0} (x : X) (xs : List X) → Contains (x ∷ xs) x
 head_there x xs = (0, omega arith, refl)
@@ -58,12 +83,12 @@ more_among i number first among at kind r =
 pub first_refuted : (i : Interpretation) (number : ℕ) (at : Pos) (kind : Kind) (said : List Said) (known : List Term) → FirstFalse i said at kind → AllHold i known → Refutes i number (obligations_of number known said) at kind
 first_refuted i number at kind [] known f h = absurd f
 first_refuted i number at kind (Known formula ∷ others) known f h = elim f [
-  | inl g ↦ first_refuted i number at kind others (known ++ formula ∷ []) g.1 (hold_more i known formula h g.0)
+  | inl g ↦ first_refuted i number at kind others (known_with known formula) g.1 (hold_more i known formula h g.0)
   | inr g ↦ absurd g.1
 ]
 first_refuted i number at kind (Owed own what formula ∷ others) known f h = elim f [
-  | inl g ↦ more_among i number (record { declaration = number; pos = own; kind = what; hypotheses = known; goal = formula }) (obligations_of number (known ++ formula ∷ []) others) at kind
-      (first_refuted i number at kind others (known ++ formula ∷ []) g.1 (hold_more i known formula h g.0))
+  | inl g ↦ more_among i number (record { declaration = number; pos = own; kind = what; hypotheses = known; goal = formula }) (obligations_of number (known_with known formula) others) at kind
+      (first_refuted i number at kind others (known_with known formula) g.1 (hold_more i known formula h g.0))
   | inr g ↦ record { obligation = record { declaration = number; pos = own; kind = what; hypotheses = known; goal = formula }; among_them = head_there _ _; declaration = refl; place = g.1.0; kind_is = g.1.1; hypotheses = h; goal = g.0 }
 ]
 
@@ -71,22 +96,22 @@ first_refuted i number at kind (Owed own what formula ∷ others) known f h = el
 pub refuted_first : (i : Interpretation) (number : ℕ) (said : List Said) (known : List Term) (o : Obligation) → Contains (obligations_of number known said) o → AllHold i o.hypotheses → truth i o.goal ≡ false → AllHold i known × FirstFalse i said o.pos o.kind
 refuted_first i number [] known o there h no_goal = absurd (none_there o there)
 refuted_first i number (Known formula ∷ others) known o there h no_goal =
-    let rest = refuted_first i number others (known ++ formula ∷ []) o there h no_goal in
+    let rest = refuted_first i number others (known_with known formula) o there h no_goal in
     let less = hold_less i known formula rest.0 in
     (less.0, inl (less.1, rest.1))
 refuted_first i number (Owed own what formula ∷ others) known o there h no_goal =
-    elim (head_or_rest (record { declaration = number; pos = own; kind = what; hypotheses = known; goal = formula }) (obligations_of number (known ++ formula ∷ []) others) o there) [
+    elim (head_or_rest (record { declaration = number; pos = own; kind = what; hypotheses = known; goal = formula }) (obligations_of number (known_with known formula) others) o there) [
       | inl e ↦ (subst (λ (x : Obligation). AllHold i x.hypotheses) (sym e) h, inr (subst (λ (x : Obligation). truth i x.goal ≡ false) (sym e) no_goal, (ap (λ (x : Obligation). x.pos) e, ap (λ (x : Obligation). x.kind) e)))
-      | inr r ↦ (let rest = refuted_first i number others (known ++ formula ∷ []) o r h no_goal in let less = hold_less i known formula rest.0 in (less.0, inl (less.1, rest.1)))
+      | inr r ↦ (let rest = refuted_first i number others (known_with known formula) o r h no_goal in let less = hold_less i known formula rest.0 in (less.0, inl (less.1, rest.1)))
     ]
 
 pub of_declaration : (number : ℕ) (said : List Said) (known : List Term) (o : Obligation) → Contains (obligations_of number known said) o → o.declaration ≡ number
 of_declaration number [] known o there = absurd (none_there o there)
-of_declaration number (Known formula ∷ others) known o there = of_declaration number others (known ++ formula ∷ []) o there
+of_declaration number (Known formula ∷ others) known o there = of_declaration number others (known_with known formula) o there
 of_declaration number (Owed own what formula ∷ others) known o there =
-    elim (head_or_rest (record { declaration = number; pos = own; kind = what; hypotheses = known; goal = formula }) (obligations_of number (known ++ formula ∷ []) others) o there) [
+    elim (head_or_rest (record { declaration = number; pos = own; kind = what; hypotheses = known; goal = formula }) (obligations_of number (known_with known formula) others) o there) [
       | inl e ↦ ap (λ (x : Obligation). x.declaration) (sym e)
-      | inr r ↦ of_declaration number others (known ++ formula ∷ []) o r
+      | inr r ↦ of_declaration number others (known_with known formula) o r
     ]
 
 -- ---- of all

@@ -1,11 +1,12 @@
 -- Obligations of small methods, by computation: the column and the kind of each, in order.
-use Rattle.std.proofs.Common.{◌≡◌, ℕ, true, List, [], ◌∷◌, map, refl}
+use Rattle.std.proofs.Common.{◌≡◌, ℕ, pos, true, List, [], ◌∷◌, map, refl}
 use Rattle.df_lang.specs.declared.ty.Ty.TheVariants as types
 use Rattle.df_lang.specs.Stmt.{Break}
 use Rattle.df_lang.specs.Program.{Program, Method}
-use Rattle.df_lang.proofs.Samples.{at, loc, parity, parities, below, alone, counting, returning, broken, leaving, swapping, meeting, main_of, cheated, twos, taking, narrow, printing, staying}
+use Rattle.df_lang.proofs.Samples.{N, at, num, loc, parity, parities, below, alone, counting, returning, broken, leaving, swapping, meeting, main_of, cheated, twos, taking, narrow, printing, staying}
 use Rattle.df_meaning.specs.declared.kind.Kind.{Kind}
 use Rattle.df_meaning.specs.declared.kind.Kind.TheVariants.{Assert as Asserted, Requires, Ensures, Entry, Turn, Decreases, Range, Distinct}
+use Rattle.df_nterm.specs.Term.{Term, Is, of_one, literal}
 use Rattle.df_npass.specs.Methods.{Obligation, obligations_of_method}
 
 record Place : Type 0 where
@@ -68,3 +69,14 @@ meets = refl
 
 prints : in_program (alone printing) 1 printing ≡ []
 prints = refl
+
+-- what is known where each is owed
+abbrev known_in : Program → ℕ → Method → List (List Term)
+known_in program number method = map (λ (o : Obligation). o.hypotheses) (obligations_of_method program (0 ∷ 1 ∷ 1 ∷ []) number method)
+
+abbrev is_small : ℕ → Term
+is_small n = of_one (Is N) (literal (pos n))
+
+-- the range of 2 is asked twice, and known once
+once : known_in (alone (meeting (num (pos 2)))) 1 (meeting (num (pos 2))) ≡ [] ∷ (is_small 1 ∷ []) ∷ (is_small 1 ∷ is_small 2 ∷ []) ∷ (is_small 1 ∷ is_small 2 ∷ []) ∷ []
+once = refl

@@ -1,7 +1,7 @@
 -- The obligations of methods and programs.
-use Rattle.std.specs.Prelude.{ℕ, suc, pos, false, List, [], ◌∷◌, ◌++◌, slice_get, slice_index_or, None}
+use Rattle.std.specs.Prelude.{ℕ, suc, pos, false, List, [], ◌∷◌, ◌++◌, slice_get, slice_index_or, None, if◌then◌else◌}
 use Rattle.std.specs.Option.{option_map_or}
-use Rattle.std.specs.List.{flat_map}
+use Rattle.std.specs.List.{flat_map, list_any}
 use Rattle.df_base.specs.declared.pos.Pos.{Pos}
 use Rattle.df_lang.specs.declared.ty.Ty.{Ty}
 use Rattle.df_lang.specs.Stmt.{Clause}
@@ -13,6 +13,7 @@ use Rattle.df_meaning.specs.declared.kind.Kind.TheVariants as kinds
 use Rattle.df_mean.specs.Modular.{Changed}
 use Rattle.df_nterm.specs.Term.{Sort, Numbers, Truths, Characters, Term, literal, truth_term, of_one, sort_of_type}
 use Rattle.df_nterm.specs.Term as ops
+use Rattle.df_nterm.specs.Same.{same_term}
 use Rattle.df_nterm.specs.Expressions.{Environment, term_of, conditions_of}
 use Rattle.df_nterm.specs.Measuring.{measured}
 use Rattle.df_npass.specs.Rules.{Said, Known, Owed, Way, assume, assert_all, paths_of, any_path, join}
@@ -70,12 +71,17 @@ pub record Obligation : Type 0 where
   pub hypotheses : List Term
   pub goal : Term
 
--- what is said before is a hypothesis
+-- a formula is known once
+abbrev pub known_with : List Term → Term → List Term
+known_with known formula = if list_any (same_term formula) known then known else known ++ formula ∷ []
+
+-- Hypotheses are what the declaration has assumed, in order, each under the path on which it holds; nothing else, and
+-- none twice. An obligation, once asked, is assumed as well.
 abbrev pub obligations_of : ℕ → List Term → List Said → List Obligation
 obligations_of number known [] = []
-obligations_of number known (Known formula ∷ others) = obligations_of number (known ++ formula ∷ []) others
+obligations_of number known (Known formula ∷ others) = obligations_of number (known_with known formula) others
 obligations_of number known (Owed at kind goal ∷ others) =
-    record { declaration = number; pos = at; kind = kind; hypotheses = known; goal = goal } ∷ obligations_of number (known ++ goal ∷ []) others
+    record { declaration = number; pos = at; kind = kind; hypotheses = known; goal = goal } ∷ obligations_of number (known_with known goal) others
 
 abbrev pub obligations_of_method : Program → List ℕ → ℕ → Method → List Obligation
 obligations_of_method program groups number method = obligations_of number [] (pass_method program groups number method)
