@@ -19,7 +19,7 @@ use Rattle.df_nterm.specs.Meaning.{Interpretation, truth}
 use Rattle.df_nterm.specs.Meaning as meanings
 use Rattle.df_nterm.specs.Expressions.{Environment, term_of, equal_in, narrowing}
 use Rattle.df_nterm.specs.Measuring.{measured, are_below}
-use Rattle.df_nterm.proofs.Below.{IsBelow, below, all_below, below_grows, equal_below, conjunction_below, disjunction_below, narrowing_below, term_below}
+use Rattle.df_nterm.proofs.Below.{IsBelow, below, all_below, below_grows, equal_below, disjunction_below, narrowing_below, term_below}
 use Rattle.df_npass.specs.Rules.{Said, Way, narrowed, over, with_term, assume, assert, assert_all, assume_type, free_of, Moved, havoc, assume_joined, join_locals, are_same, either_path, paths_of, any_path, Joined, join}
 use Rattle.df_npass.specs.Statements.{Setting, assert_clauses, assert_exprs, assert_measure, env_of, Given, any_values, assert_decrease, pass_method_call, given_behind, pass_call, assert_conversions, pass_source, pass_sources, Taken, taken_by, assert_equal, give_all, pass_update, pass_optional, ways_of}
 use Rattle.df_npass.proofs.Saying.{path_true, narrowed_false}
@@ -311,13 +311,9 @@ module _ (setting : Setting) where
       by_local true others = (h.0, others)
       by_local false others = others
 
-  equals_below : (n : ℕ) (ty : Ty) (a : Term) (others : List Term) → IsBelow n a → TermsBelow n others → all_below n (terms_of (map (equal_in ty a) others)) ≡ true
-  equals_below n ty a [] h g = refl
-  equals_below n ty a (b ∷ others) h g = and_joined _ _ (equal_below n ty a b h g.0) (equals_below n ty a others h g.1)
-
   equal_proper : (n : ℕ) (path : Option Term) (target : Target) (a : Term) (others : List Term) → PathBelow n path → IsBelow n a → TermsBelow n others → Proper n path (assert_equal path target a others)
   equal_proper n path target a [] p h g = nothing_proper n path
-  equal_proper n path target a (b ∷ others) p h g = owed_proper n path target.pos kinds.Distinct _ p (conjunction_below n (terms_of (map (equal_in target.ty a) (b ∷ others))) (equals_below n target.ty a (b ∷ others) h g))
+  equal_proper n path target a (b ∷ others) p h g = owed_proper n path target.pos kinds.Distinct _ p (equal_below n target.ty a b h g.0)
 
   give_going : (earlier : List Taken) (targets : List Target) (terms : List Term) (fresh : ℕ) (way : Way) → PathBelow fresh way.path → EnvBelow fresh way.env → TakenBelow fresh earlier → TermsBelow fresh terms → Going fresh way.path (give_all earlier targets terms fresh way)
   give_going earlier [] terms fresh way path env taken h = record { grows = le_refl fresh; said = nothing_proper fresh way.path; way = itself fresh way env path }

@@ -128,13 +128,17 @@ module _ (B : Type 0) (mode : Mode) (i : Interpretation) (n : ℕ) where
         (λ e. play_as B mode i n (assert_all path cs ++ more) _ (λ handed. told i cs (run handed)) (λ handed. ap (λ b. if b then told i cs (run handed) else Wrong c.pos c.kind) (sym (on_it i path c.formula there) ∙ e)) (told_then cs more run below.1 h))
         (λ e handed. ap (λ b. if b then told i cs (run handed) else Wrong c.pos c.kind) (sym (on_it i path c.formula there) ∙ e))
 
-    -- a formula decides between going on and being wrong
+    -- a formula decides between going on, where it is true, and being wrong
+    pub checked_true : (at : Pos) (kind : Kind) (formula : Term) (b : Bool) (more : List Said) (run : List Handed → Outcome B) → IsBelow n formula → b ≡ truth i formula → (b ≡ true → Plays more run)
+        → Plays (Owed at kind (on_path path formula) ∷ more) (λ handed. if b then run handed else Wrong at kind)
+    checked_true at kind formula b more run below same h =
+        said_then B mode i n (Owed at kind (on_path path formula)) more (λ handed. if b then run handed else Wrong at kind) (on_path_below n path formula path_is below)
+        (λ e. let is : b ≡ true = same ∙ sym (on_it i path formula there) ∙ e in play_as B mode i n more _ run (λ handed. ap (λ c. if c then run handed else Wrong at kind) is) (h is))
+        (λ e handed. ap (λ c. if c then run handed else Wrong at kind) (same ∙ sym (on_it i path formula there) ∙ e))
+
     pub checked_then : (at : Pos) (kind : Kind) (formula : Term) (b : Bool) (more : List Said) (run : List Handed → Outcome B) → IsBelow n formula → b ≡ truth i formula → Plays more run
         → Plays (Owed at kind (on_path path formula) ∷ more) (λ handed. if b then run handed else Wrong at kind)
-    checked_then at kind formula b more run below same h =
-        said_then B mode i n (Owed at kind (on_path path formula)) more (λ handed. if b then run handed else Wrong at kind) (on_path_below n path formula path_is below)
-        (λ e. play_as B mode i n more _ run (λ handed. ap (λ c. if c then run handed else Wrong at kind) (same ∙ sym (on_it i path formula there) ∙ e)) h)
-        (λ e handed. ap (λ c. if c then run handed else Wrong at kind) (same ∙ sym (on_it i path formula there) ∙ e))
+    checked_then at kind formula b more run below same h = checked_true at kind formula b more run below same (λ e. h)
 
     -- or between going on and a run that does not count
     pub known_then : (formula : Term) (b : Bool) (more : List Said) (run : List Handed → Outcome B) → IsBelow n formula → b ≡ truth i formula → Plays more run

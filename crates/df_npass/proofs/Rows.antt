@@ -1,12 +1,12 @@
 -- Obligations of small methods, by computation: the column and the kind of each, in order.
 use Rattle.std.proofs.Common.{◌≡◌, ℕ, pos, true, List, [], ◌∷◌, map, refl}
 use Rattle.df_lang.specs.declared.ty.Ty.TheVariants as types
-use Rattle.df_lang.specs.Stmt.{Break}
+use Rattle.df_lang.specs.Stmt.{Single, Break}
 use Rattle.df_lang.specs.Program.{Program, Method}
-use Rattle.df_lang.proofs.Samples.{N, at, num, loc, parity, parities, below, alone, counting, returning, broken, leaving, swapping, meeting, main_of, cheated, twos, taking, narrow, printing, staying}
+use Rattle.df_lang.proofs.Samples.{N, at, num, loc, target_at, pairs, parity, parities, below, alone, counting, returning, broken, leaving, swapping, meeting, main_of, cheated, twos, taking, narrow, printing, staying}
 use Rattle.df_meaning.specs.declared.kind.Kind.{Kind}
 use Rattle.df_meaning.specs.declared.kind.Kind.TheVariants.{Assert as Asserted, Requires, Ensures, Entry, Turn, Decreases, Range, Distinct}
-use Rattle.df_nterm.specs.Term.{Term, Is, of_one, literal}
+use Rattle.df_nterm.specs.Term.{Term, Is, of_one, literal, equal}
 use Rattle.df_npass.specs.Methods.{Obligation, obligations_of_method}
 
 record Place : Type 0 where
@@ -80,3 +80,13 @@ is_small n = of_one (Is N) (literal (pos n))
 -- the range of 2 is asked twice, and known once
 once : known_in (alone (meeting (num (pos 2)))) 1 (meeting (num (pos 2))) ≡ [] ∷ (is_small 1 ∷ []) ∷ (is_small 1 ∷ is_small 2 ∷ []) ∷ (is_small 1 ∷ is_small 2 ∷ []) ∷ []
 once = refl
+
+abbrev goals_in : Program → ℕ → Method → List Term
+goals_in program number method = map (λ (o : Obligation). o.goal) (obligations_of_method program (0 ∷ 1 ∷ 1 ∷ []) number method)
+
+abbrev thrice : Method
+thrice = pairs (target_at 0 N ∷ target_at 0 N ∷ target_at 0 N ∷ []) (Single N (loc 1) ∷ Single N (loc 0) ∷ Single N (num (pos 3)) ∷ [])
+
+-- a place that is named three times is owed equal to what it was given last
+meets_thrice : goals_in (alone thrice) 1 thrice ≡ is_small 1 ∷ is_small 2 ∷ is_small 3 ∷ equal (literal (pos 1)) (literal (pos 2)) ∷ equal (literal (pos 3)) (literal (pos 1)) ∷ []
+meets_thrice = refl

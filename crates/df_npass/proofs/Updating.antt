@@ -18,11 +18,11 @@ use Rattle.df_mean.specs.Meaning.{Meaning, Returned}
 use Rattle.df_mean.specs.Evaluation.{evaluate, converted}
 use Rattle.df_mean.specs.Execution.{Values, Taken, evaluate_all, execute_call, convert_all, execute_source, execute_sources, is_distinct, give_all, execute_update, execute_optional}
 use Rattle.df_mean.specs.Modular.{modular_call}
-use Rattle.df_mean.proofs.Cases.{both, three, joined}
+use Rattle.df_mean.proofs.Cases.{both, three}
 use Rattle.df_mean.proofs.Stating.{Within, target_there}
 use Rattle.df_mean.proofs.Assigning.{place}
 use Rattle.df_mean.proofs.Counting.{parted}
-use Rattle.df_nterm.specs.Term.{Term, Terms, no_term, term, terms_of, conjunction}
+use Rattle.df_nterm.specs.Term.{Term}
 use Rattle.df_nterm.specs.Meaning.{Interpretation, truth, has_sort}
 use Rattle.df_nterm.specs.Meaning as meanings
 use Rattle.df_nterm.specs.Expressions.{term_of, equal_in, narrowing}
@@ -30,7 +30,7 @@ use Rattle.df_nterm.specs.Measuring.{Measured}
 use Rattle.df_nterm.specs.Laws.{told}
 use Rattle.df_nterm.proofs.Told.{told_after}
 use Rattle.df_nterm.proofs.Sorted.{IsSorted, converted_sort}
-use Rattle.df_nterm.proofs.Below.{IsBelow, narrowing_below, equal_below, conjunction_below, all_below}
+use Rattle.df_nterm.proofs.Below.{IsBelow, narrowing_below, equal_below}
 use Rattle.df_nterm.proofs.Answering.{conversion_told, equal_told}
 use Rattle.df_npass.specs.Rules.{Said, Way, Moved, over, with_term, assert_all}
 use Rattle.df_npass.specs.Statements as passing
@@ -39,7 +39,7 @@ use Rattle.df_npass.proofs.Saying.{path_true}
 use Rattle.df_npass.proofs.Playing.{some_equal, Mode, Moves, moves_here, moves_then, Play, play_as}
 use Rattle.df_npass.proofs.Proper.{PathBelow, path_grows}
 use Rattle.df_npass.proofs.Leading.{TermsBelow, exprs_below, call_giving, source_giving, sources_giving}
-use Rattle.df_npass.proofs.Reading.{values_at, AreOf, with_handed, after_listed, told_then, checked_then, expr_then, exprs_then}
+use Rattle.df_npass.proofs.Reading.{values_at, AreOf, with_handed, after_listed, told_then, checked_true, expr_then, exprs_then}
 use Rattle.df_npass.proofs.Coming.{path_same}
 use Rattle.df_npass.proofs.Joining.{values_equal}
 use Rattle.df_npass.proofs.Arguments.{of_moves, values_move, of_append, values_append, same_types_are}
@@ -63,15 +63,6 @@ same_by true b f g = sym (f refl)
 same_by false true f g = g refl
 same_by false false f g = refl
 
-conjunction_truth : (i : Interpretation) (parts : Terms) → truth i (conjunction parts) ≡ list_all truth_of (meanings.values i parts)
-conjunction_truth i no_term = refl
-conjunction_truth i (term a no_term) = alone (truth i a)
-  where
-    alone : (b : Bool) → b ≡ (b && true)
-    alone true = refl
-    alone false = refl
-conjunction_truth i (term a (term b others)) = refl
-
 -- the value is that of all terms
 abbrev all_equal : Interpretation → Value → List Term → Bool
 all_equal i v terms = list_all (λ (b : Term). same_value (meanings.value i b) v) terms
@@ -79,13 +70,22 @@ all_equal i v terms = list_all (λ (b : Term). same_value (meanings.value i b) v
 abbrev AllSorted : Interpretation → Ty → List Term → Type 0
 AllSorted i ty terms = AllByRecursion (λ (b : Term). IsSorted ty (meanings.value i b)) terms
 
-equals_truth : (i : Interpretation) (ty : Ty) (a : Term) (others : List Term) → IsSorted ty (meanings.value i a) → AllSorted i ty others → list_all truth_of (meanings.values i (terms_of (map (equal_in ty a) others))) ≡ all_equal i (meanings.value i a) others
-equals_truth i ty a [] is are = refl
-equals_truth i ty a (b ∷ others) is are =
-    and_same _ _ _ _ (sym (equal_told i ty a b is are.0) ∙ same_by _ _ (same_back (meanings.value i a) (meanings.value i b)) (same_back (meanings.value i b) (meanings.value i a))) (equals_truth i ty a others is are.1)
+-- all terms have one value
+abbrev AllSame : Interpretation → List Term → Type 0
+AllSame i [] = Unit {0}
+AllSame i (b ∷ others) = all_equal i (meanings.value i b) others ≡ true
+
+-- then a value is that of all where it is that of the first
+first_decides : (i : Interpretation) (v : Value) (b : Term) (others : List Term) → all_equal i (meanings.value i b) others ≡ true → all_equal i v (b ∷ others) ≡ same_value (meanings.value i b) v
+first_decides i v b others same = by_first (same_value (meanings.value i b) v) refl
   where
-    and_same : (x y u w : Bool) → x ≡ y → u ≡ w → (x && u) ≡ (y && w)
-    and_same x y u w e f = cc
+    by_first : (c : Bool) → same_value (meanings.value i b) v ≡ c → (c && all_equal i v others) ≡ c
+    by_first true e = subst (λ w. all_equal i w others ≡ true) (values_equal (meanings.value i b) v e) same
+    by_first false e = refl
+
+equal_truth : (i : Interpretation) (ty : Ty) (a b : Term) → IsSorted ty (meanings.value i a) → IsSorted ty (meanings.value i b) → same_value (meanings.value i b) (meanings.value i a) ≡ truth i (equal_in ty a b)
+equal_truth i ty a b is b_is =
+    same_by (same_value (meanings.value i b) (meanings.value i a)) (same_value (meanings.value i a) (meanings.value i b)) (same_back (meanings.value i b) (meanings.value i a)) (same_back (meanings.value i a) (meanings.value i b)) ∙ equal_told i ty a b is b_is
 
 -- terms that locals were given, and their values
 abbrev taken_values : Interpretation → List passing.Taken → List Taken
@@ -124,23 +124,38 @@ taken_sorted i n all local ty typed (taken ∷ earlier) are = by_local (taken.lo
     by_local true e others = (are.0.1 ty (subst (λ (k : ℕ). slice_get all k ≡ Some ty) (sym (eqb-true taken.local local e)) typed), others)
     by_local false e others = others
 
-taken_are_below : (i : Interpretation) (n : ℕ) (all : List Ty) (local : ℕ) (ty : Ty) (a : Term) → IsBelow n a → (earlier : List passing.Taken) → AreTaken i n all earlier → all_below n (terms_of (map (equal_in ty a) (taken_by local earlier))) ≡ true
-taken_are_below i n all local ty a below [] are = refl
-taken_are_below i n all local ty a below (taken ∷ earlier) are = by_local (taken.local == local) (taken_are_below i n all local ty a below earlier are.1)
+taken_are_below : (i : Interpretation) (n : ℕ) (all : List Ty) (local : ℕ) (earlier : List passing.Taken) → AreTaken i n all earlier → TermsBelow n (taken_by local earlier)
+taken_are_below i n all local [] are = tt
+taken_are_below i n all local (taken ∷ earlier) are = by_local (taken.local == local) (taken_are_below i n all local earlier are.1)
   where
-    by_local : (b : Bool) → all_below n (terms_of (map (equal_in ty a) (taken_by local earlier))) ≡ true
-        → all_below n (terms_of (map (equal_in ty a) (map (λ (one : passing.Taken). one.value) (if b then taken ∷ filter (λ (one : passing.Taken). one.local == local) earlier else filter (λ (one : passing.Taken). one.local == local) earlier)))) ≡ true
-    by_local true others = joined _ _ (equal_below n ty a taken.value below are.0.0) others
+    by_local : (b : Bool) → TermsBelow n (taken_by local earlier)
+        → TermsBelow n (map (λ (one : passing.Taken). one.value) (if b then taken ∷ filter (λ (one : passing.Taken). one.local == local) earlier else filter (λ (one : passing.Taken). one.local == local) earlier))
+    by_local true others = (are.0.0, others)
     by_local false others = others
+
+-- a local that was given several terms was given one value
+abbrev AreAlike : Interpretation → List passing.Taken → Type 0
+AreAlike i [] = Unit {0}
+AreAlike i (taken ∷ earlier) = (all_equal i (meanings.value i taken.value) (taken_by taken.local earlier) ≡ true) × AreAlike i earlier
+
+taken_alike : (i : Interpretation) (local : ℕ) (earlier : List passing.Taken) → AreAlike i earlier → AllSame i (taken_by local earlier)
+taken_alike i local [] alike = tt
+taken_alike i local (taken ∷ earlier) alike = by_local (taken.local == local) refl (taken_alike i local earlier alike.1)
+  where
+    by_local : (b : Bool) → (taken.local == local) ≡ b → AllSame i (taken_by local earlier)
+        → AllSame i (map (λ (one : passing.Taken). one.value) (if b then taken ∷ filter (λ (one : passing.Taken). one.local == local) earlier else filter (λ (one : passing.Taken). one.local == local) earlier))
+    by_local true e others = subst (λ (k : ℕ). all_equal i (meanings.value i taken.value) (taken_by k earlier) ≡ true) (eqb-true taken.local local e) alike.0
+    by_local false e others = others
 
 module _ (B : Type 0) (mode : Mode) (i : Interpretation) (n : ℕ) (path : Option Term) (there : path_true i path ≡ true) (path_is : PathBelow n path) where
   -- unequal values for one place are wrong at the later one
-  equal_then : (t : Target) (a : Term) (others : List Term) (more : List Said) (run : List Handed → Outcome B) → IsSorted t.ty (meanings.value i a) → AllSorted i t.ty others → all_below n (terms_of (map (equal_in t.ty a) others)) ≡ true → Play B mode i n more run
+  equal_then : (t : Target) (a : Term) (others : List Term) (more : List Said) (run : List Handed → Outcome B) → IsSorted t.ty (meanings.value i a) → AllSorted i t.ty others → AllSame i others → IsBelow n a → TermsBelow n others
+      → (all_equal i (meanings.value i a) others ≡ true → Play B mode i n more run)
       → Play B mode i n (assert_equal path t a others ++ more) (λ handed. if all_equal i (meanings.value i a) others then run handed else Wrong t.pos kinds.Distinct)
-  equal_then t a [] more run is are below h = h
-  equal_then t a (b ∷ others) more run is are below h =
-      checked_then B mode i n path there path_is t.pos kinds.Distinct (conjunction (terms_of (map (equal_in t.ty a) (b ∷ others)))) (all_equal i (meanings.value i a) (b ∷ others)) more run
-      (conjunction_below n (terms_of (map (equal_in t.ty a) (b ∷ others))) below) (sym (conjunction_truth i (terms_of (map (equal_in t.ty a) (b ∷ others))) ∙ equals_truth i t.ty a (b ∷ others) is are)) h
+  equal_then t a [] more run is are same below others_below h = h refl
+  equal_then t a (b ∷ others) more run is are same below others_below h =
+      checked_true B mode i n path there path_is t.pos kinds.Distinct (equal_in t.ty a b) (all_equal i (meanings.value i a) (b ∷ others)) more run
+      (equal_below n t.ty a b below others_below.0) (first_decides i (meanings.value i a) b others same ∙ equal_truth i t.ty a b is are.0) h
 
   -- results at places of other types
   conversions_then : (m : Meaning) → m.program ≡ i.program → (at : Pos) (way : Way) → way.path ≡ path → (cs : List Conversion) (terms : List Term) (more : List Said) (go : List Handed → List Value → Outcome B)
@@ -265,12 +280,12 @@ module _ (B : Type 0) (program : Program) (entry : List Measured) (entered : Lis
   There way before s fresh = Stands program entry entered all mode i fresh way before s
 
   give_then : (targets : List Target) (terms : List Term) (earlier : List passing.Taken) (way : Way) (before : Assigned) (s : State) (more : List Said) (go : State → Outcome B)
-      → list_all (is_target (place program locals own in_loop)) targets ≡ true → AreOf i (map (λ (t : Target). t.ty) targets) terms → TermsBelow n terms → AreTaken i n all earlier → There way before s n
+      → list_all (is_target (place program locals own in_loop)) targets ≡ true → AreOf i (map (λ (t : Target). t.ty) targets) terms → TermsBelow n terms → AreTaken i n all earlier → AreAlike i earlier → There way before s n
       → ((t : State) → There (passing.give_all earlier targets terms n way).way (assign before targets) t (passing.give_all earlier targets terms n way).fresh → Play B mode i (passing.give_all earlier targets terms n way).fresh more (λ handed. go (with_handed t handed)))
       → Play B mode i n ((passing.give_all earlier targets terms n way).said ++ more) (λ handed. after (give_all (with_handed s handed) (taken_values i earlier) targets (values_at i terms)) go)
-  give_then [] terms earlier way before s more go are of below taken here h = h s here
-  give_then (t ∷ ts) [] earlier way before s more go are of below taken here h = absurd of
-  give_then (t ∷ ts) (a ∷ others) earlier way before s more go are of below taken here h =
+  give_then [] terms earlier way before s more go are of below taken alike here h = h s here
+  give_then (t ∷ ts) [] earlier way before s more go are of below taken alike here h = absurd of
+  give_then (t ∷ ts) (a ∷ others) earlier way before s more go are of below taken alike here h =
       let are = both (is_target (place program locals own in_loop) t) (list_all (is_target (place program locals own in_loop)) ts) are in
       let typed = target_there m locals all own in_loop within t are.0 in
       let v = meanings.value i a in
@@ -283,8 +298,8 @@ module _ (B : Type 0) (program : Program) (entry : List Measured) (entered : Lis
       (play_as B mode i n _ _ (λ handed. if all_equal i v (taken_by t.local earlier) then after (give_all (with_handed (with_local s t.local v) handed) (taken_values i later) ts (values_at i others)) go else Wrong t.pos kinds.Distinct)
       (λ handed. after_choice (is_distinct (taken_values i earlier) t.local v) (all_equal i v (taken_by t.local earlier)) t.pos kinds.Distinct (give_all (with_handed (with_local s t.local v) handed) (taken_values i later) ts (values_at i others)) go (distinct_is i earlier t.local v))
       (equal_then B mode i n way.path here.sits.there here.path t a (taken_by t.local earlier) (rest.said ++ more) (λ handed. after (give_all (with_handed (with_local s t.local v) handed) (taken_values i later) ts (values_at i others)) go) of.0
-      (taken_sorted i n all t.local t.ty typed earlier taken) (taken_are_below i n all t.local t.ty a below.0 earlier taken)
-      (give_then ts others later next (mark true before t.local) (with_local s t.local v) more go are.1 of.1 below.1 more_taken (stands_given program entry entered all mode i n way before s t.local t.ty a typed below.0 of.0 here) h)))
+      (taken_sorted i n all t.local t.ty typed earlier taken) (taken_alike i t.local earlier alike) below.0 (taken_are_below i n all t.local earlier taken) (λ met.
+      give_then ts others later next (mark true before t.local) (with_local s t.local v) more go are.1 of.1 below.1 more_taken (met, alike) (stands_given program entry entered all mode i n way before s t.local t.ty a typed below.0 of.0 here) h)))
 
 module _ (B : Type 0) (program : Program) (well : is_well_typed program ≡ true) (groups : List ℕ) (number : ℕ) (entry : List Measured) (entered : List Value)
     (m : Meaning) (m_is : m.program ≡ program) (call_is : m.call ≡ modular_call (running B program well groups number entry entered)) (own : Method) (locals all : List Ty) (within : Within locals all) (in_loop : Bool) (before : Assigned) where
@@ -307,7 +322,7 @@ module _ (B : Type 0) (program : Program) (well : is_well_typed program ≡ true
       (play_as B mode i n _ _ (λ handed. after (execute_sources m (with_handed s handed) update.sources) on) (λ handed. after_after (execute_sources m (with_handed s handed) update.sources) _ go)
       (sources_then B program well groups number entry entered m m_is call_is own locals all within in_loop before update.sources mode i n way s (moved.said ++ more) on is.1 read here (λ k j text moves are.
       give_then B program entry entered m own locals all within in_loop k j given.fresh update.targets given.terms [] way before (printed_state s text) more go is.0
-      (subst (λ tys. AreOf j tys given.terms) (same_types_are (flat_map source_types update.sources) (map (λ (t : Target). t.ty) update.targets) is.2) are) giving.terms tt
+      (subst (λ tys. AreOf j tys given.terms) (same_types_are (flat_map source_types update.sources) (map (λ (t : Target). t.ty) update.targets) is.2) are) giving.terms tt tt
       (stands_moves program entry entered all mode k i j n given.fresh way before s (printed_state s text) giving.grows moves (λ x. refl) here) (λ t there. h k j t moves there))))
 
   pub optional_then : (update : Option Update) (mode : Mode) (i : Interpretation) (n : ℕ) (way : Way) (s : State) (more : List Said) (go : State → Outcome B) → may_update (place program locals own in_loop) update ≡ true → unassigned before (reads_of_update update) ≡ []

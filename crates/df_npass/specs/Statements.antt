@@ -12,7 +12,7 @@ use Rattle.df_lang.specs.Groups.{group_at}
 use Rattle.df_meaning.specs.declared.kind.Kind.{Kind}
 use Rattle.df_meaning.specs.declared.kind.Kind.TheVariants as kinds
 use Rattle.df_mean.specs.Modular.{Changed, changed_by_all}
-use Rattle.df_nterm.specs.Term.{Term, terms_of, literal, negation, conjunction}
+use Rattle.df_nterm.specs.Term.{Term, literal, negation}
 use Rattle.df_nterm.specs.Expressions.{Environment, term_of, conditions_of, equal_in, narrowing}
 use Rattle.df_nterm.specs.Measuring.{Measured, measured, are_below}
 use Rattle.df_npass.specs.Rules.{Said, Way, Moved, narrowed, over, with_term, assume, assert, assert_all, assume_all, assume_type, free_of, havoc, paths_of, any_path, join}
@@ -162,10 +162,10 @@ pub record Taken : Type 0 where
 abbrev pub taken_by : ℕ → List Taken → List Term
 taken_by local earlier = map (λ (taken : Taken). taken.value) (filter (λ (taken : Taken). taken.local == local) earlier)
 
--- a place that is named again is to be given what it was given before
+-- a place that is named again is to be given what it was given last: by then all before it are known to be equal
 abbrev pub assert_equal : Option Term → Target → Term → List Term → List Said
 assert_equal path target a [] = []
-assert_equal path target a (b ∷ others) = assert path target.pos kinds.Distinct (conjunction (terms_of (map (equal_in target.ty a) (b ∷ others))))
+assert_equal path target a (b ∷ others) = assert path target.pos kinds.Distinct (equal_in target.ty a b)
 
 -- terms go to their places
 abbrev pub give_all : List Taken → List Target → List Term → ℕ → Way → Moved
