@@ -11,18 +11,18 @@ use Rattle.df_mean.proofs.Changing.{are_there}
 use Rattle.df_nterm.specs.Term.{Term}
 use Rattle.df_nterm.specs.Meaning.{Interpretation}
 use Rattle.df_nterm.proofs.Below.{SameBelow}
-use Rattle.df_npass.specs.Rules.{Said, Way, paths_of, any_path, join}
+use Rattle.df_npass.specs.Rules.{Said, Way, paths_of, any_path, join_branches}
 use Rattle.df_npass.specs.Statements.{Flow, Parted, ways_of, last_of, first_of, path_behind, rejoined}
 use Rattle.df_npass.proofs.Saying.{path_true, all_appended}
 use Rattle.df_npass.proofs.Playing.{Mode, Moves, moves_here, moves_then, same_itself, same_then, Play, play_behind, play_later}
 use Rattle.df_npass.proofs.Proper.{PathBelow, EnvBelow, path_grows, env_grows}
-use Rattle.df_npass.proofs.Leading.{Reaches, JoinGoing, join_going, any_path_reaches}
+use Rattle.df_npass.proofs.Leading.{Reaches, JoinGoing, branches_going, any_path_reaches}
 use Rattle.df_npass.proofs.Staying.{AllStay}
 use Rattle.df_npass.proofs.Flowing.{Flows, Parts}
 use Rattle.df_npass.proofs.Reading.{SortedAll}
 use Rattle.df_npass.proofs.Coming.{AllOff, OneSits, off_append, off_lead, off_moves, path_same, sorted_moves, one_left, one_right, one_less, one_reached, reached_left, reached_right, join_left, join_right}
-use Rattle.df_npass.proofs.Joining.{Many, join_then}
-use Rattle.df_npass.proofs.Leaving.{no_path, one_path, join_off_said, join_off_way}
+use Rattle.df_npass.proofs.Joining.{Many, branches_join_then}
+use Rattle.df_npass.proofs.Leaving.{no_path, one_path, branches_off_said, branches_off_way}
 use Rattle.df_npass.proofs.Sequencing.{hand, Comes, Onward, or_left, or_right}
 
 -- ---- a branch and those after it
@@ -125,8 +125,8 @@ module _ (B : Type 0) (all : List Ty) (back : Assigned) (mode : Mode) (i : Inter
   reaches true = any_path_reaches parted.fresh way.path parted.ways parts.ways
   reaches false = record { path_is = path_grows n parted.fresh way.path parts.grows path; off = λ i e. e }
 
-  going : JoinGoing parted.fresh way.path (join after_path way.env changed parted.ways parted.fresh)
-  going = join_going after_path way.env changed parted.ways parted.fresh way.path (env_grows n parted.fresh way.env parts.grows env) parts.ways (reaches parted.loses)
+  going : JoinGoing parted.fresh way.path (join_branches after_path way.env changed parted.ways parted.fresh)
+  going = branches_going after_path way.env changed parted.ways parted.fresh way.path (env_grows n parted.fresh way.env parts.grows env) parts.ways (reaches parted.loses)
 
   comes_there : (k : Mode) (j : Interpretation) (t : State) → SameBelow n i j → OneSits k j all parted.ways behind t → path_true j after_path ≡ true
   comes_there k j t same one = by_loss parted.loses
@@ -138,27 +138,27 @@ module _ (B : Type 0) (all : List Ty) (back : Assigned) (mode : Mode) (i : Inter
   none_there : (j : Interpretation) → AllOff j parted.ways → parted.loses ≡ true → path_true j after_path ≡ false
   none_there j off loses = ap (λ (b : Bool). path_true j (if b then any_path (paths_of parted.ways) else way.path)) loses ∙ no_path j parted.ways off
 
-  left : (k : Mode) (j : Interpretation) (f : flows.Flow) → AllOff j parted.ways → Play B k j (join after_path way.env changed parted.ways parted.fresh).fresh more (λ handed. go (hand f handed))
-      → Play B k j parted.fresh ((join after_path way.env changed parted.ways parted.fresh).said ++ more) (λ handed. go (hand f handed))
+  left : (k : Mode) (j : Interpretation) (f : flows.Flow) → AllOff j parted.ways → Play B k j (join_branches after_path way.env changed parted.ways parted.fresh).fresh more (λ handed. go (hand f handed))
+      → Play B k j parted.fresh ((join_branches after_path way.env changed parted.ways parted.fresh).said ++ more) (λ handed. go (hand f handed))
   left k j f off p =
-      let joined = join after_path way.env changed parted.ways parted.fresh in
-      play_behind B k j parted.fresh joined.said more (λ handed. go (hand f handed)) (λ u same. join_off_said u after_path way.env changed parted.ways parted.fresh (off_moves j u parted.fresh way.path parted.ways parts.ways same off))
+      let joined = join_branches after_path way.env changed parted.ways parted.fresh in
+      play_behind B k j parted.fresh joined.said more (λ handed. go (hand f handed)) (λ u same. branches_off_said u after_path way.env changed parted.ways parted.fresh (off_moves j u parted.fresh way.path parted.ways parts.ways same off))
       (play_later B k j parted.fresh joined.fresh more (λ handed. go (hand f handed)) going.grows p)
 
-  pub rejoin_onward : Onward B all back mode i n parted behind carried ((join after_path way.env changed parted.ways parted.fresh).said ++ more) go
+  pub rejoin_onward : Onward B all back mode i n parted behind carried ((join_branches after_path way.env changed parted.ways parted.fresh).said ++ more) go
   rejoin_onward = record {
     on = by_flow;
-    over = λ j same ways breaks returns loses. all_appended j (join after_path way.env changed parted.ways parted.fresh).said more (join_off_said j after_path way.env changed parted.ways parted.fresh ways)
-        (h.over j same (join_off_way j after_path way.env changed parted.ways parted.fresh ways (λ many. none_there j ways loses)) breaks returns loses);
+    over = λ j same ways breaks returns loses. all_appended j (join_branches after_path way.env changed parted.ways parted.fresh).said more (branches_off_said j after_path way.env changed parted.ways parted.fresh ways)
+        (h.over j same (branches_off_way j after_path way.env changed parted.ways parted.fresh ways (λ many. none_there j ways loses)) breaks returns loses);
   }
     where
-      by_flow : (k : Mode) (j : Interpretation) (f : flows.Flow) → Moves mode i n k j → Comes k j all back parted behind carried f → Play B k j parted.fresh ((join after_path way.env changed parted.ways parted.fresh).said ++ more) (λ handed. go (hand f handed))
+      by_flow : (k : Mode) (j : Interpretation) (f : flows.Flow) → Moves mode i n k j → Comes k j all back parted behind carried f → Play B k j parted.fresh ((join_branches after_path way.env changed parted.ways parted.fresh).said ++ more) (λ handed. go (hand f handed))
       by_flow k j (flows.Next t) moves comes =
-          join_then B parted.fresh all after_path way.path way.env changed behind t k j more (λ handed. go (hand (flows.Next t) handed)) (sorted_moves n i j moves.same all way.env env sorted) (env_grows n parted.fresh way.env parts.grows env) there
+          branches_join_then B parted.fresh all after_path way.path way.env changed behind t k j more (λ handed. go (hand (flows.Next t) handed)) (sorted_moves n i j moves.same all way.env env sorted) (env_grows n parted.fresh way.env parts.grows env) there
           parted.ways comes.0 parts.ways (λ many. (comes_there k j t moves.same comes.0, (reaches parted.loses).path_is)) cover going (λ w u is moved sits.
           h.on k u (flows.Next t) (moves_then mode k k i j u n parted.fresh parts.grows moves moved)
           (subst (λ o. OneSits k u all (ways_of o) behind t) (sym is) (inl (sits, tt)), off_moves j u parted.fresh way.path parted.breaks parts.breaks moved.same comes.1, off_moves j u parted.fresh way.path parted.returns parts.returns moved.same comes.2))
       by_flow k j (flows.Break t) moves comes =
-          left k j (flows.Break t) comes.1 (h.on k j (flows.Break t) moves (comes.0, join_off_way j after_path way.env changed parted.ways parted.fresh comes.1 (λ many. none_there j comes.1 comes.3), comes.2, comes.3))
+          left k j (flows.Break t) comes.1 (h.on k j (flows.Break t) moves (comes.0, branches_off_way j after_path way.env changed parted.ways parted.fresh comes.1 (λ many. none_there j comes.1 comes.3), comes.2, comes.3))
       by_flow k j (flows.Return t) moves comes =
-          left k j (flows.Return t) comes.1 (h.on k j (flows.Return t) moves (comes.0, join_off_way j after_path way.env changed parted.ways parted.fresh comes.1 (λ many. none_there j comes.1 comes.3), comes.2, comes.3))
+          left k j (flows.Return t) comes.1 (h.on k j (flows.Return t) moves (comes.0, branches_off_way j after_path way.env changed parted.ways parted.fresh comes.1 (λ many. none_there j comes.1 comes.3), comes.2, comes.3))

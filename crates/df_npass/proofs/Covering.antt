@@ -15,7 +15,7 @@ use Rattle.df_mean.proofs.Cases.{three}
 use Rattle.df_mean.proofs.Assigning.{place, all_grow, branches_grow}
 use Rattle.df_nterm.specs.Term.{Term, negation}
 use Rattle.df_nterm.specs.Expressions.{Environment, term_of}
-use Rattle.df_npass.specs.Rules.{Way, narrowed, join}
+use Rattle.df_npass.specs.Rules.{Way, narrowed, join_branches}
 use Rattle.df_npass.specs.Statements.{Setting, Flow, followed_by, ways_of, Parted, declared_by_all, each_once, changed_outside, changed_in_branches, changed_outside_if, pass_stmt, pass_all, pass_branches}
 use Rattle.df_npass.proofs.Staying.{AllStay, neither, in_both, unchanged, all_stay, branches_stay}
 use Rattle.df_npass.proofs.Coming.{IsReached, reached_mark, reached_left, reached_right, join_left, join_right}
@@ -90,7 +90,7 @@ pub record Gains (k : ℕ) (before behind : Assigned) (changed : List Changed) :
 gains_same : (k : ℕ) (before : Assigned) (changed : List Changed) → IsReached before → Gains k before before changed
 gains_same k before changed r = record { reached = r; none = λ h e. h }
 
-not_empty : (path : Option Term) (env : Environment) (changed : List Changed) (ways : List Way) (fresh : ℕ) (w : Way) → (join path env changed ways fresh).way ≡ Some w → ways ≡ [] → ⊥
+not_empty : (path : Option Term) (env : Environment) (changed : List Changed) (ways : List Way) (fresh : ℕ) (w : Way) → (join_branches path env changed ways fresh).way ≡ Some w → ways ≡ [] → ⊥
 not_empty path env changed [] fresh w e f = no_way w e
   where
     no_way : (w : Way) → None ≡ Some w → ⊥

@@ -134,7 +134,7 @@ module _ (program : Program) (own : Method) (all : List Ty) (within : Within (ty
   ended_play : (k : Mode) (j : Interpretation) (t : State) → Moves mode i n k j → OneSits k j all ways (back own) t → Play State k j flow.fresh (ended own flow) (λ handed. check_all m (with_handed t handed) kinds.Ensures own.postconditions)
   ended_play k j t moves one =
       join_then State flow.fresh all after_path None (way_in own).env changed (back own) t k j (owed joined_ways.way) (λ handed. check_all m (with_handed t handed) kinds.Ensures own.postconditions) (sorted_moves n i j moves.same all (way_in own).env env sorted) here_env there
-      ways one leads (λ several. (one_path k j all ways (back own) t one, (any_path_reaches flow.fresh None ways leads).path_is)) (λ several. cover) going (λ w u is moved sits.
+      ways one leads (λ several. (one_path k j all ways (back own) t one, (any_path_reaches flow.fresh None ways leads).path_is)) cover going (λ w u is moved sits.
       let lead = (subst (λ o. AllLead joined_ways.fresh None (ways_of o)) is going.way).0 in
       subst (λ o. Play State k u joined_ways.fresh (owed o) (λ handed. check_all m (with_handed t handed) kinds.Ensures own.postconditions)) (sym is)
       (subst (λ said. Play State k u joined_ways.fresh said (λ handed. check_all m (with_handed t handed) kinds.Ensures own.postconditions)) (append-nil (owed (Some w)))

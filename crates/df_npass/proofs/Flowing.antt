@@ -10,10 +10,10 @@ use Rattle.df_nterm.specs.Term.{Term, negation}
 use Rattle.df_nterm.specs.Expressions.{term_of}
 use Rattle.df_nterm.specs.Measuring.{Measured, measured}
 use Rattle.df_nterm.proofs.Below.{term_below}
-use Rattle.df_npass.specs.Rules.{Said, Way, narrowed, Moved, havoc, paths_of, any_path, join}
+use Rattle.df_npass.specs.Rules.{Said, Way, narrowed, Moved, havoc, paths_of, any_path, join, join_branches}
 use Rattle.df_npass.specs.Statements.{Setting, Flow, saying, goes_on, behind, followed_by, then_next, at_clause, assert_clauses, assume_clauses, assert_expr, assert_measure, changed_outside, changed_outside_if, Parted, ways_of, first_of, path_behind, rejoined, assert_turn, behind_loop, pass_stmt, pass_all, pass_branches}
 use Rattle.df_npass.proofs.Proper.{PathBelow, EnvBelow, Proper, path_grows, env_grows, proper_grows, nothing_proper, append_proper, owed_proper, expr_proper, clauses_proper, handed_proper, measure_proper, operands_proper, MeasureBelow, measured_below, measure_grows, order_below}
-use Rattle.df_npass.proofs.Leading.{Leads, AllLead, lead_grows, all_lead_grow, append_lead, itself, farther, farther_proper, narrowed_leads, Going, havoc_going, Reaches, join_going, any_path_reaches, call_giving, update_going, optional_going}
+use Rattle.df_npass.proofs.Leading.{Leads, AllLead, lead_grows, all_lead_grow, append_lead, itself, farther, farther_proper, narrowed_leads, Going, havoc_going, Reaches, join_going, branches_going, any_path_reaches, call_giving, update_going, optional_going}
 
 pub record Flows (fresh : ℕ) (path : Option Term) (flow : Flow) : Type 0 where
   pub grows : fresh ≤ flow.fresh
@@ -83,8 +83,8 @@ then_flows fresh path flow go h g = by_way flow.way refl
 
 rejoined_flows : (fresh : ℕ) (changed : List Changed) (before : Way) (parted : Parted) → EnvBelow fresh before.env → PathBelow fresh before.path → Parts fresh before.path parted → Flows fresh before.path (rejoined changed before parted)
 rejoined_flows fresh changed before parted env path h =
-    let joined = join (path_behind before parted) before.env changed parted.ways parted.fresh in
-    let going = join_going (path_behind before parted) before.env changed parted.ways parted.fresh before.path (env_grows fresh parted.fresh before.env h.grows env) h.ways (reaches parted.loses) in
+    let joined = join_branches (path_behind before parted) before.env changed parted.ways parted.fresh in
+    let going = branches_going (path_behind before parted) before.env changed parted.ways parted.fresh before.path (env_grows fresh parted.fresh before.env h.grows env) h.ways (reaches parted.loses) in
     record {
       grows = le_trans h.grows going.grows;
       said = append_proper joined.fresh before.path parted.said joined.said (proper_grows parted.fresh joined.fresh before.path parted.said going.grows h.said) going.said;

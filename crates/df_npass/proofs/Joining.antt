@@ -1,5 +1,5 @@
 -- Where ways come together, one of them is the one that runs come by.
-use Rattle.std.proofs.Common.{◌≡◌, ◌⊎◌, inl, inr, ℕ, suc, ◌≤◌, Bool, true, false, ◌||◌, if◌then◌else◌, List, [], ◌∷◌, ◌++◌, slice_get, Option, None, Some, refl, sym, ap, ◌∙◌, subst}
+use Rattle.std.proofs.Common.{◌≡◌, ◌⊎◌, inl, inr, ℕ, suc, ◌≤◌, ◌==◌, Bool, true, false, ◌||◌, if◌then◌else◌, List, [], ◌∷◌, ◌++◌, slice_get, Option, None, Some, refl, sym, ap, ◌∙◌, subst}
 use Rattle.std.proofs.lemmas.Bool.{eqb-true, eq-eqb}
 use Rattle.std.proofs.lemmas.Bool.Decides.{Decides-int_eq}
 use Rattle.std.specs.Option.{option_map_or}
@@ -24,12 +24,12 @@ use Rattle.df_nterm.proofs.Sorted.{IsSorted}
 use Rattle.df_nterm.proofs.Below.{SameBelow, value_same}
 use Rattle.df_nterm.proofs.Equal.{term_is, same_int}
 use Rattle.df_nterm.proofs.Answering.{equal_told}
-use Rattle.df_npass.specs.Rules.{Said, Way, on_path, with_term, free_of, Moved, assume_joined, are_same, join_locals, either_path, paths_of, any_path, join}
+use Rattle.df_npass.specs.Rules.{Said, Way, on_path, with_term, free_of, Moved, assume_joined, are_same, join_locals, either_path, paths_of, any_path, over, changed_alone, join, join_branches}
 use Rattle.df_npass.proofs.Saying.{AllTrue, path_true, all_appended, all_front, all_rest, off_path, on_it}
-use Rattle.df_npass.proofs.Playing.{Mode, Following, Taking, Moves, moves_here, same_itself, same_then, all_same, Play, play_taking, play_behind, AreKnown, known_append, known_then_follow}
+use Rattle.df_npass.proofs.Playing.{apart, Mode, Following, Taking, Moves, moves_here, same_itself, same_then, all_same, Play, play_taking, play_behind, AreKnown, known_append, known_then_follow}
 use Rattle.df_npass.proofs.Proper.{PathBelow, EnvBelow, AllBelow}
 use Rattle.df_npass.proofs.Leading.{AllLead, all_lead_grow, free_below, suc_more, any_true, disjunction_truth, JoinGoing}
-use Rattle.df_npass.proofs.Staying.{AllStay, join_locals_stay}
+use Rattle.df_npass.proofs.Staying.{AllStay, join_locals_stay, alone_stays}
 use Rattle.df_npass.proofs.Reading.{SortedAll, Sits}
 use Rattle.df_npass.proofs.Coming.{AllOff, OneSits, off_moves, path_same, sorted_moves, sits_moves, holds_reached, hold_at, hold_make}
 use Rattle.df_npass.proofs.Taking.{taking, free_takes, others_stay, on_any_path, free_sorted}
@@ -280,6 +280,15 @@ Many [] = ⊥
 Many (way ∷ []) = ⊥
 Many (way ∷ other ∷ others) = Unit {0}
 
+-- a changed local has the term that it has now
+alone_changes : (changed : List Changed) (env now : Environment) (n : ℕ) → is_changed changed n ≡ true → changed_alone changed env now n ≡ now n
+alone_changes [] env now n e = cc
+alone_changes (c ∷ others) env now n e = by_test (n == c.local) refl (λ r. alone_changes others env now n r)
+  where
+    by_test : (b : Bool) → (n == c.local) ≡ b → (is_changed others n ≡ true → changed_alone others env now n ≡ now n) → (if b then now c.local else changed_alone others env now n) ≡ now n
+    by_test true is more = ap now (sym (eqb-true n c.local is))
+    by_test false is more = by_bool (is_changed others n) more (λ r. absurd (apart (n == c.local) (eq-eqb n c.local (sym (one_of c others n e r))) is))
+
 module _ (B : Type 0) (n : ℕ) (all : List Ty) (path before_path : Option Term) (env : Environment) (changed : List Changed) (before : Assigned) (s : State) where
   -- behind the join runs come to the one way that it gives
   joined_sits : (a b : Mode) (i j : Interpretation) (ways : List Way) (sole : Sole a i all ways before s) → AllLead n before_path ways → Moves a i n b j → SortedAll i all env → EnvBelow n env → path_true i path ≡ true → PathBelow n path
@@ -322,12 +331,33 @@ module _ (B : Type 0) (n : ℕ) (all : List Ty) (path before_path : Option Term)
         (play_behind B (Taking handed) took.to moved.fresh moved.said more run (λ j agrees. all_same moved.fresh took.to j agrees moved.said below took.said)
         (subst (λ k. Play B k took.to moved.fresh more run) is rest)))
 
+    -- one way, of which the changed locals are kept
+    alone_sits : (way : Way) → Sits mode i all way before s → ((k : ℕ) → has_value before k ≡ true → is_changed changed k ≡ false → way.env k ≡ env k) → Sits mode i all (over (changed_alone changed env way.env) way) before s
+    alone_sits way sits cover = record {
+      there = sits.there;
+      sorted = λ k ty e. by_bool (is_changed changed k) (λ c. subst (λ x. IsSorted ty (meanings.value i x)) (sym (alone_changes changed env way.env k c)) (sits.sorted k ty e))
+          (λ c. subst (λ x. IsSorted ty (meanings.value i x)) (sym (alone_stays changed env way.env k c)) (sorted k ty e));
+      holds = hold_make i (changed_alone changed env way.env) before s (holds_reached i way.env before s sits.holds) (λ k v has e.
+          by_bool (is_changed changed k) (λ c. ap (meanings.value i) (alone_changes changed env way.env k c) ∙ hold_at i way.env before s sits.holds k v has e)
+          (λ c. ap (meanings.value i) (alone_stays changed env way.env k c ∙ sym (cover k has c)) ∙ hold_at i way.env before s sits.holds k v has e));
+      present = sits.present;
+    }
+
     pub join_then : (ways : List Way) → OneSits mode i all ways before s → AllLead n before_path ways → (Many ways → (path_true i path ≡ true) × PathBelow n path)
-        → (Many ways → (k : ℕ) → has_value before k ≡ true → is_changed changed k ≡ false → AllStay k env ways)
+        → ((k : ℕ) → has_value before k ≡ true → is_changed changed k ≡ false → AllStay k env ways)
         → JoinGoing n before_path (join path env changed ways n)
         → ((w : Way) (j : Interpretation) → (join path env changed ways n).way ≡ Some w → Moves mode i n mode j → Sits mode j all w before s → Play B mode j (join path env changed ways n).fresh more run)
         → Play B mode i n ((join path env changed ways n).said ++ more) run
     join_then [] one lead here cover going h = absurd one
-    join_then (way ∷ []) one lead here cover going h = elim one [ inl x ↦ h way i refl (moves_here mode i n) x.0 | inr x ↦ absurd x.1 ]
+    join_then (way ∷ []) one lead here cover going h = elim one [ inl x ↦ h (over (changed_alone changed env way.env) way) i refl (moves_here mode i n) (alone_sits way x.0 (λ k has c. (cover k has c).0)) | inr x ↦ absurd x.1 ]
     join_then (way ∷ other ∷ others) one lead here cover going h =
-        many_then mode refl (way ∷ other ∷ others) one lead (here tt).0 (here tt).1 (cover tt) going.grows going.said.below (λ j moves sits. h _ j refl moves sits)
+        many_then mode refl (way ∷ other ∷ others) one lead (here tt).0 (here tt).1 cover going.grows going.said.below (λ j moves sits. h _ j refl moves sits)
+
+    pub branches_join_then : (ways : List Way) → OneSits mode i all ways before s → AllLead n before_path ways → (Many ways → (path_true i path ≡ true) × PathBelow n path)
+        → (Many ways → (k : ℕ) → has_value before k ≡ true → is_changed changed k ≡ false → AllStay k env ways)
+        → JoinGoing n before_path (join_branches path env changed ways n)
+        → ((w : Way) (j : Interpretation) → (join_branches path env changed ways n).way ≡ Some w → Moves mode i n mode j → Sits mode j all w before s → Play B mode j (join_branches path env changed ways n).fresh more run)
+        → Play B mode i n ((join_branches path env changed ways n).said ++ more) run
+    branches_join_then [] one lead here cover going h = absurd one
+    branches_join_then (way ∷ []) one lead here cover going h = elim one [ inl x ↦ h way i refl (moves_here mode i n) x.0 | inr x ↦ absurd x.1 ]
+    branches_join_then (way ∷ other ∷ others) one lead here cover going h = join_then (way ∷ other ∷ others) one lead here (cover tt) going h

@@ -20,7 +20,7 @@ use Rattle.df_nterm.specs.Meaning as meanings
 use Rattle.df_nterm.specs.Expressions.{Environment, term_of, equal_in, narrowing}
 use Rattle.df_nterm.specs.Measuring.{measured, are_below}
 use Rattle.df_nterm.proofs.Below.{IsBelow, below, all_below, below_grows, equal_below, disjunction_below, narrowing_below, term_below}
-use Rattle.df_npass.specs.Rules.{Said, Way, narrowed, over, with_term, assume, assert, assert_all, assume_type, free_of, Moved, havoc, assume_joined, join_locals, are_same, either_path, paths_of, any_path, Joined, join}
+use Rattle.df_npass.specs.Rules.{Said, Way, narrowed, over, with_term, assume, assert, assert_all, assume_type, free_of, Moved, havoc, assume_joined, join_locals, are_same, either_path, paths_of, any_path, Joined, changed_alone, join, join_branches}
 use Rattle.df_npass.specs.Statements.{Setting, assert_clauses, assert_exprs, assert_measure, env_of, Given, any_values, assert_decrease, pass_method_call, given_behind, pass_call, assert_conversions, pass_source, pass_sources, Taken, taken_by, assert_equal, give_all, pass_update, pass_optional, ways_of}
 use Rattle.df_npass.proofs.Saying.{path_true, narrowed_false}
 use Rattle.df_npass.proofs.Proper.{PathBelow, EnvBelow, Proper, path_grows, env_grows, proper_grows, nothing_proper, append_proper, narrowed_below, known_proper, owed_proper, asserted_proper, expr_proper, exprs_proper, clauses_proper, handed_proper, measure_proper, MeasureBelow, measured_below, measure_grows, order_below}
@@ -137,12 +137,22 @@ pub record JoinGoing (fresh : ℕ) (path : Option Term) (joined : Joined) : Type
   pub said : Proper joined.fresh path joined.said
   pub way : AllLead joined.fresh path (ways_of joined.way)
 
+alone_below : (n : ℕ) (changed : List Changed) (env now : Environment) → EnvBelow n env → EnvBelow n now → EnvBelow n (changed_alone changed env now)
+alone_below n [] env now h g = h
+alone_below n (c ∷ others) env now h g = with_below n (changed_alone others env now) c.local (now c.local) (alone_below n others env now h g) (g c.local)
+
 pub join_going : (after : Option Term) (env : Environment) (changed : List Changed) (ways : List Way) (fresh : ℕ) (path : Option Term) → EnvBelow fresh env → AllLead fresh path ways → Reaches fresh path after → JoinGoing fresh path (join after env changed ways fresh)
 join_going after env changed [] fresh path below h r = record { grows = le_refl fresh; said = nothing_proper fresh path; way = tt }
-join_going after env changed (way ∷ []) fresh path below h r = record { grows = le_refl fresh; said = nothing_proper fresh path; way = h }
+join_going after env changed (way ∷ []) fresh path below h r =
+    record { grows = le_refl fresh; said = nothing_proper fresh path; way = (record { env = alone_below fresh changed env way.env below h.0.env; path_is = h.0.path_is; off = h.0.off }, tt) }
 join_going after env changed (way ∷ other ∷ others) fresh path below h r =
     let going = join_locals_going changed (way ∷ other ∷ others) fresh env path after below h r in
     record { grows = going.grows; said = going.said; way = (going.way, tt) }
+
+pub branches_going : (after : Option Term) (env : Environment) (changed : List Changed) (ways : List Way) (fresh : ℕ) (path : Option Term) → EnvBelow fresh env → AllLead fresh path ways → Reaches fresh path after → JoinGoing fresh path (join_branches after env changed ways fresh)
+branches_going after env changed [] fresh path below h r = join_going after env changed [] fresh path below h r
+branches_going after env changed (way ∷ []) fresh path below h r = record { grows = le_refl fresh; said = nothing_proper fresh path; way = h }
+branches_going after env changed (way ∷ other ∷ others) fresh path below h r = join_going after env changed (way ∷ other ∷ others) fresh path below h r
 
 -- one of the paths
 or_false : (b : Bool) → (b || false) ≡ b

@@ -7,7 +7,7 @@ use Rattle.df_mean.specs.Modular.{Changed}
 use Rattle.df_nterm.specs.Term.{Term}
 use Rattle.df_nterm.specs.Meaning.{Interpretation}
 use Rattle.df_nterm.specs.Expressions.{Environment}
-use Rattle.df_npass.specs.Rules.{Way, with_term, free_of, are_same, assume_joined, join_locals, either_path, paths_of, any_path, join}
+use Rattle.df_npass.specs.Rules.{Way, with_term, free_of, are_same, assume_joined, join_locals, either_path, paths_of, any_path, join, join_branches}
 use Rattle.df_npass.specs.Statements.{ways_of}
 use Rattle.df_npass.proofs.Saying.{AllTrue, path_true, all_appended}
 use Rattle.df_npass.proofs.Playing.{Mode}
@@ -49,3 +49,15 @@ pub join_off_way : (i : Interpretation) (path : Option Term) (env : Environment)
 join_off_way i path env changed [] fresh off away = tt
 join_off_way i path env changed (way ∷ []) fresh off away = off
 join_off_way i path env changed (way ∷ other ∷ others) fresh off away = (ap (path_true i) (join_path (way ∷ other ∷ others) path changed fresh env) ∙ away tt, tt)
+
+-- ---- the same of branches
+
+pub branches_off_said : (i : Interpretation) (path : Option Term) (env : Environment) (changed : List Changed) (ways : List Way) (fresh : ℕ) → AllOff i ways → AllTrue i (join_branches path env changed ways fresh).said
+branches_off_said i path env changed [] fresh off = tt
+branches_off_said i path env changed (way ∷ []) fresh off = tt
+branches_off_said i path env changed (way ∷ other ∷ others) fresh off = join_off_said i path env changed (way ∷ other ∷ others) fresh off
+
+pub branches_off_way : (i : Interpretation) (path : Option Term) (env : Environment) (changed : List Changed) (ways : List Way) (fresh : ℕ) → AllOff i ways → (Many ways → path_true i path ≡ false) → AllOff i (ways_of (join_branches path env changed ways fresh).way)
+branches_off_way i path env changed [] fresh off away = tt
+branches_off_way i path env changed (way ∷ []) fresh off away = off
+branches_off_way i path env changed (way ∷ other ∷ others) fresh off away = join_off_way i path env changed (way ∷ other ∷ others) fresh off away

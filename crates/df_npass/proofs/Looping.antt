@@ -123,7 +123,7 @@ module _ (B : Type 0) (all : List Ty) (back : Assigned) (program : Program) (m :
       let joined = join after_path outside.env changed ways flow.fresh in
       play_behind B k j flow.fresh turn_said (joined.said ++ more) (λ handed. go (flows.Next (with_handed t handed))) (λ u same. turn_off u (off_moves j u flow.fresh inside.path (ways_of flow.way) flows_body.way same no_way))
       (join_then B flow.fresh all after_path any.path outside.env changed (meet before breaks) t k j more (λ handed. go (flows.Next (with_handed t handed))) (sorted_moves n i j moves.same all any.env env sorted) (env_grows n flow.fresh any.env flows_body.grows env) there
-      ways one leads (λ many. (one_path k j all ways (meet before breaks) t one, (any_path_reaches flow.fresh any.path ways leads).path_is)) (λ many. cover) going (λ w u is moved sits.
+      ways one leads (λ many. (one_path k j all ways (meet before breaks) t one, (any_path_reaches flow.fresh any.path ways leads).path_is)) cover going (λ w u is moved sits.
       h.on k u (flows.Next t) (moves_then mode k k i j u n flow.fresh flows_body.grows moves moved)
       (subst (λ o. OneSits k u all (ways_of o) (meet before breaks) t) (sym is) (inl (sits, tt)), tt, off_moves j u flow.fresh inside.path flow.returns flows_body.returns moved.same no_return)))
 

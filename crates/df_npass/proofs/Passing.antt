@@ -28,7 +28,7 @@ use Rattle.df_nterm.specs.Meaning.{Interpretation, truth}
 use Rattle.df_nterm.specs.Expressions.{term_of}
 use Rattle.df_nterm.specs.Measuring.{Measured}
 use Rattle.df_nterm.proofs.Below.{IsBelow, term_below}
-use Rattle.df_npass.specs.Rules.{Said, Way, narrowed, assert, join}
+use Rattle.df_npass.specs.Rules.{Said, Way, narrowed, assert, join_branches}
 use Rattle.df_npass.specs.Statements as passing
 use Rattle.df_npass.specs.Rules.{Moved}
 use Rattle.df_npass.specs.Statements.{goes_on, saying, at_clause, assert_clauses, assume_clauses, assert_expr, assert_measure, assert_operand, pass_call, pass_optional, declared_by_all, each_once, changed_outside, changed_in_branches, changed_outside_if, Parted, ways_of, last_of, first_of, path_behind, rejoined, assert_turn, behind_loop, pass_stmt, pass_all, pass_branches}
@@ -115,7 +115,7 @@ module _ (B : Type 0) (program : Program) (well : is_well_typed program ≡ true
         let parted = pass_branches set way branches (λ last. pass_all set last otherwise) n in
         let changed = changed_outside_if branches otherwise in
         let parts = branches_flow set way branches (λ last. pass_all set last otherwise) n here.env here.path here.below (λ last more led grown. all_flows set last otherwise more led.env led.path_is grown) in
-        let joined_said = (join (path_behind way parted) way.env changed parted.ways parted.fresh).said in
+        let joined_said = (join_branches (path_behind way parted) way.env changed parted.ways parted.fresh).said in
         let flowing = flow_branches own before branches (flow_all own before otherwise) in
         let reached = holds_reached i way.env before s here.sits.holds in
         let grown = branches_grow locals branches in

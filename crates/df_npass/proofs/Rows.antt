@@ -1,12 +1,17 @@
 -- Obligations of small methods, by computation: the column and the kind of each, in order.
-use Rattle.std.proofs.Common.{◌≡◌, ℕ, pos, true, List, [], ◌∷◌, map, refl}
+use Rattle.std.proofs.Common.{◌≡◌, ℕ, pos, true, List, [], ◌∷◌, map, None, Some, refl}
 use Rattle.df_lang.specs.declared.ty.Ty.TheVariants as types
-use Rattle.df_lang.specs.Stmt.{Single, Break}
+use Rattle.df_lang.specs.Stmt.{Single, If, Return, Assert, Break, done, next, no_branch, branch}
 use Rattle.df_lang.specs.Program.{Program, Method}
-use Rattle.df_lang.proofs.Samples.{N, at, num, loc, target_at, pairs, parity, parities, below, alone, counting, returning, broken, leaving, swapping, meeting, main_of, cheated, twos, taking, narrow, printing, staying}
+use Rattle.df_lang.specs.declared.expr.Comparison.TheVariants as comparisons
+use Rattle.df_lang.proofs.Samples.{N, at, num, loc, truth_expr, compared, target_at, declare, method_with, pairs, parity, parities, below, alone, counting, returning, broken, leaving, swapping, meeting, main_of, cheated, twos, taking, narrow, printing, staying}
 use Rattle.df_meaning.specs.declared.kind.Kind.{Kind}
 use Rattle.df_meaning.specs.declared.kind.Kind.TheVariants.{Assert as Asserted, Requires, Ensures, Entry, Turn, Decreases, Range, Distinct}
-use Rattle.df_nterm.specs.Term.{Term, Is, of_one, literal, equal}
+use Rattle.df_nterm.specs.Term.{Term, Is, of_one, literal, equal, implies, truth_term}
+use Rattle.std.specs.Option.{option_map_or}
+use Rattle.df_mean.specs.Modular.{Changed}
+use Rattle.df_nterm.specs.Expressions.{Environment}
+use Rattle.df_npass.specs.Rules.{Way, Joined, join, join_branches}
 use Rattle.df_npass.specs.Methods.{Obligation, obligations_of_method}
 
 record Place : Type 0 where
@@ -90,3 +95,34 @@ thrice = pairs (target_at 0 N ∷ target_at 0 N ∷ target_at 0 N ∷ []) (Singl
 -- a place that is named three times is owed equal to what it was given last
 meets_thrice : goals_in (alone thrice) 1 thrice ≡ is_small 1 ∷ is_small 2 ∷ is_small 3 ∷ equal (literal (pos 1)) (literal (pos 2)) ∷ equal (literal (pos 3)) (literal (pos 1)) ∷ []
 meets_thrice = refl
+
+-- ---- one way
+
+abbrev first_changed : List Changed
+first_changed = record { local = 0; ty = N } ∷ []
+
+abbrev all_of : ℕ → Environment
+all_of n = λ local. literal (pos n)
+
+abbrev sevens : List Way
+sevens = record { env = all_of 7; path = None } ∷ []
+
+-- the terms of the first two locals
+abbrev first_two : Joined → List Term
+first_two joined = option_map_or (λ (way : Way). way.env 0 ∷ way.env 1 ∷ []) joined.way []
+
+-- the join of one way keeps the local that it changes; one branch leads on as it is
+alone_joined : first_two (join None (all_of 0) first_changed sevens 5) ≡ literal (pos 7) ∷ literal (pos 0) ∷ []
+alone_joined = refl
+
+branch_joined : first_two (join_branches None (all_of 0) first_changed sevens 5) ≡ literal (pos 7) ∷ literal (pos 7) ∷ []
+branch_joined = refl
+
+-- `if true { var y := 1; } else { return; } assert y == 1;`, with y by its number, has a value where it is read
+abbrev inner : Method
+inner = method_with [] [] [] [] None
+    (next (If (branch (at 13) (truth_expr true) (next (declare 0 N (Single N (num (pos 1)))) done) no_branch) (next (Return (at 16) None) done))
+    (next (Assert (at 15) (compared (loc 0) comparisons.Equal (num (pos 1)))) done))
+
+reads_inner : goals_in (alone inner) 1 inner ≡ implies (truth_term true) (is_small 1) ∷ implies (truth_term true) (is_small 1) ∷ implies (truth_term true) (equal (literal (pos 1)) (literal (pos 1))) ∷ []
+reads_inner = refl

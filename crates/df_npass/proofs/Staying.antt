@@ -9,7 +9,7 @@ use Rattle.df_mean.specs.Agreement.{is_changed}
 use Rattle.df_mean.proofs.Cases.{both}
 use Rattle.df_nterm.specs.Term.{Term, negation}
 use Rattle.df_nterm.specs.Expressions.{Environment, term_of}
-use Rattle.df_npass.specs.Rules.{Way, narrowed, over, with_term, free_of, Moved, havoc, join_locals, are_same, assume_joined, paths_of, any_path, join}
+use Rattle.df_npass.specs.Rules.{Way, narrowed, over, with_term, free_of, Moved, havoc, join_locals, are_same, assume_joined, paths_of, any_path, changed_alone, join, join_branches}
 use Rattle.df_npass.specs.Statements.{Setting, Flow, followed_by, then_next, Taken, give_all, pass_sources, pass_optional, each_once, changed_outside, changed_in_branches, changed_outside_if, declared_by_all, Parted, ways_of, path_behind, pass_stmt, pass_all, pass_branches}
 use Rattle.df_mean.specs.Modular.{changed_by, changed_by_all, changed_by_branches, changed_by_update, changed_by_variables}
 
@@ -73,10 +73,19 @@ join_locals_stay (c ∷ others) ways fresh env path n e =
     by_test true h g = h
     by_test false h g = g
 
+pub alone_stays : (changed : List Changed) (env now : Environment) (n : ℕ) → is_changed changed n ≡ false → changed_alone changed env now n ≡ env n
+alone_stays [] env now n e = refl
+alone_stays (c ∷ others) env now n e = let u = unchanged c others n e in other_term (changed_alone others env now) c.local (now c.local) n u.0 ∙ alone_stays others env now n u.1
+
 pub join_stays : (path : Option Term) (env : Environment) (changed : List Changed) (ways : List Way) (fresh : ℕ) (n : ℕ) (first : Environment) → is_changed changed n ≡ false → env n ≡ first n → AllStay n first ways → AllStay n first (ways_of (join path env changed ways fresh).way)
 join_stays path env changed [] fresh n first e same h = tt
-join_stays path env changed (way ∷ []) fresh n first e same h = h
+join_stays path env changed (way ∷ []) fresh n first e same h = (alone_stays changed env way.env n e ∙ same, tt)
 join_stays path env changed (way ∷ other ∷ others) fresh n first e same h = (join_locals_stay changed (way ∷ other ∷ others) fresh env path n e ∙ same, tt)
+
+pub branches_join_stays : (path : Option Term) (env : Environment) (changed : List Changed) (ways : List Way) (fresh : ℕ) (n : ℕ) (first : Environment) → is_changed changed n ≡ false → env n ≡ first n → AllStay n first ways → AllStay n first (ways_of (join_branches path env changed ways fresh).way)
+branches_join_stays path env changed [] fresh n first e same h = tt
+branches_join_stays path env changed (way ∷ []) fresh n first e same h = h
+branches_join_stays path env changed (way ∷ other ∷ others) fresh n first e same h = join_stays path env changed (way ∷ other ∷ others) fresh n first e same h
 
 pub once_less : (out : List ℕ) (changed : List Changed) (n : ℕ) → is_changed changed n ≡ false → is_changed (each_once out changed) n ≡ false
 once_less out [] n e = refl
@@ -176,7 +185,7 @@ module _ (setting : Setting) where
         let stay = branches_stay way branches (λ last. pass_all setting last otherwise) fresh n parts.0 (λ last more. all_stay last otherwise more n parts.1) in
         let parted = pass_branches setting way branches (λ last. pass_all setting last otherwise) fresh in
         record {
-          way = join_stays (path_behind way parted) way.env (changed_outside_if branches otherwise) parted.ways parted.fresh n way.env (once_less [] (changed_in_branches branches ++ changed_outside otherwise) n (in_both (changed_in_branches branches) (changed_outside otherwise) n (fewer_in_branches branches n parts.0) (once_less (declared_by_all otherwise) (changed_by_all otherwise) n parts.1))) refl stay.ways;
+          way = branches_join_stays (path_behind way parted) way.env (changed_outside_if branches otherwise) parted.ways parted.fresh n way.env (once_less [] (changed_in_branches branches ++ changed_outside otherwise) n (in_both (changed_in_branches branches) (changed_outside otherwise) n (fewer_in_branches branches n parts.0) (once_less (declared_by_all otherwise) (changed_by_all otherwise) n parts.1))) refl stay.ways;
           breaks = stay.breaks;
         }
     stmt_stays way (While at guard invariants decreases body) fresh n e =

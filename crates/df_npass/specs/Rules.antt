@@ -126,8 +126,20 @@ pub record Joined : Type 0 where
 abbrev pub there : Moved → Joined
 there moved = record { said = moved.said; fresh = moved.fresh; way = Some moved.way }
 
--- the ways, which change these locals alone; more than one come together in the environment, on the given path
+-- behind it these locals alone have other terms than before
+abbrev pub changed_alone : List Changed → Environment → Environment → Environment
+changed_alone [] env now = env
+changed_alone (changed ∷ others) env now = with_term (changed_alone others env now) changed.local (now changed.local)
+
+-- The ways come together in the environment, on the given path; of what they changed these locals alone are kept. One
+-- way keeps its path.
 abbrev pub join : Option Term → Environment → List Changed → List Way → ℕ → Joined
 join path env changed [] fresh = record { said = []; fresh = fresh; way = None }
-join path env changed (way ∷ []) fresh = record { said = []; fresh = fresh; way = Some way }
+join path env changed (way ∷ []) fresh = record { said = []; fresh = fresh; way = Some (over (changed_alone changed env way.env) way) }
 join path env changed (way ∷ other ∷ others) fresh = there (join_locals changed (way ∷ other ∷ others) fresh env path)
+
+-- Ways of branches, of which one alone leads on as it is: what is declared inside it has a value yet.
+abbrev pub join_branches : Option Term → Environment → List Changed → List Way → ℕ → Joined
+join_branches path env changed [] fresh = join path env changed [] fresh
+join_branches path env changed (way ∷ []) fresh = record { said = []; fresh = fresh; way = Some way }
+join_branches path env changed (way ∷ other ∷ others) fresh = join path env changed (way ∷ other ∷ others) fresh

@@ -15,7 +15,7 @@ use Rattle.df_mean.specs.Modular.{Changed, changed_by_all}
 use Rattle.df_nterm.specs.Term.{Term, literal, negation}
 use Rattle.df_nterm.specs.Expressions.{Environment, term_of, conditions_of, equal_in, narrowing}
 use Rattle.df_nterm.specs.Measuring.{Measured, measured, are_below}
-use Rattle.df_npass.specs.Rules.{Said, Way, Moved, narrowed, over, with_term, assume, assert, assert_all, assume_all, assume_type, free_of, havoc, paths_of, any_path, join}
+use Rattle.df_npass.specs.Rules.{Said, Way, Moved, narrowed, over, with_term, assume, assert, assert_all, assume_all, assume_type, free_of, havoc, paths_of, any_path, join, join_branches}
 
 -- what is passed over: the declaration of a program by its number, and its measure on entry; and the group of each
 -- declaration
@@ -261,7 +261,7 @@ path_behind before parted = if parted.loses then any_path (paths_of parted.ways)
 
 abbrev pub rejoined : List Changed → Way → Parted → Flow
 rejoined changed before parted =
-    let joined = join (path_behind before parted) before.env changed parted.ways parted.fresh in
+    let joined = join_branches (path_behind before parted) before.env changed parted.ways parted.fresh in
     record { said = parted.said ++ joined.said; fresh = joined.fresh; way = joined.way; breaks = parted.breaks; returns = parted.returns; loses = parted.loses }
 
 -- ---- `while`
