@@ -11,6 +11,7 @@ use Rattle.df_nterm.specs.Meaning.{Interpretation}
 use Rattle.df_nterm.specs.Expressions.{Environment, Condition, term_of, conditions_of}
 use Rattle.df_nterm.specs.Measuring.{Measured, measured, below_of, same_of, is_below, is_same, are_below}
 use Rattle.df_nterm.proofs.Below.{IsBelow, below_grows, AreBelow, two_below, term_below, conditions_below}
+pub use Rattle.df_nterm.proofs.Below.{PathBelow, on_path_below, narrowed_below}
 use Rattle.df_npass.specs.Rules.{Said, Way, on_path, narrowed_path, assume, assume_all, assert, assert_all}
 use Rattle.df_npass.specs.Statements.{assert_clauses, assume_clauses, assert_expr, assert_exprs, assert_measure, assert_operand}
 use Rattle.df_npass.specs.Methods.{require_all}
@@ -18,10 +19,6 @@ use Rattle.df_npass.proofs.Saying.{formula_of, AllTrue, path_true, all_appended,
 
 abbrev pub AllBelow : ℕ → List Said → Type 0
 AllBelow n said = AllByRecursion (λ (x : Said). IsBelow n (formula_of x)) said
-
-abbrev pub PathBelow : ℕ → Option Term → Type 0
-PathBelow n None = Unit {0}
-PathBelow n (Some path) = IsBelow n path
 
 abbrev pub EnvBelow : ℕ → Environment → Type 0
 EnvBelow n env = (local : ℕ) → IsBelow n (env local)
@@ -58,14 +55,6 @@ pub append_proper : (n : ℕ) (path : Option Term) (said more : List Said) → P
 append_proper n path said more h g = record { below = below_append n said more h.below g.below; off = λ i e. all_appended i said more (h.off i e) (g.off i e) }
 
 -- ---- on paths
-
-pub on_path_below : (n : ℕ) (path : Option Term) (formula : Term) → PathBelow n path → IsBelow n formula → IsBelow n (on_path path formula)
-on_path_below n None formula h g = g
-on_path_below n (Some path) formula h g = two_below n path formula h g
-
-pub narrowed_below : (n : ℕ) (path : Option Term) (formula : Term) → PathBelow n path → IsBelow n formula → IsBelow n (narrowed_path path formula)
-narrowed_below n None formula h g = g
-narrowed_below n (Some path) formula h g = two_below n path formula h g
 
 -- what is proper on a narrower path is on a wider one
 pub wider : (n : ℕ) (path : Option Term) (formula : Term) (said : List Said) → Proper n (Some (narrowed_path path formula)) said → Proper n path said

@@ -1,16 +1,18 @@
 -- Obligations of small methods, by computation: the column and the kind of each, in order.
 use Rattle.std.proofs.Common.{◌≡◌, ℕ, pos, true, List, [], ◌∷◌, map, None, Some, refl}
 use Rattle.df_lang.specs.declared.ty.Ty.TheVariants as types
+use Rattle.df_lang.specs.declared.expr.Junction.TheVariants as junctions
+use Rattle.df_lang.specs.Expr.{Expr, Junction, no_member, member}
 use Rattle.df_lang.specs.Stmt.{Single, If, Return, Assert, Break, done, next, no_branch, branch}
 use Rattle.df_lang.specs.Program.{Program, Method}
 use Rattle.df_lang.specs.declared.expr.Comparison.TheVariants as comparisons
 use Rattle.df_lang.proofs.Samples.{N, at, num, loc, truth_expr, compared, target_at, declare, method_with, pairs, parity, parities, below, alone, counting, returning, broken, leaving, swapping, meeting, main_of, cheated, twos, taking, narrow, printing, staying}
 use Rattle.df_meaning.specs.declared.kind.Kind.{Kind}
 use Rattle.df_meaning.specs.declared.kind.Kind.TheVariants.{Assert as Asserted, Requires, Ensures, Entry, Turn, Decreases, Range, Distinct}
-use Rattle.df_nterm.specs.Term.{Term, Is, of_one, literal, equal, implies, truth_term}
+use Rattle.df_nterm.specs.Term.{Term, Is, of_one, literal, equal, less, implies, both, truth_term}
 use Rattle.std.specs.Option.{option_map_or}
 use Rattle.df_mean.specs.Modular.{Changed}
-use Rattle.df_nterm.specs.Expressions.{Environment}
+use Rattle.df_nterm.specs.Expressions.{Environment, Condition, conditions_of}
 use Rattle.df_npass.specs.Rules.{Way, Joined, join, join_branches}
 use Rattle.df_npass.specs.Methods.{Obligation, obligations_of_method}
 
@@ -126,3 +128,16 @@ inner = method_with [] [] [] [] None
 
 reads_inner : goals_in (alone inner) 1 inner ≡ implies (truth_term true) (is_small 1) ∷ implies (truth_term true) (is_small 1) ∷ implies (truth_term true) (equal (literal (pos 1)) (literal (pos 1))) ∷ []
 reads_inner = refl
+
+-- ---- lazy operators
+
+abbrev fewer : ℕ → Expr
+fewer n = compared (loc 0) comparisons.Less (num (pos n))
+
+abbrev is_fewer : ℕ → Term
+is_fewer n = less (literal (pos 0)) (literal (pos n))
+
+-- of `x < 1 && x < 2 && x < 3` each condition is one implication
+in_order : map (λ (c : Condition). c.formula) (conditions_of (all_of 0) (Junction junctions.And (fewer 1) (member (at 5) (fewer 2) (member (at 6) (fewer 3) no_member))))
+    ≡ is_small 1 ∷ implies (is_fewer 1) (is_small 2) ∷ implies (both (is_fewer 1) (is_fewer 2)) (is_small 3) ∷ []
+in_order = refl

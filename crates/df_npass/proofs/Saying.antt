@@ -1,10 +1,11 @@
 -- Formulas that are said: what is true of all, and of those that are said of runs on a path.
-use Rattle.std.proofs.Common.{◌≡◌, Bool, true, false, ◌&&◌, List, [], ◌∷◌, ◌++◌, Option, None, Some, refl}
+use Rattle.std.proofs.Common.{◌≡◌, true, false, List, [], ◌∷◌, ◌++◌, Option}
 use Rattle.std.specs.List.{AllByRecursion}
 use Rattle.df_nterm.specs.Term.{Term}
 use Rattle.df_nterm.specs.Meaning.{Interpretation, truth}
 use Rattle.df_nterm.specs.Expressions.{Condition}
-use Rattle.df_npass.specs.Rules.{Said, Known, Owed, on_path, narrowed_path, assume_all, assert_all}
+pub use Rattle.df_nterm.proofs.Paths.{path_true, off_path, on_it, narrowed_true, narrowed_false}
+use Rattle.df_npass.specs.Rules.{Said, Known, Owed, assume_all, assert_all}
 
 abbrev pub formula_of : Said → Term
 formula_of (Known formula) = formula
@@ -12,11 +13,6 @@ formula_of (Owed at kind formula) = formula
 
 abbrev pub AllTrue : Interpretation → List Said → Type 0
 AllTrue i said = AllByRecursion (λ (x : Said). truth i (formula_of x) ≡ true) said
-
--- runs come there
-abbrev pub path_true : Interpretation → Option Term → Bool
-path_true i None = true
-path_true i (Some path) = truth i path
 
 -- ---- all that is said
 
@@ -33,27 +29,6 @@ all_rest i [] more h = h
 all_rest i (x ∷ said) more h = all_rest i said more h.1
 
 -- ---- on a path
-
--- nothing is said of runs that do not come there
-pub off_path : (i : Interpretation) (path : Option Term) (formula : Term) → path_true i path ≡ false → truth i (on_path path formula) ≡ true
-off_path i None formula e = cc
-off_path i (Some path) formula e = rw (e) refl
-
-pub on_it : (i : Interpretation) (path : Option Term) (formula : Term) → path_true i path ≡ true → truth i (on_path path formula) ≡ truth i formula
-on_it i None formula e = refl
-on_it i (Some path) formula e = rw (e) refl
-
-pub narrowed_true : (i : Interpretation) (path : Option Term) (formula : Term) → path_true i path ≡ true → truth i (narrowed_path path formula) ≡ truth i formula
-narrowed_true i None formula e = refl
-narrowed_true i (Some path) formula e = rw (e) (alone (truth i formula))
-  where
-    alone : (b : Bool) → (b && true) ≡ b
-    alone true = refl
-    alone false = refl
-
-pub narrowed_false : (i : Interpretation) (path : Option Term) (formula : Term) → path_true i path ≡ false → truth i (narrowed_path path formula) ≡ false
-narrowed_false i None formula e = cc
-narrowed_false i (Some path) formula e = rw (e) refl
 
 pub assert_off : (i : Interpretation) (path : Option Term) (cs : List Condition) → path_true i path ≡ false → AllTrue i (assert_all path cs)
 assert_off i path [] e = tt

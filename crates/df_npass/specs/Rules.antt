@@ -7,10 +7,11 @@ use Rattle.df_lang.specs.declared.ty.Ty.{Ty}
 use Rattle.df_lang.specs.declared.ty.Ty.TheVariants as types
 use Rattle.df_meaning.specs.declared.kind.Kind.{Kind}
 use Rattle.df_mean.specs.Modular.{Changed}
-use Rattle.df_nterm.specs.Term.{Term, terms_of, of_one, free, implies, both, disjunction, sort_of_type}
+use Rattle.df_nterm.specs.Term.{Term, terms_of, of_one, free, disjunction, sort_of_type}
 use Rattle.df_nterm.specs.Term as ops
 use Rattle.df_nterm.specs.Same.{same_term}
 use Rattle.df_nterm.specs.Expressions.{Environment, Condition, equal_in}
+pub use Rattle.df_nterm.specs.Expressions.{on_path, narrowed_path}
 
 -- A formula that is known from here on; one that is owed by a kind at a place is so behind it.
 pub data Said : Type 0 where
@@ -21,15 +22,6 @@ pub data Said : Type 0 where
 pub record Way : Type 0 where
   pub env : Environment
   pub path : Option Term
-
--- what is said only of runs that come here
-abbrev pub on_path : Option Term → Term → Term
-on_path None formula = formula
-on_path (Some path) formula = implies path formula
-
-abbrev pub narrowed_path : Option Term → Term → Term
-narrowed_path None formula = formula
-narrowed_path (Some path) formula = both path formula
 
 -- the runs of which the formula is true
 abbrev pub narrowed : Way → Term → Way

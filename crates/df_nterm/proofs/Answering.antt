@@ -1,5 +1,5 @@
 -- Evaluation is what conditions and terms say.
-use Rattle.std.proofs.Common.{◌≡◌, ◌⊎◌, inl, inr, append_assoc, ℕ, ℤ, pos, negsuc, neg_ℤ, ◌+ℤ◌, ◌-ℤ◌, ◌*ℤ◌, int_le, int_lt, nat_lt, Bool, true, false, not, ◌&&◌, ◌||◌, if◌then◌else◌, List, [], ◌∷◌, ◌++◌, slice_get, Option, None, Some, refl, sym, ap, subst, ◌∙◌, arith}
+use Rattle.std.proofs.Common.{◌≡◌, inl, inr, ℕ, ℤ, pos, negsuc, neg_ℤ, ◌+ℤ◌, ◌-ℤ◌, ◌*ℤ◌, int_le, int_lt, nat_lt, Bool, true, false, not, ◌&&◌, ◌||◌, if◌then◌else◌, List, [], ◌∷◌, ◌++◌, Option, None, Some, refl, sym, ap, subst, ◌∙◌, arith}
 use Rattle.std.specs.Ordering.{int_eq}
 use Rattle.std.proofs.lemmas.Int.{ints}
 use Rattle.std.specs.Int.{int_div_euclid, int_rem_euclid}
@@ -17,13 +17,13 @@ use Rattle.df_lang.specs.declared.expr.Comparison.{Comparison}
 use Rattle.df_lang.specs.declared.expr.Comparison.TheVariants as comparisons
 use Rattle.df_lang.specs.Expr.{Expr, Number, Truth, Character, Local, Negate, Not, Sum, Product, Junction, Implies, Iff, Chain, As, Convert, Addends, no_addend, addend, Factors, no_factor, factor, Members, no_member, member, Links, no_link, link}
 use Rattle.df_lang.specs.Typing.{same_type, is_integer, is_arithmetic, casts, converts, compares, is_expr, are_addends, are_factors, are_members, are_links}
-use Rattle.df_lang.specs.Assignment.{Use, reads, reads_of_addends, reads_of_factors, reads_of_members, reads_of_links}
+use Rattle.df_lang.specs.Assignment.{reads, reads_of_addends, reads_of_factors, reads_of_members, reads_of_links}
 use Rattle.df_meaning.specs.declared.kind.Kind.TheVariants as kinds
 use Rattle.df_mean.specs.Value.{Value, number_of, truth_of, same_truth, same_value}
 use Rattle.df_mean.specs.Value as values
-use Rattle.df_mean.specs.Types.{is_in, has_type}
+use Rattle.df_mean.specs.Types.{is_in}
 use Rattle.df_mean.specs.Outcome.{Outcome, Gives, Wrong, after}
-use Rattle.df_mean.specs.State.{State, value_at}
+use Rattle.df_mean.specs.State.{State}
 use Rattle.df_mean.specs.Meaning.{Meaning}
 use Rattle.df_mean.specs.Evaluation as meant
 use Rattle.df_mean.specs.Evaluation.{as_type, converted, compare, decides, value_of_local, evaluate, evaluate_addends, evaluate_factors, evaluate_junction, evaluate_implications, evaluate_equivalences, evaluate_links}
@@ -32,9 +32,10 @@ use Rattle.df_mean.proofs.Types.{same_type_equal}
 use Rattle.df_nterm.specs.Term.{Term, Terms, no_term, term, literal, negative, iff, sort_of_type, Numbers, Truths}
 use Rattle.df_nterm.specs.Meaning.{Interpretation, has_sort, value, truth, number}
 use Rattle.df_nterm.specs.Meaning as meanings
-use Rattle.df_nterm.specs.Expressions.{Environment, Condition, term_of, sum_of, product_of, members_of, implication_of, equivalence_of, comparisons_of, summed, multiplied, number_in, value_in, compared, joined, goes_on, under, in_range, divides, narrowing, conditions_of, conditions_of_addends, conditions_of_factors, conditions_of_junction, conditions_of_implication, conditions_of_members, conditions_of_links}
+use Rattle.df_nterm.specs.Expressions.{Environment, Condition, term_of, sum_of, product_of, members_of, implication_of, equivalence_of, comparisons_of, summed, multiplied, number_in, value_in, compared, joined, goes_on, narrowed_path, under, in_range, divides, narrowing, conditions_under, conditions_of_addends, conditions_of_factors, conditions_of_junction, conditions_of_implication, conditions_of_members, conditions_of_links}
 use Rattle.df_nterm.specs.Laws.{told}
-use Rattle.df_nterm.proofs.Told.{told_appended, told_after, told_under, all_left, all_right, IsOr, or_as, or_on, or_step}
+use Rattle.df_nterm.proofs.Told.{all_left, all_right, IsOr, or_as, or_on, or_step}
+use Rattle.df_nterm.proofs.Paths.{path_true, narrowed_true, told_on, told_true, true_append, conditions_off, junction_off, implication_off, links_off}
 use Rattle.df_nterm.proofs.Sorted.{Holds, HoldsOn, IsSorted, truth_form, number_form, integer_sort, arithmetic_integer, compared_form, conjunction_form, implication_sorted, number_sorted, truth_term_form, term_sorted}
 
 if_same : {A : Type 0} (b c : Bool) (x y z : A) → b ≡ c → (b ≡ true → x ≡ y) → (if b then x else z) ≡ (if c then y else z)
@@ -225,73 +226,77 @@ module _ (i : Interpretation) (m : Meaning) (locals : List Ty) (env : Environmen
   local_told local (Some v) e h = inr (ap Gives (sym (h.term v e)))
 
   -- a number is in range, and then what goes on from it
-  ranged_told : {A : Type 0} (ty : Ty) (at : Pos) (a : Term) (z : ℤ) (f : Value → Outcome A) (ds : List Condition) (r : Outcome A) → sort_of_type ty ≡ Numbers → value i a ≡ values.Number z → IsOr (f (value i a)) (told i ds r)
-      → IsOr (after (meant.in_range i.program ty at z) f) (told i (in_range ty at a ++ ds) r)
-  ranged_told ty at a z f ds r sort e h =
-      or_step i (in_range ty at a) ds (meant.in_range i.program ty at z) (value i a) f r (inr (range_told i ty at a z sort e ∙ ap (told i (in_range ty at a)) (ap Gives (sym e)))) h
+  ranged_told : {A : Type 0} (path : Option Term) → path_true i path ≡ true → (ty : Ty) (at : Pos) (a : Term) (z : ℤ) (f : Value → Outcome A) (ds : List Condition) (r : Outcome A) → sort_of_type ty ≡ Numbers → value i a ≡ values.Number z → IsOr (f (value i a)) (told i ds r)
+      → IsOr (after (meant.in_range i.program ty at z) f) (told i (under path (in_range ty at a) ++ ds) r)
+  ranged_told path p ty at a z f ds r sort e h =
+      or_step i (under path (in_range ty at a)) ds (meant.in_range i.program ty at z) (value i a) f r
+      (inr (range_told i ty at a z sort e ∙ (ap (told i (in_range ty at a)) (ap Gives (sym e)) ∙ sym (told_on i path (in_range ty at a) (Gives (value i a)) p)))) h
 
   mutual
-    pub evaluation_told : (e : Expr) (ty : Ty) → is_expr i.program locals ty e ≡ true → HoldsOn i locals env s (reads e) → IsOr (evaluate over s e) (told i (conditions_of env e) (Gives (value i (term_of env e))))
-    evaluation_told (Number own z at) ty is h =
+    pub evaluation_told : (e : Expr) (ty : Ty) (path : Option Term) → path_true i path ≡ true → is_expr i.program locals ty e ≡ true → HoldsOn i locals env s (reads e) → IsOr (evaluate over s e) (told i (conditions_under env path e) (Gives (value i (term_of env e))))
+    evaluation_told (Number own z at) ty path p is h =
         let is = both (same_type own ty) (is_integer i.program ty) is in
-        inr (range_told i own at (literal z) z (rw (same_type_equal own ty is.0) (integer_sort i.program ty is.1)) refl)
-    evaluation_told (Truth b at) ty is h = inr (ap Gives (sym (truth_term_form i b)))
-    evaluation_told (Character code at) ty is h =
+        inr (range_told i own at (literal z) z (rw (same_type_equal own ty is.0) (integer_sort i.program ty is.1)) refl ∙ sym (told_on i path (in_range own at (literal z)) (Gives (values.Number z)) p))
+    evaluation_told (Truth b at) ty path p is h = inr (ap Gives (sym (truth_term_form i b)))
+    evaluation_told (Character code at) ty path p is h =
         let is = both (same_type ty types.Char) (nat_lt code 128) is in
         inr (ap Gives (code_value i (pos code) (by_code code is.1)))
       where
         by_code : (c : ℕ) → nat_lt c 128 ≡ true → (int_le (pos 0) (pos c) && int_le (pos c) (pos 127)) ≡ true
         by_code c e = grind (arith, ints)
-    evaluation_told (Local local name at) ty is h = local_told local (s.locals local) refl h.0
-    evaluation_told (Negate own at operand) ty is h =
+    evaluation_told (Local local name at) ty path p is h = local_told local (s.locals local) refl h.0
+    evaluation_told (Negate own at operand) ty path p is h =
         let is = three (same_type own ty) (is_arithmetic i.program ty) (is_expr i.program locals ty operand) is in
-        or_step i (conditions_of env operand) (in_range own at (negative (term_of env operand))) (evaluate over s operand) (value i (term_of env operand)) (λ v. meant.in_range i.program own at (neg_ℤ (number_of v))) _
-        (evaluation_told operand ty is.2 h)
+        or_step i (conditions_under env path operand) (under path (in_range own at (negative (term_of env operand)))) (evaluate over s operand) (value i (term_of env operand)) (λ v. meant.in_range i.program own at (neg_ℤ (number_of v))) _
+        (evaluation_told operand ty path p is.2 h)
         (inr (range_told i own at (negative (term_of env operand)) _ (rw (same_type_equal own ty is.0) (integer_sort i.program ty (arithmetic_integer i.program ty is.1))) (negative_value i (term_of env operand))
-        ∙ ap (told i (in_range own at (negative (term_of env operand)))) (ap Gives (sym (negative_value i (term_of env operand))))))
-    evaluation_told (Not at operand) ty is h =
+        ∙ (ap (told i (in_range own at (negative (term_of env operand)))) (ap Gives (sym (negative_value i (term_of env operand))))
+        ∙ sym (told_on i path (in_range own at (negative (term_of env operand))) (Gives (value i (negative (term_of env operand)))) p))))
+    evaluation_told (Not at operand) ty path p is h =
         let is = both (same_type ty types.Bool) (is_expr i.program locals types.Bool operand) is in
-        or_on i (conditions_of env operand) (evaluate over s operand) (value i (term_of env operand)) (λ v. Gives (values.Truth (not (truth_of v)))) _ (evaluation_told operand types.Bool is.1 h) (inr refl)
-    evaluation_told (Sum own first rest) ty is h =
+        or_on i (conditions_under env path operand) (evaluate over s operand) (value i (term_of env operand)) (λ v. Gives (values.Truth (not (truth_of v)))) _ (evaluation_told operand types.Bool path p is.1 h) (inr refl)
+    evaluation_told (Sum own first rest) ty path p is h =
         let is = four (same_type own ty) (is_arithmetic i.program ty) (is_expr i.program locals ty first) (are_addends i.program locals ty rest) is in
-        or_step i (conditions_of env first) (conditions_of_addends env own (term_of env first) rest) (evaluate over s first) (value i (term_of env first)) (λ v. evaluate_addends over s own v rest) _
-        (evaluation_told first ty is.2 (all_left _ (reads first) _ h)) (addends_told rest own ty (term_of env first) is.0 (arithmetic_integer i.program ty is.1) is.3 (all_right _ (reads first) _ h))
-    evaluation_told (Product own first rest) ty is h =
+        or_step i (conditions_under env path first) (conditions_of_addends env path own (term_of env first) rest) (evaluate over s first) (value i (term_of env first)) (λ v. evaluate_addends over s own v rest) _
+        (evaluation_told first ty path p is.2 (all_left _ (reads first) _ h)) (addends_told rest own ty (term_of env first) path p is.0 (arithmetic_integer i.program ty is.1) is.3 (all_right _ (reads first) _ h))
+    evaluation_told (Product own first rest) ty path p is h =
         let is = four (same_type own ty) (is_arithmetic i.program ty) (is_expr i.program locals ty first) (are_factors i.program locals ty rest) is in
-        or_step i (conditions_of env first) (conditions_of_factors env own (term_of env first) rest) (evaluate over s first) (value i (term_of env first)) (λ v. evaluate_factors over s own v rest) _
-        (evaluation_told first ty is.2 (all_left _ (reads first) _ h)) (factors_told rest own ty (term_of env first) is.0 (arithmetic_integer i.program ty is.1) is.3 (all_right _ (reads first) _ h))
-    evaluation_told (Junction junction first rest) ty is h =
+        or_step i (conditions_under env path first) (conditions_of_factors env path own (term_of env first) rest) (evaluate over s first) (value i (term_of env first)) (λ v. evaluate_factors over s own v rest) _
+        (evaluation_told first ty path p is.2 (all_left _ (reads first) _ h)) (factors_told rest own ty (term_of env first) path p is.0 (arithmetic_integer i.program ty is.1) is.3 (all_right _ (reads first) _ h))
+    evaluation_told (Junction junction first rest) ty path p is h =
         let is = three (same_type ty types.Bool) (is_expr i.program locals types.Bool first) (are_members i.program locals rest) is in
         let sorted = sorted_there first types.Bool is.1 (all_left _ (reads first) _ h) in
-        or_step i (conditions_of env first) (conditions_of_junction env junction (term_of env first) rest) (evaluate over s first) (value i (term_of env first)) (λ v. evaluate_junction over s junction v rest) _
-        (evaluation_told first types.Bool is.1 (all_left _ (reads first) _ h))
-        (or_as _ _ _ (junction_told rest junction (term_of env first) is.2 sorted (all_right _ (reads first) _ h))
-        (ap (told i (conditions_of_junction env junction (term_of env first) rest)) (ap Gives (sym (joined_value i junction (term_of env first) (members_of env rest) sorted)))))
-    evaluation_told (Implies arrow first rest) ty is h =
+        or_step i (conditions_under env path first) (conditions_of_junction env path junction (term_of env first) rest) (evaluate over s first) (value i (term_of env first)) (λ v. evaluate_junction over s junction v rest) _
+        (evaluation_told first types.Bool path p is.1 (all_left _ (reads first) _ h))
+        (or_as _ _ _ (junction_told rest junction (term_of env first) path p is.2 sorted (all_right _ (reads first) _ h))
+        (ap (told i (conditions_of_junction env path junction (term_of env first) rest)) (ap Gives (sym (joined_value i junction (term_of env first) (members_of env rest) sorted)))))
+    evaluation_told (Implies arrow first rest) ty path p is h =
         let is = three (same_type ty types.Bool) (is_expr i.program locals types.Bool first) (are_members i.program locals rest) is in
-        or_step i (conditions_of env first) (conditions_of_implication env (term_of env first) rest) (evaluate over s first) (value i (term_of env first)) (λ v. evaluate_implications over s v rest) _
-        (evaluation_told first types.Bool is.1 (all_left _ (reads first) _ h)) (implication_told rest (term_of env first) is.2 (all_right _ (reads first) _ h))
-    evaluation_told (Iff first rest) ty is h =
+        or_step i (conditions_under env path first) (conditions_of_implication env path (term_of env first) rest) (evaluate over s first) (value i (term_of env first)) (λ v. evaluate_implications over s v rest) _
+        (evaluation_told first types.Bool path p is.1 (all_left _ (reads first) _ h)) (implication_told rest (term_of env first) path p is.2 (all_right _ (reads first) _ h))
+    evaluation_told (Iff first rest) ty path p is h =
         let is = three (same_type ty types.Bool) (is_expr i.program locals types.Bool first) (are_members i.program locals rest) is in
-        or_step i (conditions_of env first) (conditions_of_members env rest) (evaluate over s first) (value i (term_of env first)) (λ v. evaluate_equivalences over s v rest) _
-        (evaluation_told first types.Bool is.1 (all_left _ (reads first) _ h)) (equivalence_told rest (term_of env first) is.2 (all_right _ (reads first) _ h))
-    evaluation_told (Chain own first rest) ty is h =
+        or_step i (conditions_under env path first) (conditions_of_members env path rest) (evaluate over s first) (value i (term_of env first)) (λ v. evaluate_equivalences over s v rest) _
+        (evaluation_told first types.Bool path p is.1 (all_left _ (reads first) _ h)) (equivalence_told rest (term_of env first) path p is.2 (all_right _ (reads first) _ h))
+    evaluation_told (Chain own first rest) ty path p is h =
         let is = three (same_type ty types.Bool) (is_expr i.program locals own first) (are_links i.program locals own rest) is in
         let sorted = sorted_there first own is.1 (all_left _ (reads first) _ h) in
-        or_step i (conditions_of env first) (conditions_of_links env own (term_of env first) rest) (evaluate over s first) (value i (term_of env first)) (λ v. evaluate_links over s v rest) _
-        (evaluation_told first own is.1 (all_left _ (reads first) _ h))
-        (or_as _ _ _ (links_told rest own (term_of env first) is.2 sorted (all_right _ (reads first) _ h))
-        (ap (told i (conditions_of_links env own (term_of env first) rest)) (ap Gives (sym (conjunction_form i (comparisons_of env own (term_of env first) rest) (one_compared own (term_of env first) rest))))))
-    evaluation_told (As source target at operand) ty is h =
+        or_step i (conditions_under env path first) (conditions_of_links env path own (term_of env first) rest) (evaluate over s first) (value i (term_of env first)) (λ v. evaluate_links over s v rest) _
+        (evaluation_told first own path p is.1 (all_left _ (reads first) _ h))
+        (or_as _ _ _ (links_told rest own (term_of env first) path p is.2 sorted (all_right _ (reads first) _ h))
+        (ap (told i (conditions_of_links env path own (term_of env first) rest)) (ap Gives (sym (conjunction_form i (comparisons_of env own (term_of env first) rest) (one_compared own (term_of env first) rest))))))
+    evaluation_told (As source target at operand) ty path p is h =
         let is = three (same_type target ty) (casts i.program source target) (is_expr i.program locals source operand) is in
         let sorted = sorted_there operand source is.2 h in
-        or_step i (conditions_of env operand) (in_range target at (number_in source (term_of env operand))) (evaluate over s operand) (value i (term_of env operand)) (λ v. as_type i.program target at (number_of v)) _
-        (evaluation_told operand source is.2 h)
-        (inr (cast_told i source target at (number_in source (term_of env operand)) (number i (term_of env operand)) is.1 (number_value i source target (term_of env operand) is.1 sorted)))
-    evaluation_told (Convert source target at operand) ty is h =
+        or_step i (conditions_under env path operand) (under path (in_range target at (number_in source (term_of env operand)))) (evaluate over s operand) (value i (term_of env operand)) (λ v. as_type i.program target at (number_of v)) _
+        (evaluation_told operand source path p is.2 h)
+        (inr (cast_told i source target at (number_in source (term_of env operand)) (number i (term_of env operand)) is.1 (number_value i source target (term_of env operand) is.1 sorted)
+        ∙ sym (told_on i path (in_range target at (number_in source (term_of env operand))) (Gives (value i (value_in target (number_in source (term_of env operand))))) p)))
+    evaluation_told (Convert source target at operand) ty path p is h =
         let is = three (same_type target ty) (converts source target) (is_expr i.program locals source operand) is in
-        or_step i (conditions_of env operand) (narrowing source target at (term_of env operand)) (evaluate over s operand) (value i (term_of env operand)) (converted i.program source target at) _
-        (evaluation_told operand source is.2 h) (inr (conversion_told i source target at (term_of env operand) (sorted_there operand source is.2 h)))
+        or_step i (conditions_under env path operand) (under path (narrowing source target at (term_of env operand))) (evaluate over s operand) (value i (term_of env operand)) (converted i.program source target at) _
+        (evaluation_told operand source path p is.2 h) (inr (conversion_told i source target at (term_of env operand) (sorted_there operand source is.2 h)
+        ∙ sym (told_on i path (narrowing source target at (term_of env operand)) (Gives (value i (term_of env operand))) p)))
 
     one_compared : (ty : Ty) (a : Term) (rest : Links) (b : Term) → comparisons_of env ty a rest ≡ term b no_term → value i b ≡ values.Truth (truth i b)
     one_compared ty a no_link b e = cc
@@ -305,109 +310,130 @@ module _ (i : Interpretation) (m : Meaning) (locals : List Ty) (env : Environmen
         first_same e = ap first_of e
     one_compared ty a (link c at operand (link d next other rest)) b e = cc
 
-    addends_told : (rest : Addends) (own ty : Ty) (a : Term) → same_type own ty ≡ true → is_integer i.program ty ≡ true → are_addends i.program locals ty rest ≡ true → HoldsOn i locals env s (reads_of_addends rest)
-        → IsOr (evaluate_addends over s own (value i a) rest) (told i (conditions_of_addends env own a rest) (Gives (value i (sum_of env a rest))))
-    addends_told no_addend own ty a same integer are h = inr refl
-    addends_told (addend o at operand rest) own ty a same integer are h =
+    addends_told : (rest : Addends) (own ty : Ty) (a : Term) (path : Option Term) → path_true i path ≡ true → same_type own ty ≡ true → is_integer i.program ty ≡ true → are_addends i.program locals ty rest ≡ true → HoldsOn i locals env s (reads_of_addends rest)
+        → IsOr (evaluate_addends over s own (value i a) rest) (told i (conditions_of_addends env path own a rest) (Gives (value i (sum_of env a rest))))
+    addends_told no_addend own ty a path p same integer are h = inr refl
+    addends_told (addend o at operand rest) own ty a path p same integer are h =
         let are = both (is_expr i.program locals ty operand) (are_addends i.program locals ty rest) are in
         let total = summed o a (term_of env operand) in
         let sort : sort_of_type own ≡ Numbers = rw (same_type_equal own ty same) (integer_sort i.program ty integer) in
-        or_step i (conditions_of env operand) (in_range own at total ++ conditions_of_addends env own total rest) (evaluate over s operand) (value i (term_of env operand))
+        or_step i (conditions_under env path operand) (under path (in_range own at total) ++ conditions_of_addends env path own total rest) (evaluate over s operand) (value i (term_of env operand))
         (λ w. after (meant.in_range i.program own at (meant.summed o (number i a) (number_of w))) (λ u. evaluate_addends over s own u rest)) (Gives (value i (sum_of env total rest)))
-        (evaluation_told operand ty are.0 (all_left _ (reads operand) _ h))
-        (ranged_told own at total _ (λ u. evaluate_addends over s own u rest) (conditions_of_addends env own total rest) _ sort (summed_value i o a (term_of env operand))
-        (addends_told rest own ty total same integer are.1 (all_right _ (reads operand) _ h)))
+        (evaluation_told operand ty path p are.0 (all_left _ (reads operand) _ h))
+        (ranged_told path p own at total _ (λ u. evaluate_addends over s own u rest) (conditions_of_addends env path own total rest) _ sort (summed_value i o a (term_of env operand))
+        (addends_told rest own ty total path p same integer are.1 (all_right _ (reads operand) _ h)))
 
-    factors_told : (rest : Factors) (own ty : Ty) (a : Term) → same_type own ty ≡ true → is_integer i.program ty ≡ true → are_factors i.program locals ty rest ≡ true → HoldsOn i locals env s (reads_of_factors rest)
-        → IsOr (evaluate_factors over s own (value i a) rest) (told i (conditions_of_factors env own a rest) (Gives (value i (product_of env a rest))))
-    factors_told no_factor own ty a same integer are h = inr refl
-    factors_told (factor o at operand rest) own ty a same integer are h =
+    factors_told : (rest : Factors) (own ty : Ty) (a : Term) (path : Option Term) → path_true i path ≡ true → same_type own ty ≡ true → is_integer i.program ty ≡ true → are_factors i.program locals ty rest ≡ true → HoldsOn i locals env s (reads_of_factors rest)
+        → IsOr (evaluate_factors over s own (value i a) rest) (told i (conditions_of_factors env path own a rest) (Gives (value i (product_of env a rest))))
+    factors_told no_factor own ty a path p same integer are h = inr refl
+    factors_told (factor o at operand rest) own ty a path p same integer are h =
         let are = both (is_expr i.program locals ty operand) (are_factors i.program locals ty rest) are in
         let result = multiplied o a (term_of env operand) in
+        let asked = divides o at (term_of env operand) ++ in_range own at result in
         let numbers = integer_sort i.program ty integer in
         let sort : sort_of_type own ≡ Numbers = rw (same_type_equal own ty same) numbers in
         let sorted : has_sort Numbers (value i (term_of env operand)) ≡ true = rw (← numbers) (sorted_there operand ty are.0 (all_left _ (reads operand) _ h)) in
-        or_step i (conditions_of env operand) (divides o at (term_of env operand) ++ (in_range own at result ++ conditions_of_factors env own result rest)) (evaluate over s operand) (value i (term_of env operand))
+        or_step i (conditions_under env path operand) (under path asked ++ conditions_of_factors env path own result rest) (evaluate over s operand) (value i (term_of env operand))
         (λ w. after (meant.multiplied i.program o own at (number i a) (number_of w)) (λ u. evaluate_factors over s own u rest)) (Gives (value i (product_of env result rest)))
-        (evaluation_told operand ty are.0 (all_left _ (reads operand) _ h))
-        (or_as _ _ _ (or_step i (divides o at (term_of env operand) ++ in_range own at result) (conditions_of_factors env own result rest) _ (value i result) (λ u. evaluate_factors over s own u rest) _
-        (inr (factor_told i o own at a (term_of env operand) sort sorted)) (factors_told rest own ty result same integer are.1 (all_right _ (reads operand) _ h)))
-        (ap (λ cs. told i cs (Gives (value i (product_of env result rest)))) (append_assoc (divides o at (term_of env operand)) (in_range own at result) (conditions_of_factors env own result rest))))
+        (evaluation_told operand ty path p are.0 (all_left _ (reads operand) _ h))
+        (or_step i (under path asked) (conditions_of_factors env path own result rest) _ (value i result) (λ u. evaluate_factors over s own u rest) _
+        (inr (factor_told i o own at a (term_of env operand) sort sorted ∙ sym (told_on i path asked (Gives (value i result)) p))) (factors_told rest own ty result path p same integer are.1 (all_right _ (reads operand) _ h)))
 
-    junction_told : (rest : Members) (j : JunctionKind) (a : Term) → are_members i.program locals rest ≡ true → has_sort Truths (value i a) ≡ true → HoldsOn i locals env s (reads_of_members rest)
-        → IsOr (evaluate_junction over s j (value i a) rest) (told i (conditions_of_junction env j a rest) (Gives (values.Truth (connected i j (value i a ∷ meanings.values i (members_of env rest))))))
-    junction_told no_member j a are sorted h = inr (ap Gives (one_value i j (value i a) sorted))
-    junction_told (member at operand rest) j a are sorted h =
+    junction_told : (rest : Members) (j : JunctionKind) (a : Term) (path : Option Term) → path_true i path ≡ true → are_members i.program locals rest ≡ true → has_sort Truths (value i a) ≡ true → HoldsOn i locals env s (reads_of_members rest)
+        → IsOr (evaluate_junction over s j (value i a) rest) (told i (conditions_of_junction env path j a rest) (Gives (values.Truth (connected i j (value i a ∷ meanings.values i (members_of env rest))))))
+    junction_told no_member j a path p are sorted h = inr (ap Gives (one_value i j (value i a) sorted))
+    junction_told (member at operand rest) j a path p are sorted h =
         let are = both (is_expr i.program locals types.Bool operand) (are_members i.program locals rest) are in
-        by_decision (decides j (truth i a)) refl
-        (or_step i (conditions_of env operand) (conditions_of_junction env j (term_of env operand) rest) (evaluate over s operand) (value i (term_of env operand)) (λ w. evaluate_junction over s j w rest) _
-        (evaluation_told operand types.Bool are.0 (all_left _ (reads operand) _ h))
-        (junction_told rest j (term_of env operand) are.1 (sorted_there operand types.Bool are.0 (all_left _ (reads operand) _ h)) (all_right _ (reads operand) _ h)))
+        by_decision (decides j (truth i a)) refl (λ come.
+        or_step i (conditions_under env on operand) (conditions_of_junction env on j (term_of env operand) rest) (evaluate over s operand) (value i (term_of env operand)) (λ w. evaluate_junction over s j w rest) _
+        (evaluation_told operand types.Bool on come are.0 (all_left _ (reads operand) _ h))
+        (junction_told rest j (term_of env operand) on come are.1 (sorted_there operand types.Bool are.0 (all_left _ (reads operand) _ h)) (all_right _ (reads operand) _ h)))
       where
+        on : Option Term
+        on = Some (narrowed_path path (goes_on j a))
+
         others : List Value
         others = meanings.values i (members_of env (member at operand rest))
 
         inner : List Condition
-        inner = conditions_of env operand ++ conditions_of_junction env j (term_of env operand) rest
+        inner = conditions_under env on operand ++ conditions_of_junction env on j (term_of env operand) rest
 
         by_decision : (d : Bool) → decides j (truth i a) ≡ d
-            → IsOr (after (evaluate over s operand) (λ w. evaluate_junction over s j w rest)) (told i inner (Gives (values.Truth (connected i j others))))
-            → IsOr (if d then Gives (value i a) else after (evaluate over s operand) (λ w. evaluate_junction over s j w rest)) (told i (under (goes_on j a) inner) (Gives (values.Truth (connected i j (value i a ∷ others)))))
-        by_decision true e rest_told = inr (ap Gives (decided_value i j (value i a) others sorted e) ∙ sym (told_under i (goes_on j a) false inner (Gives (values.Truth (connected i j (value i a ∷ others)))) (decided i j a ∙ ap not e)))
-        by_decision false e rest_told = or_as _ _ _ rest_told (ap (told i inner) (ap Gives (ap values.Truth (undecided_value i j (value i a) others e))) ∙ sym (told_under i (goes_on j a) true inner (Gives (values.Truth (connected i j (value i a ∷ others)))) (decided i j a ∙ ap not e)))
+            → (path_true i on ≡ true → IsOr (after (evaluate over s operand) (λ w. evaluate_junction over s j w rest)) (told i inner (Gives (values.Truth (connected i j others)))))
+            → IsOr (if d then Gives (value i a) else after (evaluate over s operand) (λ w. evaluate_junction over s j w rest)) (told i inner (Gives (values.Truth (connected i j (value i a ∷ others)))))
+        by_decision true e rest_told =
+            let off = narrowed_true i path (goes_on j a) p ∙ (decided i j a ∙ ap not e) in
+            inr (ap Gives (decided_value i j (value i a) others sorted e)
+            ∙ sym (told_true i inner (Gives (values.Truth (connected i j (value i a ∷ others)))) (true_append i (conditions_under env on operand) _ (conditions_off i env operand on off) (junction_off i env j (term_of env operand) rest on off))))
+        by_decision false e rest_told =
+            or_as _ _ _ (rest_told (narrowed_true i path (goes_on j a) p ∙ (decided i j a ∙ ap not e))) (ap (told i inner) (ap Gives (ap values.Truth (undecided_value i j (value i a) others e))))
 
-    implication_told : (rest : Members) (a : Term) → are_members i.program locals rest ≡ true → HoldsOn i locals env s (reads_of_members rest)
-        → IsOr (evaluate_implications over s (value i a) rest) (told i (conditions_of_implication env a rest) (Gives (value i (implication_of env a rest))))
-    implication_told no_member a are h = inr refl
-    implication_told (member at operand rest) a are h =
+    implication_told : (rest : Members) (a : Term) (path : Option Term) → path_true i path ≡ true → are_members i.program locals rest ≡ true → HoldsOn i locals env s (reads_of_members rest)
+        → IsOr (evaluate_implications over s (value i a) rest) (told i (conditions_of_implication env path a rest) (Gives (value i (implication_of env a rest))))
+    implication_told no_member a path p are h = inr refl
+    implication_told (member at operand rest) a path p are h =
         let are = both (is_expr i.program locals types.Bool operand) (are_members i.program locals rest) are in
-        by_truth (truth i a) refl (implication_sorted i env (term_of env operand) rest (sorted_there operand types.Bool are.0 (all_left _ (reads operand) _ h)))
-        (or_step i (conditions_of env operand) (conditions_of_implication env (term_of env operand) rest) (evaluate over s operand) (value i (term_of env operand)) (λ w. evaluate_implications over s w rest) _
-        (evaluation_told operand types.Bool are.0 (all_left _ (reads operand) _ h)) (implication_told rest (term_of env operand) are.1 (all_right _ (reads operand) _ h)))
+        by_truth (truth i a) refl (implication_sorted i env (term_of env operand) rest (sorted_there operand types.Bool are.0 (all_left _ (reads operand) _ h))) (λ come.
+        or_step i (conditions_under env on operand) (conditions_of_implication env on (term_of env operand) rest) (evaluate over s operand) (value i (term_of env operand)) (λ w. evaluate_implications over s w rest) _
+        (evaluation_told operand types.Bool on come are.0 (all_left _ (reads operand) _ h)) (implication_told rest (term_of env operand) on come are.1 (all_right _ (reads operand) _ h)))
       where
+        on : Option Term
+        on = Some (narrowed_path path a)
+
         last : Term
         last = implication_of env (term_of env operand) rest
 
         inner : List Condition
-        inner = conditions_of env operand ++ conditions_of_implication env (term_of env operand) rest
+        inner = conditions_under env on operand ++ conditions_of_implication env on (term_of env operand) rest
 
         by_truth : (b : Bool) → truth i a ≡ b → has_sort Truths (value i last) ≡ true
-            → IsOr (after (evaluate over s operand) (λ w. evaluate_implications over s w rest)) (told i inner (Gives (value i last)))
-            → IsOr (if b then after (evaluate over s operand) (λ w. evaluate_implications over s w rest) else Gives (values.Truth true)) (told i (under a inner) (Gives (values.Truth (not (truth i a) || truth i last))))
-        by_truth true e sorted rest_told = or_as _ _ _ rest_told (ap (told i inner) (ap Gives (truth_form (value i last) sorted ∙ ap values.Truth (sym (ap (λ x. not x || truth i last) e)))) ∙ sym (told_under i a true inner (Gives (values.Truth (not (truth i a) || truth i last))) e))
-        by_truth false e sorted rest_told = inr (ap Gives (ap values.Truth (sym (ap (λ x. not x || truth i last) e))) ∙ sym (told_under i a false inner (Gives (values.Truth (not (truth i a) || truth i last))) e))
+            → (path_true i on ≡ true → IsOr (after (evaluate over s operand) (λ w. evaluate_implications over s w rest)) (told i inner (Gives (value i last))))
+            → IsOr (if b then after (evaluate over s operand) (λ w. evaluate_implications over s w rest) else Gives (values.Truth true)) (told i inner (Gives (values.Truth (not (truth i a) || truth i last))))
+        by_truth true e sorted rest_told =
+            or_as _ _ _ (rest_told (narrowed_true i path a p ∙ e)) (ap (told i inner) (ap Gives (truth_form (value i last) sorted ∙ ap values.Truth (sym (ap (λ x. not x || truth i last) e)))))
+        by_truth false e sorted rest_told =
+            let off = narrowed_true i path a p ∙ e in
+            inr (ap Gives (ap values.Truth (sym (ap (λ x. not x || truth i last) e)))
+            ∙ sym (told_true i inner (Gives (values.Truth (not (truth i a) || truth i last))) (true_append i (conditions_under env on operand) _ (conditions_off i env operand on off) (implication_off i env (term_of env operand) rest on off))))
 
-    equivalence_told : (rest : Members) (a : Term) → are_members i.program locals rest ≡ true → HoldsOn i locals env s (reads_of_members rest)
-        → IsOr (evaluate_equivalences over s (value i a) rest) (told i (conditions_of_members env rest) (Gives (value i (equivalence_of env a rest))))
-    equivalence_told no_member a are h = inr refl
-    equivalence_told (member at operand rest) a are h =
+    equivalence_told : (rest : Members) (a : Term) (path : Option Term) → path_true i path ≡ true → are_members i.program locals rest ≡ true → HoldsOn i locals env s (reads_of_members rest)
+        → IsOr (evaluate_equivalences over s (value i a) rest) (told i (conditions_of_members env path rest) (Gives (value i (equivalence_of env a rest))))
+    equivalence_told no_member a path p are h = inr refl
+    equivalence_told (member at operand rest) a path p are h =
         let are = both (is_expr i.program locals types.Bool operand) (are_members i.program locals rest) are in
-        or_step i (conditions_of env operand) (conditions_of_members env rest) (evaluate over s operand) (value i (term_of env operand)) (λ w. evaluate_equivalences over s (values.Truth (same_truth (truth i a) (truth_of w))) rest)
+        or_step i (conditions_under env path operand) (conditions_of_members env path rest) (evaluate over s operand) (value i (term_of env operand)) (λ w. evaluate_equivalences over s (values.Truth (same_truth (truth i a) (truth_of w))) rest)
         (Gives (value i (equivalence_of env (iff a (term_of env operand)) rest)))
-        (evaluation_told operand types.Bool are.0 (all_left _ (reads operand) _ h)) (equivalence_told rest (iff a (term_of env operand)) are.1 (all_right _ (reads operand) _ h))
+        (evaluation_told operand types.Bool path p are.0 (all_left _ (reads operand) _ h)) (equivalence_told rest (iff a (term_of env operand)) path p are.1 (all_right _ (reads operand) _ h))
 
-    links_told : (rest : Links) (own : Ty) (a : Term) → are_links i.program locals own rest ≡ true → IsSorted own (value i a) → HoldsOn i locals env s (reads_of_links rest)
-        → IsOr (evaluate_links over s (value i a) rest) (told i (conditions_of_links env own a rest) (Gives (values.Truth (list_all truth_of (meanings.values i (comparisons_of env own a rest))))))
-    links_told no_link own a are sorted h = inr refl
-    links_told (link c at operand rest) own a are sorted h =
+    links_told : (rest : Links) (own : Ty) (a : Term) (path : Option Term) → path_true i path ≡ true → are_links i.program locals own rest ≡ true → IsSorted own (value i a) → HoldsOn i locals env s (reads_of_links rest)
+        → IsOr (evaluate_links over s (value i a) rest) (told i (conditions_of_links env path own a rest) (Gives (values.Truth (list_all truth_of (meanings.values i (comparisons_of env own a rest))))))
+    links_told no_link own a path p are sorted h = inr refl
+    links_told (link c at operand rest) own a path p are sorted h =
         let are = three (compares i.program own c) (is_expr i.program locals own operand) (are_links i.program locals own rest) are in
         let next_sorted = sorted_there operand own are.1 (all_left _ (reads operand) _ h) in
-        or_step i (conditions_of env operand) (under (compared own c a (term_of env operand)) (conditions_of_links env own (term_of env operand) rest)) (evaluate over s operand) (value i (term_of env operand))
+        or_step i (conditions_under env path operand) inner (evaluate over s operand) (value i (term_of env operand))
         (λ w. if compare c (value i a) w then evaluate_links over s w rest else Gives (values.Truth false)) _
-        (evaluation_told operand own are.1 (all_left _ (reads operand) _ h))
-        (subst (λ b. IsOr (if b then evaluate_links over s (value i (term_of env operand)) rest else Gives (values.Truth false)) (told i (under first (conditions_of_links env own (term_of env operand) rest)) (Gives (values.Truth (truth i first && list_all truth_of (meanings.values i others))))))
+        (evaluation_told operand own path p are.1 (all_left _ (reads operand) _ h))
+        (subst (λ b. IsOr (if b then evaluate_links over s (value i (term_of env operand)) rest else Gives (values.Truth false)) (told i inner (Gives (values.Truth (truth i first && list_all truth_of (meanings.values i others))))))
         (sym (compared_told i own c a (term_of env operand) sorted next_sorted))
-        (by_truth (truth i first) refl (links_told rest own (term_of env operand) are.2 next_sorted (all_right _ (reads operand) _ h))))
+        (by_truth (truth i first) refl (λ come. links_told rest own (term_of env operand) on come are.2 next_sorted (all_right _ (reads operand) _ h))))
       where
         first : Term
         first = compared own c a (term_of env operand)
 
+        on : Option Term
+        on = Some (narrowed_path path first)
+
         others : Terms
         others = comparisons_of env own (term_of env operand) rest
 
-        by_truth : (b : Bool) → truth i first ≡ b → IsOr (evaluate_links over s (value i (term_of env operand)) rest) (told i (conditions_of_links env own (term_of env operand) rest) (Gives (values.Truth (list_all truth_of (meanings.values i others)))))
-            → IsOr (if b then evaluate_links over s (value i (term_of env operand)) rest else Gives (values.Truth false)) (told i (under first (conditions_of_links env own (term_of env operand) rest)) (Gives (values.Truth (truth i first && list_all truth_of (meanings.values i others)))))
-        by_truth true e rest_told = or_as _ _ _ rest_told (ap (told i (conditions_of_links env own (term_of env operand) rest)) (ap Gives (ap values.Truth (sym (ap (λ x. x && list_all truth_of (meanings.values i others)) e))))
-            ∙ sym (told_under i first true (conditions_of_links env own (term_of env operand) rest) (Gives (values.Truth (truth i first && list_all truth_of (meanings.values i others)))) e))
-        by_truth false e rest_told = inr (ap Gives (ap values.Truth (sym (ap (λ x. x && list_all truth_of (meanings.values i others)) e)))
-            ∙ sym (told_under i first false (conditions_of_links env own (term_of env operand) rest) (Gives (values.Truth (truth i first && list_all truth_of (meanings.values i others)))) e))
+        inner : List Condition
+        inner = conditions_of_links env on own (term_of env operand) rest
+
+        by_truth : (b : Bool) → truth i first ≡ b → (path_true i on ≡ true → IsOr (evaluate_links over s (value i (term_of env operand)) rest) (told i inner (Gives (values.Truth (list_all truth_of (meanings.values i others))))))
+            → IsOr (if b then evaluate_links over s (value i (term_of env operand)) rest else Gives (values.Truth false)) (told i inner (Gives (values.Truth (truth i first && list_all truth_of (meanings.values i others)))))
+        by_truth true e rest_told =
+            or_as _ _ _ (rest_told (narrowed_true i path first p ∙ e)) (ap (told i inner) (ap Gives (ap values.Truth (sym (ap (λ x. x && list_all truth_of (meanings.values i others)) e)))))
+        by_truth false e rest_told =
+            inr (ap Gives (ap values.Truth (sym (ap (λ x. x && list_all truth_of (meanings.values i others)) e)))
+            ∙ sym (told_true i inner (Gives (values.Truth (truth i first && list_all truth_of (meanings.values i others)))) (links_off i env own (term_of env operand) rest on (narrowed_true i path first p ∙ e))))

@@ -1,5 +1,5 @@
 -- Terms whose free terms have numbers below one: their values depend on these alone.
-use Rattle.std.proofs.Common.{◌≡◌, ℕ, ◌≤◌, ℤ, pos, nat_lt, Bool, true, false, ◌&&◌, List, [], ◌∷◌, ◌++◌, slice_index_or, refl, ap, ◌∙◌, arith}
+use Rattle.std.proofs.Common.{◌≡◌, ℕ, ◌≤◌, pos, nat_lt, Bool, true, false, ◌&&◌, List, [], ◌∷◌, ◌++◌, Option, None, Some, slice_index_or, refl, ap, ◌∙◌, arith}
 use Rattle.std.specs.List.{AllByRecursion}
 use Rattle.df_base.specs.declared.pos.Pos.{Pos}
 use Rattle.df_lang.specs.declared.ty.Ty.{Ty}
@@ -20,8 +20,7 @@ use Rattle.df_nterm.specs.Term.{Free, Op, Term, node, Terms, no_term, term, conj
 use Rattle.df_nterm.specs.Term as ops
 use Rattle.df_nterm.specs.Meaning.{Interpretation, apply, value}
 use Rattle.df_nterm.specs.Meaning as meanings
-use Rattle.df_nterm.specs.Expressions.{Environment, Condition, term_of, sum_of, product_of, members_of, implication_of, equivalence_of, comparisons_of, summed, multiplied, number_in, value_in, compared, equal_in, joined, goes_on, under, in_range, divides, narrowing, conditions_of, conditions_of_addends, conditions_of_factors, conditions_of_junction, conditions_of_implication, conditions_of_members, conditions_of_links}
-use Rattle.df_nterm.specs.Measuring.{Measured, below_of, same_of, is_below, is_same, are_below}
+use Rattle.df_nterm.specs.Expressions.{Environment, Condition, term_of, sum_of, product_of, members_of, implication_of, equivalence_of, comparisons_of, summed, multiplied, number_in, value_in, compared, equal_in, joined, goes_on, on_path, narrowed_path, under, in_range, divides, narrowing, conditions_under, conditions_of, conditions_of_addends, conditions_of_factors, conditions_of_junction, conditions_of_implication, conditions_of_members, conditions_of_links}
 use Rattle.df_mean.proofs.Cases.{both, joined as and_joined}
 
 abbrev pub op_below : ℕ → Op → Bool
@@ -116,9 +115,21 @@ module _ (n : ℕ) where
   pub two_below : (a b : Term) → IsBelow n a → IsBelow n b → (below n a && (below n b && true)) ≡ true
   two_below a b h g = rw (h, g) refl
 
-  pub under_below : (guard : Term) (cs : List Condition) → IsBelow n guard → AreBelow cs → AreBelow (under guard cs)
-  under_below guard [] h g = tt
-  under_below guard (c ∷ cs) h g = (two_below guard c.formula h g.0, under_below guard cs h g.1)
+  abbrev pub PathBelow : Option Term → Type 0
+  PathBelow None = Unit {0}
+  PathBelow (Some path) = IsBelow n path
+
+  pub on_path_below : (path : Option Term) (formula : Term) → PathBelow path → IsBelow n formula → IsBelow n (on_path path formula)
+  on_path_below None formula h g = g
+  on_path_below (Some path) formula h g = two_below path formula h g
+
+  pub narrowed_below : (path : Option Term) (formula : Term) → PathBelow path → IsBelow n formula → IsBelow n (narrowed_path path formula)
+  narrowed_below None formula h g = g
+  narrowed_below (Some path) formula h g = two_below path formula h g
+
+  pub under_below : (path : Option Term) (cs : List Condition) → PathBelow path → AreBelow cs → AreBelow (under path cs)
+  under_below path [] h g = tt
+  under_below path (c ∷ cs) h g = (on_path_below path c.formula h g.0, under_below path cs h g.1)
 
   one_below : (a : Term) → IsBelow n a → (below n a && true) ≡ true
   one_below a h = rw (h) refl
@@ -253,50 +264,66 @@ module _ (n : ℕ) (env : Environment) (h : (local : ℕ) → IsBelow n (env loc
     comparisons_below ty a (link c at operand rest) g = and_joined _ _ (compared_below n ty c a (term_of env operand) g (term_below operand)) (comparisons_below ty (term_of env operand) rest (term_below operand))
 
   mutual
-    pub conditions_below : (e : Expr) → AreBelow n (conditions_of env e)
-    conditions_below (Number ty z at) = range_below n ty at (literal z) refl
-    conditions_below (Truth b at) = tt
-    conditions_below (Character code at) = tt
-    conditions_below (Local local name at) = tt
-    conditions_below (Negate ty at operand) = append_below n (conditions_of env operand) _ (conditions_below operand) (range_below n ty at (negative (term_of env operand)) (rw (term_below operand) refl))
-    conditions_below (Not at operand) = conditions_below operand
-    conditions_below (Sum ty first rest) = append_below n (conditions_of env first) _ (conditions_below first) (addends_below ty (term_of env first) rest (term_below first))
-    conditions_below (Product ty first rest) = append_below n (conditions_of env first) _ (conditions_below first) (factors_below ty (term_of env first) rest (term_below first))
-    conditions_below (Junction junction first rest) = append_below n (conditions_of env first) _ (conditions_below first) (junction_below junction (term_of env first) rest (term_below first))
-    conditions_below (Implies arrow first rest) = append_below n (conditions_of env first) _ (conditions_below first) (implications_below (term_of env first) rest (term_below first))
-    conditions_below (Iff first rest) = append_below n (conditions_of env first) _ (conditions_below first) (equivalences_below rest)
-    conditions_below (Chain ty first rest) = append_below n (conditions_of env first) _ (conditions_below first) (links_below ty (term_of env first) rest (term_below first))
-    conditions_below (As source target at operand) = append_below n (conditions_of env operand) _ (conditions_below operand) (range_below n target at (number_in source (term_of env operand)) (number_below n source (term_of env operand) (term_below operand)))
-    conditions_below (Convert source target at operand) = append_below n (conditions_of env operand) _ (conditions_below operand) (narrowing_below n source target at (term_of env operand) (term_below operand))
+    path_conditions_below : (e : Expr) (path : Option Term) → PathBelow n path → AreBelow n (conditions_under env path e)
+    path_conditions_below (Number ty z at) path p = under_below n path _ p (range_below n ty at (literal z) refl)
+    path_conditions_below (Truth b at) path p = tt
+    path_conditions_below (Character code at) path p = tt
+    path_conditions_below (Local local name at) path p = tt
+    path_conditions_below (Negate ty at operand) path p =
+        append_below n (conditions_under env path operand) _ (path_conditions_below operand path p) (under_below n path _ p (range_below n ty at (negative (term_of env operand)) (rw (term_below operand) refl)))
+    path_conditions_below (Not at operand) path p = path_conditions_below operand path p
+    path_conditions_below (Sum ty first rest) path p = append_below n (conditions_under env path first) _ (path_conditions_below first path p) (addends_below ty (term_of env first) rest path p (term_below first))
+    path_conditions_below (Product ty first rest) path p = append_below n (conditions_under env path first) _ (path_conditions_below first path p) (factors_below ty (term_of env first) rest path p (term_below first))
+    path_conditions_below (Junction junction first rest) path p = append_below n (conditions_under env path first) _ (path_conditions_below first path p) (junction_below junction (term_of env first) rest path p (term_below first))
+    path_conditions_below (Implies arrow first rest) path p = append_below n (conditions_under env path first) _ (path_conditions_below first path p) (implications_below (term_of env first) rest path p (term_below first))
+    path_conditions_below (Iff first rest) path p = append_below n (conditions_under env path first) _ (path_conditions_below first path p) (equivalences_below rest path p)
+    path_conditions_below (Chain ty first rest) path p = append_below n (conditions_under env path first) _ (path_conditions_below first path p) (links_below ty (term_of env first) rest path p (term_below first))
+    path_conditions_below (As source target at operand) path p =
+        append_below n (conditions_under env path operand) _ (path_conditions_below operand path p)
+        (under_below n path _ p (range_below n target at (number_in source (term_of env operand)) (number_below n source (term_of env operand) (term_below operand))))
+    path_conditions_below (Convert source target at operand) path p =
+        append_below n (conditions_under env path operand) _ (path_conditions_below operand path p) (under_below n path _ p (narrowing_below n source target at (term_of env operand) (term_below operand)))
 
-    addends_below : (ty : Ty) (a : Term) (rest : Addends) → IsBelow n a → AreBelow n (conditions_of_addends env ty a rest)
-    addends_below ty a no_addend g = tt
-    addends_below ty a (addend o at operand rest) g =
+    addends_below : (ty : Ty) (a : Term) (rest : Addends) (path : Option Term) → PathBelow n path → IsBelow n a → AreBelow n (conditions_of_addends env path ty a rest)
+    addends_below ty a no_addend path p g = tt
+    addends_below ty a (addend o at operand rest) path p g =
         let total = summed_below n o a (term_of env operand) g (term_below operand) in
-        append_below n (conditions_of env operand) _ (conditions_below operand) (append_below n (in_range ty at (summed o a (term_of env operand))) _ (range_below n ty at (summed o a (term_of env operand)) total) (addends_below ty (summed o a (term_of env operand)) rest total))
+        append_below n (conditions_under env path operand) _ (path_conditions_below operand path p)
+        (append_below n (under path (in_range ty at (summed o a (term_of env operand)))) _ (under_below n path _ p (range_below n ty at (summed o a (term_of env operand)) total)) (addends_below ty (summed o a (term_of env operand)) rest path p total))
 
-    factors_below : (ty : Ty) (a : Term) (rest : Factors) → IsBelow n a → AreBelow n (conditions_of_factors env ty a rest)
-    factors_below ty a no_factor g = tt
-    factors_below ty a (factor o at operand rest) g =
+    factors_below : (ty : Ty) (a : Term) (rest : Factors) (path : Option Term) → PathBelow n path → IsBelow n a → AreBelow n (conditions_of_factors env path ty a rest)
+    factors_below ty a no_factor path p g = tt
+    factors_below ty a (factor o at operand rest) path p g =
         let result = multiplied_below n o a (term_of env operand) g (term_below operand) in
-        append_below n (conditions_of env operand) _ (conditions_below operand) (append_below n (divides o at (term_of env operand)) _ (divides_below n o at (term_of env operand) (term_below operand))
-        (append_below n (in_range ty at (multiplied o a (term_of env operand))) _ (range_below n ty at (multiplied o a (term_of env operand)) result) (factors_below ty (multiplied o a (term_of env operand)) rest result)))
+        append_below n (conditions_under env path operand) _ (path_conditions_below operand path p)
+        (append_below n (under path (divides o at (term_of env operand) ++ in_range ty at (multiplied o a (term_of env operand)))) _
+        (under_below n path _ p (append_below n (divides o at (term_of env operand)) _ (divides_below n o at (term_of env operand) (term_below operand)) (range_below n ty at (multiplied o a (term_of env operand)) result)))
+        (factors_below ty (multiplied o a (term_of env operand)) rest path p result))
 
-    junction_below : (j : JunctionKind) (a : Term) (rest : Members) → IsBelow n a → AreBelow n (conditions_of_junction env j a rest)
-    junction_below j a no_member g = tt
-    junction_below j a (member at operand rest) g =
-        under_below n (goes_on j a) _ (goes_on_below n j a g) (append_below n (conditions_of env operand) _ (conditions_below operand) (junction_below j (term_of env operand) rest (term_below operand)))
+    junction_below : (j : JunctionKind) (a : Term) (rest : Members) (path : Option Term) → PathBelow n path → IsBelow n a → AreBelow n (conditions_of_junction env path j a rest)
+    junction_below j a no_member path p g = tt
+    junction_below j a (member at operand rest) path p g =
+        let on : Option Term = Some (narrowed_path path (goes_on j a)) in
+        let is = narrowed_below n path (goes_on j a) p (goes_on_below n j a g) in
+        append_below n (conditions_under env on operand) _ (path_conditions_below operand on is) (junction_below j (term_of env operand) rest on is (term_below operand))
 
-    implications_below : (a : Term) (rest : Members) → IsBelow n a → AreBelow n (conditions_of_implication env a rest)
-    implications_below a no_member g = tt
-    implications_below a (member at operand rest) g =
-        under_below n a _ g (append_below n (conditions_of env operand) _ (conditions_below operand) (implications_below (term_of env operand) rest (term_below operand)))
+    implications_below : (a : Term) (rest : Members) (path : Option Term) → PathBelow n path → IsBelow n a → AreBelow n (conditions_of_implication env path a rest)
+    implications_below a no_member path p g = tt
+    implications_below a (member at operand rest) path p g =
+        let on : Option Term = Some (narrowed_path path a) in
+        let is = narrowed_below n path a p g in
+        append_below n (conditions_under env on operand) _ (path_conditions_below operand on is) (implications_below (term_of env operand) rest on is (term_below operand))
 
-    equivalences_below : (rest : Members) → AreBelow n (conditions_of_members env rest)
-    equivalences_below no_member = tt
-    equivalences_below (member at operand rest) = append_below n (conditions_of env operand) _ (conditions_below operand) (equivalences_below rest)
+    equivalences_below : (rest : Members) (path : Option Term) → PathBelow n path → AreBelow n (conditions_of_members env path rest)
+    equivalences_below no_member path p = tt
+    equivalences_below (member at operand rest) path p = append_below n (conditions_under env path operand) _ (path_conditions_below operand path p) (equivalences_below rest path p)
 
-    links_below : (ty : Ty) (a : Term) (rest : Links) → IsBelow n a → AreBelow n (conditions_of_links env ty a rest)
-    links_below ty a no_link g = tt
-    links_below ty a (link c at operand rest) g =
-        append_below n (conditions_of env operand) _ (conditions_below operand) (under_below n (compared ty c a (term_of env operand)) _ (compared_below n ty c a (term_of env operand) g (term_below operand)) (links_below ty (term_of env operand) rest (term_below operand)))
+    links_below : (ty : Ty) (a : Term) (rest : Links) (path : Option Term) → PathBelow n path → IsBelow n a → AreBelow n (conditions_of_links env path ty a rest)
+    links_below ty a no_link path p g = tt
+    links_below ty a (link c at operand rest) path p g =
+        append_below n (conditions_under env path operand) _ (path_conditions_below operand path p)
+        (links_below ty (term_of env operand) rest (Some (narrowed_path path (compared ty c a (term_of env operand))))
+        (narrowed_below n path (compared ty c a (term_of env operand)) p (compared_below n ty c a (term_of env operand) g (term_below operand))) (term_below operand))
+
+  pub conditions_below : (e : Expr) → AreBelow n (conditions_of env e)
+  conditions_below e = path_conditions_below e None tt

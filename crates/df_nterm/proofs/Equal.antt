@@ -1,5 +1,5 @@
 -- Terms that are found equal are.
-use Rattle.std.proofs.Common.{◌≡◌, ℕ, ℤ, pos, ◌==◌, Bool, true, false, ◌&&◌, List, [], ◌∷◌, slice_index_or, int_eq, refl, sym, ◌∙◌}
+use Rattle.std.proofs.Common.{◌≡◌, ℕ, ℤ, ◌==◌, true, [], ◌∷◌, slice_index_or, int_eq, refl, sym, ◌∙◌}
 use Rattle.std.proofs.lemmas.Bool.{eqb-true}
 use Rattle.std.proofs.lemmas.Bool.Decides.{Decides-int_eq}
 use Rattle.df_lang.specs.declared.ty.Ty.{Ty}

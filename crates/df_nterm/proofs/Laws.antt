@@ -1,5 +1,5 @@
 -- The laws of terms.
-use Rattle.std.proofs.Common.{◌≡◌, ◌⊎◌, inl, inr, true, List, [], ◌∷◌, ◌++◌, map, is_some, Some, refl, sym, ap, subst, ◌∙◌}
+use Rattle.std.proofs.Common.{◌≡◌, inl, inr, true, List, [], ◌∷◌, ◌++◌, map, is_some, None, Some, refl, sym, ap, subst, ◌∙◌}
 use Rattle.std.specs.List.{list_all, flat_map}
 use Rattle.df_lang.specs.declared.ty.Ty.{Ty}
 use Rattle.df_lang.specs.Expr.{Expr}
@@ -7,7 +7,7 @@ use Rattle.df_lang.specs.Stmt.{Measure}
 use Rattle.df_lang.specs.Typing.{is_expr}
 use Rattle.df_lang.specs.Assignment.{Use, Reached, reads, unassigned}
 use Rattle.df_mean.specs.Value.{Value}
-use Rattle.df_mean.specs.Outcome.{Outcome, Gives, Dismissed, after}
+use Rattle.df_mean.specs.Outcome.{Outcome, Gives, after}
 use Rattle.df_mean.specs.State.{State}
 use Rattle.df_mean.specs.Meaning.{Meaning}
 use Rattle.df_mean.specs.Evaluation.{evaluate}
@@ -18,9 +18,9 @@ use Rattle.df_mean.proofs.Counting.{evaluate_counts, not_dismissed, use_there}
 use Rattle.df_nterm.specs.Meaning.{Interpretation, value}
 use Rattle.df_nterm.specs.Expressions.{Environment, term_of, conditions_of}
 use Rattle.df_nterm.specs.Measuring.{Measured, measured, conditions_of_measure}
-use Rattle.df_nterm.specs.Laws.{Agrees, AgreesOn, told, EvaluationIsAnswered, MeasuresAreAnswered, BelowIsOrder}
+use Rattle.df_nterm.specs.Laws.{AgreesOn, told, EvaluationIsAnswered, MeasuresAreAnswered, BelowIsOrder}
 use Rattle.df_nterm.proofs.Told.{IsOr, told_appended, told_after}
-use Rattle.df_nterm.proofs.Sorted.{Holds, HoldsOn, term_sorted}
+use Rattle.df_nterm.proofs.Sorted.{HoldsOn, term_sorted}
 use Rattle.df_nterm.proofs.Answering.{over, evaluation_told}
 use Rattle.df_nterm.proofs.Ordering.{below_orders}
 
@@ -31,7 +31,7 @@ pub evaluation_or_dismissed : (m : Meaning) (i : Interpretation) (locals : List 
 evaluation_or_dismissed m i locals env s ty e same is holds =
     let is_there = subst (λ p. is_expr p locals ty e ≡ true) (sym same) is in
     subst (λ o. IsOr o (told i (conditions_of env e) (Gives (value i (term_of env e))))) (sym (evaluate_same m (over i m locals env s) s s (record { program = sym same; locals = λ local. refl }) e))
-    (evaluation_told i m locals env s e ty is_there holds)
+    (evaluation_told i m locals env s e ty None refl is_there holds)
 
 agrees_holds : (i : Interpretation) (locals : List Ty) (env : Environment) (s : State) (uses : List Use) → AgreesOn i locals env s uses → HoldsOn i locals env s uses
 agrees_holds i locals env s [] h = tt

@@ -1,4 +1,5 @@
 pub mod Told
+pub mod Paths
 pub mod Sorted
 pub mod Below
 pub mod Answering

@@ -1,7 +1,7 @@
 -- Terms of well-typed expressions have values of the sorts of their types.
-use Rattle.std.proofs.Common.{◌≡◌, ℕ, ℤ, pos, negsuc, int_le, nat_lt, Bool, true, false, not, ◌&&◌, ◌||◌, if◌then◌else◌, List, [], ◌∷◌, ◌++◌, slice_get, Option, None, Some, refl, sym, subst, ◌∙◌, arith}
+use Rattle.std.proofs.Common.{◌≡◌, ℕ, ℤ, pos, negsuc, int_le, nat_lt, Bool, true, false, ◌&&◌, if◌then◌else◌, List, slice_get, Option, None, Some, refl, ◌∙◌, arith}
 use Rattle.std.specs.Option.{option_map_or}
-use Rattle.std.specs.List.{list_all, list_any, AllByRecursion}
+use Rattle.std.specs.List.{list_all, AllByRecursion}
 use Rattle.df_lang.specs.declared.ty.Ty.{Ty}
 use Rattle.df_lang.specs.declared.ty.Ty.TheVariants as types
 use Rattle.df_lang.specs.declared.expr.AddendOperator.{AddendOperator}
@@ -14,19 +14,19 @@ use Rattle.df_lang.specs.declared.expr.Comparison.{Comparison}
 use Rattle.df_lang.specs.declared.expr.Comparison.TheVariants as comparisons
 use Rattle.df_lang.specs.Expr.{Expr, Number, Truth, Character, Local, Negate, Not, Sum, Product, Junction, Implies, Iff, Chain, As, Convert, Addends, no_addend, addend, Factors, no_factor, factor, Members, no_member, member, Links, no_link, link}
 use Rattle.df_lang.specs.Program.{Program}
-use Rattle.df_lang.specs.Typing.{same_type, is_integer, is_arithmetic, casts, converts, compares, is_expr, are_addends, are_factors, are_members, are_links}
-use Rattle.df_lang.specs.Assignment.{Use, reads, reads_of_members}
+use Rattle.df_lang.specs.Typing.{same_type, is_integer, is_arithmetic, casts, converts, is_expr, are_addends, are_factors, are_members, are_links}
+use Rattle.df_lang.specs.Assignment.{Use, reads}
 use Rattle.df_mean.specs.Value.{Value, truth_of}
 use Rattle.df_mean.specs.Value as values
 use Rattle.df_mean.specs.Types.{has_type}
 use Rattle.df_mean.specs.State.{State}
 use Rattle.df_mean.proofs.Cases.{both, three, four}
 use Rattle.df_mean.proofs.Types.{same_type_equal}
-use Rattle.df_nterm.specs.Term.{Sort, Numbers, Truths, Characters, Term, Terms, no_term, term, conjunction, truth_term, sort_of_type}
+use Rattle.df_nterm.specs.Term.{Numbers, Truths, Characters, Term, Terms, no_term, term, conjunction, truth_term, sort_of_type}
 use Rattle.df_nterm.specs.Meaning.{Interpretation, has_sort, is_code, character_of, number, value}
 use Rattle.df_nterm.specs.Meaning as meanings
 use Rattle.df_nterm.specs.Expressions.{Environment, term_of, sum_of, product_of, members_of, implication_of, equivalence_of, comparisons_of, summed, multiplied, number_in, value_in, compared, joined}
-use Rattle.df_nterm.proofs.Told.{all_left, all_right}
+use Rattle.df_nterm.proofs.Told.{all_left}
 
 -- the term of a local has a value of the sort of its type, and that of the local, if it has one
 pub record Holds (i : Interpretation) (locals : List Ty) (env : Environment) (s : State) (local : ℕ) : Type 0 where

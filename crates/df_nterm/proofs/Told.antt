@@ -1,10 +1,9 @@
 -- Conditions in order.
-use Rattle.std.proofs.Common.{◌≡◌, ◌⊎◌, inl, inr, Bool, true, false, not, if◌then◌else◌, List, [], ◌∷◌, ◌++◌, refl, sym, ap, ◌∙◌, subst}
+use Rattle.std.proofs.Common.{◌≡◌, ◌⊎◌, inl, inr, Bool, true, false, if◌then◌else◌, List, [], ◌∷◌, ◌++◌, refl, sym, ap, ◌∙◌, subst}
 use Rattle.std.specs.List.{AllByRecursion}
-use Rattle.df_mean.specs.Outcome.{Outcome, Gives, Wrong, TooDeep, NoChoice, Dismissed, after}
-use Rattle.df_nterm.specs.Term.{Term}
+use Rattle.df_mean.specs.Outcome.{Outcome, Gives, Wrong, Dismissed, after}
 use Rattle.df_nterm.specs.Meaning.{Interpretation, truth}
-use Rattle.df_nterm.specs.Expressions.{Condition, under}
+use Rattle.df_nterm.specs.Expressions.{Condition}
 use Rattle.df_nterm.specs.Laws.{told}
 
 pub told_appended : {A : Type 0} (i : Interpretation) (cs ds : List Condition) (o : Outcome A) → told i (cs ++ ds) o ≡ told i cs (told i ds o)
@@ -18,13 +17,6 @@ told_after i (c ∷ cs) o f = by_truth (truth i c.formula) _ _ (told_after i cs 
     by_truth : (b : Bool) (x : Outcome _) (y : Outcome _) → after x f ≡ y → after (if b then x else Wrong c.pos c.kind) f ≡ (if b then y else Wrong c.pos c.kind)
     by_truth true x y e = e
     by_truth false x y e = refl
-
--- under a guard that is true they are as without it
-pub told_under : {A : Type 0} (i : Interpretation) (guard : Term) (b : Bool) (cs : List Condition) (o : Outcome A) → truth i guard ≡ b → told i (under guard cs) o ≡ (if b then told i cs o else o)
-told_under i guard true [] o e = refl
-told_under i guard false [] o e = refl
-told_under i guard true (c ∷ cs) o e = rw (e) (ap (λ x. if truth i c.formula then x else Wrong c.pos c.kind) (told_under i guard true cs o e))
-told_under i guard false (c ∷ cs) o e = rw (e) (told_under i guard false cs o e)
 
 pub all_left : {A : Type 0} (P : A → Type 0) (xs ys : List A) → AllByRecursion P (xs ++ ys) → AllByRecursion P xs
 all_left P [] ys h = tt

@@ -1,6 +1,6 @@
 -- Terms of expressions: the term of an expression over a term for each local, and the conditions under which the
 -- expression has a value, in the order in which it is evaluated.
-use Rattle.std.specs.Prelude.{ℕ, ℤ, pos, Bool, true, false, List, [], ◌∷◌, ◌++◌, map}
+use Rattle.std.specs.Prelude.{ℕ, pos, List, [], ◌∷◌, ◌++◌, map, Option, None, Some}
 use Rattle.df_base.specs.declared.pos.Pos.{Pos}
 use Rattle.df_lang.specs.declared.ty.Ty.{Ty}
 use Rattle.df_lang.specs.declared.ty.Ty.TheVariants as types
@@ -119,9 +119,18 @@ pub record Condition : Type 0 where
 abbrev pub condition : Pos → Kind → Term → List Condition
 condition at kind formula = record { pos = at; kind = kind; formula = formula } ∷ []
 
--- what is asked only where a guard is true
-abbrev pub under : Term → List Condition → List Condition
-under guard conditions = map (λ (c : Condition). record { pos = c.pos; kind = c.kind; formula = implies guard c.formula }) conditions
+-- what is asked only of the runs that come to a place: those of which a formula is true, or all
+abbrev pub on_path : Option Term → Term → Term
+on_path None formula = formula
+on_path (Some path) formula = implies path formula
+
+-- further on, of which another one is true too
+abbrev pub narrowed_path : Option Term → Term → Term
+narrowed_path None formula = formula
+narrowed_path (Some path) formula = both path formula
+
+abbrev pub under : Option Term → List Condition → List Condition
+under path conditions = map (λ (c : Condition). record { pos = c.pos; kind = c.kind; formula = on_path path c.formula }) conditions
 
 -- the number is one of the type: any number is an `int`; of a character it is the code
 abbrev pub in_range : Ty → Pos → Term → List Condition
@@ -146,52 +155,59 @@ abbrev pub goes_on : JunctionKind → Term → Term
 goes_on junctions.And a = a
 goes_on junctions.Or a = negation a
 
+-- A place inside an expression has the formula that is true where evaluation comes there: one more `and` for each
+-- member that was passed, so a condition is one implication however many members stand before it.
 abbrev mutual
-  -- the first that is false tells where evaluation fails
-  pub conditions_of : Environment → Expr → List Condition
-  conditions_of env (Number ty value at) = in_range ty at (literal value)
-  conditions_of env (Truth value at) = []
-  conditions_of env (Character code at) = []
-  conditions_of env (Local local name at) = []
-  conditions_of env (Negate ty at operand) = conditions_of env operand ++ in_range ty at (negative (term_of env operand))
-  conditions_of env (Not at operand) = conditions_of env operand
-  conditions_of env (Sum ty first rest) = conditions_of env first ++ conditions_of_addends env ty (term_of env first) rest
-  conditions_of env (Product ty first rest) = conditions_of env first ++ conditions_of_factors env ty (term_of env first) rest
-  conditions_of env (Junction junction first rest) = conditions_of env first ++ conditions_of_junction env junction (term_of env first) rest
-  conditions_of env (Implies arrow first rest) = conditions_of env first ++ conditions_of_implication env (term_of env first) rest
-  conditions_of env (Iff first rest) = conditions_of env first ++ conditions_of_members env rest
-  conditions_of env (Chain ty first rest) = conditions_of env first ++ conditions_of_links env ty (term_of env first) rest
-  conditions_of env (As source target at operand) = conditions_of env operand ++ in_range target at (number_in source (term_of env operand))
-  conditions_of env (Convert source target at operand) = conditions_of env operand ++ narrowing source target at (term_of env operand)
+  pub conditions_under : Environment → Option Term → Expr → List Condition
+  conditions_under env path (Number ty value at) = under path (in_range ty at (literal value))
+  conditions_under env path (Truth value at) = []
+  conditions_under env path (Character code at) = []
+  conditions_under env path (Local local name at) = []
+  conditions_under env path (Negate ty at operand) = conditions_under env path operand ++ under path (in_range ty at (negative (term_of env operand)))
+  conditions_under env path (Not at operand) = conditions_under env path operand
+  conditions_under env path (Sum ty first rest) = conditions_under env path first ++ conditions_of_addends env path ty (term_of env first) rest
+  conditions_under env path (Product ty first rest) = conditions_under env path first ++ conditions_of_factors env path ty (term_of env first) rest
+  conditions_under env path (Junction junction first rest) = conditions_under env path first ++ conditions_of_junction env path junction (term_of env first) rest
+  conditions_under env path (Implies arrow first rest) = conditions_under env path first ++ conditions_of_implication env path (term_of env first) rest
+  conditions_under env path (Iff first rest) = conditions_under env path first ++ conditions_of_members env path rest
+  conditions_under env path (Chain ty first rest) = conditions_under env path first ++ conditions_of_links env path ty (term_of env first) rest
+  conditions_under env path (As source target at operand) = conditions_under env path operand ++ under path (in_range target at (number_in source (term_of env operand)))
+  conditions_under env path (Convert source target at operand) = conditions_under env path operand ++ under path (narrowing source target at (term_of env operand))
 
-  pub conditions_of_addends : Environment → Ty → Term → Addends → List Condition
-  conditions_of_addends env ty a no_addend = []
-  conditions_of_addends env ty a (addend operator at operand rest) =
+  pub conditions_of_addends : Environment → Option Term → Ty → Term → Addends → List Condition
+  conditions_of_addends env path ty a no_addend = []
+  conditions_of_addends env path ty a (addend operator at operand rest) =
       let total = summed operator a (term_of env operand) in
-      conditions_of env operand ++ (in_range ty at total ++ conditions_of_addends env ty total rest)
+      conditions_under env path operand ++ (under path (in_range ty at total) ++ conditions_of_addends env path ty total rest)
 
-  pub conditions_of_factors : Environment → Ty → Term → Factors → List Condition
-  conditions_of_factors env ty a no_factor = []
-  conditions_of_factors env ty a (factor operator at operand rest) =
+  pub conditions_of_factors : Environment → Option Term → Ty → Term → Factors → List Condition
+  conditions_of_factors env path ty a no_factor = []
+  conditions_of_factors env path ty a (factor operator at operand rest) =
       let result = multiplied operator a (term_of env operand) in
-      conditions_of env operand ++ (divides operator at (term_of env operand) ++ (in_range ty at result ++ conditions_of_factors env ty result rest))
+      conditions_under env path operand ++ (under path (divides operator at (term_of env operand) ++ in_range ty at result) ++ conditions_of_factors env path ty result rest)
 
-  pub conditions_of_junction : Environment → JunctionKind → Term → Members → List Condition
-  conditions_of_junction env junction a no_member = []
-  conditions_of_junction env junction a (member at operand rest) =
-      under (goes_on junction a) (conditions_of env operand ++ conditions_of_junction env junction (term_of env operand) rest)
+  pub conditions_of_junction : Environment → Option Term → JunctionKind → Term → Members → List Condition
+  conditions_of_junction env path junction a no_member = []
+  conditions_of_junction env path junction a (member at operand rest) =
+      let on = Some (narrowed_path path (goes_on junction a)) in
+      conditions_under env on operand ++ conditions_of_junction env on junction (term_of env operand) rest
 
-  pub conditions_of_implication : Environment → Term → Members → List Condition
-  conditions_of_implication env a no_member = []
-  conditions_of_implication env a (member at operand rest) =
-      under a (conditions_of env operand ++ conditions_of_implication env (term_of env operand) rest)
+  pub conditions_of_implication : Environment → Option Term → Term → Members → List Condition
+  conditions_of_implication env path a no_member = []
+  conditions_of_implication env path a (member at operand rest) =
+      let on = Some (narrowed_path path a) in
+      conditions_under env on operand ++ conditions_of_implication env on (term_of env operand) rest
 
-  pub conditions_of_members : Environment → Members → List Condition
-  conditions_of_members env no_member = []
-  conditions_of_members env (member at operand rest) = conditions_of env operand ++ conditions_of_members env rest
+  pub conditions_of_members : Environment → Option Term → Members → List Condition
+  conditions_of_members env path no_member = []
+  conditions_of_members env path (member at operand rest) = conditions_under env path operand ++ conditions_of_members env path rest
 
   -- a chain ends at its first false neighbours; the first member and the second are always evaluated
-  pub conditions_of_links : Environment → Ty → Term → Links → List Condition
-  conditions_of_links env ty a no_link = []
-  conditions_of_links env ty a (link comparison at operand rest) =
-      conditions_of env operand ++ under (compared ty comparison a (term_of env operand)) (conditions_of_links env ty (term_of env operand) rest)
+  pub conditions_of_links : Environment → Option Term → Ty → Term → Links → List Condition
+  conditions_of_links env path ty a no_link = []
+  conditions_of_links env path ty a (link comparison at operand rest) =
+      conditions_under env path operand ++ conditions_of_links env (Some (narrowed_path path (compared ty comparison a (term_of env operand)))) ty (term_of env operand) rest
+
+-- the first that is false tells where evaluation fails
+abbrev pub conditions_of : Environment → Expr → List Condition
+conditions_of env e = conditions_under env None e

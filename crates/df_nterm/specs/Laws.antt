@@ -13,7 +13,7 @@ use Rattle.df_mean.specs.Meaning.{Meaning}
 use Rattle.df_mean.specs.Evaluation.{evaluate}
 use Rattle.df_mean.specs.Modular.{measure_values}
 use Rattle.df_mean.specs.Order as order
-use Rattle.df_nterm.specs.Term.{Term, sort_of_type}
+use Rattle.df_nterm.specs.Term.{sort_of_type}
 use Rattle.df_nterm.specs.Meaning.{Interpretation, has_sort, value, truth}
 use Rattle.df_nterm.specs.Meaning as meanings
 use Rattle.df_nterm.specs.Expressions.{Environment, Condition, term_of, conditions_of}
