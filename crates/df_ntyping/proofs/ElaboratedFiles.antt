@@ -39,12 +39,12 @@ use Rattle.df_ntyping.proofs.ReadyMethods.{parameters_ready, both_ready, body_re
 
 -- ---- names and parameters
 
-declared_there : (names : List (List ℕ)) (ident : Ident) → HasText names ident → (declared : newtypes.Declared) × IsDeclared names ident declared
+pub declared_there : (names : List (List ℕ)) (ident : Ident) → HasText names ident → (declared : newtypes.Declared) × IsDeclared names ident declared
 declared_there names ident lt =
     let (text, p) = get_below names ident.name lt in
     (record { name = ident.name; text = text; pos = ident.pos }, (text, p, refl))
 
-params_elaborate : (names : List (List ℕ)) (table : Table) (env : Environment) (start : ℕ) (trees : List Parameter) → env.table ≡ table → HaveTexts names trees → AllFaultless (parameter_nodes env start trees)
+pub params_elaborate : (names : List (List ℕ)) (table : Table) (env : Environment) (start : ℕ) (trees : List Parameter) → env.table ≡ table → HaveTexts names trees → AllFaultless (parameter_nodes env start trees)
     → (params : List program.Param) × AreParameters names table trees params
 params_elaborate names table env start [] e texts h = ([], refl)
 params_elaborate names table env start (tree ∷ others) e texts h =
@@ -62,7 +62,7 @@ pub record MethodNodes (table : Table) (start : ℕ) (x : MethodDeclaration) : T
   pub clauses : AllFaultless (clauses_of_method table x (start + 2 + length (spell_parameters x.parameters) + length (optional spell_results x.results)) x.clauses)
   pub body : AllFaultless (statements_nodes (over_body table x) (suc (start + 2 + length (spell_parameters x.parameters) + length (optional spell_results x.results) + clause_widths x.clauses)) x.body.statements)
 
-method_parts : (table : Table) (start : ℕ) (x : MethodDeclaration) → AllFaultless (method_nodes table start x) → MethodNodes table start x
+pub method_parts : (table : Table) (start : ℕ) (x : MethodDeclaration) → AllFaultless (method_nodes table start x) → MethodNodes table start x
 method_parts table start x h =
     let at_results = start + 2 + length (spell_parameters x.parameters) in
     let at_clauses = at_results + length (optional spell_results x.results) in
@@ -95,7 +95,7 @@ signature_there names table x h = record {
   results = params_signed names table (results_of x) h.results h.are_results;
 }
 
-methods_known : (names : List (List ℕ)) (table : Table) (before : List ℕ) (start n : ℕ) (trees : List Declaration) → AllByRecursion (IsDeclaredByText names) trees → AllFaultless (declarations_nodes table before start trees)
+pub methods_known : (names : List (List ℕ)) (table : Table) (before : List ℕ) (start n : ℕ) (trees : List Declaration) → AllByRecursion (IsDeclaredByText names) trees → AllFaultless (declarations_nodes table before start trees)
     → (name : ℕ) (named : NamedMethod) → method_of (methods_from table.newtypes n trees) name ≡ Some named → HasKnown named.signature
 methods_known names table before start n [] texts h name named p = absurd cc
 methods_known names table before start n (Newtype x ∷ others) texts h name named p =
@@ -159,7 +159,7 @@ contract_there table x start (Decreases pos values ∷ others) p b g h =
       measures = all_joined (IsTyped env) values (measures_in others) (exprs_typed env (suc start) values p g.0.0.1 (left (exprs_nodes env (suc start) values) _ (left here _ h))) rest.measures;
     }
 
-inner_clauses : (clauses : List Clause) → AllByRecursion IsOuterClause clauses → AllByRecursion IsClause clauses
+pub inner_clauses : (clauses : List Clause) → AllByRecursion IsOuterClause clauses → AllByRecursion IsClause clauses
 inner_clauses [] g = tt
 inner_clauses (clause ∷ others) g = (g.0.0, inner_clauses others g.1)
 

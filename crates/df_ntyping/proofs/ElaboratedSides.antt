@@ -45,13 +45,13 @@ pub record IsReady (env : Environment) : Type 0 where
   pub room : env.next ≤ length env.types
   pub result_locals : AllByRecursion (λ (result : Local). result.number < env.next) env.results
 
-local_there : (env : Environment) (name : ℕ) (local : Local) → IsReady env → Means env name (TheLocal local) → (ty : Ty) × (local_type env local.number ≡ Some ty)
+pub local_there : (env : Environment) (name : ℕ) (local : Local) → IsReady env → Means env name (TheLocal local) → (ty : Ty) × (local_type env local.number ≡ Some ty)
 local_there env name local r means =
     let below = (found_in_scope 0 env name local r.scoped means).below in
     let room = r.room in
     r.typed_locals local.number (omega arith)
 
-ready_types : (env : Environment) (e : Expr) → IsReady env → HasTypes env e
+pub ready_types : (env : Environment) (e : Expr) → IsReady env → HasTypes env e
 ready_types env e r name local c means = local_there env name local r means
 
 -- ---- whole expressions
@@ -135,7 +135,7 @@ call_elaborates env start callee arguments r g h = let (signature, p) = signatur
 
 -- ---- right sides
 
-results_elaborate : (results places : List Ty) → length results ≡ length places → are_given (known places) (known results) ≡ true → (all : List typed.Conversion) × AreResults (known results) places all
+pub results_elaborate : (results places : List Ty) → length results ≡ length places → are_given (known places) (known results) ≡ true → (all : List typed.Conversion) × AreResults (known results) places all
 results_elaborate [] [] p h = ([], refl)
 results_elaborate [] (place ∷ places) p h = absurd (omega (arith, p))
 results_elaborate (result ∷ results) [] p h = absurd (omega (arith, p))
@@ -144,7 +144,7 @@ results_elaborate (result ∷ results) (place ∷ places) p h =
     let (others, are) = results_elaborate results places (omega (arith, p)) parts.1 in
     (record { source = result; target = place } ∷ others, (result, others, refl, parts.0, are, refl))
 
-results_there : (env : Environment) (callee : Expr) (signature : Signature) → called_signature env callee ≡ Some signature → results_of_call env callee ≡ signature.results
+pub results_there : (env : Environment) (callee : Expr) (signature : Signature) → called_signature env callee ≡ Some signature → results_of_call env callee ≡ signature.results
 results_there env callee signature p = rw (p, results_of_call) refl
 
 call_source : (env : Environment) (start : ℕ) (places : List Ty) (callee : Expr) (arguments : Arguments) → IsReady env → IsExpr (Call callee arguments) → AllFaultless (source_nodes env start (known places) (Call callee arguments))

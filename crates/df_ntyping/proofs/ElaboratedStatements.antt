@@ -46,13 +46,13 @@ results_later : (count higher : ℕ) (results : List Local) → count ≤ higher
 results_later count higher [] p h = tt
 results_later count higher (result ∷ others) p h = let q : result.number < count = h.0 in (omega arith, results_later count higher others p h.1)
 
-enter_ready : (env : Environment) → IsReady env → IsReady (enter env)
+pub enter_ready : (env : Environment) → IsReady env → IsReady (enter env)
 enter_ready env r = record { table = r.table; scoped = enter_scoped 0 env r.scoped; typed_locals = r.typed_locals; room = r.room; result_locals = r.result_locals }
 
-loop_ready : (env : Environment) → IsReady env → IsReady (inside_loop env)
+pub loop_ready : (env : Environment) → IsReady env → IsReady (inside_loop env)
 loop_ready env r = record { table = r.table; scoped = record { outer = r.scoped.outer; inner = r.scoped.inner }; typed_locals = r.typed_locals; room = r.room; result_locals = r.result_locals }
 
-past_ready : (env : Environment) (count : ℕ) → env.next + count ≤ length env.types → IsReady env → IsReady (past env count)
+pub past_ready : (env : Environment) (count : ℕ) → env.next + count ≤ length env.types → IsReady env → IsReady (past env count)
 past_ready env count room r = record {
   table = r.table;
   scoped = past_scoped 0 env count r.scoped;
@@ -61,7 +61,7 @@ past_ready env count room r = record {
   result_locals = results_later env.next (env.next + count) env.results (omega arith) r.result_locals;
 }
 
-behind_ready : (env : Environment) (s : Statement) → env.next + locals_in s ≤ length env.types → IsReady env → IsReady (behind env s)
+pub behind_ready : (env : Environment) (s : Statement) → env.next + locals_in s ≤ length env.types → IsReady env → IsReady (behind env s)
 behind_ready env s room r =
     let same = same_behind env s in
     let number = next_behind env s in

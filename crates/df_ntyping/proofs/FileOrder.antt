@@ -54,7 +54,7 @@ one_parameter env start x =
     and_then start (suc start) (start + 2) (start + 3) (token_at env (Node.NewName (names_of env.inner) x.name) start ∷ []) _ (token_alone env _ start)
     (later (start + 2) (start + 2) (suc (start + 2)) (start + 3) _ (type_order env (start + 2) x.ty) (omega arith) (omega arith)) (omega arith) (omega arith) (omega arith)
 
-parameter_order : (env : Environment) (start : ℕ) (xs : List Parameter) → Segment start start (start + length (separated spell_parameter xs)) (parameter_nodes env start xs)
+pub parameter_order : (env : Environment) (start : ℕ) (xs : List Parameter) → Segment start start (start + length (separated spell_parameter xs)) (parameter_nodes env start xs)
 parameter_order env start [] = no_nodes start start (start + 0)
 parameter_order env start (x ∷ []) =
     let all = length (separated spell_parameter (x ∷ [])) in
@@ -69,12 +69,12 @@ parameter_order env start (x ∷ y ∷ ys) =
 parameters_width : (xs : List Parameter) → length (spell_parameters xs) ≡ length (separated spell_parameter xs) + 2
 parameters_width xs = omega (arith, length-append (separated spell_parameter xs) (a_sign signs.CloseParenthesis ∷ []))
 
-results_order : (env : Environment) (start : ℕ) (results : Option (List Parameter)) → Segment start start (start + length (optional spell_results results)) (parameter_nodes env (start + 2) (results_in results))
+pub results_order : (env : Environment) (start : ℕ) (results : Option (List Parameter)) → Segment start start (start + length (optional spell_results results)) (parameter_nodes env (start + 2) (results_in results))
 results_order env start None = no_nodes start start (start + 0)
 results_order env start (Some xs) =
     later start (start + 2) (start + 2 + length (separated spell_parameter xs)) (start + suc (length (spell_parameters xs))) _ (parameter_order env (start + 2) xs) (omega arith) (omega (arith, parameters_width xs))
 
-contract_order : (table : Table) (method : MethodDeclaration) (start : ℕ) (clauses : List Clause) → AllByRecursion IsOuterClause clauses → Segment start start (start + clause_widths clauses) (clauses_of_method table method start clauses)
+pub contract_order : (table : Table) (method : MethodDeclaration) (start : ℕ) (clauses : List Clause) → AllByRecursion IsOuterClause clauses → Segment start start (start + clause_widths clauses) (clauses_of_method table method start clauses)
 contract_order table method start [] g = no_nodes start start (start + 0)
 contract_order table method start (clause ∷ others) g =
     let one = length (spell_clause clause) in
@@ -91,7 +91,7 @@ method_width x = omega (
   braces_width x.body.pos (spell_statements x.body.statements),
 )
 
-method_order : (table : Table) (start : ℕ) (x : MethodDeclaration) → IsDeclaration (Method x) → Segment start (start + 2) (start + length (spell_declaration (Method x))) (method_nodes table start x)
+pub method_order : (table : Table) (start : ℕ) (x : MethodDeclaration) → IsDeclaration (Method x) → Segment start (start + 2) (start + length (spell_declaration (Method x))) (method_nodes table start x)
 method_order table start x g =
     let at_results = start + 2 + length (spell_parameters x.parameters) in
     let at_clauses = at_results + length (optional spell_results x.results) in
@@ -112,7 +112,7 @@ method_order table start x g =
 
 -- ---- files
 
-declaration_order : (table : Table) (start : ℕ) (x : Declaration) → IsDeclaration x → Segment start (start + 2) (start + length (spell_declaration x)) (declaration_nodes table start x)
+pub declaration_order : (table : Table) (start : ℕ) (x : Declaration) → IsDeclaration x → Segment start (start + 2) (start + length (spell_declaration x)) (declaration_nodes table start x)
 declaration_order table start (Newtype x) g = newtype_order (empty_environment table) start x g
 declaration_order table start (Method x) g = method_order table start x g
 
@@ -120,7 +120,7 @@ declaration_width : (x : Declaration) → 2 ≤ length (spell_declaration x)
 declaration_width (Newtype x) = omega (arith, newtype_width x)
 declaration_width (Method x) = omega (arith, method_width x)
 
-declarations_order : (table : Table) (before : List ℕ) (start : ℕ) (all : List Declaration) → AllByRecursion IsDeclaration all → Segment start start (start + length (flat_map spell_declaration all)) (declarations_nodes table before start all)
+pub declarations_order : (table : Table) (before : List ℕ) (start : ℕ) (all : List Declaration) → AllByRecursion IsDeclaration all → Segment start start (start + length (flat_map spell_declaration all)) (declarations_nodes table before start all)
 declarations_order table before start [] g = no_nodes start start (start + 0)
 declarations_order table before start (x ∷ others) g =
     let one = length (spell_declaration x) in

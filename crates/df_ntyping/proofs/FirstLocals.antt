@@ -83,7 +83,7 @@ declared_count : (number : ℕ) (role : Role) (xs : List Parameter) → length (
 declared_count number role [] = refl
 declared_count number role (x ∷ others) = ap suc (declared_count (suc number) role others)
 
-declared_inner : (env : Environment) (role : Role) (xs : List Parameter) → (declare_parameters env role xs).inner ≡ env.inner ++ declared_from env.next role xs
+pub declared_inner : (env : Environment) (role : Role) (xs : List Parameter) → (declare_parameters env role xs).inner ≡ env.inner ++ declared_from env.next role xs
 declared_inner env role [] = sym (append-nil env.inner)
 declared_inner env role (x ∷ others) =
     declared_inner (declare env role x.name.name) role others ∙ append_assoc env.inner (record { name = x.name.name; number = env.next; role = role } ∷ []) (declared_from (suc env.next) role others)

@@ -3,29 +3,29 @@ mod Elaborated
 mod Assigned
 mod Complete
 mod CompleteStatements
-mod Types
+pub mod Types
 pub mod Order
 pub mod LeastExists
 mod OneMissing
-mod ExprOrder
-mod SideOrder
-mod PartOrder
-mod StatementOrder
+pub mod ExprOrder
+pub mod SideOrder
+pub mod PartOrder
+pub mod StatementOrder
 pub mod FileOrder
 pub mod First
 mod WellTyped
-mod TypedIsWellTyped
+pub mod TypedIsWellTyped
 mod Elaborations
 mod Rows
-mod FirstFault
-mod Breaking
+pub mod FirstFault
+pub mod Breaking
 mod MeetingTypes
-mod OpenExprs
+pub mod OpenExprs
 mod Fitting
-mod Silent
-mod Standing
-mod Found
-mod Verdict
+pub mod Silent
+pub mod Standing
+pub mod Found
+pub mod Verdict
 mod Giving
 mod Runs
 mod RunRows
@@ -33,41 +33,41 @@ mod Implications
 mod Wholes
 mod Judged
 pub mod WantedTold
-mod AllNodes
-mod ExprStands
-mod StatementStands
+pub mod AllNodes
+pub mod ExprStands
+pub mod StatementStands
 mod FileStands
-mod KnownTypes
-mod SameBehind
+pub mod KnownTypes
+pub mod SameBehind
 mod KnownBehind
-mod KeptTypes
-mod ScopedLocals
-mod Ranges
-mod ClauseExprs
+pub mod KeptTypes
+pub mod ScopedLocals
+pub mod Ranges
+pub mod ClauseExprs
 mod GuardMeasures
 mod Fits
 mod CoveredLocals
 mod SidesWellTyped
 mod StatementsWellTyped
 mod Unmarked
-mod FirstLocals
-mod ProgramWellTyped
-mod MovedNodes
-mod SoundNodes
-mod SoundSides
-mod SoundStatements
-mod SoundFiles
-mod LikeEnvironments
-mod WholeTypes
-mod DeclaredLocals
-mod BehindLengths
-mod FaultlessNodes
-mod WalkedTypes
+pub mod FirstLocals
+pub mod ProgramWellTyped
+pub mod MovedNodes
+pub mod SoundNodes
+pub mod SoundSides
+pub mod SoundStatements
+pub mod SoundFiles
+pub mod LikeEnvironments
+pub mod WholeTypes
+pub mod DeclaredLocals
+pub mod BehindLengths
+pub mod FaultlessNodes
+pub mod WalkedTypes
 mod WalkedVariables
-mod WalkedStatements
-mod ElaboratedSides
-mod ElaboratedStatements
-mod ReadyMethods
-mod ElaboratedFiles
+pub mod WalkedStatements
+pub mod ElaboratedSides
+pub mod ElaboratedStatements
+pub mod ReadyMethods
+pub mod ElaboratedFiles
 mod Alike
 mod OneRefusal

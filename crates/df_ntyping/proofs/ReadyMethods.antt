@@ -93,7 +93,7 @@ both_ready names table tree ps rs t h k =
 -- ---- the body
 
 -- of a walk through the body, over what parameters and results fix
-body_walks : (names : List (List ℕ)) (table : Table) (tree : MethodDeclaration) (ps rs : List program.Param) → TableKnown table → AreParameters names table tree.parameters ps → AreParameters names table (results_of tree) rs
+pub body_walks : (names : List (List ℕ)) (table : Table) (tree : MethodDeclaration) (ps rs : List program.Param) → TableKnown table → AreParameters names table tree.parameters ps → AreParameters names table (results_of tree) rs
     → Walks (enter (over_both table tree)) (over_body table tree)
 body_walks names table tree ps rs t h k =
     let all = types_of ps ++ types_of rs in

@@ -69,7 +69,7 @@ whole_call_order env start callee arguments g =
     (callee_order env start callee (expr_nodes env start callee) (expr_order env start callee g.0)) (argument_order env at places arguments g.2) refl (omega arith) refl (omega (arith, width_call callee arguments)) refl)
     (omega arith) (omega arith) (omega (arith, width_call callee arguments))
 
-place_order : (env : Environment) (start : ℕ) (e : Expr) → IsExpr e → Segment start start (start + width e) (place_nodes env start e)
+pub place_order : (env : Environment) (start : ℕ) (e : Expr) → IsExpr e → Segment start start (start + width e) (place_nodes env start e)
 place_order env start (Name ident) g =
     ended start start (start + 1) (token_at env (Node.UsedName ident) start ∷ []) (token_at env (Node.Place (Name ident)) start)
     (weaker start start (suc start) start start (start + 1) _ (token_alone env (Node.UsedName ident) start) (omega arith) (omega arith) (omega arith)) (omega arith) refl (omega arith) refl (only (quiet_apart (used_name env ident)))
@@ -97,13 +97,13 @@ call_apart env start callee arguments node never g =
     (later_apart at at (at + length (spell_arguments arguments)) (argument_nodes env at places arguments) _ (argument_order env at places arguments g.2) (omega arith)))
     (only (record { alike = λ p q. record { same = λ rule n b c. absurd (never rule b c) } }))
 
-source_order : (env : Environment) (start : ℕ) (places : List (Option Ty)) (e : Expr) → IsExpr e → Segment start start (start + width e) (source_nodes env start places e)
+pub source_order : (env : Environment) (start : ℕ) (places : List (Option Ty)) (e : Expr) → IsExpr e → Segment start start (start + width e) (source_nodes env start places e)
 source_order env start places (Call callee arguments) g =
     ended start start (start + width (Call callee arguments)) (call_nodes env start callee arguments) _ (whole_call_order env start callee arguments g) (omega (arith, some_width (Call callee arguments) g)) refl refl refl
     (call_apart env start callee arguments (Node.Results places (results_of_call env callee) (Call callee arguments)) (results_aspect env places callee arguments) g)
 source_order env start places e g = value_order env start (first_place places) e g
 
-apart_order : (env : Environment) (start : ℕ) (places : List (Option Ty)) (es : List Expr) → AllByRecursion IsExpr es → Segment start start (start + widths es) (sources_apart env start places es)
+pub apart_order : (env : Environment) (start : ℕ) (places : List (Option Ty)) (es : List Expr) → AllByRecursion IsExpr es → Segment start start (start + widths es) (sources_apart env start places es)
 apart_order env start places [] g = no_nodes start start (start + 0)
 apart_order env start places (e ∷ []) g = last_one start (width e) start start start _ (source_order env start (first_place places ∷ []) e g.0)
 apart_order env start places (e ∷ other ∷ others) g =

@@ -35,7 +35,7 @@ use_sound env (nodes.UsedName ident) p = kinds.used_name env ident
 use_sound env (nodes.UsedType ident) p = kinds.used_type env ident
 use_sound env node p = absurd cc
 
-some_sound : (all : List Occurrence) → AllSound (filter (λ (one : Occurrence). is_use one.node) all)
+pub some_sound : (all : List Occurrence) → AllSound (filter (λ (one : Occurrence). is_use one.node) all)
 some_sound [] = none
 some_sound (one ∷ others) = keep (is_use one.node) refl (some_sound others) where
   keep : (b : Bool) → is_use one.node ≡ b → AllSound (filter (λ (x : Occurrence). is_use x.node) others)
@@ -43,7 +43,7 @@ some_sound (one ∷ others) = keep (is_use one.node) refl (some_sound others) wh
   keep true p h = front (record { holds = use_sound one.env one.node p }) h
   keep false p h = h
 
-witness_sound : (env : Environment) (start : ℕ) (witness : Option Expr) → AllSound (witness_nodes env start witness)
+pub witness_sound : (env : Environment) (start : ℕ) (witness : Option Expr) → AllSound (witness_nodes env start witness)
 witness_sound env start None = none
 witness_sound env start (Some e) = some_sound (expr_nodes env (suc start) e)
 
@@ -53,7 +53,7 @@ newtype_sound names env start x newtype h =
 
 -- ---- methods
 
-parameters_sound : (env : Environment) (start : ℕ) (parameters : List Parameter) → AllSound (parameter_nodes env start parameters)
+pub parameters_sound : (env : Environment) (start : ℕ) (parameters : List Parameter) → AllSound (parameter_nodes env start parameters)
 parameters_sound env start [] = none
 parameters_sound env start (x ∷ others) =
     front (sound (kinds.new_name env (names_of env.inner) x.name)) (both (type_sound env (start + 2) x.ty) (parameters_sound (declare env Parameter_role x.name.name) (start + 4) others))

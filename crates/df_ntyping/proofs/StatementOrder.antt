@@ -35,10 +35,10 @@ values_width [] = omega arith
 values_width (e ∷ others) = omega (arith, separated_widths (e ∷ others))
 
 -- and where there are any, their sign
-some_values_width : (e : Expr) (others : List Expr) → length (spell_values (e ∷ others)) ≡ suc (widths (e ∷ others))
+pub some_values_width : (e : Expr) (others : List Expr) → length (spell_values (e ∷ others)) ≡ suc (widths (e ∷ others))
 some_values_width e others = omega (arith, separated_widths (e ∷ others))
 
-if_width : (pos opens : Pos) (guard : Expr) (body : Statements) (others : Branches) (last : Otherwise)
+pub if_width : (pos opens : Pos) (guard : Expr) (body : Statements) (others : Branches) (last : Otherwise)
     → length (spell_statement (If pos guard opens body others last)) ≡ 3 + width guard + length (spell_statements body) + length (spell_branches others) + length (spell_otherwise last)
 if_width pos opens guard body others last = omega (
   arith,
@@ -48,7 +48,7 @@ if_width pos opens guard body others last = omega (
   length-append (spell_branches others) (spell_otherwise last),
 )
 
-while_width : (pos opens : Pos) (guard : Expr) (clauses : List Clause) (body : Statements) → length (spell_statement (While pos guard clauses opens body)) ≡ 3 + width guard + clause_widths clauses + length (spell_statements body)
+pub while_width : (pos opens : Pos) (guard : Expr) (clauses : List Clause) (body : Statements) → length (spell_statement (While pos guard clauses opens body)) ≡ 3 + width guard + clause_widths clauses + length (spell_statements body)
 while_width pos opens guard clauses body = omega (
   arith,
   length-append (spell guard) (flat_map spell_clause clauses ++ braces opens (spell_statements body)),
@@ -57,7 +57,7 @@ while_width pos opens guard clauses body = omega (
   clauses_width clauses,
 )
 
-branch_width : (pos opens : Pos) (guard : Expr) (body : Statements) (others : Branches) → length (spell_branches (file.more pos guard opens body others)) ≡ 4 + width guard + length (spell_statements body) + length (spell_branches others)
+pub branch_width : (pos opens : Pos) (guard : Expr) (body : Statements) (others : Branches) → length (spell_branches (file.more pos guard opens body others)) ≡ 4 + width guard + length (spell_statements body) + length (spell_branches others)
 branch_width pos opens guard body others = omega (
   arith,
   length-append (a_word words.Else ∷ word_there words.If pos ∷ (spell guard ++ braces opens (spell_statements body))) (spell_branches others),
@@ -70,7 +70,7 @@ sided : (env : Environment) (start sign after : ℕ) (xs ys : List Occurrence) �
 sided env start sign after xs ys h k p q = joined start start sign after xs ys h k p q
 
 -- behind a sign or without one
-update_fits : (sign after : ℕ) (values : List Expr) → sign + length (spell_values values) + 1 ≤ after → sign + 2 + widths values ≤ after + 1
+pub update_fits : (sign after : ℕ) (values : List Expr) → sign + length (spell_values values) + 1 ≤ after → sign + 2 + widths values ≤ after + 1
 update_fits sign after [] p = omega arith
 update_fits sign after (e ∷ others) p = omega (arith, p, some_values_width e others)
 
@@ -151,7 +151,7 @@ mutual
       (later (start + one) (start + one) (start + one + rest) (start + length (spell_statements (next s others))) _ (statements_order (behind env s) (start + one) others g.1) (omega arith) (omega (arith, size)))
       (omega arith) (omega arith) (omega (arith, size))
 
-  branches_order : (env : Environment) (start : ℕ) (all : Branches) → AreBranches all → Segment start start (start + length (spell_branches all)) (branches_nodes env start all)
+  pub branches_order : (env : Environment) (start : ℕ) (all : Branches) → AreBranches all → Segment start start (start + length (spell_branches all)) (branches_nodes env start all)
   branches_order env start file.end g = no_nodes start start (start + 0)
   branches_order env start (file.more pos guard opens body others) g =
       let wide = width guard in
@@ -168,7 +168,7 @@ mutual
       (later behind_body behind_body (behind_body + length (spell_branches others)) after _ (branches_order (past env (locals_in_all body)) behind_body others g.1) (omega arith) (omega (arith, size)))
       (omega arith) (omega arith) (omega (arith, size))
 
-  otherwise_order : (env : Environment) (start : ℕ) (last : Otherwise) → IsOtherwise last → Segment start start (start + length (spell_otherwise last)) (otherwise_nodes env start last)
+  pub otherwise_order : (env : Environment) (start : ℕ) (last : Otherwise) → IsOtherwise last → Segment start start (start + length (spell_otherwise last)) (otherwise_nodes env start last)
   otherwise_order env start without g = no_nodes start start (start + 0)
   otherwise_order env start (otherwise opens body) g =
       later start (start + 2) (start + 2 + length (spell_statements body)) (start + length (spell_otherwise (otherwise opens body))) _ (statements_order (enter env) (start + 2) body g) (omega arith) (omega (arith, braces_width opens (spell_statements body)))

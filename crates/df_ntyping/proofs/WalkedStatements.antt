@@ -49,13 +49,13 @@ no_more_fixed h = record { fixed = λ k lt. h.fixed k (omega arith) }
 over_like : {one whole : Environment} {types : List Inferred} → AreLike one whole → AreLike (over one types) whole
 over_like h = record { table = h.table; outer = h.outer; inner = h.inner; next = h.next }
 
-over_walks : (one whole : Environment) (types : List Inferred) → Walks one whole → AreWhole types → length types ≡ length one.types → Walks (over one types) whole
+pub over_walks : (one whole : Environment) (types : List Inferred) → Walks one whole → AreWhole types → length types ≡ length one.types → Walks (over one types) whole
 over_walks one whole types w h p = record { table = w.table; like = over_like w.like; size = p ∙ w.size; known_types = h; scoped = w.scoped; ahead = w.ahead }
 
-enter_walks : (one whole : Environment) → Walks one whole → Walks (enter one) (enter whole)
+pub enter_walks : (one whole : Environment) → Walks one whole → Walks (enter one) (enter whole)
 enter_walks one whole w = record { table = w.table; like = enter_like w.like; size = w.size; known_types = w.known_types; scoped = enter_scoped 0 whole w.scoped; ahead = w.ahead }
 
-loop_walks : (one whole : Environment) → Walks one whole → Walks one (inside_loop whole)
+pub loop_walks : (one whole : Environment) → Walks one whole → Walks one (inside_loop whole)
 loop_walks one whole w = record {
   table = w.table;
   like = record { table = w.like.table; outer = w.like.outer; inner = w.like.inner; next = w.like.next };
@@ -65,7 +65,7 @@ loop_walks one whole w = record {
   ahead = w.ahead;
 }
 
-past_walks : (one whole : Environment) (count : ℕ) (types : List Inferred) → Walks one whole → length types ≡ length one.types + count → Walked types whole.types (whole.next + count) → Walks (over (past one count) types) (past whole count)
+pub past_walks : (one whole : Environment) (count : ℕ) (types : List Inferred) → Walks one whole → length types ≡ length one.types + count → Walked types whole.types (whole.next + count) → Walks (over (past one count) types) (past whole count)
 past_walks one whole count types w p h = record {
   table = w.table;
   like = over_like (past_like count w.like);
@@ -75,7 +75,7 @@ past_walks one whole count types w p h = record {
   ahead = h.ahead;
 }
 
-behind_walks : (one whole : Environment) (s : Statement) → Walks one whole → Walked (inferred_behind one s) whole.types (whole.next + locals_in s) → Walks (over (behind one s) (inferred_behind one s)) (behind whole s)
+pub behind_walks : (one whole : Environment) (s : Statement) → Walks one whole → Walked (inferred_behind one s) whole.types (whole.next + locals_in s) → Walks (over (behind one s) (inferred_behind one s)) (behind whole s)
 behind_walks one whole s w h =
     let same = same_behind whole s in
     let next = next_behind whole s in
@@ -150,13 +150,13 @@ var_walked one whole start pos locals values w kept g room h =
 marks_walked : (one whole : Environment) (names : List ℕ) → Walks one whole → Walked (used_names one names one.types) whole.types (whole.next + 0)
 marks_walked one whole names w = record { known_types = names_whole one names one.types w.known_types; ahead = no_more_fixed w.ahead }
 
-marks_walks : (one whole : Environment) (names : List ℕ) → Walks one whole → Walks (over one (used_names one names one.types)) whole
+pub marks_walks : (one whole : Environment) (names : List ℕ) → Walks one whole → Walks (over one (used_names one names one.types)) whole
 marks_walks one whole names w = over_walks one whole (used_names one names one.types) w (names_whole one names one.types w.known_types) (names_length one names one.types)
 
 -- ---- statements
 
 mutual
-  statement_walked : (one whole : Environment) (start : ℕ) (s : Statement) → Walks one whole → Kept (inferred_behind one s) whole.types → grammar.IsStatement s → whole.next + locals_in s ≤ length whole.types
+  pub statement_walked : (one whole : Environment) (start : ℕ) (s : Statement) → Walks one whole → Kept (inferred_behind one s) whole.types → grammar.IsStatement s → whole.next + locals_in s ≤ length whole.types
       → AllFaultless (statement_nodes whole start s) → Walked (inferred_behind one s) whole.types (whole.next + locals_in s)
   statement_walked one whole start (Nested pos body) w kept g room h = statements_walked (enter one) (enter whole) (suc start) body (enter_walks one whole w) kept g room h
   statement_walked one whole start (Var pos locals values) w kept g room h = var_walked one whole start pos locals values w kept g.1 room h
@@ -217,7 +217,7 @@ mutual
       let fixed_there = subst (λ (types : List Inferred). AreFixed types ((behind whole statement).next + locals_in_all others)) same.types at_others.ahead in
       record { known_types = at_others.known_types; ahead = record { fixed = λ k lt. fixed_there.fixed k (omega (arith, number)) } }
 
-  branches_walked : (one whole : Environment) (start : ℕ) (branches : Branches) → Walks one whole → Kept (inferred_behind_branches one branches) whole.types → grammar.AreBranches branches → whole.next + locals_in_branches branches ≤ length whole.types
+  pub branches_walked : (one whole : Environment) (start : ℕ) (branches : Branches) → Walks one whole → Kept (inferred_behind_branches one branches) whole.types → grammar.AreBranches branches → whole.next + locals_in_branches branches ≤ length whole.types
       → AllFaultless (branches_nodes whole start branches) → Walked (inferred_behind_branches one branches) whole.types (whole.next + locals_in_branches branches)
   branches_walked one whole start file.end w kept g room h = record { known_types = w.known_types; ahead = no_more_fixed w.ahead }
   branches_walked one whole start (file.more pos guard opens body others) w kept g room h =
@@ -234,7 +234,7 @@ mutual
       let at_others = branches_walked first (past whole count) (opening + 2 + length (spell_statements body)) others at_first kept g.1 (omega arith) (right (guard_nodes ++ body_nodes) _ h) in
       record { known_types = at_others.known_types; ahead = record { fixed = λ k lt. at_others.ahead.fixed k (omega arith) } }
 
-  otherwise_walked : (one whole : Environment) (start : ℕ) (last : Otherwise) → Walks one whole → Kept (inferred_behind_otherwise one last) whole.types → grammar.IsOtherwise last → whole.next + locals_in_otherwise last ≤ length whole.types
+  pub otherwise_walked : (one whole : Environment) (start : ℕ) (last : Otherwise) → Walks one whole → Kept (inferred_behind_otherwise one last) whole.types → grammar.IsOtherwise last → whole.next + locals_in_otherwise last ≤ length whole.types
       → AllFaultless (otherwise_nodes whole start last) → Walked (inferred_behind_otherwise one last) whole.types (whole.next + locals_in_otherwise last)
   otherwise_walked one whole start without w kept g room h = record { known_types = w.known_types; ahead = no_more_fixed w.ahead }
   otherwise_walked one whole start (otherwise opens body) w kept g room h = statements_walked (enter one) (enter whole) (start + 2) body (enter_walks one whole w) kept g room h

@@ -79,7 +79,7 @@ among_left xs ys name c = Contains-append_left xs ys name c
 pub among_right : (xs ys : List ℕ) → AreAmong ys (xs ++ ys)
 among_right xs ys name c = Contains-append_right xs ys name c
 
-has_types : (one whole : Environment) (names : List ℕ) (e : Expr) → Walks one whole → Kept (used_names one names one.types) whole.types → AreAmong (names_in e) names → HasTypes whole e
+pub has_types : (one whole : Environment) (names : List ℕ) (e : Expr) → Walks one whole → Kept (used_names one names one.types) whole.types → AreAmong (names_in e) names → HasTypes whole e
 has_types one whole names e w kept among name local c means =
     let (ty, p, q) = used_typed one whole names w kept name local (among name c) means in (ty, q)
 

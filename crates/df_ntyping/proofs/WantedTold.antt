@@ -82,21 +82,21 @@ mutual
 
 -- ---- what is asked of the whole
 
-abbrev pub WantedVerdict : Environment → Wanted → Expr → Answer Typed → Type 0
-WantedVerdict env wanted e (Ok t) = IsWanted env wanted e t.ty t.expr
-WantedVerdict env wanted e (Err broken) = Found (wanted_nodes env 0 wanted e) 0 (0 + width e) broken
+abbrev pub WantedVerdict : Environment → ℕ → Wanted → Expr → Answer Typed → Type 0
+WantedVerdict env start wanted e (Ok t) = IsWanted env wanted e t.ty t.expr
+WantedVerdict env start wanted e (Err broken) = Found (wanted_nodes env start wanted e) start (start + width e) broken
 
-nothing_wanted : (value : Literal → ℤ) (env : Environment) (e : Expr) (answer : Answer (Option Typed)) → Holds value e → Verdict env 0 e answer → WantedVerdict env wanteds.Nothing e (and_then answer (λ (o : Option Typed). Ok (finished_by value types.Int e o)))
-nothing_wanted value env e (Ok o) h v = finished_typed value env e o h v
-nothing_wanted value env e (Err broken) h v = v.0
+nothing_wanted : (value : Literal → ℤ) (env : Environment) (start : ℕ) (e : Expr) (answer : Answer (Option Typed)) → Holds value e → Verdict env start e answer → WantedVerdict env start wanteds.Nothing e (and_then answer (λ (o : Option Typed). Ok (finished_by value types.Int e o)))
+nothing_wanted value env start e (Ok o) h v = finished_typed value env e o h v
+nothing_wanted value env start e (Err broken) h v = v.0
 
 truth_made : (value : Literal → ℤ) (env : Environment) (e : Expr) (o : Option Typed) → is_truth_side (type_of_operand o) ≡ true → Looked env e o → IsWanted env wanteds.Truth e (finished_by value types.Int e o).ty (finished_by value types.Int e o).expr
 truth_made value env e None p v = absurd cc
 truth_made value env e (Some t) p v = let bool : t.ty ≡ types.Bool = truth_equal t.ty p in (subst (λ (ty : Ty). Elaborates env None e ty t.expr) bool v.1, bool)
 
-truth_wanted : (value : Literal → ℤ) (env : Environment) (e : Expr) (answer : Answer (Option Typed)) → AskedVerdict env 0 e answer → WantedVerdict env wanteds.Truth e (and_then answer (λ (o : Option Typed). Ok (finished_by value types.Int e o)))
-truth_wanted value env e (Ok o) v = truth_made value env e o v.0 v.1
-truth_wanted value env e (Err broken) v = v
+truth_wanted : (value : Literal → ℤ) (env : Environment) (start : ℕ) (e : Expr) (answer : Answer (Option Typed)) → AskedVerdict env start e answer → WantedVerdict env start wanteds.Truth e (and_then answer (λ (o : Option Typed). Ok (finished_by value types.Int e o)))
+truth_wanted value env start e (Ok o) v = truth_made value env e o v.0 v.1
+truth_wanted value env start e (Err broken) v = v
 
 place_made : (value : Literal → ℤ) (env : Environment) (place : Ty) (e : Expr) (o : Option Typed) → IsExpr e → Holds value e → goes_to o (Some place) ≡ true → Looked env e o → ElaboratesAt env place e (settled_by value place e o)
 place_made value env place e (Some t) x h p v = (t.ty, t.expr, any_expected env None (Some place) e t.ty t.expr v.0 v.1, p, converts_there place e t x)
@@ -108,16 +108,16 @@ place_made value env place e None x h p v =
     subst (λ (own : Option Ty). if_known fits_or_narrows own (Some place) ≡ true) (one_type env (Some place) e u.ty u.expr x k) (goes_so env (Some place) e None x v ∙ p) in
     (u.ty, u.expr, k, goes, converts_there place e u x)
 
-place_wanted : (value : Literal → ℤ) (env : Environment) (place : Ty) (e : Expr) (answer : Answer (Option Typed)) → IsExpr e → Holds value e → GivenVerdict env 0 (Some place) e answer
-    → WantedVerdict env (wanteds.Place place) e (and_then answer (λ (o : Option Typed). Ok (record { ty = place; expr = settled_by value place e o })))
-place_wanted value env place e (Ok o) x h v = (place_made value env place e o x h v.1 v.2, refl)
-place_wanted value env place e (Err broken) x h v = v
+place_wanted : (value : Literal → ℤ) (env : Environment) (start : ℕ) (place : Ty) (e : Expr) (answer : Answer (Option Typed)) → IsExpr e → Holds value e → GivenVerdict env start (Some place) e answer
+    → WantedVerdict env start (wanteds.Place place) e (and_then answer (λ (o : Option Typed). Ok (record { ty = place; expr = settled_by value place e o })))
+place_wanted value env start place e (Ok o) x h v = (place_made value env place e o x h v.1 v.2, refl)
+place_wanted value env start place e (Err broken) x h v = v
 
-pub wanted_judged : (value : Literal → ℤ) (env : Environment) (wanted : Wanted) (e : Expr) → IsExpr e → Holds value e → HaveTypes env (names_in e) → NoNames (expr_nodes env 0 e) → WantedVerdict env wanted e (wanted_by value env wanted e)
-wanted_judged value env wanteds.Nothing e x h t n = nothing_wanted value env e (look_by value env e) h (judged value env 0 e x h t n)
-wanted_judged value env wanteds.Truth e x h t n = truth_wanted value env e (asked env e (look_by value env e)) (condition_judged env 0 e (look_by value env e) x (judged value env 0 e x h t n))
-wanted_judged value env (wanteds.Place place) e x h t n =
-    place_wanted value env place e (given env (Some place) e (look_by value env e)) x h (value_judged env 0 (Some place) e (look_by value env e) x (judged value env 0 e x h t n))
+pub wanted_judged : (value : Literal → ℤ) (env : Environment) (start : ℕ) (wanted : Wanted) (e : Expr) → IsExpr e → Holds value e → HaveTypes env (names_in e) → NoNames (expr_nodes env start e) → WantedVerdict env start wanted e (wanted_by value env wanted e)
+wanted_judged value env start wanteds.Nothing e x h t n = nothing_wanted value env start e (look_by value env e) h (judged value env start e x h t n)
+wanted_judged value env start wanteds.Truth e x h t n = truth_wanted value env start e (asked env e (look_by value env e)) (condition_judged env start e (look_by value env e) x (judged value env start e x h t n))
+wanted_judged value env start (wanteds.Place place) e x h t n =
+    place_wanted value env start place e (given env (Some place) e (look_by value env e)) x h (value_judged env start (Some place) e (look_by value env e) x (judged value env start e x h t n))
 
 -- ---- what is told
 
@@ -162,14 +162,14 @@ wanted_silent env wanteds.Nothing e s = s
 wanted_silent env wanteds.Truth e s = silent_left (expr_nodes env 0 e) _ s
 wanted_silent env (wanteds.Place place) e s = silent_left (expr_nodes env 0 e) _ s
 
-wanted_so : (env : Environment) (wanted : Wanted) (e : Expr) (answer : Answer Typed) → Silent (wanted_nodes env 0 wanted e) → WantedVerdict env wanted e answer → (ty : Ty) × (t : typed.Expr) × IsWanted env wanted e ty t
+wanted_so : (env : Environment) (wanted : Wanted) (e : Expr) (answer : Answer Typed) → Silent (wanted_nodes env 0 wanted e) → WantedVerdict env 0 wanted e answer → (ty : Ty) × (t : typed.Expr) × IsWanted env wanted e ty t
 wanted_so env wanted e (Ok t) s v = (t.ty, t.expr, v)
 wanted_so env wanted e (Err broken) s v = absurd (s.none v.fault v.first.is.broken.0)
 
 pub faultless_is_wanted : FaultlessIsWanted
 faultless_is_wanted env wanted e x t none =
     let s : Silent (wanted_nodes env 0 wanted e) = record { none = none } in
-    wanted_so env wanted e (wanted_by value_of env wanted e) s (wanted_judged value_of env wanted e x (all_hold e) t (silent_named (expr_nodes env 0 e) (wanted_silent env wanted e s)))
+    wanted_so env wanted e (wanted_by value_of env wanted e) s (wanted_judged value_of env 0 wanted e x (all_hold e) t (silent_named (expr_nodes env 0 e) (wanted_silent env wanted e s)))
 
 typed_silent : (env : Environment) (wanted : Wanted) (e : Expr) (ty : Ty) (t : typed.Expr) → IsExpr e → IsWanted env wanted e ty t → Silent (wanted_nodes env 0 wanted e)
 typed_silent env wanteds.Nothing e ty t x h = silent_of env 0 e ty t x h
