@@ -1,6 +1,5 @@
 mod Turning
 mod Opening
-mod Latest
 mod LastWrong
 mod RowsSoFar
 mod Told

@@ -1,15 +1,10 @@
 -- What the code's expressions are, opened once, and the steps of loops over them.
-use Rattle.std.proofs.Common.{◌≡◌, ℕ, suc, ◌+◌, ◌<◌, List, [], ◌∷◌, length, map, drop, get_or, nat_eq, arith, Option, None, refl, ap, ◌∙◌, rules, drop-cons, add-one}
+use Rattle.std.proofs.Common.{◌≡◌, ℕ, suc, ◌+◌, ◌<◌, List, [], ◌∷◌, length, map, drop, get_or, nat_eq, arith, refl, ap, ◌∙◌, rules, drop-cons, add-one}
 use Rattle.std.proofs.lemmas.Bool.{ne_eqb}
-use Rattle.df_lang.specs.declared.ty.Ty.{Ty}
-use Rattle.df_ntyping.specs.Table.{type_of}
-use Rattle.df_ntyping.specs.Environment.{Environment}
-use Rattle.df_ntyping.specs.ExprTypes.{last_type}
 use Rattle.df_ntyping.specs.ExprNodes.{count}
 use Rattle.df_ntyping.specs.rules.Comparisons.{is_single}
 use Rattle.df_ntree.specs.declared.expr.Expr as declared
 use Rattle.df_ntree.specs.declared.expr.Operation as declared_operation
-use Rattle.df_ntree.specs.declared.expr.TreeType.{TreeType}
 use Rattle.df_ntree.specs.Expr as tree
 use Rattle.df_ntree.specs.Expr.{Members, end, more}
 
@@ -29,19 +24,6 @@ pub single : (items : List declared_operation.Operation) → nat_eq (length item
 single [] = refl
 single (x ∷ []) = refl
 single (x ∷ y ∷ items) = ne_eqb (suc (suc (length items))) 1 (λ e. omega (arith, e))
-
--- the type behind a row of `as`, from the first on
-abbrev pub last_behind : Environment → Option Ty → List TreeType → Option Ty
-last_behind env last [] = last
-last_behind env last (ty ∷ others) = last_behind env (type_of env.table.newtypes ty) others
-
-some_last : (env : Environment) (last : Option Ty) (ty : TreeType) (others : List TreeType) → last_behind env last (ty ∷ others) ≡ last_type env (ty ∷ others)
-some_last env last ty [] = refl
-some_last env last ty (next ∷ others) = some_last env (type_of env.table.newtypes ty) next others
-
-pub last_is : (env : Environment) (types : List TreeType) → last_behind env None types ≡ last_type env types
-last_is env [] = refl
-last_is env (ty ∷ others) = some_last env None ty others
 
 -- as many arguments as expressions
 pub counted : (all : List declared.Expr) → length all ≡ count (tree.arguments_of (map tree.expr_of all))

@@ -1,4 +1,4 @@
-pub mod Environments
 pub mod Parts
 pub mod TypedViews
 pub mod Asked
+pub mod Replies

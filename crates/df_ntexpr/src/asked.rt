@@ -8,12 +8,12 @@ ghost use Rattle.df_ntyping.specs.mirror.Wanting.{wanted_in};
 ghost use Rattle.df_ntexpr.specs.Asked.{wanted_of};
 
 use crate::broken::{Halt, Rule, breach};
-use crate::environment::Environment;
 use crate::looking::{asked_broken, finished, given_broken, goes_to, look};
 use crate::part::Typed;
 use crate::signs::{is_truth_side, settled, type_of};
 use df_base::Global;
 use df_lang::Ty;
+use df_nenv::Environment;
 use df_nrules::pos_of;
 use df_ntree::Expr;
 

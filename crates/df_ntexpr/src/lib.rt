@@ -11,11 +11,13 @@ ghost use Rattle.df_ntyping.specs.Laws.{HasTypes};
 ghost use Rattle.df_ntyping.specs.Least.{IsTold, BreaksNoneIn};
 ghost use Rattle.df_ntyping.specs.Wanted.{IsWanted, wanted_nodes};
 ghost use Rattle.df_base.specs.Refusing.{IfRefused};
+ghost use Rattle.df_ntyping.specs.mirror.Wanting.{wanted_in};
 ghost use Rattle.df_ntexpr.specs.Asked.{wanted_of};
+ghost use Rattle.df_ntexpr.specs.Parts.{typed_of};
+ghost use Rattle.df_ntexpr.specs.Replies.{told, Replies};
 
 mod asked;
 mod broken;
-mod environment;
 mod literals;
 mod looking;
 mod part;
@@ -25,8 +27,8 @@ mod signs;
 pub use asked::Wanted;
 use broken::Halt;
 use df_base::{Global, Stop};
+use df_nenv::Environment;
 use df_ntree::Expr;
-pub use environment::{Environment, Inferred, Local, Role};
 pub use part::Typed;
 
 /// The type and the typed expression of an expression: at a place it is converted to its type. The least rule
@@ -37,6 +39,17 @@ pub fn typed(alloc: Global, env: &Environment<'_>, wanted: Wanted, e: &Expr) -> 
     requires types { HasTypes env.now (expr_of e.now) }
     ensures typed { IfOk result (λ t. IsWanted env.now (wanted_of wanted) (expr_of e.now) t.ty (typed.expr_of t.expr)) }
     ensures refused { IfErr result (IfRefused (IsTold (wanted_nodes env.now 0 (wanted_of wanted) (expr_of e.now)))) }
+{
+    match asked::wanted_in(alloc, env, wanted, e) {
+        Ok(typed) => Ok(typed),
+        Err(Halt::Broken(broken)) => Err(Stop::Refused(broken.refusal())),
+        Err(Halt::Memory) => Err(Stop::Memory),
+    }
+}
+
+/// The same of an expression of which nothing is known: what the walk over it answers.
+pub fn walked(alloc: Global, env: &Environment<'_>, wanted: Wanted, e: &Expr) -> Result<Typed, Stop>
+    ensures { Replies typed_of result (told (wanted_in env.now (wanted_of wanted) (expr_of e.now))) }
 {
     match asked::wanted_in(alloc, env, wanted, e) {
         Ok(typed) => Ok(typed),

@@ -17,16 +17,15 @@ ghost use Rattle.df_ntyping.specs.mirror.Looking as looking;
 ghost use Rattle.df_ntyping.specs.mirror.Looking.{local_in, named, negated, denied, finished, cast_to, cast_all, outer_type, goes_to, given_type, given, is_later, asked, callee_inside, call_rule, leading_of, cast_of, look, look_rows, look_arguments};
 
 use crate::broken::{Broken, Halt, Rule, breach};
-use crate::environment::{Environment, called};
 use crate::literals::opened;
 use crate::part::{Row, Typed};
 use crate::signs::{
-    converted, is_arithmetic, is_truth_side, left_behind, rule_of, run_of, sign_holds, type_of,
-    whole_run,
+    converted, is_truth_side, left_behind, rule_of, run_of, sign_holds, type_of, whole_run,
 };
 use df_base::{Global, Pos};
 use df_lang as lang;
 use df_lang::Ty;
+use df_nenv::{Environment, called, is_arithmetic, last_type, type_of_call};
 use df_nnames::Signature;
 use df_nrules::{
     beginning_of, casts, counted, first_group, fits_or_narrows, is_integer, is_truth, pos_of,
@@ -156,28 +155,6 @@ fn cast_all(
         typed = cast_to(alloc, pos, typed, target, i + 1 == types.len())?;
     }
     Ok(typed)
-}
-
-/// The type behind a row of `as`.
-fn last_type(env: &Environment<'_>, types: &[TreeType]) -> Option<Ty>
-    ensures { result ≡ shapes.last_type env.now types.now }
-{
-    let mut last = None;
-    for tree in types {
-        last = env.type_of(*tree);
-    }
-    last
-}
-
-/// The type of a call: that of the only result of its method.
-fn type_of_call(env: &Environment<'_>, callee: &Expr) -> Option<Ty>
-    ensures { result ≡ shapes.type_of_call (called_signature env.now (tree.expr_of callee.now)) }
-{
-    let signature = called(env, callee)?;
-    match signature.results.as_slice() {
-        [ty] => Some(*ty),
-        _ => None,
-    }
 }
 
 /// The type of an expression that breaks a rule as a whole, if it is known.

@@ -17,6 +17,7 @@ use crate::part::{Part, Row, Typed};
 use crate::runs::run_expr;
 use df_base::{Global, Pos};
 use df_lang::{Expr, Ty};
+use df_nenv::is_arithmetic;
 use df_nrules::{
     are_one_integer, are_ordered, counted, counted_of, is_truth, literal_type, one_fits, pos_of,
     run_begins, same_type,
@@ -326,15 +327,6 @@ fn settled_parts(alloc: Global, of: Ty, rows: Vec<Row<'_>>) -> Result<Vec<Part>,
         })?;
     }
     Ok(parts)
-}
-
-pub(crate) fn is_arithmetic(group: Option<Group>) -> bool
-    ensures { result ≡ shapes.is_arithmetic group }
-{
-    match group {
-        Some(Group::Sum | Group::Product) => true,
-        _ => false,
-    }
 }
 
 /// The type of a run whose operands count as the type.

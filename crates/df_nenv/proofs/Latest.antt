@@ -6,8 +6,8 @@ use Rattle.std.proofs.lemmas.Option.{slice_get_within}
 use Rattle.df_ntyping.specs.Meaning.{last_local}
 use Rattle.df_nnames.specs.Latest.{after_first, last_of}
 use Rattle.df_nnames.proofs.Latest.{is_local}
-use Rattle.df_ntexpr.specs.declared.environment.Local.{Local}
-use Rattle.df_ntexpr.specs.Environments.{local_of, names_of}
+use Rattle.df_nenv.specs.declared.environment.Local.{Local}
+use Rattle.df_nenv.specs.Environments.{local_of, names_of}
 
 -- none where there is no place, and else the local at it
 abbrev pub Finds : List Local → ℕ → Option ℕ → Type 0

@@ -1,0 +1,4 @@
+mod Latest
+mod Scoping
+mod Foreseen
+mod Casting

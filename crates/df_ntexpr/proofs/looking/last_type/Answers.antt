@@ -1,5 +1,0 @@
-use Rattle.df_ntexpr.proofs.Opening.{last_is}
-use Rattle.df_ntexpr.proofs.looking.last_type.Goals as goal
-
-pub loop-tree-init : goal.loop-tree-init
-loop-tree-init c = last_is c.args.env.now c.args.types.now
