@@ -1,0 +1,8 @@
+pub mod Behind
+mod Marking
+mod Guarding
+mod Inferring
+mod Looping
+mod MarkedRuns
+mod Declaring
+mod InferredStatements

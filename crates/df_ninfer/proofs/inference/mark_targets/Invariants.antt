@@ -1,0 +1,11 @@
+use Rattle.std.proofs.Common.{◌≡◌, map, drop}
+use Rattle.std.specs.List.{flat_map}
+use Rattle.df_ntree.specs.Expr.{expr_of}
+use Rattle.df_ntyping.specs.LocalTypes.{used_inside}
+use Rattle.df_ninfer.specs.Marks.{marked}
+use Rattle.df_ninfer.proofs.inference.mark_targets.Given as goal
+
+-- with what is left marked, all is
+abbrev pub invariant-loop-e : goal.invariant-loop-e
+invariant-loop-e l =
+    marked l.env (flat_map used_inside (map expr_of (drop l.e-index l.all))) ≡ marked l.fn.env (flat_map used_inside (map expr_of l.all))
