@@ -1,0 +1,4 @@
+pub mod Rules
+pub mod Said
+pub mod Views
+pub mod mirror

@@ -1,0 +1,4 @@
+pub mod Steps
+pub mod Sides
+pub mod Clauses
+pub mod Statements
