@@ -1,0 +1,9 @@
+mod TokenKinds
+mod InRange
+mod MachineNames
+mod Named
+mod Declared
+mod Sources
+mod OneRefusal
+mod Refusals
+mod Lawful

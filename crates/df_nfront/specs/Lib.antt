@@ -1,0 +1,4 @@
+pub mod Source
+pub mod Refused
+pub mod Line
+pub mod Told
