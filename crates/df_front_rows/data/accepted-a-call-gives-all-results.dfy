@@ -1,0 +1,2 @@
+method P() returns (a: int, b: int) { a, b := 1, 2; }
+method M() returns (a: int, b: int) { return P(); }

@@ -1,0 +1,1 @@
+method M(a: int) returns (r: int) ensures r == a decreases a { return a; }

@@ -1,0 +1,1 @@
+newtype n = x | 1 <= x < 9 witness 3

@@ -1,0 +1,1 @@
+method M() { var x: int; while true decreases 0 { break; print x; } }

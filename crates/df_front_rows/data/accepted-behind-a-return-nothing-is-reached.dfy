@@ -1,0 +1,1 @@
+method M() returns (r: int) { return 1; print r; }

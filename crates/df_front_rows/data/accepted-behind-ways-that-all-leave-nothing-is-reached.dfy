@@ -1,0 +1,1 @@
+method M(b: bool) { var x: int; while true decreases 0 { if b { break; } else { return; } print x; } }

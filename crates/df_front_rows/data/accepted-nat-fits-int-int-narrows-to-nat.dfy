@@ -1,0 +1,1 @@
+method M(n: nat, i: int) { var a: int := n; var b: nat := i; }

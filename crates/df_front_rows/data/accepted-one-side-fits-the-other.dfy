@@ -1,0 +1,1 @@
+method M(n: nat, i: int, b: bool) { print n == i, i != n, b == true; }

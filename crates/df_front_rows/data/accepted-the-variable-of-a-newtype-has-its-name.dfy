@@ -1,0 +1,1 @@
+newtype n = n: int | 0 <= n < 9

@@ -1,0 +1,1 @@
+method M() { var x: int; return; print x; }

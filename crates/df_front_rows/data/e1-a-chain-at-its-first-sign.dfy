@@ -1,0 +1,1 @@
+method M(i: int) { var x: int := i < i < i; }

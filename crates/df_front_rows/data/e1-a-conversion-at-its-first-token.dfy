@@ -1,0 +1,1 @@
+method M() { var b: bool := (1) as int; }

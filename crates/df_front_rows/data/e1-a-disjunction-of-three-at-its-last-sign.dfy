@@ -1,0 +1,1 @@
+method M(b: bool) { var c: char := b || b || b; }

@@ -1,0 +1,1 @@
+method M() returns (b: bool) { return 1; }

@@ -1,0 +1,1 @@
+method M() { var c: char := 1; }

@@ -1,0 +1,1 @@
+method M() returns (r: bool) { r := 1; }

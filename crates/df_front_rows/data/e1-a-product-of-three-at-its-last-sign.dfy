@@ -1,0 +1,1 @@
+method M(i: int) { var b: bool := i * i / i; }

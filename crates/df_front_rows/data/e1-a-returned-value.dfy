@@ -1,0 +1,1 @@
+method M() returns (r: int) { return 'a'; }

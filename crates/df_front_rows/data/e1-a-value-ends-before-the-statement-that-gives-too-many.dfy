@@ -1,0 +1,1 @@
+method M() returns (a: int) { return true, 1, 2; }

@@ -1,0 +1,1 @@
+method M(c: char) { var x: int := c as char; }

@@ -1,0 +1,2 @@
+method P() returns (a: int, b: int) { a, b := 1, 2; }
+method M() { var x: int, y: bool := P(); }

@@ -1,0 +1,1 @@
+method M() returns (a: char, b: bool) { return 'a', 2; }

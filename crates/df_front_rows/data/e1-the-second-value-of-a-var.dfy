@@ -1,0 +1,1 @@
+method M() { var b: bool, c: char := true, 1; }

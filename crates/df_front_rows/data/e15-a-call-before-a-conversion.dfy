@@ -1,0 +1,2 @@
+method P(a: int) returns (r: int) { r := a; }
+method M() { print P(1) as int; }

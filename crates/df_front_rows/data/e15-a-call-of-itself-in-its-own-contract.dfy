@@ -1,0 +1,1 @@
+method M() returns (r: bool) ensures M() { r := true; }

@@ -1,0 +1,1 @@
+method M() { { var M := 1; M(); } }

@@ -1,0 +1,1 @@
+method M(b: bool) { assert b && M; }

@@ -1,0 +1,1 @@
+method M(x: int) { print (x)(1); }

@@ -1,0 +1,1 @@
+method M(c: char) { print 1 + c as char as int; }

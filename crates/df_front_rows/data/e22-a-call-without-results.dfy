@@ -1,0 +1,2 @@
+method P() { }
+method M() { var x := P(); }

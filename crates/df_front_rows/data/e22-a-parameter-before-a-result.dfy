@@ -1,0 +1,1 @@
+method M(a: int) returns (x: int) { a, x := 1, 2; }

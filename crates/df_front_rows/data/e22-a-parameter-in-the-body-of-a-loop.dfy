@@ -1,0 +1,1 @@
+method M(a: int) { while a < 3 { a := a + 1; } }

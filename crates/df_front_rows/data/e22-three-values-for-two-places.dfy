@@ -1,0 +1,1 @@
+method M() returns (x: int, y: int) { x, y := 1, 2, 3; }

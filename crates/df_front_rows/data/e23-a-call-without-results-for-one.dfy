@@ -1,0 +1,2 @@
+method P() { }
+method M() returns (a: int) { return P(); }

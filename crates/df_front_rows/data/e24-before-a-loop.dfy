@@ -1,0 +1,1 @@
+method M() { if true { } else { break; } while 1 < 2 { } }

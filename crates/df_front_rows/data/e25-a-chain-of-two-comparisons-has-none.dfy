@@ -1,0 +1,1 @@
+method M(i: int) { while 0 < i < 9 { } }

@@ -1,0 +1,1 @@
+method M(i: int) { while i < 3 requires true { } }

@@ -1,0 +1,1 @@
+method M(b: bool, i: int) { while i < 3 <==> b { } }

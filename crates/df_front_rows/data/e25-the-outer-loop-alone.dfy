@@ -1,0 +1,1 @@
+method M(i: int) { while true { while i < 3 { } } }

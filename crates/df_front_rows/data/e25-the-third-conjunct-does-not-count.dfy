@@ -1,0 +1,1 @@
+method M(b: bool, i: int) { while b && b && i < 3 { } }

@@ -1,0 +1,1 @@
+method M(a: int, b: bool) { print a + b; }

@@ -1,0 +1,1 @@
+method M(a: bool, b: int) { print a + b * b; }

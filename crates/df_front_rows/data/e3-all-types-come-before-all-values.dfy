@@ -1,0 +1,2 @@
+method A() returns (r: int) { }
+method B() { print 1 + true; }

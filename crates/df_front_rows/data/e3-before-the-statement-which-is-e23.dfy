@@ -1,0 +1,1 @@
+method M() { return 1 + true; }

@@ -1,0 +1,2 @@
+method A() { print 1 + true; }
+newtype n = x: int | true

@@ -1,0 +1,1 @@
+method M() { if 1 + true == 2 { } }

@@ -1,0 +1,1 @@
+method M() decreases 1 + true { }

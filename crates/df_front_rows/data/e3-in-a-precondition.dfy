@@ -1,0 +1,1 @@
+method M(r: int) requires 1 == 2 - true { }

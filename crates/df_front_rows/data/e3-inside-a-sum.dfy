@@ -1,0 +1,1 @@
+method M(a: int, b: int) { print a * b * true + 1; }

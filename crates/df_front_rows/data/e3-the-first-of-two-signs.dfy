@@ -1,0 +1,1 @@
+method M() { print true + 1 + 'a'; }

@@ -1,0 +1,1 @@
+method M(c: char, i: int) { print c <= i; }

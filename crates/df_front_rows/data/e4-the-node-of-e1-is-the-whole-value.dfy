@@ -1,0 +1,1 @@
+method M(a: int) { var x: int := (a < true); }

@@ -1,0 +1,3 @@
+newtype i8 = x: int | -128 <= x < 128
+newtype j = x: int | 0 <= x < 9
+method M(a: i8, b: j) { print a < 1 < b; }

@@ -1,0 +1,1 @@
+method M(c: char) { print c == 97; }

@@ -1,0 +1,1 @@
+method M(i: int, b: bool) { print i < 3 != b; }

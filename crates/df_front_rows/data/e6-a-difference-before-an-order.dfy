@@ -1,0 +1,1 @@
+method M(a: int) { assert a != 1 < 2; }

@@ -1,0 +1,1 @@
+method M() { assert 1 as int; }

@@ -1,0 +1,1 @@
+method M(i: int) { if i { } }

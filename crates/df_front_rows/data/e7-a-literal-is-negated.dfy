@@ -1,0 +1,1 @@
+method M() { print !1; }

@@ -1,0 +1,1 @@
+method M(i: int) returns (r: int) ensures r - i { r := i; }

@@ -1,0 +1,1 @@
+method M(i: int) requires i + 1 { }

@@ -1,0 +1,1 @@
+method M() { assert 'a' as char; }

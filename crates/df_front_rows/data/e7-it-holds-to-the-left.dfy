@@ -1,0 +1,1 @@
+method M(b: bool, i: int) { print b <== b <== i; }

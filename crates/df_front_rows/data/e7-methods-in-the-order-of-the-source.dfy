@@ -1,0 +1,2 @@
+method A() { assert true && 1; }
+method B() { print 1 + true; }

@@ -1,0 +1,1 @@
+method M(b: bool) { print b || b || 1; }

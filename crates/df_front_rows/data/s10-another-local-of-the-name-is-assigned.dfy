@@ -1,0 +1,1 @@
+method M() { var x; { var x := 1; x := 2; } }

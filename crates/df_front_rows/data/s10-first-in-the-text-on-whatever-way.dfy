@@ -1,0 +1,1 @@
+method M() { var x; if true { print x; } x := 1; }

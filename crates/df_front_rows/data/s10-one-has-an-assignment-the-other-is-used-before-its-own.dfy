@@ -1,0 +1,1 @@
+method M() { var x; var y; y := x; x := 1; }

@@ -1,0 +1,1 @@
+method M() { var y; var x := 1 + true; }

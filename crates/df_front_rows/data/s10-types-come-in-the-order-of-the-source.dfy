@@ -1,0 +1,2 @@
+method A() { var x; }
+newtype n = x: int | true

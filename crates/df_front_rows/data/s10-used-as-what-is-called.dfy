@@ -1,0 +1,1 @@
+method M() { var x; x(1); }

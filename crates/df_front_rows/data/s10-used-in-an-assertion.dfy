@@ -1,0 +1,1 @@
+method M() { var x; assert x == 1; x := 1; }

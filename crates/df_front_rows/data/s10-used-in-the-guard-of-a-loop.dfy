@@ -1,0 +1,1 @@
+method M() { var x; while x < 2 { x := 1; } }

@@ -1,0 +1,1 @@
+method M() { var x; print 1 as int < x; }

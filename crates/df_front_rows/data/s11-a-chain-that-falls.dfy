@@ -1,0 +1,1 @@
+newtype n = x: int | 9 > x >= 0

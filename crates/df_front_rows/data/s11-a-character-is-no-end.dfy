@@ -1,0 +1,1 @@
+newtype n = x: int | 'a' <= x < 9

@@ -1,0 +1,1 @@
+newtype n = x: int | 0 == x < 9

@@ -1,0 +1,2 @@
+newtype n = x: int | true
+method A() { print 1 + true; }

@@ -1,0 +1,2 @@
+method A() returns (r: int) { }
+newtype n = x: int | true

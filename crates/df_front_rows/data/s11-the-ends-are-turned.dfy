@@ -1,0 +1,1 @@
+newtype n = x: int | 5 <= x < 3

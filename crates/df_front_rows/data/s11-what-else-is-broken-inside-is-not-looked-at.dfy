@@ -1,0 +1,1 @@
+newtype n = x: int | 1 + true <= x < 9

@@ -1,0 +1,1 @@
+method M() { var x: int; { var x := 1; } print x; }

@@ -1,0 +1,1 @@
+method M(i: int) returns (r: int) { while i < 3 { r := 1; } }

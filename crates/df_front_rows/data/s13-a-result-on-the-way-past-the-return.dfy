@@ -1,0 +1,1 @@
+method M(b: bool) returns (r: int) { if b { return 1; } }

@@ -1,0 +1,1 @@
+method M() { var x: int; assert false ==> x == 1; }

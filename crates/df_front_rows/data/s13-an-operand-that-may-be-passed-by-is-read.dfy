@@ -1,0 +1,1 @@
+method M(b: bool) { var x: int; print b && x == 1; }

@@ -1,0 +1,2 @@
+method A() returns (r: int) { }
+method B() { var x: int; print x; }

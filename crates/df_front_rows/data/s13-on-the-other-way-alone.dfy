@@ -1,0 +1,1 @@
+method M(b: bool) { var x: int; if b { } else { x := 1; } print x; }

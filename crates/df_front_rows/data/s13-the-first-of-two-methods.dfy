@@ -1,0 +1,2 @@
+method A() { var x: int; print x; }
+method B() returns (r: int) { }

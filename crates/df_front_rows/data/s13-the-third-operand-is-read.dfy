@@ -1,0 +1,1 @@
+method M() { var x: int; print 1, 'a', x; }

@@ -1,0 +1,1 @@
+method M() returns (r: int) { var x: int; print x; }

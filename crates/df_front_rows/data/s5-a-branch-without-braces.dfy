@@ -1,0 +1,1 @@
+method M(x: int) { if true x := 1; }

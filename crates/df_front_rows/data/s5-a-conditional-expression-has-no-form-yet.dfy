@@ -1,0 +1,1 @@
+method M() { print if true then 1 else 2; }

@@ -1,0 +1,1 @@
+newtype n = x: nat | 0 <= x < 9

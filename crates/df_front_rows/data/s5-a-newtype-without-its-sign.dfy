@@ -1,0 +1,1 @@
+newtype n : int | 0 <= x < 9

@@ -1,0 +1,1 @@
+method M(a: bool, b: bool, c: bool) { print a || b && c; }

@@ -1,0 +1,1 @@
+method M() { break 1; }

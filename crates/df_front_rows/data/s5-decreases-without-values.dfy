@@ -1,0 +1,1 @@
+method M() { while true decreases { } }

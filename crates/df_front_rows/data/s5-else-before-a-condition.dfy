@@ -1,0 +1,1 @@
+method M() { if true { } else true { } }

@@ -1,0 +1,1 @@
+method M() { ghost var x := 1; }

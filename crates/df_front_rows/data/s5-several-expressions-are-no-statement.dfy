@@ -1,0 +1,1 @@
+method M(x: int, y: int) { x, y; }

@@ -1,0 +1,1 @@
+method A() { print 1 + true; + }

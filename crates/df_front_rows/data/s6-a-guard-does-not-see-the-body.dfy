@@ -1,0 +1,1 @@
+method M() { while x < 3 { var x := 0; } }

@@ -1,0 +1,1 @@
+method M() ensures x == 1 { var x := 1; }

@@ -1,0 +1,1 @@
+method M() returns (r: int) invariant r == 0 { r := 0; }

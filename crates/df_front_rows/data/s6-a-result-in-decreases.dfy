@@ -1,0 +1,1 @@
+method M() returns (r: int) decreases r { r := 0; }

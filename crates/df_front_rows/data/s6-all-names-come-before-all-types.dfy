@@ -1,0 +1,2 @@
+method A() { var x: int := true; }
+method B() { print y; }

@@ -1,0 +1,1 @@
+method M() { x := 1; var x: int; }

@@ -1,0 +1,1 @@
+method M() { if true { var x := 1; } else { x := 2; } }

@@ -1,0 +1,1 @@
+method A() { x := 1 + true; }

@@ -1,0 +1,1 @@
+method M() returns (x: int) { x, y := 1, 2; }

@@ -1,0 +1,1 @@
+method M(a: int) { print a as k; }

@@ -1,0 +1,2 @@
+method M() { }
+newtype M = x: int | 0 <= x < 9

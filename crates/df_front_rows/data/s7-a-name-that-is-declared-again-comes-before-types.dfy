@@ -1,0 +1,2 @@
+method A() { var x := 1 + true; }
+method A() { }

@@ -1,0 +1,1 @@
+method M() { var x, y, x := 1, 2, z; }

@@ -1,0 +1,1 @@
+method M(a: int, b: int, b: int, a: int) { }

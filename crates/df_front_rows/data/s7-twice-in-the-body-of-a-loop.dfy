@@ -1,0 +1,1 @@
+method M() { while true decreases 0 { var x := 1; var x := 2; } }

@@ -1,0 +1,2 @@
+method M() { }
+method M() { }
