@@ -1,0 +1,6 @@
+pub mod Refusals
+pub mod Builders
+pub mod Found
+pub mod Ranges
+pub mod Rows
+mod Names

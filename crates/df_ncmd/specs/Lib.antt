@@ -1,0 +1,6 @@
+pub mod Table
+pub mod Line
+pub mod Fault
+pub mod Built
+pub mod View
+pub mod Shown
