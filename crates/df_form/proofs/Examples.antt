@@ -2,8 +2,8 @@
 use Rattle.std.proofs.Common.{◌≡◌, ℕ, zero, suc, ◌<◌, ℤ, pos, ◌+ℤ◌, int_le, ◌≤ℤ◌, true, false, true≢false, List, [], ◌∷◌, take, slice_get, Some, refl, sym, arith}
 use Rattle.std.proofs.lemmas.Int.{ints}
 use Rattle.std.proofs.lemmas.Option.{none-some}
-use Rattle.df_types.specs.Newtype.{Newtype}
-use Rattle.df_meaning.specs.Value.{Value, Number, Truth, number_of}
+use Rattle.df_form.specs.World.{World}
+use Rattle.df_meaning.specs.Value.{Value, Number, Truth, Character, number_of}
 use Rattle.df_form.specs.declared.node.Sort.{Sort}
 use Rattle.df_form.specs.declared.node.Sort.TheVariants as sorts
 use Rattle.df_form.specs.declared.node.Free.{Free}
@@ -28,10 +28,12 @@ x = record { number = 0; sort = sorts.Number }
 abbrev value_of : ℤ → Sort → Value
 value_of n sorts.Number = Number n
 value_of n sorts.Truth = Truth false
+value_of n sorts.Character = Character 0
 
 pub has_its_sort : (n : ℤ) (sort : Sort) → has_sort sort (value_of n sort) ≡ true
 has_its_sort n sorts.Number = refl
 has_its_sort n sorts.Truth = refl
+has_its_sort n sorts.Character = refl
 
 abbrev assigned : ℤ → Assignment
 assigned n = record { value = λ free. value_of n free.sort; sorted = λ free. has_its_sort n free.sort }
@@ -41,22 +43,22 @@ abbrev nodes_to : ℤ → List Node
 nodes_to bound = node (ops.Free x) [] ∷ node (ops.Number (pos 3)) [] ∷ node ops.AtMost (0 ∷ 1 ∷ []) ∷ node (ops.Number (pos 1)) [] ∷ node ops.Plus (0 ∷ 3 ∷ []) ∷ node (ops.Number bound) [] ∷ node ops.AtMost (4 ∷ 5 ∷ []) ∷ []
 
 -- x <= 3 |- x + 1 <= the bound
-abbrev at_most : List Newtype → ℤ → Sequent
-at_most newtypes bound = record { newtypes = newtypes; nodes = nodes_to bound; hypotheses = 2 ∷ []; goal = 6 }
+abbrev at_most : World → ℤ → Sequent
+at_most world bound = record { world = world; nodes = nodes_to bound; hypotheses = 2 ∷ []; goal = 6 }
 
 -- where x is 3 the hypothesis is true, and the goal only up to 4
-pub three_is_at_most_three : (depth : ℕ) (newtypes : List Newtype) → truth depth newtypes (assigned (pos 3)) (nodes_to (pos 4)) 2 ≡ true
-three_is_at_most_three depth newtypes = refl
+pub three_is_at_most_three : (depth : ℕ) (world : World) → truth depth world (assigned (pos 3)) (nodes_to (pos 4)) 2 ≡ true
+three_is_at_most_three depth world = refl
 
-pub four_is_at_most_four : (depth : ℕ) (newtypes : List Newtype) → truth depth newtypes (assigned (pos 3)) (nodes_to (pos 4)) 6 ≡ true
-four_is_at_most_four depth newtypes = refl
+pub four_is_at_most_four : (depth : ℕ) (world : World) → truth depth world (assigned (pos 3)) (nodes_to (pos 4)) 6 ≡ true
+four_is_at_most_four depth world = refl
 
-pub four_is_above_three : (depth : ℕ) (newtypes : List Newtype) → truth depth newtypes (assigned (pos 3)) (nodes_to (pos 3)) 6 ≡ false
-four_is_above_three depth newtypes = refl
+pub four_is_above_three : (depth : ℕ) (world : World) → truth depth world (assigned (pos 3)) (nodes_to (pos 3)) 6 ≡ false
+four_is_above_three depth world = refl
 
 -- where x is 4 the hypothesis is false
-pub four_fails : (depth : ℕ) (newtypes : List Newtype) → truth depth newtypes (assigned (pos 4)) (nodes_to (pos 4)) 2 ≡ false
-four_fails depth newtypes = refl
+pub four_fails : (depth : ℕ) (world : World) → truth depth world (assigned (pos 4)) (nodes_to (pos 4)) 2 ≡ false
+four_fails depth world = refl
 
 -- x <= 3 |- x + 1 <= 4 is valid
 below_three : (n : ℤ) → int_le n (pos 3) ≡ true → n ≤ℤ pos 3
@@ -65,12 +67,12 @@ below_three n below = grind (arith, ints)
 at_most_four : (n : ℤ) → n ≤ℤ pos 3 → int_le (n +ℤ pos 1) (pos 4) ≡ true
 at_most_four n below = grind (arith, ints)
 
-pub is_valid : (newtypes : List Newtype) → IsValid (at_most newtypes (pos 4))
-is_valid newtypes depth assignment holds = let n = number_of (assignment.value x) in at_most_four n (below_three n holds.0)
+pub is_valid : (world : World) → IsValid (at_most world (pos 4))
+is_valid world depth assignment holds = let n = number_of (assignment.value x) in at_most_four n (below_three n holds.0)
 
 -- and x <= 3 |- x + 1 <= 3 is not
-pub no_three : (newtypes : List Newtype) → IsValid (at_most newtypes (pos 3)) → ⊥
-no_three newtypes valid = true≢false (sym (valid 0 (assigned (pos 3)) (refl, tt)))
+pub no_three : (world : World) → IsValid (at_most world (pos 3)) → ⊥
+no_three world valid = true≢false (sym (valid 0 (assigned (pos 3)) (refl, tt)))
 
 -- each node may stand after those before it, and none stands twice
 pub is_table : IsTable (nodes_to (pos 4))
@@ -83,8 +85,8 @@ is_table =
     let f = table_next (take 5 (nodes_to (pos 4))) (node (ops.Number (pos 4)) []) e refl refl in
     table_next (take 6 (nodes_to (pos 4))) (node ops.AtMost (4 ∷ 5 ∷ [])) f refl refl
 
-pub is_sequent : (newtypes : List Newtype) → IsSequent (at_most newtypes (pos 4))
-is_sequent newtypes = record { table = is_table; formulas = refl }
+pub is_sequent : (world : World) → IsSequent (at_most world (pos 4))
+is_sequent world = record { table = is_table; formulas = refl }
 
 -- a sum is no formula, and takes no formula
 pub no_formula : is_formula (nodes_to (pos 4)) 4 ≡ false
@@ -94,8 +96,8 @@ pub no_sum : is_well_sorted (nodes_to (pos 4)) (node ops.Plus (0 ∷ 2 ∷ [])) 
 no_sum = refl
 
 -- the nodes are numbered in postorder of first occurrence
-pub is_numbered : (newtypes : List Newtype) → IsNumbered (at_most newtypes (pos 4))
-is_numbered newtypes =
+pub is_numbered : (world : World) → IsNumbered (at_most world (pos 4))
+is_numbered world =
     let less : 0 < 3 = omega arith in
     let three : Walk (nodes_to (pos 4)) 0 (0 ∷ 1 ∷ []) 2 = first refl ends (first refl ends ends) in
     let plus : Walk (nodes_to (pos 4)) 3 (0 ∷ 3 ∷ []) 4 = again less (first refl ends ends) in
@@ -105,12 +107,12 @@ is_numbered newtypes =
 abbrev swapped_nodes : List Node
 swapped_nodes = node (ops.Number (pos 3)) [] ∷ node (ops.Free x) [] ∷ node ops.AtMost (1 ∷ 0 ∷ []) ∷ node (ops.Number (pos 1)) [] ∷ node ops.Plus (1 ∷ 3 ∷ []) ∷ node (ops.Number (pos 4)) [] ∷ node ops.AtMost (4 ∷ 5 ∷ []) ∷ []
 
-abbrev swapped : List Newtype → Sequent
-swapped newtypes = record { newtypes = newtypes; nodes = swapped_nodes; hypotheses = 2 ∷ []; goal = 6 }
+abbrev swapped : World → Sequent
+swapped world = record { world = world; nodes = swapped_nodes; hypotheses = 2 ∷ []; goal = 6 }
 
 -- with 3 before x they are not: before 2 come its parts, and before x nothing
-pub no_swapped : (newtypes : List Newtype) → IsNumbered (swapped newtypes) → ⊥
-no_swapped newtypes walk =
+pub no_swapped : (world : World) → IsNumbered (swapped world) → ⊥
+no_swapped world walk =
     let parts = walk_parts swapped_nodes 0 2 (6 ∷ []) 7 (node ops.AtMost (1 ∷ 0 ∷ [])) refl (omega arith) walk in
     let nothing = walk_parts swapped_nodes 0 1 (0 ∷ []) 2 (node (ops.Free x) []) refl (omega arith) parts in
     let same : 1 ≡ 0 = one_end swapped_nodes 0 [] 1 0 nothing ends in
@@ -135,5 +137,5 @@ renames (suc (suc (suc (suc (suc zero))))) a at = moved at
 renames (suc (suc (suc (suc (suc (suc zero)))))) a at = moved at
 renames (suc (suc (suc (suc (suc (suc (suc n))))))) a at = absurd (none-some _ at)
 
-pub is_renaming : (newtypes : List Newtype) → IsRenaming swap (at_most newtypes (pos 4)) (swapped newtypes)
-is_renaming newtypes = record { nodes = renames; hypotheses = refl; goal = refl }
+pub is_renaming : (world : World) → IsRenaming swap (at_most world (pos 4)) (swapped world)
+is_renaming world = record { nodes = renames; hypotheses = refl; goal = refl }

@@ -7,6 +7,9 @@ pub mod Examples
 pub mod Renamings
 pub mod Lists
 pub mod Values
+pub mod Sorts
 pub mod Making
+pub mod Types
+pub mod Worlds
 pub mod Arithmetic
 pub mod Literals

@@ -1,19 +1,19 @@
 -- The tests of operations and nodes tell whether they are equal.
-use Rattle.std.proofs.Common.{◌≡◌, true, ◌&&◌, nat_eq, refl, ap, arith}
+use Rattle.std.proofs.Common.{◌≡◌, true, ◌&&◌, nat_eq, refl, ap}
 use Rattle.std.proofs.lemmas.Bool.Decides.{Decides-int_eq}
 use Rattle.std.proofs.lemmas.Slice.Eq.{bytes_eq-Decides}
-use Rattle.std.proofs.lemmas.Grind.{common_steps}
 use Rattle.std.specs.Cmp.Lexicographic.{pointwise}
 use Rattle.std.proofs.lemmas.Bool.{and_parts, eqb-true, and_from}
 use Rattle.df_lemmas.proofs.Numbers.{equal_self}
 use Rattle.df_form.specs.declared.node.Op.{Op}
 use Rattle.df_form.specs.declared.node.Op.TheVariants as ops
-use Rattle.df_types.specs.declared.newtype.Ty.{Ty}
-use Rattle.df_types.specs.declared.newtype.Ty.TheVariants as types
+use Rattle.df_lang.specs.declared.ty.Ty.{Ty}
+use Rattle.df_lang.specs.declared.ty.Ty.TheVariants as types
+use Rattle.df_lang.specs.Typing.{same_type}
 use Rattle.df_form.specs.declared.node.Sort.{Sort}
 use Rattle.df_form.specs.declared.node.Sort.TheVariants as sorts
 use Rattle.df_form.specs.declared.node.Free.{Free}
-use Rattle.df_form.specs.Node.{Node, same_sort, same_type, same_op, same_node}
+use Rattle.df_form.specs.Node.{Node, same_sort, same_op, same_node}
 pub use Rattle.std.proofs.lemmas.Bool.{and_from as both_true}
 pub use Rattle.std.proofs.lemmas.Bool.{and_parts as and_true}
 
@@ -22,16 +22,28 @@ same_sort_equal sorts.Number sorts.Number e = refl
 same_sort_equal sorts.Number sorts.Truth e = cc
 same_sort_equal sorts.Truth sorts.Number e = cc
 same_sort_equal sorts.Truth sorts.Truth e = refl
+same_sort_equal sorts.Character sorts.Character e = refl
+same_sort_equal sorts.Number sorts.Character e = cc
+same_sort_equal sorts.Truth sorts.Character e = cc
+same_sort_equal sorts.Character sorts.Number e = cc
+same_sort_equal sorts.Character sorts.Truth e = cc
 
 pub same_sort-refl : (a : Sort) → same_sort a a ≡ true
 same_sort-refl sorts.Number = refl
 same_sort-refl sorts.Truth = refl
+same_sort-refl sorts.Character = refl
 
 same_type_equal : (a b : Ty) → same_type a b ≡ true → a ≡ b
-same_type_equal (types.Newtype a) (types.Newtype b) e = grind (arith, common_steps)
+same_type_equal (types.Newtype a) (types.Newtype b) e = ap types.Newtype (eqb-true a b e)
+same_type_equal types.Int types.Int e = refl
+same_type_equal types.Nat types.Nat e = refl
+same_type_equal types.Bool types.Bool e = refl
+same_type_equal types.Char types.Char e = refl
+same_type_equal a b e = cc
 
 same_type-refl : (a : Ty) → same_type a a ≡ true
-same_type-refl (types.Newtype a) = grind (arith, common_steps)
+same_type-refl (types.Newtype a) = equal_self a
+same_type-refl ty = refl
 
 same_free_equal : (a b : Free) → (nat_eq a.number b.number && same_sort a.sort b.sort) ≡ true → a ≡ b
 same_free_equal a b e =
@@ -45,6 +57,10 @@ same_op_equal (ops.Number a) (ops.Number b) e = ap ops.Number ((Decides-int_eq a
 same_op_equal (ops.Free a) (ops.Free b) e = ap ops.Free (same_free_equal a b e)
 same_op_equal ops.Plus ops.Plus e = refl
 same_op_equal ops.Times ops.Times e = refl
+same_op_equal ops.Div ops.Div e = refl
+same_op_equal ops.Mod ops.Mod e = refl
+same_op_equal ops.Code ops.Code e = refl
+same_op_equal ops.Chr ops.Chr e = refl
 same_op_equal (ops.Is a) (ops.Is b) e = ap ops.Is (same_type_equal a b e)
 same_op_equal ops.Equal ops.Equal e = refl
 same_op_equal ops.AtMost ops.AtMost e = refl

@@ -6,7 +6,7 @@ use Rattle.std.proofs.lemmas.List.{get_or_append_left, get_or_at, length-append,
 use Rattle.std.proofs.lemmas.Option.{slice_get_within}
 use Rattle.std.proofs.lemmas.Bool.{and_parts}
 use Rattle.df_lemmas.proofs.Lists.{get_grown, get_below, get_split, get_pushed, map_agree}
-use Rattle.df_types.specs.Newtype.{Newtype}
+use Rattle.df_form.specs.World.{World}
 use Rattle.df_meaning.specs.Value.{Value}
 use Rattle.df_form.specs.declared.node.Sort.TheVariants as sorts
 use Rattle.df_form.specs.declared.node.Sort.{Sort}
@@ -82,46 +82,46 @@ parts_taken nodes n node all e =
     (λ part below. grown_sort front nodes (front_grows nodes n node e) part (ltb-true part (length front) below)) parts.0 in
     subst (λ (found : List Sort). takes node.op found ≡ true) (sym same) parts.1
 
-module _ (depth : ℕ) (newtypes : List Newtype) (assignment : Assignment) where
-  values_onto : (known : List Value) (nodes : List Node) → (rest : List Value) × (values_after depth newtypes assignment known nodes ≡ known ++ rest) × (length rest ≡ length nodes)
+module _ (depth : ℕ) (world : World) (assignment : Assignment) where
+  values_onto : (known : List Value) (nodes : List Node) → (rest : List Value) × (values_after depth world assignment known nodes ≡ known ++ rest) × (length rest ≡ length nodes)
   values_onto known [] = ([], sym (append-nil known), refl)
   values_onto known (node ∷ nodes) =
-      let value = apply depth newtypes assignment node.op (map (value_at known) node.parts) in
+      let value = apply depth world assignment node.op (map (value_at known) node.parts) in
       let others = values_onto (known ++ value ∷ []) nodes in
       (value ∷ others.0, others.1 ∙ append_assoc known (value ∷ []) others.0, ap suc others.2)
 
-  values_append : (known : List Value) (first second : List Node) → values_after depth newtypes assignment known (first ++ second) ≡ values_after depth newtypes assignment (values_after depth newtypes assignment known first) second
+  values_append : (known : List Value) (first second : List Node) → values_after depth world assignment known (first ++ second) ≡ values_after depth world assignment (values_after depth world assignment known first) second
   values_append known [] second = refl
-  values_append known (node ∷ first) second = values_append (known ++ apply depth newtypes assignment node.op (map (value_at known) node.parts) ∷ []) first second
+  values_append known (node ∷ first) second = values_append (known ++ apply depth world assignment node.op (map (value_at known) node.parts) ∷ []) first second
 
-  length-values : (nodes : List Node) → length (values depth newtypes assignment nodes) ≡ length nodes
+  length-values : (nodes : List Node) → length (values depth world assignment nodes) ≡ length nodes
   length-values nodes = let all = values_onto [] nodes in ap (λ z. length z) all.1 ∙ all.2
 
   -- the value of a number
   abbrev pub worth : List Node → ℕ → Value
-  worth nodes n = value_at (values depth newtypes assignment nodes) n
+  worth nodes n = value_at (values depth world assignment nodes) n
 
   pub grown_value : (before now : List Node) → Grows before now → (n : ℕ) → n < length before → worth now n ≡ worth before n
   grown_value before now g n lt =
-      let known = values depth newtypes assignment before in
+      let known = values depth world assignment before in
       let all = values_onto known g.more in
-      let is : values depth newtypes assignment now ≡ known ++ all.0 = ap (values depth newtypes assignment) g.is ∙ values_append [] before g.more ∙ all.1 in
+      let is : values depth world assignment now ≡ known ++ all.0 = ap (values depth world assignment) g.is ∙ values_append [] before g.more ∙ all.1 in
       let inside : n < length known = omega (arith, length-values before) in
       ap (λ z. value_at z n) is ∙ get_or_append_left known all.0 _ n inside
 
-  pub value_is : (nodes : List Node) (n : ℕ) (node : Node) → AreSorted nodes → slice_get nodes n ≡ Some node → worth nodes n ≡ apply depth newtypes assignment node.op (map (worth nodes) node.parts)
+  pub value_is : (nodes : List Node) (n : ℕ) (node : Node) → AreSorted nodes → slice_get nodes n ≡ Some node → worth nodes n ≡ apply depth world assignment node.op (map (worth nodes) node.parts)
   value_is nodes n node all e =
       let lt = slice_get_within nodes n node e in
       let le : n ≤ length nodes = omega arith in
       let front = take n nodes in
       let long : length front ≡ n = length-take-le n nodes le in
-      let known = values depth newtypes assignment front in
-      let value = apply depth newtypes assignment node.op (map (value_at known) node.parts) in
+      let known = values depth world assignment front in
+      let value = apply depth world assignment node.op (map (value_at known) node.parts) in
       let rest = drop (suc n) nodes in
       let others = values_onto (known ++ value ∷ []) rest in
-      let is : values depth newtypes assignment nodes ≡ (known ++ value ∷ []) ++ others.0 = ap (values depth newtypes assignment) (get_split nodes n node e) ∙ values_append [] front (node ∷ rest) ∙ others.1 in
+      let is : values depth world assignment nodes ≡ (known ++ value ∷ []) ++ others.0 = ap (values depth world assignment) (get_split nodes n node e) ∙ values_append [] front (node ∷ rest) ∙ others.1 in
       let place : length known ≡ n = length-values front ∙ long in
       let here : worth nodes n ≡ value = ap (λ z. value_at z n) (is ∙ append_assoc known (value ∷ []) others.0) ∙ get_or_at known value others.0 _ n place in
       let same : map (worth nodes) node.parts ≡ map (value_at known) node.parts = map_agree (λ part. nat_lt part n) (worth nodes) (value_at known) node.parts
       (λ part below. grown_value front nodes (front_grows nodes n node e) part (omega (arith, long, ltb-true part n below))) (parts_below nodes n node all e) in
-      here ∙ ap (λ z. apply depth newtypes assignment node.op z) (sym same)
+      here ∙ ap (λ z. apply depth world assignment node.op z) (sym same)

@@ -2,8 +2,7 @@
 use Rattle.std.specs.Prelude.{ℕ, Bool, true, false, ◌==◌, ◌&&◌, nat_eq, List, Option, position}
 use Rattle.std.specs.Cmp.Lexicographic.{pointwise}
 use Rattle.std.specs.Ordering.{int_eq}
-use Rattle.df_types.specs.declared.newtype.Ty.{Ty}
-use Rattle.df_types.specs.declared.newtype.Ty.TheVariants as types
+use Rattle.df_lang.specs.Typing.{same_type}
 use Rattle.df_form.specs.declared.node.Sort.{Sort}
 use Rattle.df_form.specs.declared.node.Sort.TheVariants as sorts
 use Rattle.df_form.specs.declared.node.Op.{Op}
@@ -22,16 +21,18 @@ node_of n = record { op = n.op; parts = n.parts.items }
 abbrev pub same_sort : Sort → Sort → Bool
 same_sort sorts.Number sorts.Number = true
 same_sort sorts.Truth sorts.Truth = true
+same_sort sorts.Character sorts.Character = true
 same_sort a b = false
-
-abbrev pub same_type : Ty → Ty → Bool
-same_type (types.Newtype a) (types.Newtype b) = a == b
 
 abbrev pub same_op : Op → Op → Bool
 same_op (ops.Number a) (ops.Number b) = int_eq a b
 same_op (ops.Free a) (ops.Free b) = a.number == b.number && same_sort a.sort b.sort
 same_op ops.Plus ops.Plus = true
 same_op ops.Times ops.Times = true
+same_op ops.Div ops.Div = true
+same_op ops.Mod ops.Mod = true
+same_op ops.Code ops.Code = true
+same_op ops.Chr ops.Chr = true
 same_op (ops.Is a) (ops.Is b) = same_type a b
 same_op ops.Equal ops.Equal = true
 same_op ops.AtMost ops.AtMost = true

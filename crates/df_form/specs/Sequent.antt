@@ -1,21 +1,21 @@
 -- Sequents: hypotheses and a goal.
 use Rattle.std.specs.Prelude.{◌≡◌, ℕ, suc, ◌<◌, true, List, [], ◌∷◌, ◌++◌, length, slice_get, Some}
 use Rattle.std.specs.List.{list_all, AllByRecursion}
-use Rattle.df_types.specs.Newtype.{Newtype}
+use Rattle.df_form.specs.World.{World}
 use Rattle.df_form.specs.Node.{Node}
 use Rattle.df_form.specs.Sorting.{IsTable, is_formula}
 use Rattle.df_form.specs.Truth.{Assignment, truth}
 
--- formulas of a program with these newtypes, by the numbers of their nodes
+-- formulas, by the numbers of their nodes, and what they know of their program
 pub record Sequent : Type 0 where
-  pub newtypes : List Newtype
+  pub world : World
   pub nodes : List Node
   pub hypotheses : List ℕ
   pub goal : ℕ
 
 -- at every depth and assignment, where the hypotheses are true so is the goal
 abbrev pub IsValid : Sequent → Type 0
-IsValid s = (depth : ℕ) (assignment : Assignment) → AllByRecursion (λ h. truth depth s.newtypes assignment s.nodes h ≡ true) s.hypotheses → truth depth s.newtypes assignment s.nodes s.goal ≡ true
+IsValid s = (depth : ℕ) (assignment : Assignment) → AllByRecursion (λ h. truth depth s.world assignment s.nodes h ≡ true) s.hypotheses → truth depth s.world assignment s.nodes s.goal ≡ true
 
 -- Going through nodes, the parts of each before itself, meets new ones in the order of their numbers:
 -- before it those below the first number are met, after it those below the second.

@@ -1,7 +1,7 @@
 -- The code's sequents, without where they lie in memory.
-use Rattle.df_types.specs.View.{newtypes_of}
+use Rattle.df_form.specs.World.{world_of}
 use Rattle.df_form.specs.Sequent.{Sequent}
 use Rattle.df_form.specs.declared.sequent.Sequent as declared
 
 abbrev pub sequent_of : declared.Sequent → Sequent
-sequent_of s = record { newtypes = newtypes_of s.newtypes.now; nodes = s.nodes; hypotheses = s.hypotheses.items; goal = s.goal }
+sequent_of s = record { world = world_of s.world; nodes = s.nodes; hypotheses = s.hypotheses.items; goal = s.goal }

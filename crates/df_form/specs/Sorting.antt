@@ -7,6 +7,7 @@ use Rattle.df_form.specs.declared.node.Sort.TheVariants as sorts
 use Rattle.df_form.specs.declared.node.Op.{Op}
 use Rattle.df_form.specs.declared.node.Op.TheVariants as ops
 use Rattle.df_form.specs.Node.{Node, same_sort}
+use Rattle.df_form.specs.Types.{sort_of_type}
 
 -- the sort of the value that an operation gives
 abbrev pub sort_of : Op → Sort
@@ -14,6 +15,10 @@ sort_of (ops.Number n) = sorts.Number
 sort_of (ops.Free free) = free.sort
 sort_of ops.Plus = sorts.Number
 sort_of ops.Times = sorts.Number
+sort_of ops.Div = sorts.Number
+sort_of ops.Mod = sorts.Number
+sort_of ops.Code = sorts.Number
+sort_of ops.Chr = sorts.Character
 sort_of op = sorts.Truth
 
 abbrev pub are_none : List Sort → Bool
@@ -38,7 +43,11 @@ takes (ops.Number n) parts = are_none parts
 takes (ops.Free free) parts = are_none parts
 takes ops.Plus parts = are_two sorts.Number parts
 takes ops.Times parts = are_two sorts.Number parts
-takes (ops.Is ty) parts = is_one sorts.Number parts
+takes ops.Div parts = are_two sorts.Number parts
+takes ops.Mod parts = are_two sorts.Number parts
+takes ops.Code parts = is_one sorts.Character parts
+takes ops.Chr parts = is_one sorts.Number parts
+takes (ops.Is ty) parts = is_one (sort_of_type ty) parts
 takes ops.Equal parts = are_two_alike parts
 takes ops.AtMost parts = are_two sorts.Number parts
 takes ops.Not parts = is_one sorts.Truth parts

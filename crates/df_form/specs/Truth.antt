@@ -1,9 +1,11 @@
 -- What nodes mean.
-use Rattle.std.specs.Prelude.{◌≡◌, ℕ, ℤ, pos, ◌+ℤ◌, ◌*ℤ◌, int_le, Bool, true, false, ◌||◌, not, List, [], ◌∷◌, ◌++◌, map, slice_index_or}
+use Rattle.std.specs.Prelude.{◌≡◌, ℕ, ℤ, pos, negsuc, ◌+ℤ◌, ◌*ℤ◌, int_le, nat_lt, Bool, true, false, ◌||◌, not, if◌then◌else◌, List, [], ◌∷◌, ◌++◌, map, slice_index_or, refl}
+use Rattle.std.specs.Ordering.{int_eq}
+use Rattle.std.specs.Int.{int_div_euclid, int_rem_euclid}
 use Rattle.std.specs.List.{list_all, list_any}
-use Rattle.df_types.specs.Newtype.{Newtype}
-use Rattle.df_meaning.specs.Value.{Value, Truth, Number, number_of, truth_of, same_truth, same_value}
-use Rattle.df_meaning.specs.Range.{is_of}
+use Rattle.df_form.specs.World.{World}
+use Rattle.df_meaning.specs.Value.{Value, Truth, Character, Number, number_of, truth_of, same_truth, same_value}
+use Rattle.df_form.specs.Types.{has_type}
 use Rattle.df_form.specs.declared.node.Sort.{Sort}
 use Rattle.df_form.specs.declared.node.Sort.TheVariants as sorts
 use Rattle.df_form.specs.declared.node.Free.{Free}
@@ -15,6 +17,7 @@ use Rattle.df_form.specs.Node.{Node}
 abbrev pub has_sort : Sort → Value → Bool
 has_sort sorts.Number (Number n) = true
 has_sort sorts.Truth (Truth b) = true
+has_sort sorts.Character (Character c) = nat_lt c 128
 has_sort sort value = false
 
 -- a value of its sort for each free term
@@ -32,30 +35,55 @@ number_at known n = number_of (value_at known n)
 abbrev pub truth_at : List Value → ℕ → Bool
 truth_at known n = truth_of (value_at known n)
 
+-- the quotient that leaves a remainder of at least 0; by 0 it is 0
+abbrev pub quotient : ℤ → ℤ → ℤ
+quotient a b = if int_eq b (pos 0) then pos 0 else int_div_euclid a b
+
+-- that remainder; by 0 it is 0
+abbrev pub remainder : ℤ → ℤ → ℤ
+remainder a b = if int_eq b (pos 0) then pos 0 else int_rem_euclid a b
+
+-- the number where it is the code of a character, else that of `D`, the sort's default
+abbrev pub code_in : ℤ → ℕ
+code_in (pos c) = if nat_lt c 128 then c else 68
+code_in (negsuc n) = 68
+
+below_if : (c : ℕ) (small : Bool) → nat_lt c 128 ≡ small → nat_lt (if small then c else 68) 128 ≡ true
+below_if c true e = e
+below_if c false e = refl
+
+pub code_below : (z : ℤ) → nat_lt (code_in z) 128 ≡ true
+code_below (pos c) = below_if c (nat_lt c 128) refl
+code_below (negsuc n) = refl
+
 -- the value of an operation at the values of its parts
-abbrev pub apply : ℕ → List Newtype → Assignment → Op → List Value → Value
-apply depth newtypes assignment (ops.Number n) parts = Number n
-apply depth newtypes assignment (ops.Free free) parts = assignment.value free
-apply depth newtypes assignment ops.Plus parts = Number (number_at parts 0 +ℤ number_at parts 1)
-apply depth newtypes assignment ops.Times parts = Number (number_at parts 0 *ℤ number_at parts 1)
-apply depth newtypes assignment (ops.Is ty) parts = Truth (is_of newtypes ty (number_at parts 0))
-apply depth newtypes assignment ops.Equal parts = Truth (same_value (value_at parts 0) (value_at parts 1))
-apply depth newtypes assignment ops.AtMost parts = Truth (int_le (number_at parts 0) (number_at parts 1))
-apply depth newtypes assignment ops.Not parts = Truth (not (truth_at parts 0))
-apply depth newtypes assignment ops.And parts = Truth (list_all truth_of parts)
-apply depth newtypes assignment ops.Or parts = Truth (list_any truth_of parts)
-apply depth newtypes assignment ops.Implies parts = Truth (not (truth_at parts 0) || truth_at parts 1)
-apply depth newtypes assignment ops.Iff parts = Truth (same_truth (truth_at parts 0) (truth_at parts 1))
+abbrev pub apply : ℕ → World → Assignment → Op → List Value → Value
+apply depth world assignment (ops.Number n) parts = Number n
+apply depth world assignment (ops.Free free) parts = assignment.value free
+apply depth world assignment ops.Plus parts = Number (number_at parts 0 +ℤ number_at parts 1)
+apply depth world assignment ops.Times parts = Number (number_at parts 0 *ℤ number_at parts 1)
+apply depth world assignment ops.Div parts = Number (quotient (number_at parts 0) (number_at parts 1))
+apply depth world assignment ops.Mod parts = Number (remainder (number_at parts 0) (number_at parts 1))
+apply depth world assignment ops.Code parts = Number (number_at parts 0)
+apply depth world assignment ops.Chr parts = Character (code_in (number_at parts 0))
+apply depth world assignment (ops.Is ty) parts = Truth (has_type world ty (value_at parts 0))
+apply depth world assignment ops.Equal parts = Truth (same_value (value_at parts 0) (value_at parts 1))
+apply depth world assignment ops.AtMost parts = Truth (int_le (number_at parts 0) (number_at parts 1))
+apply depth world assignment ops.Not parts = Truth (not (truth_at parts 0))
+apply depth world assignment ops.And parts = Truth (list_all truth_of parts)
+apply depth world assignment ops.Or parts = Truth (list_any truth_of parts)
+apply depth world assignment ops.Implies parts = Truth (not (truth_at parts 0) || truth_at parts 1)
+apply depth world assignment ops.Iff parts = Truth (same_truth (truth_at parts 0) (truth_at parts 1))
 
 -- the values of nodes, each from those of its parts, after the values of the nodes before them
-abbrev pub values_after : ℕ → List Newtype → Assignment → List Value → List Node → List Value
-values_after depth newtypes assignment known [] = known
-values_after depth newtypes assignment known (node ∷ nodes) = values_after depth newtypes assignment (known ++ apply depth newtypes assignment node.op (map (value_at known) node.parts) ∷ []) nodes
+abbrev pub values_after : ℕ → World → Assignment → List Value → List Node → List Value
+values_after depth world assignment known [] = known
+values_after depth world assignment known (node ∷ nodes) = values_after depth world assignment (known ++ apply depth world assignment node.op (map (value_at known) node.parts) ∷ []) nodes
 
 -- the values of nodes in the order of their numbers
-abbrev pub values : ℕ → List Newtype → Assignment → List Node → List Value
-values depth newtypes assignment nodes = values_after depth newtypes assignment [] nodes
+abbrev pub values : ℕ → World → Assignment → List Node → List Value
+values depth world assignment nodes = values_after depth world assignment [] nodes
 
 -- the formula of a number is true at a depth under an assignment
-abbrev pub truth : ℕ → List Newtype → Assignment → List Node → ℕ → Bool
-truth depth newtypes assignment nodes n = truth_at (values depth newtypes assignment nodes) n
+abbrev pub truth : ℕ → World → Assignment → List Node → ℕ → Bool
+truth depth world assignment nodes n = truth_at (values depth world assignment nodes) n

@@ -8,14 +8,14 @@ ghost use Rattle.df_form.specs.Sequent.{Walk};
 use crate::node::{Formula, Node, Op, Term};
 use crate::nodes::Nodes;
 use crate::sequent::Sequent;
-use df_types::Newtype;
+use crate::world::World;
 use std::alloc::{AllocError, Global};
 
 /// A sequent that is being built. Terms are put on a stack, and an operation takes those on top as its
 /// parts.
 #[derive(Drop)]
 pub struct Draft<'a> {
-    pub newtypes: &'a [Newtype],
+    pub world: World<'a>,
     /// The nodes so far, in postorder of first occurrence.
     pub nodes: Nodes,
     pub hypotheses: Vec<Formula>,
@@ -34,14 +34,14 @@ impl<'a> Draft<'a> {
     ghost use Rattle.df_form.specs.Draft.{last_terms, other_terms, node_on};
 
     /// Nothing yet.
-    pub fn new(alloc: Global, newtypes: &'a [Newtype]) -> Draft<'a>
-        ensures newtypes { result.newtypes ≡ newtypes.entry }
+    pub fn new(alloc: Global, world: World<'a>) -> Draft<'a>
+        ensures world { result.world ≡ world.entry }
         ensures nodes { result.nodes ≡ [] }
         ensures hypotheses { result.hypotheses.items ≡ [] }
         ensures stack { result.stack.items ≡ [] }
     {
         Draft {
-            newtypes,
+            world,
             nodes: Nodes::new(alloc),
             hypotheses: Vec::new(alloc),
             stack: Vec::new(alloc),
@@ -58,7 +58,7 @@ impl<'a> Draft<'a> {
         ensures sorts { OnOk result (map (sort_at self.new.nodes) self.new.stack.items ≡ map (sort_at self.old.nodes) (other_terms count self.old.stack.items) ++ sort_of op ∷ []) }
         ensures err { OnErr result ((self.new.nodes ≡ self.old.nodes) × (self.new.stack.items ≡ self.old.stack.items)) }
         ensures hypotheses { self.new.hypotheses.items ≡ self.old.hypotheses.items }
-        ensures newtypes { self.new.newtypes ≡ self.old.newtypes }
+        ensures world { self.new.world ≡ self.old.world }
     {
         let start = self.stack.len() - count;
         let parts = Vec::from_slice(*self.stack.allocator(), &self.stack[start..])?;
@@ -78,7 +78,7 @@ impl<'a> Draft<'a> {
         ensures err { OnErr result (self.new.stack.items ≡ self.old.stack.items) }
         ensures nodes { self.new.nodes ≡ self.old.nodes }
         ensures hypotheses { self.new.hypotheses.items ≡ self.old.hypotheses.items }
-        ensures newtypes { self.new.newtypes ≡ self.old.newtypes }
+        ensures world { self.new.world ≡ self.old.world }
     {
         self.stack.push(term)?;
         Ok(())
@@ -93,7 +93,7 @@ impl<'a> Draft<'a> {
         ensures stack { OnOk result (self.new.stack.items ≡ (made self.old.nodes (record { op = op; parts = self.old.stack.items ++ more.now })).number ∷ []) }
         ensures err { OnErr result ((self.new.nodes ≡ self.old.nodes) × (self.new.stack.items ≡ self.old.stack.items)) }
         ensures hypotheses { self.new.hypotheses.items ≡ self.old.hypotheses.items }
-        ensures newtypes { self.new.newtypes ≡ self.old.newtypes }
+        ensures world { self.new.world ≡ self.old.world }
     {
         let before = self.stack.len();
         if let Err(error) = self.stack_all(op, more) {
@@ -111,7 +111,7 @@ impl<'a> Draft<'a> {
         ensures stack { OnOk result (self.new.stack.items ≡ (made self.old.nodes (record { op = op; parts = self.old.stack.items ++ more.now })).number ∷ []) }
         ensures err { OnErr result ((self.new.nodes ≡ self.old.nodes) × (take (length self.old.stack.items) self.new.stack.items ≡ self.old.stack.items)) }
         ensures hypotheses { self.new.hypotheses.items ≡ self.old.hypotheses.items }
-        ensures newtypes { self.new.newtypes ≡ self.old.newtypes }
+        ensures world { self.new.world ≡ self.old.world }
     {
         for term in more {
             self.again(*term)?;
@@ -129,7 +129,7 @@ impl<'a> Draft<'a> {
         ensures stack { OnOk result (self.new.stack.items ≡ []) }
         ensures err { OnErr result ((self.new.hypotheses.items ≡ self.old.hypotheses.items) × (self.new.stack.items ≡ self.old.stack.items)) }
         ensures nodes { self.new.nodes ≡ self.old.nodes }
-        ensures newtypes { self.new.newtypes ≡ self.old.newtypes }
+        ensures world { self.new.world ≡ self.old.world }
     {
         self.hypotheses.push(self.stack[0])?;
         self.stack.clear();
@@ -140,13 +140,13 @@ impl<'a> Draft<'a> {
     pub fn sequent(&self, alloc: Global) -> Result<Sequent<'a>, AllocError>
         requires one { length self.now.stack.items ≡ 1 }
         requires formula { is_formula self.now.nodes (slice_index self.now.stack.items 0) ≡ true }
-        ensures newtypes { IfOk result (λ sequent. sequent.newtypes ≡ self.now.newtypes) }
+        ensures world { IfOk result (λ sequent. sequent.world ≡ self.now.world) }
         ensures nodes { IfOk result (λ sequent. sequent.nodes ≡ self.now.nodes) }
         ensures hypotheses { IfOk result (λ sequent. sequent.hypotheses.items ≡ self.now.hypotheses.items) }
         ensures goal { IfOk result (λ sequent. sequent.goal ∷ [] ≡ self.now.stack.items) }
     {
         Ok(Sequent {
-            newtypes: self.newtypes,
+            world: self.world,
             nodes: self.nodes.copy(alloc)?,
             hypotheses: Vec::from_slice(alloc, self.hypotheses.as_slice())?,
             goal: self.stack[0],

@@ -9,6 +9,7 @@ mod node;
 mod nodes;
 mod sequent;
 mod sorting;
+mod world;
 
 pub use df_meaning::Kind;
 pub use draft::Draft;
@@ -17,3 +18,5 @@ pub use log::{Combination, Lit, Multiple, Pair, Step};
 pub use node::{Formula, Free, Node, Op, Sort, Term};
 pub use nodes::Nodes;
 pub use sequent::Sequent;
+pub use sorting::sort_of_type;
+pub use world::World;

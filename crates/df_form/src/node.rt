@@ -1,6 +1,6 @@
 //! Terms and formulas: a node is an operation on nodes that stand before it.
 
-use df_types::Ty;
+use df_lang::Ty;
 
 /// A term, by the number of its node.
 pub type Term = usize;
@@ -13,6 +13,8 @@ pub type Formula = usize;
 pub enum Sort {
     Number,
     Truth,
+    /// One of the 128 characters.
+    Character,
 }
 
 /// A term that an assignment gives a value of its sort.
@@ -32,7 +34,15 @@ pub enum Op {
     Plus,
     /// The product of two numbers.
     Times,
-    /// The number is a value of the type.
+    /// The quotient of two numbers that leaves a remainder of at least 0; by 0 it is 0.
+    Div,
+    /// That remainder; by 0 it is 0.
+    Mod,
+    /// The number of a character.
+    Code,
+    /// The character of a number; of a number that no character has it is that of 0.
+    Chr,
+    /// The value is of the type.
     Is(Ty),
     /// Two values of one sort are equal.
     Equal,

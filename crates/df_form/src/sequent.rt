@@ -1,22 +1,22 @@
 //! Sequents: hypotheses and a goal.
 
-ghost use Rattle.df_types.specs.View.{newtypes_of};
+ghost use Rattle.df_form.specs.World.{world_of};
 ghost use Rattle.df_form.specs.Sequent.{IsSequent, IsNumbered};
 
 use crate::node::Formula;
 use crate::nodes::Nodes;
-use df_types::Newtype;
+use crate::world::World;
 
-/// Formulas of a program with these newtypes, by the numbers of their nodes: a goal, and the hypotheses
+/// Formulas of a program, by the numbers of their nodes: a goal, and the hypotheses
 /// that it stands under. The nodes are numbered in postorder of first occurrence, those of the
 /// hypotheses in order and then those of the goal.
 #[derive(Drop)]
 pub struct Sequent<'a> {
-    /// In the order of their declarations.
-    pub newtypes: &'a [Newtype],
+    /// What they know of the program.
+    pub world: World<'a>,
     pub nodes: Nodes,
     pub hypotheses: Vec<Formula>,
     pub goal: Formula,
-    pub ghost is_sequent: { IsSequent (record { newtypes = newtypes_of newtypes.now; nodes = nodes; hypotheses = hypotheses.items; goal = goal }) },
-    pub ghost is_numbered: { ∥ IsNumbered (record { newtypes = newtypes_of newtypes.now; nodes = nodes; hypotheses = hypotheses.items; goal = goal }) ∥₁ },
+    pub ghost is_sequent: { IsSequent (record { world = world_of world; nodes = nodes; hypotheses = hypotheses.items; goal = goal }) },
+    pub ghost is_numbered: { ∥ IsNumbered (record { world = world_of world; nodes = nodes; hypotheses = hypotheses.items; goal = goal }) ∥₁ },
 }

@@ -4,11 +4,24 @@ ghost use Rattle.std.specs.Prelude.{◌≡◌, nat_lt, length, map};
 ghost use Rattle.std.specs.List.{list_all};
 ghost use Rattle.df_form.specs.Clause.{are_literals};
 ghost use Rattle.df_form.specs.Node.{node_of, same_sort};
+ghost use Rattle.df_form.specs.Types.{sort_of_type};
 ghost use Rattle.df_form.specs.Sorting.{sort_of, sort_at, takes, is_formula, is_well_sorted, is_one, are_two, are_two_alike};
 
 use crate::log::Lit;
 use crate::node::{Node, Op, Sort};
 use crate::nodes::Nodes;
+use df_lang::Ty;
+
+/// The sort of the values of a type.
+pub fn sort_of_type(ty: Ty) -> Sort
+    ensures { result ≡ sort_of_type ty }
+{
+    match ty {
+        Ty::Newtype(_) | Ty::Int | Ty::Nat => Sort::Number,
+        Ty::Bool => Sort::Truth,
+        Ty::Char => Sort::Character,
+    }
+}
 
 impl Op {
     /// The sort of the value that it gives.
@@ -16,7 +29,8 @@ impl Op {
         ensures { result ≡ sort_of self.now }
     {
         match self {
-            Op::Number(_) | Op::Plus | Op::Times => Sort::Number,
+            Op::Number(_) | Op::Plus | Op::Times | Op::Div | Op::Mod | Op::Code => Sort::Number,
+            Op::Chr => Sort::Character,
             Op::Free(free) => free.sort,
             Op::Is(_)
             | Op::Equal
@@ -34,8 +48,12 @@ fn is_same(a: Sort, b: Sort) -> bool
     ensures { result ≡ same_sort a b }
 {
     match (a, b) {
-        (Sort::Number, Sort::Number) | (Sort::Truth, Sort::Truth) => true,
-        (Sort::Number, Sort::Truth) | (Sort::Truth, Sort::Number) => false,
+        (Sort::Number, Sort::Number)
+        | (Sort::Truth, Sort::Truth)
+        | (Sort::Character, Sort::Character) => true,
+        (Sort::Number, Sort::Truth | Sort::Character)
+        | (Sort::Truth, Sort::Number | Sort::Character)
+        | (Sort::Character, Sort::Number | Sort::Truth) => false,
     }
 }
 
@@ -105,8 +123,12 @@ impl Nodes {
     {
         match op {
             Op::Number(_) | Op::Free(_) => parts.is_empty(),
-            Op::Plus | Op::Times | Op::AtMost => self.are_two(Sort::Number, parts),
-            Op::Is(_) => self.is_one(Sort::Number, parts),
+            Op::Plus | Op::Times | Op::Div | Op::Mod | Op::AtMost => {
+                self.are_two(Sort::Number, parts)
+            }
+            Op::Code => self.is_one(Sort::Character, parts),
+            Op::Chr => self.is_one(Sort::Number, parts),
+            Op::Is(ty) => self.is_one(sort_of_type(ty), parts),
             Op::Equal => self.are_two_alike(parts),
             Op::Not => self.is_one(Sort::Truth, parts),
             Op::And | Op::Or => self.are_truths(parts),

@@ -1,6 +1,6 @@
 -- Lines of congruences, by computation.
 use Rattle.std.proofs.Common.{◌≡◌, ℕ, pos, List, [], ◌∷◌, Option, None, Some, refl}
-use Rattle.df_types.specs.declared.newtype.Ty.TheVariants as types
+use Rattle.df_lang.specs.declared.ty.Ty.TheVariants as types
 use Rattle.df_form.specs.declared.log.Pair.{Pair}
 use Rattle.df_form.specs.declared.node.Sort.{Sort}
 use Rattle.df_form.specs.declared.node.Sort.TheVariants as sorts

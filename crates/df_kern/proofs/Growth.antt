@@ -8,7 +8,6 @@ use Rattle.std.proofs.lemmas.Bool.{and_parts, lt-ltb, ltb-true}
 use Rattle.df_lemmas.proofs.Lists.{get_last}
 use Rattle.df_form.specs.declared.node.Sort.{Sort}
 use Rattle.df_form.specs.declared.node.Sort.TheVariants as sorts
-use Rattle.df_types.specs.declared.newtype.Ty.{Ty}
 use Rattle.df_form.specs.Node.{Node, number_of, same_sort}
 use Rattle.df_form.specs.Made.{Made, made, made_where}
 use Rattle.df_form.specs.Sorting.{is_well_sorted, sort_at, sort_of}
@@ -20,6 +19,9 @@ use Rattle.df_kern.specs.Growth.{Grows, IsNumber}
 
 pub length-grows : (old new : List Node) → Grows old new → length old ≤ length new
 length-grows old new grows = omega (arith, ap length grows, length-take (length old) new)
+
+pub grows_longer : (old new : List Node) → Grows old new → length old ≤ length new
+grows_longer old new grows = length-grows old new grows
 
 pub get-grows : (old new : List Node) (n : ℕ) → Grows old new → n < length old → slice_get new n ≡ slice_get old n
 get-grows [] new n grows less = absurd (omega arith)
@@ -104,20 +106,3 @@ two [] more less = absurd (omega arith)
 two (a ∷ []) more less = absurd (omega arith)
 two (a ∷ b ∷ []) more less = refl
 two (a ∷ b ∷ c ∷ xs) more less = absurd (omega arith)
-
--- a list of one
-pub one : (xs : List ℕ) → 1 ≤ length xs → length xs < 2 → xs ≡ slice_index_or xs 0 0 ∷ []
-one [] more less = absurd (omega arith)
-one (a ∷ []) more less = refl
-one (a ∷ b ∷ xs) more less = absurd (omega arith)
-
--- what is said to be of a type is a number
-pub typed-number : (nodes : List Node) (n x : ℕ) (ty : Ty) → is_well_sorted (take n nodes) (record { op = ops.Is ty; parts = x ∷ [] }) ≡ true → IsNumber nodes x
-typed-number nodes n x ty sorted =
-    let front = take n nodes in
-    let both = and_parts (nat_lt x (length front) && true) (same_sort (sort_at front x) sorts.Number) sorted in
-    let there = and_parts (nat_lt x (length front)) true both.0 in
-    let less = ltb-true x (length front) there.0 in
-    let is = same_sort_equal (sort_at front x) sorts.Number both.1 in
-    let grows : Grows front nodes = take-of-take n nodes in
-    number-grows front nodes x grows (less, is)

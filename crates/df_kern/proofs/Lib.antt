@@ -1,6 +1,7 @@
 pub mod Connectives
 pub mod Growth
 pub mod Sound
+pub mod TypeLines
 pub mod SoundBounds
 pub mod SoundClauses
 pub mod SoundConnectives

@@ -1,19 +1,19 @@
 -- Clauses that hold: one of their literals is true, and stays so when nodes are added.
-use Rattle.std.proofs.Common.{◌≡◌, ℕ, zero, suc, ◌⊎◌, inl, inr, Bool, true, false, not, cond, ◌&&◌, ◌==◌, List, [], ◌∷◌, map, length, Option, Some, None, slice_get, nat_lt, refl, sym, ap, subst, ltb-true, eqb-true}
+use Rattle.std.proofs.Common.{◌≡◌, ℕ, zero, suc, ◌⊎◌, inl, inr, Bool, true, false, not, cond, ◌&&◌, ◌||◌, ◌==◌, List, [], ◌∷◌, map, length, Option, Some, None, slice_get, nat_lt, refl, sym, ap, ◌∙◌, subst, ltb-true, eqb-true}
 use Rattle.std.specs.Option.{option_and_then, option_map}
 use Rattle.std.specs.List.{list_all, list_any, AllByRecursion}
 use Rattle.std.proofs.lemmas.Option.{same_Some}
 use Rattle.std.proofs.lemmas.Bool.{and_from, or_cases, or_left, or_right, or_parts, and_parts}
 use Rattle.df_lemmas.proofs.Lists.{any_weaker}
 use Rattle.df_lemmas.proofs.Options.{then_some, map_some, test_some}
-use Rattle.df_types.specs.Newtype.{Newtype}
+use Rattle.df_form.specs.World.{World}
 use Rattle.df_meaning.specs.Value.{truth_of, same_truth}
 use Rattle.df_form.specs.declared.log.Lit.{Lit}
 use Rattle.df_form.specs.declared.node.Sort.TheVariants as sorts
 use Rattle.df_form.specs.Node.{Node, same_sort}
 use Rattle.df_form.specs.Sorting.{is_formula, sort_at}
 use Rattle.df_form.specs.Truth.{Assignment, truth}
-use Rattle.df_form.specs.Clause.{Clause, negation, same_literal, is_among, literal_truth, are_literals}
+use Rattle.df_form.specs.Clause.{Clause, negation, same_literal, is_among, literal_truth, clause_truth, are_literals}
 use Rattle.df_kern.specs.Connective.{Added}
 use Rattle.df_kern.specs.Propagation.{left, only, is_empty, if_some, propagates, clauses_at, propagation_of, propagation_line}
 use Rattle.df_form.proofs.Values.{Grows, grown_below, grown_value, AreSorted}
@@ -93,10 +93,10 @@ module _ (test : Lit → Bool) (apart : (l : Lit) → test l ≡ true → test (
       case None is tested go = cc
       case (Some l) is tested go = go l (only_passes (left known clause) l is (left_holds known clause all hold.0)) tested
 
-module _ (depth : ℕ) (newtypes : List Newtype) (assignment : Assignment) where
+module _ (depth : ℕ) (world : World) (assignment : Assignment) where
   -- a literal of a node is true
   abbrev pub is_held : List Node → Lit → Bool
-  is_held nodes l = nat_lt l.node (length nodes) && literal_truth (truth depth newtypes assignment nodes) l
+  is_held nodes l = nat_lt l.node (length nodes) && literal_truth (truth depth world assignment nodes) l
 
   -- one of the clause's literals is
   abbrev pub Holds : List Node → Clause → Type 0
@@ -104,10 +104,10 @@ module _ (depth : ℕ) (newtypes : List Newtype) (assignment : Assignment) where
 
   pub held_grown : (before now : List Node) → Grows before now → (l : Lit) → is_held before l ≡ true → is_held now l ≡ true
   held_grown before now g l e =
-      let parts = and_parts (nat_lt l.node (length before)) (literal_truth (truth depth newtypes assignment before) l) e in
+      let parts = and_parts (nat_lt l.node (length before)) (literal_truth (truth depth world assignment before) l) e in
       let lt = ltb-true l.node (length before) parts.0 in
-      let same = ap truth_of (grown_value depth newtypes assignment before now g l.node lt) in
-      and_from (nat_lt l.node (length now)) (literal_truth (truth depth newtypes assignment now) l) (grown_below before now g l.node parts.0)
+      let same = ap truth_of (grown_value depth world assignment before now g l.node lt) in
+      and_from (nat_lt l.node (length now)) (literal_truth (truth depth world assignment now) l) (grown_below before now g l.node parts.0)
       (subst (λ (b : Bool). same_truth l.positive b ≡ true) (sym same) parts.1)
 
   pub holds_grown : (before now : List Node) → Grows before now → (clause : Clause) → Holds before clause → Holds now clause
@@ -121,7 +121,7 @@ module _ (depth : ℕ) (newtypes : List Newtype) (assignment : Assignment) where
   both_ways false is positive p q = cc
 
   pub held_apart : (nodes : List Node) (l : Lit) → is_held nodes l ≡ true → is_held nodes (negation l) ≡ true → ⊥
-  held_apart nodes l p q = both_ways (nat_lt l.node (length nodes)) (truth depth newtypes assignment nodes l.node) l.positive p q
+  held_apart nodes l p q = both_ways (nat_lt l.node (length nodes)) (truth depth world assignment nodes l.node) l.positive p q
 
   one_way : (below is positive : Bool) → below ≡ true → (below && same_truth positive is) ≡ false → (below && same_truth (not positive) is) ≡ true
   one_way true true true p q = absurd cc
@@ -137,7 +137,7 @@ module _ (depth : ℕ) (newtypes : List Newtype) (assignment : Assignment) where
       let parts = and_parts (is_formula nodes l.node) (are_literals nodes others) are in
       let formula = and_parts (nat_lt l.node (length nodes)) (same_sort (sort_at nodes l.node) sorts.Truth) parts.0 in
       let fails = or_parts (is_held nodes l) (list_any (is_held nodes) others) none in
-      (one_way (nat_lt l.node (length nodes)) (truth depth newtypes assignment nodes l.node) l.positive formula.0 fails.0, negations_held nodes others parts.1 fails.1)
+      (one_way (nat_lt l.node (length nodes)) (truth depth world assignment nodes l.node) l.positive formula.0 fails.0, negations_held nodes others parts.1 fails.1)
 
   -- a clause that its negation refutes holds
   pub holds_unless : (nodes : List Node) (clause : Clause) → are_literals nodes clause ≡ true → (AllPass (is_held nodes) (map negation clause) → ⊥) → Holds nodes clause
@@ -146,6 +146,21 @@ module _ (depth : ℕ) (newtypes : List Newtype) (assignment : Assignment) where
       next : (b : Bool) → list_any (is_held nodes) clause ≡ b → list_any (is_held nodes) clause ≡ true
       next true e = e
       next false e = absurd (refuted (negations_held nodes clause are e))
+
+  -- a clause of formulas of which one literal is true
+  pub holds_where : (nodes : List Node) (clause : Clause) → are_literals nodes clause ≡ true → clause_truth (truth depth world assignment nodes) clause ≡ true → Holds nodes clause
+  holds_where nodes [] are e = e
+  holds_where nodes (l ∷ others) are e = next (literal_truth (truth depth world assignment nodes) l) refl (λ rest. holds_where nodes others (and_parts (is_formula nodes l.node) (are_literals nodes others) are).1 rest)
+    where
+      formula : (is_formula nodes l.node ≡ true) × (are_literals nodes others ≡ true)
+      formula = and_parts (is_formula nodes l.node) (are_literals nodes others) are
+
+      below : nat_lt l.node (length nodes) ≡ true
+      below = (and_parts (nat_lt l.node (length nodes)) (same_sort (sort_at nodes l.node) sorts.Truth) formula.0).0
+
+      next : (b : Bool) → literal_truth (truth depth world assignment nodes) l ≡ b → (clause_truth (truth depth world assignment nodes) others ≡ true → Holds nodes others) → Holds nodes (l ∷ others)
+      next true is go = or_left (is_held nodes l) (list_any (is_held nodes) others) (and_from (nat_lt l.node (length nodes)) (literal_truth (truth depth world assignment nodes) l) below is)
+      next false is go = or_right (is_held nodes l) (list_any (is_held nodes) others) (go (sym (ap (λ (b : Bool). b || clause_truth (truth depth world assignment nodes) others) is) ∙ e))
 
   -- the clauses of these numbers hold where all do
   pub chosen_holds : (nodes : List Node) (clauses : List Clause) (n : ℕ) (clause : Clause) → AllByRecursion (Holds nodes) clauses → slice_get clauses n ≡ Some clause → Holds nodes clause

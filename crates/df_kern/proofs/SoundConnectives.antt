@@ -10,8 +10,8 @@ use Rattle.df_form.proofs.Drafts.{sort_here}
 use Rattle.df_lemmas.proofs.Alls.{all_joined}
 use Rattle.df_lemmas.proofs.Lists.{get_below, all_weaker, any_mapped}
 use Rattle.df_lemmas.proofs.Options.{then_some, map_some}
-use Rattle.df_types.specs.Newtype.{Newtype}
-use Rattle.df_meaning.specs.Value.{Value, Number, Truth, Text, truth_of, number_of, same_truth, same_value}
+use Rattle.df_form.specs.World.{World}
+use Rattle.df_meaning.specs.Value.{Value, Number, Truth, Character, Text, truth_of, number_of, same_truth, same_value}
 use Rattle.df_form.specs.declared.node.Sort.{Sort}
 use Rattle.df_form.specs.declared.node.Sort.TheVariants as sorts
 use Rattle.df_form.specs.declared.node.Op.{Op}
@@ -26,6 +26,7 @@ use Rattle.df_kern.specs.Connective.{Added, chosen, not_clauses, and_clauses, or
 use Rattle.df_form.proofs.Values.{grows_not, grows_twice, grown_get, AreSorted, parts_below, parts_taken, worth, value_is}
 use Rattle.df_form.proofs.Making.{made_stands, IsNumber, grown_number}
 use Rattle.df_form.proofs.Same.{same_sort_equal}
+use Rattle.df_form.proofs.Sorts.{apply_sorted}
 use Rattle.df_kern.proofs.SoundNodes.{at_most_sorted}
 use Rattle.df_kern.proofs.SoundClauses.{Holds, is_held, chosen_holds, IsLine}
 
@@ -157,47 +158,34 @@ equal_is_both a b = same_from_decides (int_eq a b) (int_le a b && int_le b a) (D
     both_from : a ≡ b → (int_le a b && int_le b a) ≡ true
     both_from e = and_from (int_le a b) (int_le b a) (grind (arith, ints)) (grind (arith, ints))
 
-module _ (depth : ℕ) (newtypes : List Newtype) (assignment : Assignment) where
-  apply_sorted : (op : Op) (parts : List Value) → has_sort (sort_of op) (apply depth newtypes assignment op parts) ≡ true
-  apply_sorted (ops.Number n) parts = refl
-  apply_sorted (ops.Free free) parts = assignment.sorted free
-  apply_sorted ops.Plus parts = refl
-  apply_sorted ops.Times parts = refl
-  apply_sorted (ops.Is ty) parts = refl
-  apply_sorted ops.Equal parts = refl
-  apply_sorted ops.AtMost parts = refl
-  apply_sorted ops.Not parts = refl
-  apply_sorted ops.And parts = refl
-  apply_sorted ops.Or parts = refl
-  apply_sorted ops.Implies parts = refl
-  apply_sorted ops.Iff parts = refl
-
+module _ (depth : ℕ) (world : World) (assignment : Assignment) where
   number_sorted : (value : Value) → has_sort sorts.Number value ≡ true → (k : ℤ) × (value ≡ Number k)
   number_sorted (Number k) e = (k, refl)
   number_sorted (Truth b) e = absurd cc
+  number_sorted (Character c) e = absurd cc
   number_sorted (Text t) e = absurd cc
 
   -- the value of a number is one
-  pub number_worth : (nodes : List Node) (n : ℕ) → AreSorted nodes → IsNumber nodes n → (k : ℤ) × (worth depth newtypes assignment nodes n ≡ Number k)
+  pub number_worth : (nodes : List Node) (n : ℕ) → AreSorted nodes → IsNumber nodes n → (k : ℤ) × (worth depth world assignment nodes n ≡ Number k)
   number_worth nodes n all is =
       let at = get_below nodes n is.below in
-      let value = worth depth newtypes assignment nodes n in
+      let value = worth depth world assignment nodes n in
       let sort : sort_of at.0.op ≡ sorts.Number = sym (sort_here nodes n at.0 at.1) ∙ is.sort in
       let sorted : has_sort (sort_of at.0.op) value ≡ true =
-      subst (λ (v : Value). has_sort (sort_of at.0.op) v ≡ true) (sym (value_is depth newtypes assignment nodes n at.0 all at.1)) (apply_sorted at.0.op (map (worth depth newtypes assignment nodes) at.0.parts)) in
+      subst (λ (v : Value). has_sort (sort_of at.0.op) v ≡ true) (sym (value_is depth world assignment nodes n at.0 all at.1)) (apply_sorted depth world assignment at.0.op (map (worth depth world assignment nodes) at.0.parts)) in
       number_sorted value (subst (λ (s : Sort). has_sort s value ≡ true) sort sorted)
 
   pub node_truth : (nodes : List Node) (n : ℕ) (node : Node) → AreSorted nodes → slice_get nodes n ≡ Some node
-      → truth depth newtypes assignment nodes n ≡ truth_of (apply depth newtypes assignment node.op (map (worth depth newtypes assignment nodes) node.parts))
-  node_truth nodes n node all e = ap truth_of (value_is depth newtypes assignment nodes n node all e)
+      → truth depth world assignment nodes n ≡ truth_of (apply depth world assignment node.op (map (worth depth world assignment nodes) node.parts))
+  node_truth nodes n node all e = ap truth_of (value_is depth world assignment nodes n node all e)
 
   -- a line that makes no node
-  pub chosen_line : (nodes : List Node) (clauses : List Clause) (k : ℕ) (added : Added) → AreSorted nodes → AllByRecursion (Holds depth newtypes assignment nodes) clauses → chosen nodes clauses k ≡ Some added
-      → IsLine depth newtypes assignment nodes added
+  pub chosen_line : (nodes : List Node) (clauses : List Clause) (k : ℕ) (added : Added) → AreSorted nodes → AllByRecursion (Holds depth world assignment nodes) clauses → chosen nodes clauses k ≡ Some added
+      → IsLine depth world assignment nodes added
   chosen_line nodes clauses k added sorted all e =
       let found = map_some (λ (clause : Clause). record { nodes = nodes; clause = clause }) (slice_get clauses k) added e in
-      subst (IsLine depth newtypes assignment nodes) found.2
-      (record { grows = grows_not nodes; sorted = sorted; holds = chosen_holds depth newtypes assignment nodes clauses k found.0 all found.1 })
+      subst (IsLine depth world assignment nodes) found.2
+      (record { grows = grows_not nodes; sorted = sorted; holds = chosen_holds depth world assignment nodes clauses k found.0 all found.1 })
 
   pub stands_below : (nodes : List Node) (n : ℕ) (node : Node) → slice_get nodes n ≡ Some node → nat_lt n (length nodes) ≡ true
   stands_below nodes n node e = lt-ltb n (length nodes) (slice_get_within nodes n node e)
@@ -208,7 +196,7 @@ module _ (depth : ℕ) (newtypes : List Newtype) (assignment : Assignment) where
       all_weaker (λ part. nat_lt part n) (λ part. nat_lt part (length nodes)) node.parts (λ part below. lt-ltb part (length nodes) (omega (arith, ltb-true part n below))) (parts_below nodes n node all e)
 
   not_line : (nodes : List Node) (n k p : ℕ) (added : Added) → AreSorted nodes → slice_get nodes n ≡ Some (record { op = ops.Not; parts = p ∷ [] }) → chosen nodes (not_clauses n p) k ≡ Some added
-      → IsLine depth newtypes assignment nodes added
+      → IsLine depth world assignment nodes added
   not_line nodes n k p added all e =
       let node : Node = record { op = ops.Not; parts = p ∷ [] } in
       let is = node_truth nodes n node all e in
@@ -217,13 +205,13 @@ module _ (depth : ℕ) (newtypes : List Newtype) (assignment : Assignment) where
       chosen_line nodes (not_clauses n p) k added all (not_down _ _ _ _ here parts.0 is, (not_up _ _ _ _ here parts.0 is, tt))
 
   and_line : (nodes : List Node) (n k : ℕ) (parts : List ℕ) (added : Added) → AreSorted nodes → slice_get nodes n ≡ Some (record { op = ops.And; parts = parts }) → chosen nodes (and_clauses n parts) k ≡ Some added
-      → IsLine depth newtypes assignment nodes added
+      → IsLine depth world assignment nodes added
   and_line nodes n k parts added all e =
       let node : Node = record { op = ops.And; parts = parts } in
-      let holds = Holds depth newtypes assignment nodes in
+      let holds = Holds depth world assignment nodes in
       let below = λ (part : ℕ). nat_lt part (length nodes) in
-      let is = λ (part : ℕ). truth depth newtypes assignment nodes part in
-      let same : is n ≡ list_all is parts = node_truth nodes n node all e ∙ list_all-map truth_of (worth depth newtypes assignment nodes) parts in
+      let is = λ (part : ℕ). truth depth world assignment nodes part in
+      let same : is n ≡ list_all is parts = node_truth nodes n node all e ∙ list_all-map truth_of (worth depth world assignment nodes) parts in
       let here = stands_below nodes n node e in
       let under = each_below nodes n node all e in
       let down = all_down (below n) (is n) below is parts here under (λ t. sym same ∙ t) in
@@ -231,36 +219,36 @@ module _ (depth : ℕ) (newtypes : List Newtype) (assignment : Assignment) where
       chosen_line nodes (and_clauses n parts) k added all
       (all_joined holds (map (λ p. no n ∷ yes p ∷ []) parts) ((yes n ∷ map no parts) ∷ []) (all_mapped holds (λ p. no n ∷ yes p ∷ []) parts down) (up, tt))
     where
-      last : (b m : Bool) (parts : List ℕ) → b ≡ true → m ≡ list_all (λ part. truth depth newtypes assignment nodes part) parts
-          → (list_all (λ part. truth depth newtypes assignment nodes part) parts ≡ true) ⊎ (list_any (λ part. nat_lt part (length nodes) && not (truth depth newtypes assignment nodes part)) parts ≡ true)
-          → ((b && m) || list_any (is_held depth newtypes assignment nodes) (map no parts)) ≡ true
+      last : (b m : Bool) (parts : List ℕ) → b ≡ true → m ≡ list_all (λ part. truth depth world assignment nodes part) parts
+          → (list_all (λ part. truth depth world assignment nodes part) parts ≡ true) ⊎ (list_any (λ part. nat_lt part (length nodes) && not (truth depth world assignment nodes part)) parts ≡ true)
+          → ((b && m) || list_any (is_held depth world assignment nodes) (map no parts)) ≡ true
       last b m parts e f (inl h) = rw (e, f ∙ h) refl
-      last b m parts e f (inr h) = rw (any_mapped (is_held depth newtypes assignment nodes) no parts ∙ h) (ends (b && m))
+      last b m parts e f (inr h) = rw (any_mapped (is_held depth world assignment nodes) no parts ∙ h) (ends (b && m))
         where
           ends : (b : Bool) → (b || true) ≡ true
           ends true = refl
           ends false = refl
 
   or_line : (nodes : List Node) (n k : ℕ) (parts : List ℕ) (added : Added) → AreSorted nodes → slice_get nodes n ≡ Some (record { op = ops.Or; parts = parts }) → chosen nodes (or_clauses n parts) k ≡ Some added
-      → IsLine depth newtypes assignment nodes added
+      → IsLine depth world assignment nodes added
   or_line nodes n k parts added all e =
       let node : Node = record { op = ops.Or; parts = parts } in
-      let holds = Holds depth newtypes assignment nodes in
+      let holds = Holds depth world assignment nodes in
       let below = λ (part : ℕ). nat_lt part (length nodes) in
-      let is = λ (part : ℕ). truth depth newtypes assignment nodes part in
-      let same : is n ≡ list_any is parts = node_truth nodes n node all e ∙ any_mapped truth_of (worth depth newtypes assignment nodes) parts in
+      let is = λ (part : ℕ). truth depth world assignment nodes part in
+      let same : is n ≡ list_any is parts = node_truth nodes n node all e ∙ any_mapped truth_of (worth depth world assignment nodes) parts in
       let here = stands_below nodes n node e in
       let under = each_below nodes n node all e in
       let up = any_up (below n) (is n) below is parts here under (λ t. same ∙ t) in
-      let down = first (below n) (is n) here (λ t. any_mapped (is_held depth newtypes assignment nodes) yes parts ∙ any_down below is parts under (sym same ∙ t)) in
+      let down = first (below n) (is n) here (λ t. any_mapped (is_held depth world assignment nodes) yes parts ∙ any_down below is parts under (sym same ∙ t)) in
       chosen_line nodes (or_clauses n parts) k added all (down, all_mapped holds (λ p. yes n ∷ no p ∷ []) parts up)
     where
-      first : (b m : Bool) → b ≡ true → (m ≡ true → list_any (is_held depth newtypes assignment nodes) (map yes parts) ≡ true) → ((b && not m) || list_any (is_held depth newtypes assignment nodes) (map yes parts)) ≡ true
+      first : (b m : Bool) → b ≡ true → (m ≡ true → list_any (is_held depth world assignment nodes) (map yes parts) ≡ true) → ((b && not m) || list_any (is_held depth world assignment nodes) (map yes parts)) ≡ true
       first b true e f = rw (e, f refl) refl
       first b false e f = rw e refl
 
   implies_line : (nodes : List Node) (n k p q : ℕ) (added : Added) → AreSorted nodes → slice_get nodes n ≡ Some (record { op = ops.Implies; parts = p ∷ q ∷ [] }) → chosen nodes (implies_clauses n p q) k ≡ Some added
-      → IsLine depth newtypes assignment nodes added
+      → IsLine depth world assignment nodes added
   implies_line nodes n k p q added all e =
       let node : Node = record { op = ops.Implies; parts = p ∷ q ∷ [] } in
       let is = node_truth nodes n node all e in
@@ -270,13 +258,13 @@ module _ (depth : ℕ) (newtypes : List Newtype) (assignment : Assignment) where
       chosen_line nodes (implies_clauses n p q) k added all (
         implies_down _ _ _ _ _ _ here first.0 second.0 is,
         (
-          implies_left _ _ _ _ (truth depth newtypes assignment nodes q) here first.0 is,
-          (implies_right _ _ _ (truth depth newtypes assignment nodes p) _ here second.0 is, tt),
+          implies_left _ _ _ _ (truth depth world assignment nodes q) here first.0 is,
+          (implies_right _ _ _ (truth depth world assignment nodes p) _ here second.0 is, tt),
         ),
       )
 
   iff_line : (nodes : List Node) (n k p q : ℕ) (added : Added) → AreSorted nodes → slice_get nodes n ≡ Some (record { op = ops.Iff; parts = p ∷ q ∷ [] }) → chosen nodes (iff_clauses n p q) k ≡ Some added
-      → IsLine depth newtypes assignment nodes added
+      → IsLine depth world assignment nodes added
   iff_line nodes n k p q added all e =
       let node : Node = record { op = ops.Iff; parts = p ∷ q ∷ [] } in
       let is = node_truth nodes n node all e in
@@ -296,7 +284,7 @@ module _ (depth : ℕ) (newtypes : List Newtype) (assignment : Assignment) where
 
   -- the truth of a comparison
   pub at_most_truth : (nodes : List Node) (n a b : ℕ) → AreSorted nodes → slice_get nodes n ≡ Some (at_most a b)
-      → truth depth newtypes assignment nodes n ≡ int_le (number_at (values depth newtypes assignment nodes) a) (number_at (values depth newtypes assignment nodes) b)
+      → truth depth world assignment nodes n ≡ int_le (number_at (values depth world assignment nodes) a) (number_at (values depth world assignment nodes) b)
   at_most_truth nodes n a b all e = node_truth nodes n (at_most a b) all e
 
   equal_values : (v w : Value) (j k : ℤ) → v ≡ Number j → w ≡ Number k → same_value v w ≡ int_eq j k
@@ -304,9 +292,9 @@ module _ (depth : ℕ) (newtypes : List Newtype) (assignment : Assignment) where
 
   -- the truth of an equality of numbers
   pub equal_truth : (nodes : List Node) (n a b : ℕ) → AreSorted nodes → slice_get nodes n ≡ Some (record { op = ops.Equal; parts = a ∷ b ∷ [] }) → IsNumber nodes a → IsNumber nodes b
-      → truth depth newtypes assignment nodes n ≡ (int_le (number_at (values depth newtypes assignment nodes) a) (number_at (values depth newtypes assignment nodes) b) && int_le (number_at (values depth newtypes assignment nodes) b) (number_at (values depth newtypes assignment nodes) a))
+      → truth depth world assignment nodes n ≡ (int_le (number_at (values depth world assignment nodes) a) (number_at (values depth world assignment nodes) b) && int_le (number_at (values depth world assignment nodes) b) (number_at (values depth world assignment nodes) a))
   equal_truth nodes n a b all e p q =
-      let known = values depth newtypes assignment nodes in
+      let known = values depth world assignment nodes in
       let first = number_worth nodes a all p in
       let second = number_worth nodes b all q in
       let same = equal_values (value_at known a) (value_at known b) first.0 second.0 first.1 second.1 in
@@ -316,10 +304,10 @@ module _ (depth : ℕ) (newtypes : List Newtype) (assignment : Assignment) where
 
   -- the number of a node
   abbrev pub number_in : List Node → ℕ → ℤ
-  number_in nodes n = number_at (values depth newtypes assignment nodes) n
+  number_in nodes n = number_at (values depth world assignment nodes) n
 
   equal_line : (nodes : List Node) (n k a b : ℕ) (added : Added) → AreSorted nodes → slice_get nodes n ≡ Some (record { op = ops.Equal; parts = a ∷ b ∷ [] }) → IsNumber nodes a → IsNumber nodes b → equal_clause nodes n a b k ≡ Some added
-      → IsLine depth newtypes assignment nodes added
+      → IsLine depth world assignment nodes added
   equal_line nodes n zero a b added all e p q is =
       let node : Node = record { op = ops.Equal; parts = a ∷ b ∷ [] } in
       let up = made nodes (at_most a b) in
@@ -329,7 +317,7 @@ module _ (depth : ℕ) (newtypes : List Newtype) (assignment : Assignment) where
       let equal = equal_truth now n a b first.sorted there (grown_number nodes now first.grows a p) (grown_number nodes now first.grows b q) in
       let more = at_most_truth now up.number a b first.sorted first.there in
       let holds = and_left _ _ _ _ (int_le (number_in now b) (number_in now a)) (stands_below now n node there) (stands_below now up.number (at_most a b) first.there) (equal ∙ ap (λ t. t && int_le (number_in now b) (number_in now a)) (sym more)) in
-      subst (IsLine depth newtypes assignment nodes) (same_Some _ added is) (record { grows = first.grows; sorted = first.sorted; holds = holds })
+      subst (IsLine depth world assignment nodes) (same_Some _ added is) (record { grows = first.grows; sorted = first.sorted; holds = holds })
   equal_line nodes n (suc zero) a b added all e p q is =
       let node : Node = record { op = ops.Equal; parts = a ∷ b ∷ [] } in
       let down = made nodes (at_most b a) in
@@ -339,7 +327,7 @@ module _ (depth : ℕ) (newtypes : List Newtype) (assignment : Assignment) where
       let equal = equal_truth now n a b first.sorted there (grown_number nodes now first.grows a p) (grown_number nodes now first.grows b q) in
       let more = at_most_truth now down.number b a first.sorted first.there in
       let holds = and_right _ _ _ (int_le (number_in now a) (number_in now b)) _ (stands_below now n node there) (stands_below now down.number (at_most b a) first.there) (equal ∙ ap (λ t. int_le (number_in now a) (number_in now b) && t) (sym more)) in
-      subst (IsLine depth newtypes assignment nodes) (same_Some _ added is) (record { grows = first.grows; sorted = first.sorted; holds = holds })
+      subst (IsLine depth world assignment nodes) (same_Some _ added is) (record { grows = first.grows; sorted = first.sorted; holds = holds })
   equal_line nodes n (suc (suc zero)) a b added all e p q is =
       let node : Node = record { op = ops.Equal; parts = a ∷ b ∷ [] } in
       let up = made nodes (at_most a b) in
@@ -355,11 +343,11 @@ module _ (depth : ℕ) (newtypes : List Newtype) (assignment : Assignment) where
       let one = at_most_truth now up.number a b second.sorted up_there in
       let other = at_most_truth now down.number b a second.sorted second.there in
       let holds = and_up _ _ _ _ _ _ (stands_below now n node there) (stands_below now up.number (at_most a b) up_there) (stands_below now down.number (at_most b a) second.there) (equal ∙ (λ i. sym one i && sym other i)) in
-      subst (IsLine depth newtypes assignment nodes) (same_Some _ added is) (record { grows = grows_twice nodes up.nodes now first.grows second.grows; sorted = second.sorted; holds = holds })
+      subst (IsLine depth world assignment nodes) (same_Some _ added is) (record { grows = grows_twice nodes up.nodes now first.grows second.grows; sorted = second.sorted; holds = holds })
   equal_line nodes n (suc (suc (suc k))) a b added all e p q is = absurd cc
 
   by_sort : (sort : Sort) (nodes : List Node) (n k a b : ℕ) (added : Added) → sort_at nodes a ≡ sort → AreSorted nodes → slice_get nodes n ≡ Some (record { op = ops.Equal; parts = a ∷ b ∷ [] }) → equal_by_sort sort nodes n a b k ≡ Some added
-      → IsLine depth newtypes assignment nodes added
+      → IsLine depth world assignment nodes added
   by_sort sorts.Number nodes n k a b added sort all e is =
       let node : Node = record { op = ops.Equal; parts = a ∷ b ∷ [] } in
       let first = and_parts (nat_lt a (length nodes)) (nat_lt b (length nodes) && true) (each_below nodes n node all e) in
@@ -367,9 +355,10 @@ module _ (depth : ℕ) (newtypes : List Newtype) (assignment : Assignment) where
       let alike = same_sort_equal (sort_at nodes a) (sort_at nodes b) (parts_taken nodes n node all e) in
       equal_line nodes n k a b added all e (record { below = ltb-true a (length nodes) first.0; sort = sort }) (record { below = ltb-true b (length nodes) second.0; sort = sym alike ∙ sort }) is
   by_sort sorts.Truth nodes n k a b added sort all e is = absurd cc
+  by_sort sorts.Character nodes n k a b added sort all e is = absurd cc
 
   connective_of : (nodes : List Node) (n k : ℕ) (op : Op) (parts : List ℕ) (added : Added) → AreSorted nodes → slice_get nodes n ≡ Some (record { op = op; parts = parts }) → connective_clause nodes n k op parts ≡ Some added
-      → IsLine depth newtypes assignment nodes added
+      → IsLine depth world assignment nodes added
   connective_of nodes n k ops.Not (p ∷ []) added all e is = not_line nodes n k p added all e is
   connective_of nodes n k ops.And parts added all e is = and_line nodes n k parts added all e is
   connective_of nodes n k ops.Or parts added all e is = or_line nodes n k parts added all e is
@@ -378,7 +367,7 @@ module _ (depth : ℕ) (newtypes : List Newtype) (assignment : Assignment) where
   connective_of nodes n k ops.Equal (p ∷ q ∷ []) added all e is = by_sort (sort_at nodes p) nodes n k p q added refl all e is
   connective_of nodes n k op parts added all e is = absurd cc
 
-  pub connective_is_line : (nodes : List Node) (n k : ℕ) (added : Added) → AreSorted nodes → connective_line nodes n k ≡ Some added → IsLine depth newtypes assignment nodes added
+  pub connective_is_line : (nodes : List Node) (n k : ℕ) (added : Added) → AreSorted nodes → connective_line nodes n k ≡ Some added → IsLine depth world assignment nodes added
   connective_is_line nodes n k added all is =
       let found = then_some (λ (node : Node). connective_clause nodes n k node.op node.parts) (slice_get nodes n) added is in
       connective_of nodes n k found.0.op found.0.parts added all found.1 found.2

@@ -11,7 +11,7 @@ use Rattle.df_row.proofs.Sums.{no_sum, sum_scaled}
 use Rattle.df_lemmas.proofs.Integers.{sum_times}
 use Rattle.df_lemmas.proofs.Alls.{all_joined}
 use Rattle.df_lemmas.proofs.Options.{then_some, map_some, test_some}
-use Rattle.df_types.specs.Newtype.{Newtype}
+use Rattle.df_form.specs.World.{World}
 use Rattle.df_meaning.specs.Value.{number_of, same_truth}
 use Rattle.df_form.specs.declared.node.Sort.{Sort}
 use Rattle.df_form.specs.declared.node.Sort.TheVariants as sorts
@@ -118,19 +118,19 @@ module _ (count : ℕ) (v : ℕ → ℤ) where
       step None is e go = cc
       step (Some row) is e go = go row (combined_met rows c row all is) e
 
-module _ (depth : ℕ) (newtypes : List Newtype) (assignment : Assignment) (nodes : List Node) (sorted : AreSorted nodes) where
+module _ (depth : ℕ) (world : World) (assignment : Assignment) (nodes : List Node) (sorted : AreSorted nodes) where
   abbrev v : ℕ → ℤ
-  v n = number_in depth newtypes assignment nodes n
+  v n = number_in depth world assignment nodes n
 
   abbrev pub Met : Row → Type 0
   Met row = IsMet (length nodes) v row
 
   pub numbers_are : AreNumbers nodes v
   numbers_are = record {
-    literal = λ n k parts e. ap number_of (value_is depth newtypes assignment nodes n (record { op = ops.Number k; parts = parts }) sorted e);
-    plus = λ n a b e. ap number_of (value_is depth newtypes assignment nodes n (record { op = ops.Plus; parts = a ∷ b ∷ [] }) sorted e);
-    times = λ n a b e. ap number_of (value_is depth newtypes assignment nodes n (record { op = ops.Times; parts = a ∷ b ∷ [] }) sorted e);
-    below = λ n node e. each_below depth newtypes assignment nodes n node sorted e;
+    literal = λ n k parts e. ap number_of (value_is depth world assignment nodes n (record { op = ops.Number k; parts = parts }) sorted e);
+    plus = λ n a b e. ap number_of (value_is depth world assignment nodes n (record { op = ops.Plus; parts = a ∷ b ∷ [] }) sorted e);
+    times = λ n a b e. ap number_of (value_is depth world assignment nodes n (record { op = ops.Times; parts = a ∷ b ∷ [] }) sorted e);
+    below = λ n node e. each_below depth world assignment nodes n node sorted e;
   }
 
   -- a <= b, and a < b
@@ -156,49 +156,50 @@ module _ (depth : ℕ) (newtypes : List Newtype) (assignment : Assignment) (node
   none_met rows e = subst (AllByRecursion Met) (same_Some [] rows e) tt
 
   comparison_met : (n a b : ℕ) (positive : Bool) (op : Op) (rows : List Row) → slice_get nodes n ≡ Some (record { op = op; parts = a ∷ b ∷ [] }) → a < length nodes → b < length nodes → sort_at nodes a ≡ sorts.Number
-      → same_truth positive (truth depth newtypes assignment nodes n) ≡ true → comparison_rows nodes positive op a b ≡ Some rows → AllByRecursion Met rows
+      → same_truth positive (truth depth world assignment nodes n) ≡ true → comparison_rows nodes positive op a b ≡ Some rows → AllByRecursion Met rows
   comparison_met n a b true ops.AtMost rows at p q sort is e =
-      one_met (difference nodes (length nodes) a b (pos 0)) rows (λ row found. at_most_met a b row p q (sym (at_most_truth depth newtypes assignment nodes n a b sorted at) ∙ is) found) e
+      one_met (difference nodes (length nodes) a b (pos 0)) rows (λ row found. at_most_met a b row p q (sym (at_most_truth depth world assignment nodes n a b sorted at) ∙ is) found) e
   comparison_met n a b false ops.AtMost rows at p q sort is e =
-      one_met (difference nodes (length nodes) b a (negsuc 0)) rows (λ row found. less_met b a row q p (sym (at_most_truth depth newtypes assignment nodes n a b sorted at) ∙ not-true (truth depth newtypes assignment nodes n) is) found) e
+      one_met (difference nodes (length nodes) b a (negsuc 0)) rows (λ row found. less_met b a row q p (sym (at_most_truth depth world assignment nodes n a b sorted at) ∙ not-true (truth depth world assignment nodes n) is) found) e
   comparison_met n a b true ops.Equal rows at p q sort is e =
       let node : Node = record { op = ops.Equal; parts = a ∷ b ∷ [] } in
       let alike = same_sort_equal (sort_at nodes a) (sort_at nodes b) (parts_taken nodes n node sorted at) in
-      let equal = equal_truth depth newtypes assignment nodes n a b sorted at (record { below = p; sort = sort }) (record { below = q; sort = sym alike ∙ sort }) in
+      let equal = equal_truth depth world assignment nodes n a b sorted at (record { below = p; sort = sort }) (record { below = q; sort = sym alike ∙ sort }) in
       let ways = and_parts (int_le (v a) (v b)) (int_le (v b) (v a)) (sym equal ∙ is) in
       two_met (difference nodes (length nodes) a b (pos 0)) (difference nodes (length nodes) b a (pos 0)) rows (λ row found. at_most_met a b row p q ways.0 found) (λ row found. at_most_met b a row q p ways.1 found) e
   comparison_met n a b positive op rows at p q sort is e = none_met rows e
 
   by_sort : (n a b : ℕ) (positive : Bool) (op : Op) (sort : Sort) (rows : List Row) → slice_get nodes n ≡ Some (record { op = op; parts = a ∷ b ∷ [] }) → sort_at nodes a ≡ sort
-      → same_truth positive (truth depth newtypes assignment nodes n) ≡ true → rows_by_sort sort nodes positive op a b ≡ Some rows → AllByRecursion Met rows
+      → same_truth positive (truth depth world assignment nodes n) ≡ true → rows_by_sort sort nodes positive op a b ≡ Some rows → AllByRecursion Met rows
   by_sort n a b positive op sorts.Number rows at sort is e = let under = two_below nodes v numbers_are n a b op at in comparison_met n a b positive op rows at under.0 under.1 sort is e
   by_sort n a b positive op sorts.Truth rows at sort is e = none_met rows e
+  by_sort n a b positive op sorts.Character rows at sort is e = none_met rows e
 
   parts_met : (n : ℕ) (positive : Bool) (op : Op) (parts : List ℕ) (rows : List Row) → slice_get nodes n ≡ Some (record { op = op; parts = parts })
-      → same_truth positive (truth depth newtypes assignment nodes n) ≡ true → rows_of_parts nodes positive op parts ≡ Some rows → AllByRecursion Met rows
+      → same_truth positive (truth depth world assignment nodes n) ≡ true → rows_of_parts nodes positive op parts ≡ Some rows → AllByRecursion Met rows
   parts_met n positive op (a ∷ b ∷ []) rows at is e = by_sort n a b positive op (sort_at nodes a) rows at refl is e
   parts_met n positive op [] rows at is e = none_met rows e
   parts_met n positive op (a ∷ []) rows at is e = none_met rows e
   parts_met n positive op (a ∷ b ∷ c ∷ others) rows at is e = none_met rows e
 
-  node_met : (n : ℕ) (positive : Bool) (o : Option Node) (rows : List Row) → slice_get nodes n ≡ o → same_truth positive (truth depth newtypes assignment nodes n) ≡ true → rows_of_node nodes positive o ≡ Some rows → AllByRecursion Met rows
+  node_met : (n : ℕ) (positive : Bool) (o : Option Node) (rows : List Row) → slice_get nodes n ≡ o → same_truth positive (truth depth world assignment nodes n) ≡ true → rows_of_node nodes positive o ≡ Some rows → AllByRecursion Met rows
   node_met n positive None rows at is e = none_met rows e
   node_met n positive (Some node) rows at is e = parts_met n positive node.op node.parts rows at is e
 
   -- the rows of true literals
-  literals_met : (literals : List Lit) (rows : List Row) → AllPass (is_held depth newtypes assignment nodes) literals → rows_of nodes literals ≡ Some rows → AllByRecursion Met rows
+  literals_met : (literals : List Lit) (rows : List Row) → AllPass (is_held depth world assignment nodes) literals → rows_of nodes literals ≡ Some rows → AllByRecursion Met rows
   literals_met [] rows all e = none_met rows e
   literals_met (l ∷ others) rows all e =
       let one = then_some (λ found. option_map (λ more. found ++ more) (rows_of nodes others)) (rows_of_node nodes l.positive (slice_get nodes l.node)) rows e in
       let rest = map_some (λ (more : List Row). one.0 ++ more) (rows_of nodes others) rows one.2 in
-      let held = and_parts (nat_lt l.node (length nodes)) (literal_truth (truth depth newtypes assignment nodes) l) all.0 in
+      let held = and_parts (nat_lt l.node (length nodes)) (literal_truth (truth depth world assignment nodes) l) all.0 in
       subst (AllByRecursion Met) rest.2
       (all_joined Met one.0 rest.0 (node_met l.node l.positive (slice_get nodes l.node) one.0 refl held.1 one.1) (literals_met others rest.0 all.1 rest.1))
 
-  pub linear_holds : (conclusion clause : Clause) (combinations : List Combination) → linear_line nodes conclusion combinations ≡ Some clause → Holds depth newtypes assignment nodes clause
+  pub linear_holds : (conclusion clause : Clause) (combinations : List Combination) → linear_line nodes conclusion combinations ≡ Some clause → Holds depth world assignment nodes clause
   linear_holds conclusion clause combinations e =
       let tested = test_some (are_literals nodes conclusion) (option_and_then (linear_of nodes conclusion combinations) (rows_of nodes (map negation conclusion))) clause e in
       let rows = then_some (linear_of nodes conclusion combinations) (rows_of nodes (map negation conclusion)) clause tested.1 in
       let found = test_some (refutes (length nodes) rows.0 combinations) (Some conclusion) clause rows.2 in
-      subst (Holds depth newtypes assignment nodes) (same_Some conclusion clause found.1)
-      (holds_unless depth newtypes assignment nodes conclusion tested.0 (λ all. rows_refuted (length nodes) v rows.0 combinations (literals_met (map negation conclusion) rows.0 all rows.1) found.0))
+      subst (Holds depth world assignment nodes) (same_Some conclusion clause found.1)
+      (holds_unless depth world assignment nodes conclusion tested.0 (λ all. rows_refuted (length nodes) v rows.0 combinations (literals_met (map negation conclusion) rows.0 all rows.1) found.0))

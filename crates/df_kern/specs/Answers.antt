@@ -1,23 +1,17 @@
 -- What the code's lines answer: a clause where the definition has one, and none where it has none.
-use Rattle.std.specs.Prelude.{◌≡◌, Bool, true, false, List, length, take, Option, None, Some, Result, Ok, Err, Vec}
+use Rattle.std.specs.Prelude.{◌≡◌, Bool, true, false, List, Option, None, Some, Result, Ok, Err, Vec}
 use Rattle.std.specs.declared.alloc.Global.{Global}
 use Rattle.std.specs.declared.alloc.AllocError.{AllocError}
 use Rattle.df_form.specs.declared.log.Lit.{Lit}
 use Rattle.df_form.specs.Node.{Node}
 use Rattle.df_form.specs.Clause.{Clause}
-use Rattle.df_kern.specs.Connective.{Added}
+pub use Rattle.df_axiom.specs.Answers.{Adds}
 
 -- a clause without nodes of its own
 abbrev pub Gives : Result (Option (Vec Lit Global)) AllocError → Option Clause → Type 0
 Gives (Ok (Some clause)) line = line ≡ Some clause.items
 Gives (Ok None) line = line ≡ None
 Gives (Err e) line = Unit {0}
-
--- a clause, and the nodes with those that it made; nothing is made where there is none
-abbrev pub Adds : List Node → List Node → Result (Option (Vec Lit Global)) AllocError → Option Added → Type 0
-Adds old new (Ok (Some clause)) line = line ≡ Some (record { nodes = new; clause = clause.items })
-Adds old new (Ok None) line = (line ≡ None) × (new ≡ old)
-Adds old new (Err e) line = take (length old) new ≡ old
 
 -- a node, where the definition makes one
 abbrev pub Makes : List Node → List Node → Result Bool AllocError → Option (List Node) → Type 0

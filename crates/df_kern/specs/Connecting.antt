@@ -22,6 +22,7 @@ plain_clause n k op parts = None
 abbrev pub numbers_of : Sort → ℕ → ℕ → Option (ℕ × ℕ)
 numbers_of sorts.Number a b = Some (a, b)
 numbers_of sorts.Truth a b = None
+numbers_of sorts.Character a b = None
 
 abbrev pub equality_of_op : List Node → Op → List ℕ → Option (ℕ × ℕ)
 equality_of_op nodes ops.Equal parts = of_two (λ a b. numbers_of (sort_at nodes a) a b) parts

@@ -9,12 +9,8 @@ use Rattle.df_form.specs.Node.{Node}
 use Rattle.df_form.specs.Sorting.{sort_at}
 use Rattle.df_form.specs.Clause.{Clause, yes, no}
 use Rattle.df_form.specs.Made.{made}
+pub use Rattle.df_axiom.specs.Instance.{Added}
 use Rattle.df_kern.specs.Bound.{at_most}
-
--- what a line adds: the nodes with those that it makes, and its clause
-pub record Added : Type 0 where
-  pub nodes : List Node
-  pub clause : Clause
 
 -- the clause of this number, which makes no node
 abbrev pub chosen : List Node → List Clause → ℕ → Option Added
@@ -49,10 +45,11 @@ equal_clause nodes n a b (suc (suc zero)) =
     Some (record { nodes = down.nodes; clause = yes n ∷ no up.number ∷ no down.number ∷ [] })
 equal_clause nodes n a b (suc (suc (suc k))) = None
 
--- an equality of truths is no connective
+-- an equality of truths or characters is no connective
 abbrev pub equal_by_sort : Sort → List Node → ℕ → ℕ → ℕ → ℕ → Option Added
 equal_by_sort sorts.Number nodes n a b k = equal_clause nodes n a b k
 equal_by_sort sorts.Truth nodes n a b k = None
+equal_by_sort sorts.Character nodes n a b k = None
 
 -- an operation of two parts
 abbrev pub of_two : {A : Type 0} → (ℕ → ℕ → Option A) → List ℕ → Option A

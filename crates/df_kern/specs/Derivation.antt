@@ -68,7 +68,7 @@ abbrev pub after : Sequent → State → Step → Option State
 after s state (Hypothesis i) = adds state (only_clause state.nodes (option_map (λ h. yes h ∷ []) (slice_get s.hypotheses i)))
 after s state Goal = adds state (only_clause state.nodes (Some (no s.goal ∷ [])))
 after s state (Connective n k) = adds state (connective_line state.nodes n k)
-after s state (Schema schema k terms) = adds state (schema_line s.newtypes state.nodes schema k terms)
+after s state (Schema schema k terms) = adds state (schema_line s.world state.nodes schema k terms)
 after s state (Propagation numbers conclusion) = adds state (only_clause state.nodes (propagation_line state.nodes state.clauses numbers conclusion))
 after s state (Congruence conclusion pairs) = adds state (only_clause state.nodes (congruence_line state.nodes conclusion pairs))
 after s state (Linear conclusion combinations) = adds state (only_clause state.nodes (linear_line state.nodes conclusion combinations))

@@ -10,7 +10,6 @@ pub mod CongruenceLine
 pub mod ClassesView
 pub mod Closing
 pub mod Growth
-pub mod Typed
 pub mod Known
 pub mod Learning
 pub mod Accepted

@@ -23,7 +23,7 @@ abbrev pub line_of : Sequent → State → Step → Option Added
 line_of s state (Hypothesis i) = only_clause state.nodes (option_map (λ h. yes h ∷ []) (slice_get s.hypotheses i))
 line_of s state Goal = only_clause state.nodes (Some (no s.goal ∷ []))
 line_of s state (Connective n k) = connective_line state.nodes n k
-line_of s state (Schema schema k terms) = schema_line s.newtypes state.nodes schema k terms
+line_of s state (Schema schema k terms) = schema_line s.world state.nodes schema k terms
 line_of s state (Propagation numbers conclusion) = only_clause state.nodes (propagation_line state.nodes state.clauses numbers conclusion)
 line_of s state (Congruence conclusion pairs) = only_clause state.nodes (congruence_line state.nodes conclusion pairs)
 line_of s state (Linear conclusion combinations) = only_clause state.nodes (linear_line state.nodes conclusion combinations)

@@ -125,8 +125,17 @@ fn plain_clause_of(
         Op::Or => or_clause(alloc, number, parts, clause),
         Op::Implies => implies_clause(alloc, number, parts, clause),
         Op::Iff => iff_clause(alloc, number, parts, clause),
-        Op::Number(_) | Op::Free(_) | Op::Plus | Op::Times | Op::Is(_) | Op::Equal | Op::AtMost =>
-            Ok(None),
+        Op::Number(_)
+        | Op::Free(_)
+        | Op::Plus
+        | Op::Times
+        | Op::Div
+        | Op::Mod
+        | Op::Code
+        | Op::Chr
+        | Op::Is(_)
+        | Op::Equal
+        | Op::AtMost => Ok(None),
     }
 }
 
@@ -139,7 +148,7 @@ fn sides(nodes: &Nodes, number: usize) -> Option<(usize, usize)>
     match (node.op, node.parts.as_slice()) {
         (Op::Equal, [a, b]) => match nodes.sort(*a) {
             Sort::Number => Some((*a, *b)),
-            Sort::Truth => None,
+            Sort::Truth | Sort::Character => None,
         },
         _ => None,
     }

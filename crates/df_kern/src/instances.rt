@@ -1,7 +1,7 @@
 //! The clauses of schemas and connectives, for the search.
 
 ghost use Rattle.std.specs.Prelude.{◌≡◌, ◌≤◌, length, take, OnErr, List, Option};
-ghost use Rattle.df_types.specs.View.{newtypes_of};
+ghost use Rattle.df_form.specs.World.{world_of};
 ghost use Rattle.df_form.specs.Node.{Node};
 ghost use Rattle.df_kern.specs.Schema.{schema_line};
 ghost use Rattle.df_kern.specs.Connective.{Added, connective_line};
@@ -9,52 +9,25 @@ ghost use Rattle.df_kern.specs.Answers.{Adds};
 ghost use Rattle.df_kern.specs.Instance.{Instantiates};
 
 use crate::connecting::connective_clause_of;
-use crate::schema::schema_clause_of;
-use df_form::{Lit, Nodes};
-use df_types::Newtype;
+use crate::line::schema_clause;
+use df_axiom::{AxiomFault, settle};
+use df_form::{Lit, Nodes, World};
 use std::alloc::{AllocError, Global};
-
-/// Why there is no clause.
-#[derive(Clone, Copy, Debug, PartialEq, Eq)]
-pub enum AxiomFault {
-    /// There is no such clause for these nodes.
-    NoSuch,
-    /// Memory was refused.
-    Memory,
-}
-
-/// The clause, or why there is none: the nodes after the first ones are then taken away.
-fn settle(
-    nodes: &mut Nodes,
-    before: usize,
-    clause: Result<Option<Vec<Lit>>, AllocError>,
-) -> Result<Vec<Lit>, AxiomFault>
-    ensures { (old : List Node) (line : Option Added) → length old ≡ before → Adds old nodes.old clause line → Instantiates old nodes.new result line }
-{
-    match clause {
-        Ok(Some(clause)) => Ok(clause),
-        Ok(None) => Err(AxiomFault::NoSuch),
-        Err(_) => {
-            nodes.cut(before);
-            Err(AxiomFault::Memory)
-        }
-    }
-}
 
 /// The clause of this number of a schema for the nodes that its pattern matches. It is true whatever the
 /// free terms are. Nodes that it needs are made; after a fault the nodes stand as before.
 pub fn instance(
     alloc: Global,
-    newtypes: &[Newtype],
+    world: World,
     nodes: &mut Nodes,
     schema: u8,
     clause: u32,
     terms: &[usize],
 ) -> Result<Vec<Lit>, AxiomFault>
-    ensures { Instantiates nodes.old nodes.new result (schema_line (newtypes_of newtypes.now) nodes.old schema clause terms.now) }
+    ensures { Instantiates nodes.old nodes.new result (schema_line (world_of world.entry) nodes.old schema clause terms.now) }
 {
     let before = nodes.len();
-    let found = schema_clause_of(alloc, newtypes, nodes, schema, clause, terms);
+    let found = schema_clause(alloc, world, nodes, schema, clause, terms);
     settle(nodes, before, found)
 }
 

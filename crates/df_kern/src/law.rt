@@ -1,7 +1,7 @@
 //! What a derivation is worth.
 
 ghost use Rattle.std.specs.Prelude.{◌≡◌, ◌↔◌, ℕ, List, None, Some};
-ghost use Rattle.df_types.specs.Newtype as types;
+ghost use Rattle.df_form.specs.World.{World};
 ghost use Rattle.df_form.specs.Node as pure;
 ghost use Rattle.df_form.specs.Sorting.{IsTable};
 ghost use Rattle.df_form.specs.Log.{Step};
@@ -13,7 +13,8 @@ ghost use Rattle.df_kern.specs.CongruenceLine.{congruence_line};
 ghost use Rattle.df_kern.specs.Derivation.{Derives};
 ghost use Rattle.df_kern.specs.Connective.{Added, connective_line};
 ghost use Rattle.df_kern.specs.Refusal.{refusal};
-ghost use Rattle.df_kern.specs.Schema.{schema_line};
+ghost use Rattle.df_axiom.specs.Line.{instance_line};
+ghost use Rattle.df_kern.specs.Schema.{type_line, schema_line};
 ghost use Rattle.df_kern.specs.Truth.{IsTrue};
 
 /// A log that derives a sequent makes it valid.
@@ -23,8 +24,13 @@ pub fn derivations_are_valid()
 
 /// The clauses of schemas and of connectives are true, whatever the free terms are.
 pub fn clauses_are_true()
-    ensures schemas { (newtypes : List types.Newtype) (nodes : List pure.Node) (schema clause : ℕ) (terms : List ℕ) (added : Added) → IsTable nodes → schema_line newtypes nodes schema clause terms ≡ Some added → IsTrue newtypes added }
-    ensures connectives { (newtypes : List types.Newtype) (nodes : List pure.Node) (node clause : ℕ) (added : Added) → IsTable nodes → connective_line nodes node clause ≡ Some added → IsTrue newtypes added }
+    ensures schemas { (world : World) (nodes : List pure.Node) (schema clause : ℕ) (terms : List ℕ) (added : Added) → IsTable nodes → schema_line world nodes schema clause terms ≡ Some added → IsTrue world added }
+    ensures connectives { (world : World) (nodes : List pure.Node) (node clause : ℕ) (added : Added) → IsTable nodes → connective_line nodes node clause ≡ Some added → IsTrue world added }
+{}
+
+/// The clauses of types are those of their schema as data.
+pub fn types_are_a_schema()
+    ensures { (world : World) (nodes : List pure.Node) (clause : ℕ) (terms : List ℕ) → IsTable nodes → instance_line world nodes 74 clause terms ≡ type_line world nodes clause terms }
 {}
 
 /// A line of congruence adds its clause exactly where the clause holds by congruence, and no other clause.

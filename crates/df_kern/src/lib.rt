@@ -18,14 +18,15 @@ mod literal;
 mod number;
 mod opposite;
 mod propagation;
-mod schema;
 mod step;
 
 pub use accepted::Accepted;
 pub use checker::{Checker, check};
+pub use df_axiom::AxiomFault;
 pub use fault::KernFault;
-pub use instances::{AxiomFault, connective, instance};
+pub use instances::{connective, instance};
 pub use known::Known;
 pub use law::{
-    clauses_are_true, congruence_lines_are_exact, derivations_are_valid, logs_derive_or_are_refused,
+    clauses_are_true, congruence_lines_are_exact, derivations_are_valid,
+    logs_derive_or_are_refused, types_are_a_schema,
 };

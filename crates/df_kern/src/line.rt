@@ -4,6 +4,8 @@ ghost use Rattle.std.specs.Prelude.{◌≡◌, ◌+◌, ◌<◌, ◌≤◌, leng
 ghost use Rattle.std.specs.Bool.{OnTrue};
 ghost use Rattle.df_form.specs.Log.{step_of};
 ghost use Rattle.df_form.specs.SequentView.{sequent_of};
+ghost use Rattle.df_form.specs.World.{world_of};
+ghost use Rattle.df_kern.specs.Schema.{schema_line};
 ghost use Rattle.df_kern.specs.Derivation.{after, kind_row};
 ghost use Rattle.df_kern.specs.Lines.{state, line_of, Takes};
 ghost use Rattle.df_kern.specs.Answers.{Gives, Adds};
@@ -15,9 +17,9 @@ ghost use Rattle.df_form.specs.Log.{combination_of};
 use crate::congruence::is_congruence;
 use crate::connecting::connective_clause_of;
 use crate::propagation::is_propagation;
-use crate::schema::schema_clause_of;
 use crate::step::{goal_clause, hypothesis_clause, make, split_clause};
-use df_form::{Combination, Lit, Nodes, Pair, Sequent, Step};
+use df_axiom::clause;
+use df_form::{Combination, Lit, Nodes, Pair, Sequent, Step, World};
 use df_row::is_linear;
 use std::alloc::{AllocError, Global};
 
@@ -35,6 +37,22 @@ pub(crate) fn kind_of(step: &Step) -> u8
         Step::Split { .. } => 9,
         Step::Make(_) => 10,
     }
+}
+
+/// The clause of this number of a schema for the terms that its pattern matches.
+pub(crate) fn schema_clause(
+    alloc: Global,
+    world: World,
+    nodes: &mut Nodes,
+    schema: u8,
+    number: u32,
+    terms: &[usize],
+) -> Result<Option<Vec<Lit>>, AllocError>
+    ensures adds { Adds nodes.old nodes.new result (schema_line (world_of world.entry) nodes.old schema number terms.now) }
+    ensures longer { length nodes.old ≤ length nodes.new }
+{
+    let _nodes = nodes.len();
+    clause(alloc, world, nodes, schema, number, terms)
 }
 
 fn propagation_clause(
@@ -102,7 +120,7 @@ fn clause_of(
             schema,
             clause,
             terms,
-        } => schema_clause_of(alloc, sequent.newtypes, nodes, *schema, *clause, terms),
+        } => schema_clause(alloc, sequent.world, nodes, *schema, *clause, terms),
         Step::Propagation {
             clauses: numbers,
             conclusion,

@@ -67,7 +67,7 @@ fn is_numeric(sort: Sort) -> bool
 {
     match sort {
         Sort::Number => true,
-        Sort::Truth => false,
+        Sort::Truth | Sort::Character => false,
     }
 }
 
@@ -79,6 +79,10 @@ fn is_free(op: Op) -> bool
         Op::Number(_)
         | Op::Plus
         | Op::Times
+        | Op::Div
+        | Op::Mod
+        | Op::Code
+        | Op::Chr
         | Op::Is(_)
         | Op::Equal
         | Op::AtMost

@@ -95,7 +95,7 @@ arithmetic_integer p types.Char e = cc
 character_sorted : (n : ℤ) → has_sort Characters (character_of n) ≡ true
 character_sorted (pos c) = by_code (is_code (pos c)) refl
   where
-    by_code : (b : Bool) → is_code (pos c) ≡ b → has_sort Characters (if b then values.Character c else values.Character 0) ≡ true
+    by_code : (b : Bool) → is_code (pos c) ≡ b → has_sort Characters (if b then values.Character c else values.Character 68) ≡ true
     by_code true e = let both = both (int_le (pos 0) (pos c)) (int_le (pos c) (pos 127)) e in grind arith
     by_code false e = refl
 character_sorted (negsuc n) = refl

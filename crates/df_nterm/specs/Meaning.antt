@@ -39,10 +39,10 @@ remainder a b = if int_eq b (pos 0) then pos 0 else int_rem_euclid a b
 abbrev pub is_code : ℤ → Bool
 is_code n = int_le (pos 0) n && int_le n (pos 127)
 
--- the character of a code; of another number it is that of the code 0
+-- the character of a code; of another number it is `D`, the default of characters
 abbrev pub character_of : ℤ → Value
-character_of (pos c) = if is_code (pos c) then Character c else Character 0
-character_of n = Character 0
+character_of (pos c) = if is_code (pos c) then Character c else Character 68
+character_of n = Character 68
 
 -- the value of an operation at the values of its parts
 abbrev pub apply : Interpretation → Op → List Value → Value

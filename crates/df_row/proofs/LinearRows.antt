@@ -30,6 +30,7 @@ compared_rows nodes false op a b = refl
 sort_rows : (nodes : List Node) (sort : Sort) (positive : Bool) (op : Op) (a b : ℕ) → rows_by_sort sort nodes positive op a b ≡ rows_of_comparison nodes (length nodes) (compared_by_sort sort positive op a b)
 sort_rows nodes sorts.Number positive op a b = compared_rows nodes positive op a b
 sort_rows nodes sorts.Truth positive op a b = refl
+sort_rows nodes sorts.Character positive op a b = refl
 
 parts_rows : (nodes : List Node) (positive : Bool) (op : Op) (parts : List ℕ) → rows_of_parts nodes positive op parts ≡ rows_of_comparison nodes (length nodes) (compared_parts nodes positive op parts)
 parts_rows nodes positive op [] = refl

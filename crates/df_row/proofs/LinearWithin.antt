@@ -143,6 +143,7 @@ module _ (count : ℕ) (nodes : List Node) (below : (n : ℕ) (node : Node) → 
   compared_below sorts.Number true op a b h = tt
   compared_below sorts.Number false op a b h = tt
   compared_below sorts.Truth positive op a b h = tt
+  compared_below sorts.Character positive op a b h = tt
 
   compared_parts_below : (positive : Bool) (op : Op) (parts : List ℕ) → AreBelow count parts → IsComparisonBelow count (compared_parts nodes positive op parts)
   compared_parts_below positive op [] e = tt

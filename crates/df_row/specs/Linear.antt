@@ -32,6 +32,7 @@ comparison_rows nodes positive op a b = Some []
 abbrev pub rows_by_sort : Sort → List Node → Bool → Op → ℕ → ℕ → Option (List Row)
 rows_by_sort sorts.Number nodes positive op a b = comparison_rows nodes positive op a b
 rows_by_sort sorts.Truth nodes positive op a b = Some []
+rows_by_sort sorts.Character nodes positive op a b = Some []
 
 abbrev pub rows_of_parts : List Node → Bool → Op → List ℕ → Option (List Row)
 rows_of_parts nodes positive op (a ∷ b ∷ []) = rows_by_sort (sort_at nodes a) nodes positive op a b

@@ -26,6 +26,7 @@ compared positive op a b = comparisons.Other
 abbrev pub compared_by_sort : Sort → Bool → Op → ℕ → ℕ → Comparison
 compared_by_sort sorts.Number positive op a b = compared positive op a b
 compared_by_sort sorts.Truth positive op a b = comparisons.Other
+compared_by_sort sorts.Character positive op a b = comparisons.Other
 
 abbrev pub compared_parts : List Node → Bool → Op → List ℕ → Comparison
 compared_parts nodes positive op (a ∷ b ∷ []) = compared_by_sort (sort_at nodes a) positive op a b

@@ -6,5 +6,5 @@ invariant-loop-term l = record {
   stack : l.self.stack.items ≡ l.initial.self.stack.items ++ take l.term-index l.more;
   nodes : l.self.nodes ≡ l.initial.self.nodes;
   hypotheses : l.self.hypotheses.items ≡ l.initial.self.hypotheses.items;
-  newtypes : l.self.newtypes ≡ l.initial.self.newtypes;
+  world : l.self.world ≡ l.initial.self.world;
 }

@@ -1,0 +1,11 @@
+pub mod Division
+pub mod Products
+pub mod Facts
+pub mod Places
+pub mod Finding
+pub mod Needing
+pub mod Sound
+pub mod Numbers
+pub mod Types
+pub mod Schemas
+pub mod Examples

@@ -1,0 +1,197 @@
+-- The schemas of types and of characters are sound.
+use Rattle.std.proofs.Common.{◌≡◌, ℕ, zero, suc, ℤ, pos, int_le, Bool, true, false, ◌&&◌, nat_lt, List, [], ◌∷◌, Option, Some, refl, sym, ap, ◌∙◌, subst}
+use Rattle.std.specs.Option.{option_map_or}
+use Rattle.std.proofs.lemmas.Bool.{and_parts, and_from}
+use Rattle.std.proofs.lemmas.Option.{same_Some}
+use Rattle.df_lemmas.proofs.Numbers.{equal_self}
+use Rattle.df_lemmas.proofs.Options.{then_some}
+use Rattle.df_lang.specs.declared.ty.Ty.{Ty}
+use Rattle.df_lang.specs.declared.ty.Ty.TheVariants as types
+use Rattle.df_form.specs.World.{World, Ends, is_within, ends_at}
+use Rattle.df_form.specs.Types.{sort_of_type, has_type}
+use Rattle.df_meaning.specs.Value.{Value, Truth, Character, Number, Text, number_of, truth_of, same_value}
+use Rattle.df_form.specs.declared.node.Sort.{Sort}
+use Rattle.df_form.specs.declared.node.Sort.TheVariants as sorts
+use Rattle.df_form.specs.declared.node.Op.{Op}
+use Rattle.df_form.specs.declared.node.Op.TheVariants as ops
+use Rattle.df_form.specs.Sorting.{is_one}
+use Rattle.df_form.specs.Truth.{Assignment, has_sort, value_at, number_at, code_in}
+use Rattle.df_form.proofs.Same.{same_sort_equal}
+use Rattle.df_axiom.specs.Template.{Template}
+use Rattle.df_axiom.specs.Schemas.{interval_template, natural_template, always_template, type_template, types_template, code_template, character_has_code}
+use Rattle.df_axiom.proofs.Facts.{AreOf, IsSound}
+use Rattle.df_axiom.proofs.Products.{code_from_zero, code_at_most, code_again, code_of_number}
+use Rattle.df_axiom.proofs.Numbers.{yes_one, no_yes, yes_no, no_no_yes, yes_no_no, equal_truth, at_most_truth, same_numbers, sorted_number}
+
+-- the value of one number
+pub record IsOne (vs : List Value) : Type 0 where
+  pub n : ℤ
+  pub is : vs ≡ Number n ∷ []
+
+one_number : (ss : List Sort) (vs : List Value) → is_one sorts.Number ss ≡ true → AreOf ss vs → IsOne vs
+one_number (s ∷ []) (v ∷ []) taken zip = let found = sorted_number s v taken zip.0 in record { n = found.0; is = λ i. found.1 i ∷ [] }
+one_number (s ∷ []) [] taken zip = absurd zip
+one_number (s ∷ []) (v ∷ u ∷ others) taken zip = absurd zip.1
+one_number [] vs taken zip = absurd cc
+one_number (s ∷ t ∷ others) vs taken zip = absurd cc
+
+-- the value of one character
+pub record IsLetter (vs : List Value) : Type 0 where
+  pub c : ℕ
+  pub is : vs ≡ Character c ∷ []
+  pub small : nat_lt c 128 ≡ true
+
+a_character : (v : Value) → has_sort sorts.Character v ≡ true → IsLetter (v ∷ [])
+a_character (Character c) e = record { c = c; is = refl; small = e }
+a_character (Number k) e = absurd cc
+a_character (Truth b) e = absurd cc
+a_character (Text t) e = absurd cc
+
+one_character : (ss : List Sort) (vs : List Value) → is_one sorts.Character ss ≡ true → AreOf ss vs → IsLetter vs
+one_character (s ∷ []) (v ∷ []) taken zip = a_character v (subst (λ (z : Sort). has_sort z v ≡ true) (same_sort_equal s sorts.Character taken) zip.0)
+one_character (s ∷ []) [] taken zip = absurd zip
+one_character (s ∷ []) (v ∷ u ∷ others) taken zip = absurd zip.1
+one_character [] vs taken zip = absurd cc
+one_character (s ∷ t ∷ others) vs taken zip = absurd cc
+
+-- the value of one formula
+pub record IsTruth (vs : List Value) : Type 0 where
+  pub b : Bool
+  pub is : vs ≡ Truth b ∷ []
+
+a_truth : (v : Value) → has_sort sorts.Truth v ≡ true → IsTruth (v ∷ [])
+a_truth (Truth b) e = record { b = b; is = refl }
+a_truth (Number k) e = absurd cc
+a_truth (Character c) e = absurd cc
+a_truth (Text t) e = absurd cc
+
+one_truth : (ss : List Sort) (vs : List Value) → is_one sorts.Truth ss ≡ true → AreOf ss vs → IsTruth vs
+one_truth (s ∷ []) (v ∷ []) taken zip = a_truth v (subst (λ (z : Sort). has_sort z v ≡ true) (same_sort_equal s sorts.Truth taken) zip.0)
+one_truth (s ∷ []) [] taken zip = absurd zip
+one_truth (s ∷ []) (v ∷ u ∷ others) taken zip = absurd zip.1
+one_truth [] vs taken zip = absurd cc
+one_truth (s ∷ t ∷ others) vs taken zip = absurd cc
+
+module _ (depth : ℕ) (world : World) (assignment : Assignment) where
+  -- "x is of the newtype" is place 0, and x is 1
+  module _ (t : ℕ) (newtype : Ends) (named : ends_at world t ≡ Some newtype) where
+    abbrev op : Op
+    op = ops.Is (types.Newtype t)
+
+    type_truth : (v : Value) (vs : List Value) (n : ℤ) → v ≡ Truth (has_type world (types.Newtype t) (value_at vs 0)) → vs ≡ Number n ∷ [] → truth_of v ≡ (int_le newtype.low n && int_le n newtype.high)
+    type_truth v vs n e is = ap truth_of e ∙ ap (λ (us : List Value). has_type world (types.Newtype t) (value_at us 0)) is ∙ ap (λ (found : Option Ends). option_map_or (λ (one : Ends). is_within one n) found false) named
+
+    low_side : (v a b : Bool) → v ≡ (a && b) → v ≡ true → a ≡ true
+    low_side v a b e is = (and_parts a b (sym e ∙ is)).0
+
+    high_side : (v a b : Bool) → v ≡ (a && b) → v ≡ true → b ≡ true
+    high_side v a b e is = (and_parts a b (sym e ∙ is)).1
+
+    pub interval_sound : (k : ℕ) (template : Template) → interval_template op newtype.low newtype.high k ≡ Some template → IsSound depth world assignment template
+    interval_sound zero template e = subst (IsSound depth world assignment) (same_Some _ template e) (λ w ps ss pieces same needed.
+        let x = one_number (ss 0) (ps 0) pieces.1.1 pieces.1.2 in
+        let here = type_truth (w 0) (ps 0) x.n pieces.1.0 x.is in
+        let part = pieces.2.0 ∙ ap (λ (us : List Value). value_at us 0) x.is in
+        let w3 = at_most_truth (w 3) (w 2) (w 1) newtype.low x.n needed.1.0 needed.0 part in
+        no_yes (truth_of (w 0)) (truth_of (w 3)) (λ is. w3 ∙ low_side (truth_of (w 0)) (int_le newtype.low x.n) (int_le x.n newtype.high) here is))
+    interval_sound (suc zero) template e = subst (IsSound depth world assignment) (same_Some _ template e) (λ w ps ss pieces same needed.
+        let x = one_number (ss 0) (ps 0) pieces.1.1 pieces.1.2 in
+        let here = type_truth (w 0) (ps 0) x.n pieces.1.0 x.is in
+        let part = pieces.2.0 ∙ ap (λ (us : List Value). value_at us 0) x.is in
+        let w3 = at_most_truth (w 3) (w 1) (w 2) x.n newtype.high needed.1.0 part needed.0 in
+        no_yes (truth_of (w 0)) (truth_of (w 3)) (λ is. w3 ∙ high_side (truth_of (w 0)) (int_le newtype.low x.n) (int_le x.n newtype.high) here is))
+    interval_sound (suc (suc zero)) template e = subst (IsSound depth world assignment) (same_Some _ template e) (λ w ps ss pieces same needed.
+        let x = one_number (ss 0) (ps 0) pieces.1.1 pieces.1.2 in
+        let here = type_truth (w 0) (ps 0) x.n pieces.1.0 x.is in
+        let part = pieces.2.0 ∙ ap (λ (us : List Value). value_at us 0) x.is in
+        let w3 = at_most_truth (w 3) (w 2) (w 1) newtype.low x.n needed.1.0 needed.0 part in
+        let w5 = at_most_truth (w 5) (w 1) (w 4) x.n newtype.high needed.1.1.1.0 part needed.1.1.0 in
+        yes_no_no (truth_of (w 0)) (truth_of (w 3)) (truth_of (w 5)) (λ low high. here ∙ and_from (int_le newtype.low x.n) (int_le x.n newtype.high) (sym w3 ∙ low) (sym w5 ∙ high)))
+    interval_sound (suc (suc (suc k))) template e = absurd cc
+
+  -- "x is a `nat`" is place 0, and x is 1
+  natural_truth : (v : Value) (vs : List Value) (n : ℤ) → v ≡ Truth (has_type world types.Nat (value_at vs 0)) → vs ≡ Number n ∷ [] → truth_of v ≡ int_le (pos 0) n
+  natural_truth v vs n e is = ap truth_of e ∙ ap (λ (us : List Value). has_type world types.Nat (value_at us 0)) is
+
+  natural_sound : (k : ℕ) (template : Template) → natural_template (ops.Is types.Nat) k ≡ Some template → IsSound depth world assignment template
+  natural_sound zero template e = subst (IsSound depth world assignment) (same_Some _ template e) (λ w ps ss pieces same needed.
+      let x = one_number (ss 0) (ps 0) pieces.1.1 pieces.1.2 in
+      let here = natural_truth (w 0) (ps 0) x.n pieces.1.0 x.is in
+      let part = pieces.2.0 ∙ ap (λ (us : List Value). value_at us 0) x.is in
+      let w3 = at_most_truth (w 3) (w 2) (w 1) (pos 0) x.n needed.1.0 needed.0 part in
+      no_yes (truth_of (w 0)) (truth_of (w 3)) (λ is. w3 ∙ sym here ∙ is))
+  natural_sound (suc zero) template e = subst (IsSound depth world assignment) (same_Some _ template e) (λ w ps ss pieces same needed.
+      let x = one_number (ss 0) (ps 0) pieces.1.1 pieces.1.2 in
+      let here = natural_truth (w 0) (ps 0) x.n pieces.1.0 x.is in
+      let part = pieces.2.0 ∙ ap (λ (us : List Value). value_at us 0) x.is in
+      let w3 = at_most_truth (w 3) (w 2) (w 1) (pos 0) x.n needed.1.0 needed.0 part in
+      yes_no (truth_of (w 0)) (truth_of (w 3)) (λ least. here ∙ sym w3 ∙ least))
+  natural_sound (suc (suc k)) template e = absurd cc
+
+  -- all values of the sort of a type are of it
+  abbrev HasAll : Ty → Type 0
+  HasAll ty = (ss : List Sort) (vs : List Value) → is_one (sort_of_type ty) ss ≡ true → AreOf ss vs → has_type world ty (value_at vs 0) ≡ true
+
+  int_holds : HasAll types.Int
+  int_holds ss vs taken zip = ap (λ (us : List Value). has_type world types.Int (value_at us 0)) (one_number ss vs taken zip).is
+
+  bool_holds : HasAll types.Bool
+  bool_holds ss vs taken zip = ap (λ (us : List Value). has_type world types.Bool (value_at us 0)) (one_truth ss vs taken zip).is
+
+  char_holds : HasAll types.Char
+  char_holds ss vs taken zip = let x = one_character ss vs taken zip in ap (λ (us : List Value). has_type world types.Char (value_at us 0)) x.is ∙ x.small
+
+  always_sound : (ty : Ty) → HasAll ty → (k : ℕ) (template : Template) → always_template (ops.Is ty) k ≡ Some template → IsSound depth world assignment template
+  always_sound ty all zero template e = subst (IsSound depth world assignment) (same_Some _ template e) (λ w ps ss pieces same needed. yes_one (truth_of (w 0)) (ap truth_of pieces.1.0 ∙ all (ss 0) (ps 0) pieces.1.1 pieces.1.2))
+  always_sound ty all (suc k) template e = absurd cc
+
+  type_sound : (ty : Ty) (k : ℕ) (template : Template) → type_template world ty k ≡ Some template → IsSound depth world assignment template
+  type_sound (types.Newtype t) k template e =
+      let found = then_some (λ (newtype : Ends). interval_template (ops.Is (types.Newtype t)) newtype.low newtype.high k) (ends_at world t) template e in
+      interval_sound t found.0 found.1 k template found.2
+  type_sound types.Int k template e = always_sound types.Int int_holds k template e
+  type_sound types.Nat k template e = natural_sound k template e
+  type_sound types.Bool k template e = always_sound types.Bool bool_holds k template e
+  type_sound types.Char k template e = always_sound types.Char char_holds k template e
+
+  pub types_sound : (op : Op) (k : ℕ) (template : Template) → types_template world op k ≡ Some template → IsSound depth world assignment template
+  types_sound (ops.Is ty) k template e = type_sound ty k template e
+  types_sound op k template e = absurd cc
+
+  -- code(c) is place 0, and c is 1
+  code_number : (v : Value) (vs : List Value) (c : ℕ) → v ≡ Number (number_at vs 0) → vs ≡ Character c ∷ [] → v ≡ Number (pos c)
+  code_number v vs c e is = e ∙ ap (λ (us : List Value). Number (number_at us 0)) is
+
+  characters_same : (v l r : Value) (c : ℕ) → v ≡ Truth (same_value l r) → l ≡ Character c → r ≡ Character c → truth_of v ≡ true
+  characters_same v l r c e p q = ap truth_of e ∙ (λ i. same_value (p i) (q i)) ∙ equal_self c
+
+  pub code_sound : (k : ℕ) (template : Template) → code_template k ≡ Some template → IsSound depth world assignment template
+  code_sound zero template e = subst (IsSound depth world assignment) (same_Some _ template e) (λ w ps ss pieces same needed.
+      let x = one_character (ss 0) (ps 0) pieces.1.1 pieces.1.2 in
+      let here = code_number (w 0) (ps 0) x.c pieces.1.0 x.is in
+      let w3 = at_most_truth (w 3) (w 2) (w 0) (pos 0) (pos x.c) needed.1.0 needed.0 here in
+      yes_one (truth_of (w 3)) (w3 ∙ code_from_zero x.c))
+  code_sound (suc zero) template e = subst (IsSound depth world assignment) (same_Some _ template e) (λ w ps ss pieces same needed.
+      let x = one_character (ss 0) (ps 0) pieces.1.1 pieces.1.2 in
+      let here = code_number (w 0) (ps 0) x.c pieces.1.0 x.is in
+      let w3 = at_most_truth (w 3) (w 0) (w 2) (pos x.c) (pos 127) needed.1.0 here needed.0 in
+      yes_one (truth_of (w 3)) (w3 ∙ code_at_most x.c x.small))
+  code_sound (suc (suc zero)) template e = subst (IsSound depth world assignment) (same_Some _ template e) (λ w ps ss pieces same needed.
+      let x = one_character (ss 0) (ps 0) pieces.1.1 pieces.1.2 in
+      let here = code_number (w 0) (ps 0) x.c pieces.1.0 x.is in
+      let part : w 1 ≡ Character x.c = pieces.2.0 ∙ ap (λ (us : List Value). value_at us 0) x.is in
+      let w2 : w 2 ≡ Character x.c = needed.0 ∙ ap (λ (v : Value). Character (code_in (number_of v))) here ∙ ap (λ (c : ℕ). Character c) (code_again x.c x.small) in
+      yes_one (truth_of (w 3)) (characters_same (w 3) (w 2) (w 1) x.c needed.1.0 w2 part))
+  code_sound (suc (suc (suc k))) template e = absurd cc
+
+  -- chr(x) is place 0, and x is 1
+  pub character_sound : IsSound depth world assignment character_has_code
+  character_sound w ps ss pieces same needed =
+      let x = one_number (ss 0) (ps 0) pieces.1.1 pieces.1.2 in
+      let part = pieces.2.0 ∙ ap (λ (us : List Value). value_at us 0) x.is in
+      let here : w 0 ≡ Character (code_in x.n) = pieces.1.0 ∙ ap (λ (us : List Value). Character (code_in (number_at us 0))) x.is in
+      let w3 = at_most_truth (w 3) (w 2) (w 1) (pos 0) x.n needed.1.0 needed.0 part in
+      let w5 = at_most_truth (w 5) (w 1) (w 4) x.n (pos 127) needed.1.1.1.0 part needed.1.1.0 in
+      let w6 : w 6 ≡ Number (pos (code_in x.n)) = needed.1.1.1.1.0 ∙ ap (λ (v : Value). Number (number_of v)) here in
+      let w7 = equal_truth (w 7) (w 6) (w 1) (pos (code_in x.n)) x.n needed.1.1.1.1.1.0 w6 part in
+      no_no_yes (truth_of (w 3)) (truth_of (w 5)) (truth_of (w 7)) (λ low high. w7 ∙ same_numbers (pos (code_in x.n)) x.n (code_of_number x.n (sym w3 ∙ low) (sym w5 ∙ high)))

@@ -1,0 +1,5 @@
+use Rattle.df_axiom.proofs.Schemas.{instances_true}
+use Rattle.df_axiom.proofs.law.instances_are_true.Goals as goal
+
+pub returns : goal.returns
+returns c = instances_true

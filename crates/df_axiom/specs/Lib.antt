@@ -1,0 +1,10 @@
+pub use Rattle.df_form.specs.World
+pub use Rattle.df_form.specs.Node
+pub use Rattle.df_form.specs.Made
+pub use Rattle.df_form.specs.Clause
+pub mod Template
+pub mod Instance
+pub mod Schemas
+pub mod Line
+pub mod Answers
+pub mod Truth
