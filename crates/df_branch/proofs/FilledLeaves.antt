@@ -11,8 +11,8 @@ use Rattle.df_level.specs.Elimination.{Eliminates}
 use Rattle.std.specs.List.{slice_index_or}
 use Rattle.std.proofs.lemmas.Bool.{and_from, cases_Bool}
 use Rattle.std.proofs.lemmas.Option.{slice_get_within}
-use Rattle.df_types.specs.Newtype.{Newtype}
-use Rattle.df_meaning.specs.Value.{Value, Truth, Number, Text, number_of}
+use Rattle.df_form.specs.World.{World}
+use Rattle.df_meaning.specs.Value.{Value, Truth, Character, Number, Text, number_of}
 use Rattle.df_form.specs.declared.log.Lit.{Lit}
 use Rattle.df_form.specs.Node.{Node, same_sort}
 use Rattle.df_form.specs.Clause.{yes, no, is_among}
@@ -36,7 +36,7 @@ use Rattle.df_branch.specs.Leaf.{IsWideLeaf, IsBetweenLeaf, IsModelOf}
 use Rattle.df_branch.specs.FilledPlace.{IsFilledPlace}
 use Rattle.df_branch.proofs.Modelling.{is_model}
 use Rattle.df_branch.proofs.Gaps.{known_at_most, known_at_least, first_at_most, first_at_least}
-use Rattle.df_branch.proofs.Points.{between_zero, formulas_zero, atoms_zero}
+use Rattle.df_branch.proofs.Points.{between_zero, others_zero, truth_is_no_number, character_is_no_number, atoms_zero}
 use Rattle.df_branch.proofs.Zeros.{AllZero, first_zero}
 
 pub told : (count less : ℕ) (first : List Row) (variables others_variables : List ℕ) (levels others : List Level) (answer other : Back) → count ≡ less → variables ≡ others_variables → levels ≡ others → answer ≡ other
@@ -53,9 +53,10 @@ wide_number (Number z ∷ values) zero e = e
 wide_number (Truth true ∷ values) zero e = absurd cc
 wide_number (Truth false ∷ values) zero e = absurd cc
 wide_number (Text t ∷ values) zero e = absurd cc
+wide_number (Character c ∷ values) zero e = e
 wide_number (v ∷ values) (suc node) e = wide_number values node e
 
-module _ (newtypes : List Newtype) (set : List Node) (clauses : List GroundClause) (nodes : List Node) (branch : List Lit) (levels : Levels) (known : Known)
+module _ (world : World) (set : List Node) (clauses : List GroundClause) (nodes : List Node) (branch : List Lit) (levels : Levels) (known : Known)
     (p : IsFilledPlace set clauses nodes branch levels known) (within : (row : Row) → Stands row (level_rows levels.first) → IsWithin (length nodes) row) where
   abbrev first : List Row
   first = level_rows levels.first
@@ -63,7 +64,7 @@ module _ (newtypes : List Newtype) (set : List Node) (clauses : List GroundClaus
   abbrev others : List (List Row)
   others = map level_rows levels.others.items
 
-  pub wide_value : IsPastWidth (length nodes) first levels.variables.items others → IsWideLeaf newtypes set clauses nodes branch
+  pub wide_value : IsPastWidth (length nodes) first levels.variables.items others → IsWideLeaf world set clauses nodes branch
   wide_value past = record {
     reasons = p.reasons;
     learned = p.learned;
@@ -71,13 +72,13 @@ module _ (newtypes : List Newtype) (set : List Node) (clauses : List GroundClaus
     overflows = at_value p.rows first levels.variables.items others (length nodes) p.rows_are p.whole.elimination within past;
   }
 
-  pub wide_node : (numbers : List ℤ) → IsPoint (length nodes) first levels.variables.items others numbers → IsWide newtypes (assignment_by set numbers known) set → IsWideLeaf newtypes set clauses nodes branch
+  pub wide_node : (numbers : List ℤ) → IsPoint (length nodes) first levels.variables.items others numbers → IsWide world (assignment_by set numbers known) set → IsWideLeaf world set clauses nodes branch
   wide_node numbers point wide = record {
     reasons = p.reasons;
     learned = p.learned;
     closed = p.closed;
     overflows = at_node p.rows first levels.variables.items others (length nodes) (numbers_of numbers) (λ n. knows known (yes n)) wide.node p.rows_are p.whole.elimination within point.is
-        (λ depth. wide_number (values depth newtypes (assignment_by set numbers known) set) wide.node (wide.wide depth));
+        (λ depth. wide_number (values depth world (assignment_by set numbers known) set) wide.node (wide.wide depth));
   }
 
   eliminates : Eliminates 0 first levels.variables.items others
@@ -96,7 +97,8 @@ module _ (newtypes : List Newtype) (set : List Node) (clauses : List GroundClaus
       where
         by : (sort : Sort) → sort_at nodes term ≡ sort → sort ≡ sorts.Number
         by sorts.Number e = refl
-        by sorts.Truth e = absurd (not_zero (formulas_zero nodes p.place.table list p.rows p.rows_are term e))
+        by sorts.Truth e = absurd (not_zero (others_zero nodes p.place.table list p.rows p.rows_are term (λ number. truth_is_no_number (sym e ∙ number))))
+        by sorts.Character e = absurd (not_zero (others_zero nodes p.place.table list p.rows p.rows_are term (λ number. character_is_no_number (sym e ∙ number))))
 
     is_an_atom : (node : Node) → slice_get nodes term ≡ Some node → is_atom nodes node.op node.parts ≡ true
     is_an_atom node at = by (cases_Bool (is_atom nodes node.op node.parts))
@@ -150,8 +152,8 @@ module _ (newtypes : List Newtype) (set : List Node) (clauses : List GroundClaus
   pub between_at : (term : ℕ) (bound same : ℤ) → IsGap (length nodes) first levels.variables.items others term bound → same ≡ bound → IsBetweenLeaf clauses nodes branch term same
   between_at term bound same gap e = subst (IsBetweenLeaf clauses nodes branch term) (sym e) (between term bound gap)
 
-  pub modelled : (numbers table : List ℤ) → IsPoint (length nodes) first levels.variables.items others numbers → ((depth : ℕ) → table ≡ map number_of_value (values depth newtypes (assignment_by set numbers known) set)) → IsModelOf newtypes set clauses table
-  modelled numbers table point tabulates s g valid is arithmetic same_newtypes same_set same_clauses =
+  pub modelled : (numbers table : List ℤ) → IsPoint (length nodes) first levels.variables.items others numbers → ((depth : ℕ) → table ≡ map number_of_value (values depth world (assignment_by set numbers known) set)) → IsModelOf world set clauses table
+  modelled numbers table point tabulates s g valid is arithmetic same_world same_set same_clauses =
       let model = is_model s g valid is arithmetic nodes branch levels known
       (subst (λ (cs : List GroundClause). IsFilledPlace g.nodes cs nodes branch levels known) (sym same_clauses) (subst (λ (ns : List Node). IsFilledPlace ns clauses nodes branch levels known) (sym same_set) p)) numbers point in
-      subst (IsTableModel (state_of g)) ((λ i. numbers_of_nodes 0 (same_newtypes i) (assignment_by (same_set i) numbers known) (same_set i)) ∙ sym (tabulates 0)) model
+      subst (IsTableModel (state_of g)) ((λ i. numbers_of_nodes 0 (same_world i) (assignment_by (same_set i) numbers known) (same_set i)) ∙ sym (tabulates 0)) model

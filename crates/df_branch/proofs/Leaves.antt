@@ -1,7 +1,7 @@
 -- What the closed list at a place leads to.
 use Rattle.std.proofs.Common.{◌≡◌, ℕ, zero, suc, Bool, true, List, [], ◌∷◌, map, length, take, Option, Some, None, slice_get, refl, sym, ap, ◌∙◌, subst, Vec, Result, Ok, Err, IfOk, inl, inr}
 use Rattle.std.specs.List.{list_all}
-use Rattle.df_types.specs.Newtype.{Newtype}
+use Rattle.df_form.specs.World.{World}
 use Rattle.df_form.specs.declared.log.Lit.{Lit}
 use Rattle.df_form.specs.Node.{Node}
 use Rattle.df_form.specs.Clause.{Clause, same_literal, is_among, are_literals}
@@ -124,7 +124,7 @@ each_within count [] all row stands = absurd stands
 each_within count (r ∷ rows) all row (inl is) = subst (IsWithin count) (sym is) (all.each 0 r refl)
 each_within count (r ∷ rows) all row (inr later) = each_within count rows (record { each = λ i x at. all.each (suc i) x at }) row later
 
-module _ (newtypes : List Newtype) (set : List Node) (clauses : List GroundClause) (nodes : List Node) (branch : List Lit) (place : IsPlace set clauses nodes branch) (known : Known) (reasons : List ℕ) (learned facts : List Lit) (rows : List Row) where
+module _ (world : World) (set : List Node) (clauses : List GroundClause) (nodes : List Node) (branch : List Lit) (place : IsPlace set clauses nodes branch) (known : Known) (reasons : List ℕ) (learned facts : List Lit) (rows : List Row) where
   pub unsolvable : (levels : Vec Level Global) (rs : List declared.Row) (combinations : List Combination) → IsGathered clauses nodes branch known reasons learned facts rows (answers.Refuted levels) → code_rows rs ≡ rows
       → ((count : ℕ) → refutes count (code_rows rs) combinations ≡ true)
       → (x : List Row) × IsUnsolvable clauses nodes branch reasons facts x × ((count : ℕ) → refutes count x combinations ≡ true)
@@ -141,7 +141,7 @@ module _ (newtypes : List Newtype) (set : List Node) (clauses : List GroundClaus
     λ count. subst (λ (given : List Row). refutes count given combinations ≡ true) rs_is (refuted count),
   )
 
-  pub wide : IsGathered clauses nodes branch known reasons learned facts rows answers.Wide → IsWideLeaf newtypes set clauses nodes branch
+  pub wide : IsGathered clauses nodes branch known reasons learned facts rows answers.Wide → IsWideLeaf world set clauses nodes branch
   wide g = record { reasons = reasons; learned = learned; closed = g.closed; overflows = at_level rows g.rows_are g.tells }
 
   module _ (levels : Levels) (g : IsGathered clauses nodes branch known reasons learned facts rows (answers.Open levels)) where

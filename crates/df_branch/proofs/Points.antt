@@ -51,16 +51,20 @@ index_of [] row stands = absurd stands
 index_of (r ∷ rows) row (inl is) = (0, ap Some (sym is))
 index_of (r ∷ rows) row (inr later) = let found = index_of rows row later in (suc found.0, found.1)
 
+pub truth_is_no_number : sorts.Truth ≡ sorts.Number → ⊥
+truth_is_no_number e = absurd cc
+
+pub character_is_no_number : sorts.Character ≡ sorts.Number → ⊥
+character_is_no_number e = absurd cc
+
 module _ (nodes : List Node) (table : IsTable nodes) (literals : List Lit) (rows : List Row) (found : rows_of nodes literals ≡ Some rows) where
   -- where a node with a coefficient would be something that it is not, it has none
   pub none_has : (n : ℕ) → ((row : Row) → Stands row rows → (row.coefficient n ≡ pos 0 → ⊥) → ⊥) → AllZero n rows
   none_has n refuted row stands = zero_or_not (row.coefficient n) (refuted row stands)
 
-  pub formulas_zero : (n : ℕ) → sort_at nodes n ≡ sorts.Truth → AllZero n rows
-  formulas_zero n truth = none_has n (λ row stands has. let at = index_of rows row stands in let number = (numbers_alone nodes (record { sorted = table.sorted }) literals rows found at.0 row at.1 n has).1 in absurd (sorts_apart (sym truth ∙ number)))
-    where
-      sorts_apart : sorts.Truth ≡ sorts.Number → ⊥
-      sorts_apart e = absurd cc
+  -- what is no number has none
+  pub others_zero : (n : ℕ) → (sort_at nodes n ≡ sorts.Number → ⊥) → AllZero n rows
+  others_zero n other = none_has n (λ row stands has. let at = index_of rows row stands in let number = (numbers_alone nodes (record { sorted = table.sorted }) literals rows found at.0 row at.1 n has).1 in absurd (other number))
 
   pub atoms_zero : (n : ℕ) (node : Node) → slice_get nodes n ≡ Some node → is_atom nodes node.op node.parts ≡ false → AllZero n rows
   atoms_zero n node there other = none_has n (λ row stands has. let at = index_of rows row stands in let atom = (numbers_alone nodes (record { sorted = table.sorted }) literals rows found at.0 row at.1 n has).2 node there in absurd (true_is_not_false (is_atom nodes node.op node.parts) atom other))

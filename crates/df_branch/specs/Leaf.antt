@@ -1,7 +1,7 @@
 -- What comes next at a branch.
 use Rattle.std.specs.Prelude.{◌≡◌, ℕ, ℤ, ◌+ℤ◌, pos, true, false, List, map, take, length, slice_get, Some}
 use Rattle.std.specs.List.{list_all}
-use Rattle.df_types.specs.Newtype.{Newtype}
+use Rattle.df_form.specs.World.{World}
 use Rattle.df_form.specs.declared.log.Lit.{Lit}
 use Rattle.df_form.specs.Node.{Node}
 use Rattle.df_form.specs.Sorting.{IsTable}
@@ -68,11 +68,11 @@ pub record IsBetweenLeaf (clauses : List GroundClause) (nodes : List Node) (bran
   pub not_false : (place m : ℕ) → slice_get nodes place ≡ Some (number bound) → slice_get nodes m ≡ Some (at_most term place) → is_among (after branch learned) (no m) ≡ false
 
 -- a number on the way is past 128 bits, beside a list whose closed list stands
-pub record IsWideLeaf (newtypes : List Newtype) (set : List Node) (clauses : List GroundClause) (nodes : List Node) (branch : List Lit) : Type 0 where
+pub record IsWideLeaf (world : World) (set : List Node) (clauses : List GroundClause) (nodes : List Node) (branch : List Lit) : Type 0 where
   pub reasons : List ℕ
   pub learned : List Lit
   pub closed : IsClosed clauses branch reasons learned
-  pub overflows : Overflows newtypes set nodes (after branch learned)
+  pub overflows : Overflows world set nodes (after branch learned)
 
 -- a level of the rows comes to so many rows
 pub record IsManyLeaf (clauses : List GroundClause) (nodes : List Node) (branch : List Lit) (count : ℕ) : Type 0 where
@@ -85,14 +85,14 @@ pub record IsManyLeaf (clauses : List GroundClause) (nodes : List Node) (branch 
   pub many : AreMany rows
 
 -- the table is a model of the ground set of each arithmetic sequent that has these clauses
-abbrev pub IsModelOf : List Newtype → List Node → List GroundClause → List ℤ → Type 0
-IsModelOf newtypes set clauses table = (s : Sequent) (g : Ground) → IsSequent s → IsGroundOf s g → IsArithmeticSequent s → s.newtypes ≡ newtypes → g.nodes ≡ set → map ground_of g.clauses.items ≡ clauses → IsTableModel (state_of g) table
+abbrev pub IsModelOf : World → List Node → List GroundClause → List ℤ → Type 0
+IsModelOf world set clauses table = (s : Sequent) (g : Ground) → IsSequent s → IsGroundOf s g → IsArithmeticSequent s → s.world ≡ world → g.nodes ≡ set → map ground_of g.clauses.items ≡ clauses → IsTableModel (state_of g) table
 
-abbrev pub TellsLeaf : List Newtype → List Node → List GroundClause → List Node → List Lit → Leaf → Type 0
-TellsLeaf newtypes set clauses nodes branch (leaves.Refuted numbers) = IsRefuted clauses branch numbers.items
-TellsLeaf newtypes set clauses nodes branch (leaves.Unsolvable reasons facts combinations) = (rows : List Row) × IsUnsolvable clauses nodes branch reasons.items facts.items rows × ((count : ℕ) → refutes count rows (map combination_of combinations.items) ≡ true)
-TellsLeaf newtypes set clauses nodes branch (leaves.Open literal) = IsOpenLeaf clauses nodes branch literal
-TellsLeaf newtypes set clauses nodes branch (leaves.Between term bound) = IsBetweenLeaf clauses nodes branch term bound
-TellsLeaf newtypes set clauses nodes branch (leaves.Modelled table) = IsModelOf newtypes set clauses table
-TellsLeaf newtypes set clauses nodes branch leaves.Wide = IsWideLeaf newtypes set clauses nodes branch
-TellsLeaf newtypes set clauses nodes branch (leaves.Many count) = IsManyLeaf clauses nodes branch count
+abbrev pub TellsLeaf : World → List Node → List GroundClause → List Node → List Lit → Leaf → Type 0
+TellsLeaf world set clauses nodes branch (leaves.Refuted numbers) = IsRefuted clauses branch numbers.items
+TellsLeaf world set clauses nodes branch (leaves.Unsolvable reasons facts combinations) = (rows : List Row) × IsUnsolvable clauses nodes branch reasons.items facts.items rows × ((count : ℕ) → refutes count rows (map combination_of combinations.items) ≡ true)
+TellsLeaf world set clauses nodes branch (leaves.Open literal) = IsOpenLeaf clauses nodes branch literal
+TellsLeaf world set clauses nodes branch (leaves.Between term bound) = IsBetweenLeaf clauses nodes branch term bound
+TellsLeaf world set clauses nodes branch (leaves.Modelled table) = IsModelOf world set clauses table
+TellsLeaf world set clauses nodes branch leaves.Wide = IsWideLeaf world set clauses nodes branch
+TellsLeaf world set clauses nodes branch (leaves.Many count) = IsManyLeaf clauses nodes branch count

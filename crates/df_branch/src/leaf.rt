@@ -9,7 +9,7 @@ ghost use Rattle.df_row.specs.Linear.{refutes};
 ghost use Rattle.df_level.specs.Levels.{rows_of, level_rows, Stands, HasFalse};
 ghost use Rattle.df_level.specs.Elimination.{Eliminates, last_level};
 ghost use Rattle.df_elim.specs.Elimination.{IsRefutation};
-ghost use Rattle.df_types.specs.View.{newtypes_of};
+ghost use Rattle.df_form.specs.World.{world_of};
 ghost use Rattle.df_closure.specs.Closure.{ground_of, GroundClause as Clause};
 ghost use Rattle.df_branch.specs.FilledPlace.{IsFilledPlace};
 ghost use Rattle.df_branch.specs.Leaf.{IsPlace, TellsLeaf};
@@ -19,14 +19,13 @@ use crate::filling::open_member;
 use df_back::{Back, back};
 use df_closure::{Closure, close};
 use df_elim::{Elimination, Levels, eliminate};
-use df_form::{Combination, Lit, Nodes};
+use df_form::{Combination, Lit, Nodes, World};
 use df_ground::GroundClause;
 use df_kern::Known;
 use df_level::{Level, Row};
 use df_model::{Valuation, valuation};
 use df_refutation::refuting;
 use df_table::Table;
-use df_types::Newtype;
 use std::alloc::{AllocError, Global};
 
 /// What comes next at a branch.
@@ -60,7 +59,7 @@ pub enum Leaf {
 /// A list where no clause is open, and its rows have levels without a false one.
 fn filled_leaf(
     alloc: Global,
-    newtypes: &[Newtype],
+    world: World,
     set: &Nodes,
     nodes: &Nodes,
     levels: &Levels,
@@ -69,7 +68,7 @@ fn filled_leaf(
     requires chain { Eliminates 0 (level_rows levels.now.first) levels.now.variables.items (map level_rows levels.now.others.items) }
     requires stands { HasFalse (last_level (level_rows levels.now.first) (map level_rows levels.now.others.items)) → ⊥ }
     requires within { (row : FunctionRow) → Stands row (level_rows levels.now.first) → IsWithin (length nodes.now) row }
-    ensures { IfOk result (λ leaf. (clauses : List Clause) (branch : List Lit) → IsFilledPlace set.now clauses nodes.now branch levels.now known.now → TellsLeaf (newtypes_of newtypes.now) set.now clauses nodes.now branch leaf) }
+    ensures { IfOk result (λ leaf. (clauses : List Clause) (branch : List Lit) → IsFilledPlace set.now clauses nodes.now branch levels.now known.now → TellsLeaf (world_of world.entry) set.now clauses nodes.now branch leaf) }
 {
     match back(
         alloc,
@@ -78,7 +77,7 @@ fn filled_leaf(
         &levels.variables,
         &levels.others,
     )? {
-        Back::Point(numbers) => match valuation(alloc, newtypes, set, &numbers, known)? {
+        Back::Point(numbers) => match valuation(alloc, world, set, &numbers, known)? {
             Valuation::Table(table) => Ok(Leaf::Modelled(table)),
             Valuation::Wide => Ok(Leaf::Wide),
         },
@@ -106,14 +105,14 @@ fn combinations(
 /// by now.
 pub fn leaf_at(
     alloc: Global,
-    newtypes: &[Newtype],
+    world: World,
     set: &Nodes,
     clauses: &[GroundClause],
     nodes: &Nodes,
     branch: &[Lit],
 ) -> Result<Leaf, AllocError>
     requires { IsPlace set.now (map ground_of clauses.now) nodes.now branch.now }
-    ensures { IfOk result (TellsLeaf (newtypes_of newtypes.now) set.now (map ground_of clauses.now) nodes.now branch.now) }
+    ensures { IfOk result (TellsLeaf (world_of world.entry) set.now (map ground_of clauses.now) nodes.now branch.now) }
 {
     let (known, learned, reasons) = match close(alloc, clauses, branch)? {
         Closure::Refuted(numbers) => return Ok(Leaf::Refuted(numbers)),
@@ -135,7 +134,7 @@ pub fn leaf_at(
         }),
         Elimination::Open(levels) => match open_member(clauses, &known) {
             Some(literal) => Ok(Leaf::Open(literal)),
-            None => filled_leaf(alloc, newtypes, set, nodes, &levels, &known),
+            None => filled_leaf(alloc, world, set, nodes, &levels, &known),
         },
         Elimination::Wide => Ok(Leaf::Wide),
         Elimination::Many(count) => Ok(Leaf::Many(count)),

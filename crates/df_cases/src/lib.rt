@@ -3,10 +3,11 @@
 #![tactic(auto)]
 
 use df_form::{
-    Combination, Draft, Free, Lit, Multiple, Node, Nodes, Op, Pair, Sequent, Sort, Step,
+    Combination, Draft, Free, Lit, Multiple, Node, Nodes, Op, Pair, Sequent, Sort, Step, World,
 };
+use df_lang::Ty;
 use df_level::Row;
-use df_types::{Declared, Interval, Newtype, Ty};
+use df_types::{Declared, Interval, Newtype};
 use std::alloc::Global;
 use std::test::Fail;
 
@@ -72,6 +73,18 @@ pub const BYTE: Op = Op::Is(Ty::Newtype(1));
 
 /// That a number is of a newtype that is not declared.
 pub const UNDECLARED: Op = Op::Is(Ty::Newtype(2));
+
+/// That a number is a `nat`.
+pub const NAT: Op = Op::Is(Ty::Nat);
+
+/// That a number is an `int`.
+pub const INT: Op = Op::Is(Ty::Int);
+
+/// That a truth is a `bool`.
+pub const BOOL: Op = Op::Is(Ty::Bool);
+
+/// That a character is a `char`.
+pub const CHAR: Op = Op::Is(Ty::Char);
 
 fn declared(alloc: Global, name: u32, text: &str) -> Result<Declared, Fail> {
     Ok(Declared {
@@ -148,7 +161,7 @@ pub fn sequent<'a>(
     hypotheses: &[Terms],
     goal: Terms,
 ) -> Result<Sequent<'a>, Fail> {
-    let mut draft = Draft::new(alloc, newtypes);
+    let mut draft = Draft::new(alloc, World::Newtypes(newtypes));
     for hypothesis in hypotheses {
         assume(&mut draft, *hypothesis)?;
     }

@@ -128,6 +128,7 @@ module _ (nodes : List Node) (sorted : AreSorted nodes) where
   sort_clear : (sort : Sort) (positive : Bool) (op : Op) (a b : ℕ) (rows : List Row) → rows_by_sort sort nodes positive op a b ≡ Some rows → AllByRecursion IsClear rows
   sort_clear sorts.Number positive op a b rows e = op_clear positive op a b rows e
   sort_clear sorts.Truth positive op a b rows e = none_clear rows e
+  sort_clear sorts.Character positive op a b rows e = none_clear rows e
 
   parts_clear : (positive : Bool) (op : Op) (parts : List ℕ) (rows : List Row) → rows_of_parts nodes positive op parts ≡ Some rows → AllByRecursion IsClear rows
   parts_clear positive op (a ∷ b ∷ []) rows e = sort_clear (sort_at nodes a) positive op a b rows e

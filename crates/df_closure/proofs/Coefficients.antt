@@ -161,6 +161,7 @@ module _ (nodes : List Node) (sorted : AreSorted nodes) where
   sort_keeps : (sort : Sort) (positive : Bool) (op : Op) (a b : ℕ) (rows : List Row) → sort_at nodes a ≡ sort → a < length nodes → b < length nodes → takes op (sort_at nodes a ∷ sort_at nodes b ∷ []) ≡ true → rows_by_sort sort nodes positive op a b ≡ Some rows → AllByRecursion (Keeps 0) rows
   sort_keeps sorts.Number positive op a b rows is less_a less_b taken e = op_keeps positive op a b rows (record { below = less_a; sort = is }) less_b taken e
   sort_keeps sorts.Truth positive op a b rows is less_a less_b taken e = none_keep rows e
+  sort_keeps sorts.Character positive op a b rows is less_a less_b taken e = none_keep rows e
 
   parts_keep : (m : ℕ) (positive : Bool) (op : Op) (parts : List ℕ) (rows : List Row) → m < length nodes → list_all (λ part. nat_lt part m) parts ≡ true → takes op (map (sort_at nodes) parts) ≡ true → rows_of_parts nodes positive op parts ≡ Some rows → AllByRecursion (Keeps 0) rows
   parts_keep m positive op (a ∷ b ∷ []) rows within below taken e =

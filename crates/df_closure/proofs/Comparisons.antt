@@ -7,7 +7,7 @@ use Rattle.std.proofs.lemmas.Option.{same_Some}
 use Rattle.std.proofs.lemmas.Bool.{and_from, or_cases, or_left, or_right, and_parts}
 use Rattle.df_form.proofs.Literals.{same_self}
 use Rattle.df_lemmas.proofs.Options.{then_some, map_some}
-use Rattle.df_types.specs.Newtype.{Newtype}
+use Rattle.df_form.specs.World.{World}
 use Rattle.df_form.specs.declared.log.Lit.{Lit}
 use Rattle.df_form.specs.declared.node.Sort.{Sort}
 use Rattle.df_form.specs.declared.node.Sort.TheVariants as sorts
@@ -62,18 +62,18 @@ and_true : (b : Bool) → (b && true) ≡ b
 and_true true = refl
 and_true false = refl
 
-module _ (depth : ℕ) (newtypes : List Newtype) (assignment : Assignment) (nodes : List Node) (sorted : AreSorted nodes) where
+module _ (depth : ℕ) (world : World) (assignment : Assignment) (nodes : List Node) (sorted : AreSorted nodes) where
   abbrev v : ℕ → ℤ
-  v n = numbers_of depth newtypes assignment nodes n
+  v n = numbers_of depth world assignment nodes n
 
   abbrev IsTrue : ℕ → Bool
-  IsTrue n = truth depth newtypes assignment nodes n
+  IsTrue n = truth depth world assignment nodes n
 
   abbrev Hold : List Row → Bool
   Hold rows = rows_hold (length nodes) v rows
 
   value_is : (a b : ℕ) (k : ℤ) (row : Row) → a < length nodes → b < length nodes → difference nodes (length nodes) a b k ≡ Some row → row_value (length nodes) v row +ℤ v a ≡ v b +ℤ k
-  value_is a b k row p q e = difference_value nodes v (numbers_are depth newtypes assignment nodes sorted) a b k row p q e
+  value_is a b k row p q e = difference_value nodes v (numbers_are depth world assignment nodes sorted) a b k row p q e
 
   up_to : (a b : ℕ) (row : Row) → a < length nodes → b < length nodes → difference nodes (length nodes) a b (pos 0) ≡ Some row → row_holds (length nodes) v row ≡ int_le (v a) (v b)
   up_to a b row p q e = at_least_difference (row_value (length nodes) v row) (v a) (v b) (value_is a b (pos 0) row p q e)
@@ -96,19 +96,19 @@ module _ (depth : ℕ) (newtypes : List Newtype) (assignment : Assignment) (node
   -- the rows of a comparison hold where it is true
   at_most_same : (n a b : ℕ) (positive : Bool) (rows : List Row) → slice_get nodes n ≡ Some (record { op = ops.AtMost; parts = a ∷ b ∷ [] }) → comparison_rows nodes positive ops.AtMost a b ≡ Some rows → Hold rows ≡ same_truth positive (IsTrue n)
   at_most_same n a b true rows at e =
-      let under = two_below nodes v (numbers_are depth newtypes assignment nodes sorted) n a b ops.AtMost at in
-      one_holds (difference nodes (length nodes) a b (pos 0)) rows (int_le (v a) (v b)) (λ row found. up_to a b row under.0 under.1 found) e ∙ sym (at_most_truth depth newtypes assignment nodes n a b sorted at)
+      let under = two_below nodes v (numbers_are depth world assignment nodes sorted) n a b ops.AtMost at in
+      one_holds (difference nodes (length nodes) a b (pos 0)) rows (int_le (v a) (v b)) (λ row found. up_to a b row under.0 under.1 found) e ∙ sym (at_most_truth depth world assignment nodes n a b sorted at)
   at_most_same n a b false rows at e =
-      let under = two_below nodes v (numbers_are depth newtypes assignment nodes sorted) n a b ops.AtMost at in
-      one_holds (difference nodes (length nodes) b a (negsuc 0)) rows (not (int_le (v a) (v b))) (λ row found. above a b row under.0 under.1 found) e ∙ ap not (sym (at_most_truth depth newtypes assignment nodes n a b sorted at))
+      let under = two_below nodes v (numbers_are depth world assignment nodes sorted) n a b ops.AtMost at in
+      one_holds (difference nodes (length nodes) b a (negsuc 0)) rows (not (int_le (v a) (v b))) (λ row found. above a b row under.0 under.1 found) e ∙ ap not (sym (at_most_truth depth world assignment nodes n a b sorted at))
 
   equal_same : (n a b : ℕ) (rows : List Row) → slice_get nodes n ≡ Some (record { op = ops.Equal; parts = a ∷ b ∷ [] }) → sort_at nodes a ≡ sorts.Number → comparison_rows nodes true ops.Equal a b ≡ Some rows → Hold rows ≡ IsTrue n
   equal_same n a b rows at sort e =
-      let under = two_below nodes v (numbers_are depth newtypes assignment nodes sorted) n a b ops.Equal at in
+      let under = two_below nodes v (numbers_are depth world assignment nodes sorted) n a b ops.Equal at in
       let alike = same_sort_equal (sort_at nodes a) (sort_at nodes b) (parts_taken nodes n (record { op = ops.Equal; parts = a ∷ b ∷ [] }) sorted at) in
       two_hold (difference nodes (length nodes) a b (pos 0)) (difference nodes (length nodes) b a (pos 0)) rows (int_le (v a) (v b)) (int_le (v b) (v a))
       (λ row found. up_to a b row under.0 under.1 found) (λ row found. up_to b a row under.1 under.0 found) e
-      ∙ sym (equal_truth depth newtypes assignment nodes n a b sorted at (record { below = under.0; sort = sort }) (record { below = under.1; sort = sym alike ∙ sort }))
+      ∙ sym (equal_truth depth world assignment nodes n a b sorted at (record { below = under.0; sort = sort }) (record { below = under.1; sort = sym alike ∙ sort }))
 
   number_compared : (n a b : ℕ) → slice_get nodes n ≡ Some (record { op = ops.AtMost; parts = a ∷ b ∷ [] }) → sort_at nodes a ≡ sorts.Number
   number_compared n a b at =
@@ -140,6 +140,7 @@ module _ (depth : ℕ) (newtypes : List Newtype) (assignment : Assignment) (node
   sort_holds : (n a b : ℕ) (positive : Bool) (op : Op) (sort : Sort) (own : List Row) → slice_get nodes n ≡ Some (record { op = op; parts = a ∷ b ∷ [] }) → sort_at nodes a ≡ sort → TrueIfCompared n positive → rows_by_sort sort nodes positive op a b ≡ Some own → Hold own ≡ true
   sort_holds n a b positive op sorts.Number own at sort is e = op_holds n a b positive op own at sort is e
   sort_holds n a b positive op sorts.Truth own at sort is e = none_hold own e
+  sort_holds n a b positive op sorts.Character own at sort is e = none_hold own e
 
   parts_hold : (n : ℕ) (positive : Bool) (op : Op) (parts : List ℕ) (own : List Row) → slice_get nodes n ≡ Some (record { op = op; parts = parts }) → TrueIfCompared n positive → rows_of_parts nodes positive op parts ≡ Some own → Hold own ≡ true
   parts_hold n positive op (a ∷ b ∷ []) own at is e = sort_holds n a b positive op (sort_at nodes a) own at refl is e
@@ -151,7 +152,7 @@ module _ (depth : ℕ) (newtypes : List Newtype) (assignment : Assignment) (node
   node_holds n positive None own at is e = none_hold own e
   node_holds n positive (Some node) own at is e = parts_hold n positive node.op node.parts own at is e
 
-  pub comparisons_true : (literals : List Lit) (rows : List Row) → rows_of nodes literals ≡ Some rows → Hold rows ≡ true → ComparisonsHold depth newtypes assignment nodes literals
+  pub comparisons_true : (literals : List Lit) (rows : List Row) → rows_of nodes literals ≡ Some rows → Hold rows ≡ true → ComparisonsHold depth world assignment nodes literals
   comparisons_true [] rows e holds l among compared = absurd (true≢false (sym among))
   comparisons_true (first ∷ others) rows e holds l among compared =
       let one = then_some (λ found. option_map (λ more. found ++ more) (rows_of nodes others)) (rows_of_node nodes first.positive (slice_get nodes first.node)) rows e in
@@ -166,7 +167,7 @@ module _ (depth : ℕ) (newtypes : List Newtype) (assignment : Assignment) (node
           comparison_true l own (ap (λ (m : Lit). rows_of_node nodes m.positive (slice_get nodes m.node)) same ∙ found) holds compared
       next own found holds (inr rest) go = go rest compared
 
-  pub rows_true : (literals : List Lit) (rows : List Row) → rows_of nodes literals ≡ Some rows → ComparisonsHold depth newtypes assignment nodes literals → Hold rows ≡ true
+  pub rows_true : (literals : List Lit) (rows : List Row) → rows_of nodes literals ≡ Some rows → ComparisonsHold depth world assignment nodes literals → Hold rows ≡ true
   rows_true [] rows e are = none_hold rows e
   rows_true (first ∷ others) rows e are =
       let one = then_some (λ found. option_map (λ more. found ++ more) (rows_of nodes others)) (rows_of_node nodes first.positive (slice_get nodes first.node)) rows e in
@@ -182,7 +183,7 @@ module _ (depth : ℕ) (newtypes : List Newtype) (assignment : Assignment) (node
   two_parts l (a ∷ []) at = absurd (true≢false (sym (parts_taken nodes l.node (record { op = ops.AtMost; parts = a ∷ [] }) sorted at)))
   two_parts l (a ∷ b ∷ c ∷ others) at = absurd (true≢false (sym (parts_taken nodes l.node (record { op = ops.AtMost; parts = a ∷ b ∷ c ∷ others }) sorted at)))
 
-  pub they_agree : (known : List Lit) → ComparisonsHold depth newtypes assignment nodes known → FreeFormulasHold depth newtypes assignment nodes known → Agrees depth newtypes assignment nodes known
+  pub they_agree : (known : List Lit) → ComparisonsHold depth world assignment nodes known → FreeFormulasHold depth world assignment nodes known → Agrees depth world assignment nodes known
   they_agree known comparisons free l node among at basic = by node.op node.parts at basic
     where
       by : (op : Op) (parts : List ℕ) → slice_get nodes l.node ≡ Some (record { op = op; parts = parts }) → is_basic op ≡ true → literal_truth IsTrue l ≡ true

@@ -7,7 +7,7 @@ use Rattle.std.proofs.lemmas.Bool.{or_cases, cases_Bool, cases_lt}
 use Rattle.df_ground.proofs.Presence.{first_below}
 use Rattle.df_lemmas.proofs.Lists.{get_below}
 use Rattle.df_lemmas.proofs.Options.{then_some, map_some}
-use Rattle.df_types.specs.Newtype.{Newtype}
+use Rattle.df_form.specs.World.{World}
 use Rattle.df_form.specs.declared.log.Lit.{Lit}
 use Rattle.df_form.specs.declared.node.Op.{Op}
 use Rattle.df_form.specs.declared.node.Op.TheVariants as ops
@@ -26,7 +26,7 @@ use Rattle.df_ground.specs.Among.{Among}
 use Rattle.df_ground.specs.Lines.{bound_by, bound_of, lines_at, ground_lines}
 use Rattle.df_ground.specs.Adding.{added_by}
 use Rattle.df_ground.specs.GroundView.{IsGroundOf, state_of}
-use Rattle.df_ground.proofs.Complete.{in_left, in_right, in_mapped, below, connective_among, schema_among}
+use Rattle.df_ground.proofs.Complete.{in_left, in_right, in_mapped, below, connective_among, terms_among}
 use Rattle.df_ground.proofs.Running.{grown_from}
 use Rattle.df_closure.specs.Closure.{ground_of, counts_for}
 use Rattle.df_closure.specs.Full.{IsMet, knows_of, IsFull}
@@ -40,10 +40,10 @@ no_connective nodes n k (ops.Number value) parts added is e = cc
 no_connective nodes n k ops.AtMost parts added is e = cc
 no_connective nodes n k op parts added is e = true≢false (sym is)
 
-no_schema : (newtypes : List Newtype) (nodes : List Node) (n k : ℕ) (op : Op) (parts : List ℕ) (added : Added) → is_comparing op ≡ true → is_clause newtypes nodes n k op parts ≡ Some added → ⊥
-no_schema newtypes nodes n k (ops.Number value) parts added is e = cc
-no_schema newtypes nodes n k ops.AtMost parts added is e = cc
-no_schema newtypes nodes n k op parts added is e = true≢false (sym is)
+no_schema : (world : World) (nodes : List Node) (n k : ℕ) (op : Op) (parts : List ℕ) (added : Added) → is_comparing op ≡ true → is_clause world nodes n k op parts ≡ Some added → ⊥
+no_schema world nodes n k (ops.Number value) parts added is e = cc
+no_schema world nodes n k ops.AtMost parts added is e = cc
+no_schema world nodes n k op parts added is e = true≢false (sym is)
 
 counts_by : (known : List Lit) (n : ℕ) (op : Op) → knows_of known n ≡ true → counts_for known (bound_by n op) ≡ true
 counts_by known n ops.Equal knows = knows
@@ -98,7 +98,7 @@ module _ (s : Sequent) (g : Ground) (is : IsGroundOf s g) (known : List Lit) (fi
 
   pub goal_known : is_among known (no s.goal) ≡ true
   goal_known =
-      let line = in_right (map (λ i. Hypothesis i) (range_with_len 0 (length s.hypotheses))) (Goal ∷ flat_map (lines_at s.newtypes s.nodes) (range_with_len 0 (length s.nodes))) Goal (0, refl) in
+      let line = in_right (map (λ i. Hypothesis i) (range_with_len 0 (length s.hypotheses))) (Goal ∷ flat_map (lines_at s.world s.nodes) (range_with_len 0 (length s.nodes))) Goal (0, refl) in
       line_known Goal (no s.goal) line refl goal_adds
 
   module _ (nodes : List Node) (table : IsTable nodes) (grown : Grows g.nodes nodes) (valid : IsSequent s) (comparing : AreComparing (length s.nodes) nodes) where
@@ -138,13 +138,13 @@ module _ (s : Sequent) (g : Ground) (is : IsGroundOf s g) (known : List Lit) (fi
         met added has.added (same_Some added (again nodes table has.added) (sym e ∙ before))
         (one_known line.0 (Connective n k) line.1 has (ap (counts_for known) bound ∙ counts_by known n node.op knows))
 
-    schema_met : (n k : ℕ) (node : Node) (added : Added) → slice_get s.nodes n ≡ Some node → is_clause s.newtypes nodes n k node.op node.parts ≡ Some added → IsMet nodes known added
+    schema_met : (n k : ℕ) (node : Node) (added : Added) → slice_get s.nodes n ≡ Some node → is_clause s.world nodes n k node.op node.parts ≡ Some added → IsMet nodes known added
     schema_met n k node added at e =
-        let own = ap (option_and_then (λ (node : Node). is_clause s.newtypes s.nodes n k node.op node.parts)) at in
-        let line = schema_among s 74 k (n ∷ []) (λ none. schema_too s.newtypes nodes s.nodes n k node.op node.parts added e (sym own ∙ none)) in
+        let own = ap (option_and_then (λ (node : Node). is_clause s.world s.nodes n k node.op node.parts)) at in
+        let line = terms_among s k (n ∷ []) (λ none. schema_too s.world nodes s.nodes n k node.op node.parts added e (sym own ∙ none)) in
         let has = ground_added s g is line.0 (Schema 74 k (n ∷ [])) line.1 in
-        let read = ap (option_and_then (λ (node : Node). is_clause s.newtypes has.nodes n k node.op node.parts)) (grown_get s.nodes has.nodes has.before n node at) in
-        let before = schema_again nodes table s.newtypes has.nodes n k node.op node.parts has.added (sym read ∙ has.by) (grows_twice has.added.nodes g.nodes nodes has.after grown) in
+        let read = ap (option_and_then (λ (node : Node). is_clause s.world has.nodes n k node.op node.parts)) (grown_get s.nodes has.nodes has.before n node at) in
+        let before = schema_again nodes table s.world has.nodes n k node.op node.parts has.added (sym read ∙ has.by) (grows_twice has.added.nodes g.nodes nodes has.after grown) in
         met added has.added (same_Some added (again nodes table has.added) (sym e ∙ before)) (one_known line.0 (Schema 74 k (n ∷ [])) line.1 has refl)
 
     connectives_met : (n k : ℕ) (added : Added) → knows_of known n ≡ true → connective_line nodes n k ≡ Some added → IsMet nodes known added
@@ -156,14 +156,14 @@ module _ (s : Sequent) (g : Ground) (is : IsGroundOf s g) (known : List Lit) (fi
         by node (inl at) e = connective_met n k node added knows at e
         by node (inr compares) e = absurd (no_connective nodes n k node.op node.parts added compares e)
 
-    schemas_met : (n k : ℕ) (added : Added) → schema_line s.newtypes nodes 74 k (n ∷ []) ≡ Some added → IsMet nodes known added
+    schemas_met : (n k : ℕ) (added : Added) → schema_line s.world nodes 74 k (n ∷ []) ≡ Some added → IsMet nodes known added
     schemas_met n k added line =
-        let found = then_some (λ (node : Node). is_clause s.newtypes nodes n k node.op node.parts) (slice_get nodes n) added line in
+        let found = then_some (λ (node : Node). is_clause s.world nodes n k node.op node.parts) (slice_get nodes n) added line in
         by found.0 (where_is n found.0 found.1) found.2
       where
-        by : (node : Node) → (slice_get s.nodes n ≡ Some node) ⊎ (is_comparing node.op ≡ true) → is_clause s.newtypes nodes n k node.op node.parts ≡ Some added → IsMet nodes known added
+        by : (node : Node) → (slice_get s.nodes n ≡ Some node) ⊎ (is_comparing node.op ≡ true) → is_clause s.world nodes n k node.op node.parts ≡ Some added → IsMet nodes known added
         by node (inl at) e = schema_met n k node added at e
-        by node (inr compares) e = absurd (no_schema s.newtypes nodes n k node.op node.parts added compares e)
+        by node (inr compares) e = absurd (no_schema s.world nodes n k node.op node.parts added compares e)
 
-    pub filled_full : IsFull s.newtypes nodes known
+    pub filled_full : IsFull s.world nodes known
     filled_full = record { connectives = connectives_met; types = λ n k added knows line. schemas_met n k added line }

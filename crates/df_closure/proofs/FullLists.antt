@@ -6,8 +6,7 @@ use Rattle.std.proofs.lemmas.Bool.{and_from, or_cases, or_left, or_right, and_pa
 use Rattle.std.proofs.lemmas.List.Folds.{list_all-map}
 use Rattle.df_form.proofs.Drafts.{sort_here}
 use Rattle.df_lemmas.proofs.Lists.{get_last, get_below, any_mapped}
-use Rattle.df_types.specs.declared.newtype.Ty.TheVariants as types
-use Rattle.df_types.specs.Newtype.{Newtype}
+use Rattle.df_form.specs.World.{World}
 use Rattle.df_meaning.specs.Value.{truth_of, same_truth}
 use Rattle.df_form.specs.declared.log.Lit.{Lit}
 use Rattle.df_form.specs.declared.node.Sort.{Sort}
@@ -19,18 +18,18 @@ use Rattle.df_form.specs.Made.{made}
 use Rattle.df_form.specs.Sorting.{sort_of, sort_at, is_formula, takes}
 use Rattle.df_form.specs.Arithmetic.{IsOfNumbers}
 use Rattle.df_form.specs.Truth.{Assignment, truth}
-use Rattle.df_form.specs.Clause.{Clause, yes, no, negation, same_literal, is_among, are_literals}
-use Rattle.df_kern.specs.Bound.{number, at_most, made_at_least, made_at_most}
+use Rattle.df_form.specs.Clause.{Clause, yes, no, same_literal, is_among, are_literals}
+use Rattle.df_kern.specs.Bound.{at_most}
 use Rattle.df_kern.specs.Connective.{Added, and_clauses, equal_by_sort, connective_clause}
-use Rattle.df_kern.specs.Schema.{newtype_clause, is_clause}
-use Rattle.df_closure.specs.Full.{IsMet, knows_of, IsFull, IsConsistent, is_basic, Agrees}
+use Rattle.df_closure.specs.Full.{IsMet, IsFull, IsConsistent, Agrees}
 use Rattle.df_form.proofs.Values.{grown_get, AreSorted, parts_below, parts_taken, worth}
 use Rattle.df_form.proofs.Making.{made_stands, IsNumber, grown_number}
 use Rattle.df_form.proofs.Same.{same_sort_equal}
-use Rattle.df_kern.proofs.SoundNodes.{at_most_sorted, at_least_stands, at_most_stands}
+use Rattle.df_kern.proofs.SoundNodes.{at_most_sorted}
 use Rattle.df_kern.proofs.SoundClauses.{same_literal_is}
 use Rattle.df_kern.proofs.SoundConnectives.{node_truth, each_below, at_most_truth, equal_truth, number_in}
-use Rattle.df_kern.proofs.SoundBounds.{at_least_truth, up_to_truth, of_newtype}
+use Rattle.df_closure.proofs.Knowing.{and_false, known_of, one_left, two_left, rest_yes, rest_no}
+use Rattle.df_closure.proofs.FullTypes.{basic_true, type_holds}
 
 passes_among : (test : Lit → Bool) (literals : List Lit) (l : Lit) → list_all test literals ≡ true → is_among literals l ≡ true → test l ≡ true
 passes_among test [] l all e = absurd (true≢false (sym e))
@@ -66,15 +65,10 @@ iff_false false true e f = refl
 iff_false false false (inl e) f = absurd (true≢false (sym e))
 iff_false false false (inr e) f = absurd (true≢false (sym e))
 
-and_false : (a b : Bool) → (not a ≡ true) ⊎ (not b ≡ true) → not (a && b) ≡ true
-and_false true b (inl e) = absurd (true≢false (sym e))
-and_false true b (inr e) = e
-and_false false b e = refl
-
-module _ (depth : ℕ) (newtypes : List Newtype) (assignment : Assignment) (nodes : List Node) (known : List Lit) (sorted : AreSorted nodes) (arithmetic : IsOfNumbers newtypes nodes) (full : IsFull newtypes nodes known)
-    (consistent : IsConsistent known) (agrees : Agrees depth newtypes assignment nodes known) where
+module _ (depth : ℕ) (world : World) (assignment : Assignment) (nodes : List Node) (known : List Lit) (sorted : AreSorted nodes) (arithmetic : IsOfNumbers world nodes) (full : IsFull world nodes known)
+    (consistent : IsConsistent known) (agrees : Agrees depth world assignment nodes known) where
   abbrev IsTrue : ℕ → Bool
-  IsTrue m = truth depth newtypes assignment nodes m
+  IsTrue m = truth depth world assignment nodes m
 
   -- a literal by its sign and its node
   abbrev Knows : Bool → ℕ → Type 0
@@ -87,41 +81,9 @@ module _ (depth : ℕ) (newtypes : List Newtype) (assignment : Assignment) (node
   abbrev AreTrueBelow : ℕ → Type 0
   AreTrueBelow n = (b : Bool) (m : ℕ) → m < n → Knows b m → same_truth b (IsTrue m) ≡ true
 
-  known_of : (b : Bool) (n : ℕ) → Knows b n → knows_of known n ≡ true
-  known_of true n e = or_left (is_among known (yes n)) (is_among known (no n)) e
-  known_of false n e = or_right (is_among known (yes n)) (is_among known (no n)) e
-
-  one_left : (l : Lit) → Known (l ∷ []) → is_among known l ≡ true
-  one_left l e = next (or_cases (is_among known l) false e)
-    where
-      next : (is_among known l ≡ true) ⊎ (false ≡ true) → is_among known l ≡ true
-      next (inl here) = here
-      next (inr none) = absurd (true≢false (sym none))
-
-  two_left : (l m : Lit) → Known (l ∷ m ∷ []) → (is_among known l ≡ true) ⊎ (is_among known m ≡ true)
-  two_left l m e = next (or_cases (is_among known l) (list_any (is_among known) (m ∷ [])) e)
-    where
-      next : (is_among known l ≡ true) ⊎ (Known (m ∷ [])) → (is_among known l ≡ true) ⊎ (is_among known m ≡ true)
-      next (inl here) = inl here
-      next (inr rest) = inr (one_left m rest)
-
-  -- a clause of a known node begins with its negation, which is not known
-  rest_true : (l : Lit) (others : Clause) → is_among known l ≡ true → Known (negation l ∷ others) → Known others
-  rest_true l others is e = next (or_cases (is_among known (negation l)) (list_any (is_among known) others) e)
-    where
-      next : (is_among known (negation l) ≡ true) ⊎ Known others → Known others
-      next (inl here) = absurd (consistent l is here)
-      next (inr rest) = rest
-
-  rest_yes : (n : ℕ) (others : Clause) → Knows true n → Known (no n ∷ others) → Known others
-  rest_yes n others is e = rest_true (yes n) others is e
-
-  rest_no : (n : ℕ) (others : Clause) → Knows false n → Known (yes n ∷ others) → Known others
-  rest_no n others is e = rest_true (no n) others is e
-
   module _ (n : ℕ) (node : Node) (there : slice_get nodes n ≡ Some node) where
     met : (b : Bool) (k : ℕ) (added : Added) → Knows b n → connective_clause nodes n k node.op node.parts ≡ Some added → IsMet nodes known added
-    met b k added is e = full.connectives n k added (known_of b n is) (ap (λ (o : Option Node). option_and_then (λ (m : Node). connective_clause nodes n k m.op m.parts) o) there ∙ e)
+    met b k added is e = full.connectives n k added (known_of known b n is) (ap (λ (o : Option Node). option_and_then (λ (m : Node). connective_clause nodes n k m.op m.parts) o) there ∙ e)
 
   -- each part is below the node
   part_below : (n p : ℕ) → nat_lt p n ≡ true → p < n
@@ -132,13 +94,13 @@ module _ (depth : ℕ) (newtypes : List Newtype) (assignment : Assignment) (node
       let node : Node = record { op = ops.Not; parts = p ∷ [] } in
       let lt = ltb-true p n (and_parts (nat_lt p n) true (parts_below nodes n node sorted there)).0 in
       let clause = met n node there true 0 (record { nodes = nodes; clause = no n ∷ no p ∷ [] }) is refl in
-      node_truth depth newtypes assignment nodes n node sorted there ∙ below false p lt (one_left (no p) (rest_yes n (no p ∷ []) is clause.one))
+      node_truth depth world assignment nodes n node sorted there ∙ below false p lt (one_left known (no p) (rest_yes known consistent n (no p ∷ []) is clause.one))
   not_holds n p there below false is =
       let node : Node = record { op = ops.Not; parts = p ∷ [] } in
       let lt = ltb-true p n (and_parts (nat_lt p n) true (parts_below nodes n node sorted there)).0 in
       let clause = met n node there false 1 (record { nodes = nodes; clause = yes n ∷ yes p ∷ [] }) is refl in
-      let part : IsTrue p ≡ true = below true p lt (one_left (yes p) (rest_no n (yes p ∷ []) is clause.one)) in
-      ap not (node_truth depth newtypes assignment nodes n node sorted there ∙ ap not part)
+      let part : IsTrue p ≡ true = below true p lt (one_left known (yes p) (rest_no known consistent n (yes p ∷ []) is clause.one)) in
+      ap not (node_truth depth world assignment nodes n node sorted there ∙ ap not part)
 
   -- two parts below the node
   two_below : (n p q : ℕ) (node : Node) → slice_get nodes n ≡ Some node → node.parts ≡ p ∷ q ∷ [] → (p < n) × (q < n)
@@ -149,7 +111,7 @@ module _ (depth : ℕ) (newtypes : List Newtype) (assignment : Assignment) (node
 
   -- what two literals of parts say
   two_true : (n p q : ℕ) (b c : Bool) → AreTrueBelow n → p < n → q < n → Known (record { positive = b; node = p } ∷ record { positive = c; node = q } ∷ []) → (same_truth b (IsTrue p) ≡ true) ⊎ (same_truth c (IsTrue q) ≡ true)
-  two_true n p q b c below lt1 lt2 e = next (two_left (record { positive = b; node = p }) (record { positive = c; node = q }) e)
+  two_true n p q b c below lt1 lt2 e = next (two_left known (record { positive = b; node = p }) (record { positive = c; node = q }) e)
     where
       next : Knows b p ⊎ Knows c q → (same_truth b (IsTrue p) ≡ true) ⊎ (same_truth c (IsTrue q) ≡ true)
       next (inl here) = inl (below b p lt1 here)
@@ -160,15 +122,15 @@ module _ (depth : ℕ) (newtypes : List Newtype) (assignment : Assignment) (node
       let node : Node = record { op = ops.Implies; parts = p ∷ q ∷ [] } in
       let lt = two_below n p q node there refl in
       let clause = met n node there true 0 (record { nodes = nodes; clause = no n ∷ no p ∷ yes q ∷ [] }) is refl in
-      node_truth depth newtypes assignment nodes n node sorted there ∙ implies_true (IsTrue p) (IsTrue q) (two_true n p q false true below lt.0 lt.1 (rest_yes n (no p ∷ yes q ∷ []) is clause.one))
+      node_truth depth world assignment nodes n node sorted there ∙ implies_true (IsTrue p) (IsTrue q) (two_true n p q false true below lt.0 lt.1 (rest_yes known consistent n (no p ∷ yes q ∷ []) is clause.one))
   implies_holds n p q there below false is =
       let node : Node = record { op = ops.Implies; parts = p ∷ q ∷ [] } in
       let lt = two_below n p q node there refl in
       let first = met n node there false 1 (record { nodes = nodes; clause = yes n ∷ yes p ∷ [] }) is refl in
       let second = met n node there false 2 (record { nodes = nodes; clause = yes n ∷ no q ∷ [] }) is refl in
-      let left = below true p lt.0 (one_left (yes p) (rest_no n (yes p ∷ []) is first.one)) in
-      let right = below false q lt.1 (one_left (no q) (rest_no n (no q ∷ []) is second.one)) in
-      ap not (node_truth depth newtypes assignment nodes n node sorted there) ∙ implies_false (IsTrue p) (IsTrue q) left right
+      let left = below true p lt.0 (one_left known (yes p) (rest_no known consistent n (yes p ∷ []) is first.one)) in
+      let right = below false q lt.1 (one_left known (no q) (rest_no known consistent n (no q ∷ []) is second.one)) in
+      ap not (node_truth depth world assignment nodes n node sorted there) ∙ implies_false (IsTrue p) (IsTrue q) left right
 
   iff_holds : (n p q : ℕ) → slice_get nodes n ≡ Some (record { op = ops.Iff; parts = p ∷ q ∷ [] }) → AreTrueBelow n → (b : Bool) → Knows b n → same_truth b (IsTrue n) ≡ true
   iff_holds n p q there below true is =
@@ -176,15 +138,15 @@ module _ (depth : ℕ) (newtypes : List Newtype) (assignment : Assignment) (node
       let lt = two_below n p q node there refl in
       let first = met n node there true 0 (record { nodes = nodes; clause = no n ∷ no p ∷ yes q ∷ [] }) is refl in
       let second = met n node there true 1 (record { nodes = nodes; clause = no n ∷ yes p ∷ no q ∷ [] }) is refl in
-      node_truth depth newtypes assignment nodes n node sorted there
-      ∙ iff_true (IsTrue p) (IsTrue q) (two_true n p q false true below lt.0 lt.1 (rest_yes n (no p ∷ yes q ∷ []) is first.one)) (two_true n p q true false below lt.0 lt.1 (rest_yes n (yes p ∷ no q ∷ []) is second.one))
+      node_truth depth world assignment nodes n node sorted there
+      ∙ iff_true (IsTrue p) (IsTrue q) (two_true n p q false true below lt.0 lt.1 (rest_yes known consistent n (no p ∷ yes q ∷ []) is first.one)) (two_true n p q true false below lt.0 lt.1 (rest_yes known consistent n (yes p ∷ no q ∷ []) is second.one))
   iff_holds n p q there below false is =
       let node : Node = record { op = ops.Iff; parts = p ∷ q ∷ [] } in
       let lt = two_below n p q node there refl in
       let first = met n node there false 2 (record { nodes = nodes; clause = yes n ∷ yes p ∷ yes q ∷ [] }) is refl in
       let second = met n node there false 3 (record { nodes = nodes; clause = yes n ∷ no p ∷ no q ∷ [] }) is refl in
-      ap not (node_truth depth newtypes assignment nodes n node sorted there)
-      ∙ iff_false (IsTrue p) (IsTrue q) (two_true n p q true true below lt.0 lt.1 (rest_no n (yes p ∷ yes q ∷ []) is first.one)) (two_true n p q false false below lt.0 lt.1 (rest_no n (no p ∷ no q ∷ []) is second.one))
+      ap not (node_truth depth world assignment nodes n node sorted there)
+      ∙ iff_false (IsTrue p) (IsTrue q) (two_true n p q true true below lt.0 lt.1 (rest_no known consistent n (yes p ∷ yes q ∷ []) is first.one)) (two_true n p q false false below lt.0 lt.1 (rest_no known consistent n (no p ∷ no q ∷ []) is second.one))
 
   -- what is known of each part
   all_true : (n : ℕ) → AreTrueBelow n → Knows true n → (parts : List ℕ) (more : List Clause) → list_all (λ part. nat_lt part n) parts ≡ true
@@ -192,7 +154,7 @@ module _ (depth : ℕ) (newtypes : List Newtype) (assignment : Assignment) (node
   all_true n below is [] more lt at = refl
   all_true n below is (p ∷ others) more lt at =
       let first = and_parts (nat_lt p n) (list_all (λ part. nat_lt part n) others) lt in
-      and_from (IsTrue p) (list_all IsTrue others) (below true p (ltb-true p n first.0) (one_left (yes p) (rest_yes n (yes p ∷ []) is (at 0 (no n ∷ yes p ∷ []) refl))))
+      and_from (IsTrue p) (list_all IsTrue others) (below true p (ltb-true p n first.0) (one_left known (yes p) (rest_yes known consistent n (yes p ∷ []) is (at 0 (no n ∷ yes p ∷ []) refl))))
       (all_true n below is others more first.1 (λ k clause e. at (suc k) clause e))
 
   none_true : (n : ℕ) → AreTrueBelow n → Knows false n → (parts : List ℕ) → list_all (λ part. nat_lt part n) parts ≡ true
@@ -200,7 +162,7 @@ module _ (depth : ℕ) (newtypes : List Newtype) (assignment : Assignment) (node
   none_true n below is [] lt at = refl
   none_true n below is (p ∷ others) lt at =
       let first = and_parts (nat_lt p n) (list_all (λ part. nat_lt part n) others) lt in
-      neither_true (IsTrue p) (list_any IsTrue others) (below false p (ltb-true p n first.0) (one_left (no p) (rest_no n (no p ∷ []) is (at 0 (yes n ∷ no p ∷ []) refl))))
+      neither_true (IsTrue p) (list_any IsTrue others) (below false p (ltb-true p n first.0) (one_left known (no p) (rest_no known consistent n (no p ∷ []) is (at 0 (yes n ∷ no p ∷ []) refl))))
       (none_true n below is others first.1 (λ k clause e. at (suc k) clause e))
     where
       neither_true : (a b : Bool) → not a ≡ true → not b ≡ true → not (a || b) ≡ true
@@ -231,29 +193,26 @@ module _ (depth : ℕ) (newtypes : List Newtype) (assignment : Assignment) (node
   and_holds n parts there below true is =
       let node : Node = record { op = ops.And; parts = parts } in
       let chosen_is = λ (k : ℕ) (clause : Clause) (e : slice_get (and_clauses n parts) k ≡ Some clause). (met n node there true k (record { nodes = nodes; clause = clause }) is (rw e refl)).one in
-      node_truth depth newtypes assignment nodes n node sorted there ∙ list_all-map truth_of (worth depth newtypes assignment nodes) parts
+      node_truth depth world assignment nodes n node sorted there ∙ list_all-map truth_of (worth depth world assignment nodes) parts
       ∙ all_true n below is parts ((yes n ∷ map no parts) ∷ []) (parts_below nodes n node sorted there) chosen_is
   and_holds n parts there below false is =
       let node : Node = record { op = ops.And; parts = parts } in
       let last = get_last (map (λ p. no n ∷ yes p ∷ []) parts) (yes n ∷ map no parts) in
       let clause = met n node there false (length (map (λ p. no n ∷ yes p ∷ []) parts)) (record { nodes = nodes; clause = yes n ∷ map no parts }) is (rw last refl) in
-      ap not (node_truth depth newtypes assignment nodes n node sorted there ∙ list_all-map truth_of (worth depth newtypes assignment nodes) parts)
-      ∙ one_false n below parts (parts_below nodes n node sorted there) (rest_no n (map no parts) is clause.one)
+      ap not (node_truth depth world assignment nodes n node sorted there ∙ list_all-map truth_of (worth depth world assignment nodes) parts)
+      ∙ one_false n below parts (parts_below nodes n node sorted there) (rest_no known consistent n (map no parts) is clause.one)
 
   or_holds : (n : ℕ) (parts : List ℕ) → slice_get nodes n ≡ Some (record { op = ops.Or; parts = parts }) → AreTrueBelow n → (b : Bool) → Knows b n → same_truth b (IsTrue n) ≡ true
   or_holds n parts there below true is =
       let node : Node = record { op = ops.Or; parts = parts } in
       let clause = met n node there true 0 (record { nodes = nodes; clause = no n ∷ map yes parts }) is refl in
-      node_truth depth newtypes assignment nodes n node sorted there ∙ any_mapped truth_of (worth depth newtypes assignment nodes) parts
-      ∙ one_true n below parts (parts_below nodes n node sorted there) (rest_yes n (map yes parts) is clause.one)
+      node_truth depth world assignment nodes n node sorted there ∙ any_mapped truth_of (worth depth world assignment nodes) parts
+      ∙ one_true n below parts (parts_below nodes n node sorted there) (rest_yes known consistent n (map yes parts) is clause.one)
   or_holds n parts there below false is =
       let node : Node = record { op = ops.Or; parts = parts } in
       let chosen_is = λ (k : ℕ) (clause : Clause) (e : slice_get (map (λ p. yes n ∷ no p ∷ []) parts) k ≡ Some clause). (met n node there false (suc k) (record { nodes = nodes; clause = clause }) is (rw e refl)).one in
-      ap not (node_truth depth newtypes assignment nodes n node sorted there ∙ any_mapped truth_of (worth depth newtypes assignment nodes) parts)
+      ap not (node_truth depth world assignment nodes n node sorted there ∙ any_mapped truth_of (worth depth world assignment nodes) parts)
       ∙ none_true n below is parts (parts_below nodes n node sorted there) chosen_is
-
-  basic_true : (b : Bool) (m : ℕ) (node : Node) → Knows b m → slice_get nodes m ≡ Some node → is_basic node.op ≡ true → same_truth b (IsTrue m) ≡ true
-  basic_true b m node is there basic = agrees (record { positive = b; node = m }) node is there basic
 
   -- an equality of numbers, by its two comparisons
   equal_holds : (n p q : ℕ) → slice_get nodes n ≡ Some (record { op = ops.Equal; parts = p ∷ q ∷ [] }) → IsNumber nodes p → IsNumber nodes q → (b : Bool) → Knows b n → same_truth b (IsTrue n) ≡ true
@@ -265,10 +224,10 @@ module _ (depth : ℕ) (newtypes : List Newtype) (assignment : Assignment) (node
       let second = met n node there true 1 (record { nodes = down.nodes; clause = no n ∷ yes down.number ∷ [] }) is (ap (λ (s : Sort). equal_by_sort s nodes n p q 1) is_p.sort) in
       let up_there = subst (λ (ns : List Node). slice_get ns up.number ≡ Some (at_most p q)) first.stands (made_stands nodes (at_most p q) sorted (at_most_sorted nodes p q is_p is_q)).there in
       let down_there = subst (λ (ns : List Node). slice_get ns down.number ≡ Some (at_most q p)) second.stands (made_stands nodes (at_most q p) sorted (at_most_sorted nodes q p is_q is_p)).there in
-      let one : IsTrue up.number ≡ true = basic_true true up.number (at_most p q) (one_left (yes up.number) (rest_yes n (yes up.number ∷ []) is first.one)) up_there refl in
-      let other : IsTrue down.number ≡ true = basic_true true down.number (at_most q p) (one_left (yes down.number) (rest_yes n (yes down.number ∷ []) is second.one)) down_there refl in
-      equal_truth depth newtypes assignment nodes n p q sorted there is_p is_q
-      ∙ and_from _ _ (sym (at_most_truth depth newtypes assignment nodes up.number p q sorted up_there) ∙ one) (sym (at_most_truth depth newtypes assignment nodes down.number q p sorted down_there) ∙ other)
+      let one : IsTrue up.number ≡ true = basic_true depth world assignment nodes known sorted arithmetic full consistent agrees true up.number (at_most p q) (one_left known (yes up.number) (rest_yes known consistent n (yes up.number ∷ []) is first.one)) up_there refl in
+      let other : IsTrue down.number ≡ true = basic_true depth world assignment nodes known sorted arithmetic full consistent agrees true down.number (at_most q p) (one_left known (yes down.number) (rest_yes known consistent n (yes down.number ∷ []) is second.one)) down_there refl in
+      equal_truth depth world assignment nodes n p q sorted there is_p is_q
+      ∙ and_from _ _ (sym (at_most_truth depth world assignment nodes up.number p q sorted up_there) ∙ one) (sym (at_most_truth depth world assignment nodes down.number q p sorted down_there) ∙ other)
   equal_holds n p q there is_p is_q false is =
       let node : Node = record { op = ops.Equal; parts = p ∷ q ∷ [] } in
       let up = made nodes (at_most p q) in
@@ -279,71 +238,22 @@ module _ (depth : ℕ) (newtypes : List Newtype) (assignment : Assignment) (node
       (at_most_sorted up.nodes q p (grown_number nodes up.nodes up_stands.grows q is_q) (grown_number nodes up.nodes up_stands.grows p is_p)) in
       let up_there = subst (λ (ns : List Node). slice_get ns up.number ≡ Some (at_most p q)) met_one.stands (grown_get up.nodes down.nodes down_stands.grows up.number (at_most p q) up_stands.there) in
       let down_there = subst (λ (ns : List Node). slice_get ns down.number ≡ Some (at_most q p)) met_one.stands down_stands.there in
-      ap not (equal_truth depth newtypes assignment nodes n p q sorted there is_p is_q)
-      ∙ and_false _ _ (next up.number down.number up_there down_there (two_left (no up.number) (no down.number) (rest_no n (no up.number ∷ no down.number ∷ []) is met_one.one)))
+      ap not (equal_truth depth world assignment nodes n p q sorted there is_p is_q)
+      ∙ and_false _ _ (next up.number down.number up_there down_there (two_left known (no up.number) (no down.number) (rest_no known consistent n (no up.number ∷ no down.number ∷ []) is met_one.one)))
     where
       next : (up down : ℕ) → slice_get nodes up ≡ Some (at_most p q) → slice_get nodes down ≡ Some (at_most q p) → Knows false up ⊎ Knows false down
-          → (not (int_le (number_in depth newtypes assignment nodes p) (number_in depth newtypes assignment nodes q)) ≡ true) ⊎ (not (int_le (number_in depth newtypes assignment nodes q) (number_in depth newtypes assignment nodes p)) ≡ true)
-      next up down up_there down_there (inl here) = inl (ap not (sym (at_most_truth depth newtypes assignment nodes up p q sorted up_there)) ∙ basic_true false up (at_most p q) here up_there refl)
-      next up down up_there down_there (inr here) = inr (ap not (sym (at_most_truth depth newtypes assignment nodes down q p sorted down_there)) ∙ basic_true false down (at_most q p) here down_there refl)
-
-  -- a clause of a type
-  met_type : (n x t k : ℕ) (newtype : Newtype) (b : Bool) (added : Added) → slice_get nodes n ≡ Some (record { op = ops.Is (types.Newtype t); parts = x ∷ [] }) → slice_get newtypes t ≡ Some newtype → Knows b n
-      → newtype_clause newtype nodes n x k ≡ Some added → IsMet nodes known added
-  met_type n x t k newtype b added there found is e =
-      full.types n k added (known_of b n is)
-      (ap (λ (o : Option Node). option_and_then (λ (m : Node). is_clause newtypes nodes n k m.op m.parts) o) there ∙ ap (λ (o : Option Newtype). option_and_then (λ (one : Newtype). newtype_clause one nodes n x k) o) found ∙ e)
-
-  -- a type, by its two ends
-  is_holds : (n x t : ℕ) (newtype : Newtype) → slice_get nodes n ≡ Some (record { op = ops.Is (types.Newtype t); parts = x ∷ [] }) → slice_get newtypes t ≡ Some newtype → IsNumber nodes x → (b : Bool) → Knows b n → same_truth b (IsTrue n) ≡ true
-  is_holds n x t newtype there found is_x true is =
-      let low = made_at_least nodes newtype.low x in
-      let high = made_at_most nodes x newtype.high in
-      let first = met_type n x t 0 newtype true (record { nodes = low.nodes; clause = no n ∷ yes low.number ∷ [] }) there found is refl in
-      let second = met_type n x t 1 newtype true (record { nodes = high.nodes; clause = no n ∷ yes high.number ∷ [] }) there found is refl in
-      let low_stands = at_least_stands nodes newtype.low x sorted is_x in
-      let high_stands = at_most_stands nodes x newtype.high sorted is_x in
-      let low_literal = subst (λ (ns : List Node). slice_get ns low_stands.literal ≡ Some (number newtype.low)) first.stands low_stands.literal_there in
-      let low_there = subst (λ (ns : List Node). slice_get ns low.number ≡ Some (at_most low_stands.literal x)) first.stands low_stands.there in
-      let high_literal = subst (λ (ns : List Node). slice_get ns high_stands.literal ≡ Some (number newtype.high)) second.stands high_stands.literal_there in
-      let high_there = subst (λ (ns : List Node). slice_get ns high.number ≡ Some (at_most x high_stands.literal)) second.stands high_stands.there in
-      let one : IsTrue low.number ≡ true = basic_true true low.number (at_most low_stands.literal x) (one_left (yes low.number) (rest_yes n (yes low.number ∷ []) is first.one)) low_there refl in
-      let other : IsTrue high.number ≡ true = basic_true true high.number (at_most x high_stands.literal) (one_left (yes high.number) (rest_yes n (yes high.number ∷ []) is second.one)) high_there refl in
-      of_newtype depth newtypes assignment nodes n x t newtype sorted there found
-      ∙ and_from _ _ (sym (at_least_truth depth newtypes assignment nodes low_stands.literal low.number x newtype.low sorted low_literal low_there) ∙ one)
-      (sym (up_to_truth depth newtypes assignment nodes high_stands.literal high.number x newtype.high sorted high_literal high_there) ∙ other)
-  is_holds n x t newtype there found is_x false is =
-      let low = made_at_least nodes newtype.low x in
-      let high = made_at_most low.nodes x newtype.high in
-      let met_one = met_type n x t 2 newtype false (record { nodes = high.nodes; clause = yes n ∷ no low.number ∷ no high.number ∷ [] }) there found is refl in
-      let low_stands = at_least_stands nodes newtype.low x sorted is_x in
-      let high_stands = at_most_stands low.nodes x newtype.high low_stands.sorted (grown_number nodes low.nodes low_stands.grows x is_x) in
-      let low_literal = subst (λ (ns : List Node). slice_get ns low_stands.literal ≡ Some (number newtype.low)) met_one.stands (grown_get low.nodes high.nodes high_stands.grows low_stands.literal (number newtype.low) low_stands.literal_there) in
-      let low_there = subst (λ (ns : List Node). slice_get ns low.number ≡ Some (at_most low_stands.literal x)) met_one.stands (grown_get low.nodes high.nodes high_stands.grows low.number (at_most low_stands.literal x) low_stands.there) in
-      let high_literal = subst (λ (ns : List Node). slice_get ns high_stands.literal ≡ Some (number newtype.high)) met_one.stands high_stands.literal_there in
-      let high_there = subst (λ (ns : List Node). slice_get ns high.number ≡ Some (at_most x high_stands.literal)) met_one.stands high_stands.there in
-      ap not (of_newtype depth newtypes assignment nodes n x t newtype sorted there found)
-      ∙ and_false _ _ (next low_stands.literal low.number high_stands.literal high.number low_literal low_there high_literal high_there (two_left (no low.number) (no high.number) (rest_no n (no low.number ∷ no high.number ∷ []) is met_one.one)))
-    where
-      next : (i low j high : ℕ) → slice_get nodes i ≡ Some (number newtype.low) → slice_get nodes low ≡ Some (at_most i x) → slice_get nodes j ≡ Some (number newtype.high) → slice_get nodes high ≡ Some (at_most x j)
-          → Knows false low ⊎ Knows false high
-          → (not (int_le newtype.low (number_in depth newtypes assignment nodes x)) ≡ true) ⊎ (not (int_le (number_in depth newtypes assignment nodes x) newtype.high) ≡ true)
-      next i low j high i_there low_there j_there high_there (inl here) = inl (ap not (sym (at_least_truth depth newtypes assignment nodes i low x newtype.low sorted i_there low_there)) ∙ basic_true false low (at_most i x) here low_there refl)
-      next i low j high i_there low_there j_there high_there (inr here) = inr (ap not (sym (up_to_truth depth newtypes assignment nodes j high x newtype.high sorted j_there high_there)) ∙ basic_true false high (at_most x j) here high_there refl)
+          → (not (int_le (number_in depth world assignment nodes p) (number_in depth world assignment nodes q)) ≡ true) ⊎ (not (int_le (number_in depth world assignment nodes q) (number_in depth world assignment nodes p)) ≡ true)
+      next up down up_there down_there (inl here) = inl (ap not (sym (at_most_truth depth world assignment nodes up p q sorted up_there)) ∙ basic_true depth world assignment nodes known sorted arithmetic full consistent agrees false up (at_most p q) here up_there refl)
+      next up down up_there down_there (inr here) = inr (ap not (sym (at_most_truth depth world assignment nodes down q p sorted down_there)) ∙ basic_true depth world assignment nodes known sorted arithmetic full consistent agrees false down (at_most q p) here down_there refl)
 
   -- the parts of an operation are of the sorts that it takes
   taken : (n : ℕ) (node : Node) → slice_get nodes n ≡ Some node → takes node.op (map (sort_at nodes) node.parts) ≡ true
   taken n node there = parts_taken nodes n node sorted there
 
-  one_number : (n x : ℕ) (op : Op) → slice_get nodes n ≡ Some (record { op = op; parts = x ∷ [] }) → same_sort (sort_at nodes x) sorts.Number ≡ true → IsNumber nodes x
-  one_number n x op there sort =
-      let below = and_parts (nat_lt x (length nodes)) true (each_below depth newtypes assignment nodes n (record { op = op; parts = x ∷ [] }) sorted there) in
-      record { below = ltb-true x (length nodes) below.0; sort = same_sort_equal (sort_at nodes x) sorts.Number sort }
-
   two_numbers : (n p q : ℕ) → slice_get nodes n ≡ Some (record { op = ops.Equal; parts = p ∷ q ∷ [] }) → IsNumber nodes p × IsNumber nodes q
   two_numbers n p q there =
       let node : Node = record { op = ops.Equal; parts = p ∷ q ∷ [] } in
-      let first = and_parts (nat_lt p (length nodes)) (nat_lt q (length nodes) && true) (each_below depth newtypes assignment nodes n node sorted there) in
+      let first = and_parts (nat_lt p (length nodes)) (nat_lt q (length nodes) && true) (each_below depth world assignment nodes n node sorted there) in
       let second = and_parts (nat_lt q (length nodes)) true first.1 in
       let alike = same_sort_equal (sort_at nodes p) (sort_at nodes q) (taken n node there) in
       let sort = arithmetic.equalities n p q there in
@@ -352,19 +262,21 @@ module _ (depth : ℕ) (newtypes : List Newtype) (assignment : Assignment) (node
   -- a known node of each operation
   op_holds : (n : ℕ) (op : Op) (parts : List ℕ) → slice_get nodes n ≡ Some (record { op = op; parts = parts }) → same_sort (sort_of op) sorts.Truth ≡ true → AreTrueBelow n → (b : Bool) → Knows b n → same_truth b (IsTrue n) ≡ true
   op_holds n (ops.Number k) parts there sort below b is = absurd (true≢false (sym sort))
-  op_holds n (ops.Free free) parts there sort below b is = basic_true b n (record { op = ops.Free free; parts = parts }) is there refl
+  op_holds n (ops.Free free) parts there sort below b is = basic_true depth world assignment nodes known sorted arithmetic full consistent agrees b n (record { op = ops.Free free; parts = parts }) is there refl
   op_holds n ops.Plus parts there sort below b is = absurd (true≢false (sym sort))
   op_holds n ops.Times parts there sort below b is = absurd (true≢false (sym sort))
-  op_holds n (ops.Is (types.Newtype t)) (x ∷ []) there sort below b is =
-      let found = get_below newtypes t (ltb-true t (length newtypes) (arithmetic.types n t (x ∷ []) there)) in
-      is_holds n x t found.0 there found.1 (one_number n x (ops.Is (types.Newtype t)) there (taken n (record { op = ops.Is (types.Newtype t); parts = x ∷ [] }) there)) b is
+  op_holds n ops.Div parts there sort below b is = absurd (true≢false (sym sort))
+  op_holds n ops.Mod parts there sort below b is = absurd (true≢false (sym sort))
+  op_holds n ops.Code parts there sort below b is = absurd (true≢false (sym sort))
+  op_holds n ops.Chr parts there sort below b is = absurd (true≢false (sym sort))
+  op_holds n (ops.Is ty) (x ∷ []) there sort below b is = type_holds depth world assignment nodes known sorted arithmetic full consistent agrees n x ty there b is
   op_holds n (ops.Is ty) [] there sort below b is = absurd (true≢false (sym (taken n (record { op = ops.Is ty; parts = [] }) there)))
   op_holds n (ops.Is ty) (x ∷ y ∷ others) there sort below b is = absurd (true≢false (sym (taken n (record { op = ops.Is ty; parts = x ∷ y ∷ others }) there)))
   op_holds n ops.Equal (p ∷ q ∷ []) there sort below b is = let numbers = two_numbers n p q there in equal_holds n p q there numbers.0 numbers.1 b is
   op_holds n ops.Equal [] there sort below b is = absurd (true≢false (sym (taken n (record { op = ops.Equal; parts = [] }) there)))
   op_holds n ops.Equal (p ∷ []) there sort below b is = absurd (true≢false (sym (taken n (record { op = ops.Equal; parts = p ∷ [] }) there)))
   op_holds n ops.Equal (p ∷ q ∷ r ∷ others) there sort below b is = absurd (true≢false (sym (taken n (record { op = ops.Equal; parts = p ∷ q ∷ r ∷ others }) there)))
-  op_holds n ops.AtMost parts there sort below b is = basic_true b n (record { op = ops.AtMost; parts = parts }) is there refl
+  op_holds n ops.AtMost parts there sort below b is = basic_true depth world assignment nodes known sorted arithmetic full consistent agrees b n (record { op = ops.AtMost; parts = parts }) is there refl
   op_holds n ops.Not (p ∷ []) there sort below b is = not_holds n p there below b is
   op_holds n ops.Not [] there sort below b is = absurd (true≢false (sym (taken n (record { op = ops.Not; parts = [] }) there)))
   op_holds n ops.Not (p ∷ q ∷ others) there sort below b is = absurd (true≢false (sym (taken n (record { op = ops.Not; parts = p ∷ q ∷ others }) there)))

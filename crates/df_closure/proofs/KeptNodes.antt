@@ -1,12 +1,12 @@
 -- Ground lines make literal numbers and comparisons alone: what these keep, each line keeps.
-use Rattle.std.proofs.Common.{◌≡◌, ℕ, zero, suc, ◌≤◌, ◌⊎◌, inl, inr, ℤ, true, ◌==◌, List, [], ◌∷◌, length, Option, Some, None, slice_get, refl, subst}
+use Rattle.std.proofs.Common.{◌≡◌, ℕ, zero, suc, ◌≤◌, ◌⊎◌, inl, inr, ℤ, pos, true, ◌==◌, List, [], ◌∷◌, length, Option, Some, None, slice_get, refl, subst}
 use Rattle.std.specs.Option.{option_map}
 use Rattle.std.proofs.lemmas.Option.{same_Some}
 use Rattle.df_lemmas.proofs.Lists.{get_pushed}
 use Rattle.df_lemmas.proofs.Options.{then_some, map_some, test_some}
-use Rattle.df_types.specs.declared.newtype.Ty.{Ty}
-use Rattle.df_types.specs.declared.newtype.Ty.TheVariants as types
-use Rattle.df_types.specs.Newtype.{Newtype}
+use Rattle.df_lang.specs.declared.ty.Ty.{Ty}
+use Rattle.df_lang.specs.declared.ty.Ty.TheVariants as types
+use Rattle.df_form.specs.World.{World, Ends, ends_at}
 use Rattle.df_form.specs.declared.node.Sort.{Sort}
 use Rattle.df_form.specs.declared.node.Sort.TheVariants as sorts
 use Rattle.df_form.specs.declared.node.Op.{Op}
@@ -20,12 +20,12 @@ use Rattle.df_form.specs.Log.{Step, Hypothesis, Goal, Connective, Schema, Propag
 use Rattle.df_form.proofs.Values.{Grows, grows_not, grows_by, grows_twice}
 use Rattle.df_kern.specs.Bound.{number, at_most, made_at_least, made_at_most}
 use Rattle.df_kern.specs.Connective.{Added, of_one, not_clauses, and_clauses, or_clauses, implies_clauses, iff_clauses, equal_clause, equal_by_sort, connective_clause}
-use Rattle.df_kern.specs.Schema.{newtype_clause, type_clause, is_clause, schema_74}
+use Rattle.df_kern.specs.Schema.{newtype_clause, natural_clause, always_clause, type_clause, is_clause, schema_74}
 use Rattle.df_kern.specs.Derivation.{only_clause}
 use Rattle.df_ground.specs.Adding.{added_by}
 use Rattle.df_closure.specs.Filled.{is_comparing, AreComparing}
 
-module _ (newtypes : List Newtype) (P : List Node → Type 0) (keeps : (nodes : List Node) (node : Node) → is_comparing node.op ≡ true → P nodes → P (made nodes node).nodes) where
+module _ (world : World) (P : List Node → Type 0) (keeps : (nodes : List Node) (node : Node) → is_comparing node.op ≡ true → P nodes → P (made nodes node).nodes) where
   abbrev Kept : Added → Type 0
   Kept added = P added.nodes
 
@@ -51,6 +51,7 @@ module _ (newtypes : List Newtype) (P : List Node → Type 0) (keeps : (nodes : 
   sides_kept : (sort : Sort) (nodes : List Node) (n k a b : ℕ) (added : Added) → P nodes → equal_by_sort sort nodes n a b k ≡ Some added → Kept added
   sides_kept sorts.Number nodes n k a b added h is = equal_kept nodes n k a b added h is
   sides_kept sorts.Truth nodes n k a b added h is = absurd cc
+  sides_kept sorts.Character nodes n k a b added h is = absurd cc
 
   op_kept : (nodes : List Node) (n k : ℕ) (op : Op) (parts : List ℕ) (added : Added) → P nodes → connective_clause nodes n k op parts ≡ Some added → Kept added
   op_kept nodes n k ops.Not (p ∷ []) added h is = only_kept nodes (slice_get (not_clauses n p) k) added h is
@@ -61,7 +62,7 @@ module _ (newtypes : List Newtype) (P : List Node → Type 0) (keeps : (nodes : 
   op_kept nodes n k ops.Equal (a ∷ b ∷ []) added h is = sides_kept (sort_at nodes a) nodes n k a b added h is
   op_kept nodes n k op parts added h is = absurd cc
 
-  newtype_kept : (newtype : Newtype) (nodes : List Node) (n x k : ℕ) (added : Added) → P nodes → newtype_clause newtype nodes n x k ≡ Some added → Kept added
+  newtype_kept : (newtype : Ends) (nodes : List Node) (n x k : ℕ) (added : Added) → P nodes → newtype_clause newtype nodes n x k ≡ Some added → Kept added
   newtype_kept newtype nodes n x zero added h line = subst Kept (same_Some _ added line) (low_kept nodes newtype.low x h)
   newtype_kept newtype nodes n x (suc zero) added h line = subst Kept (same_Some _ added line) (high_kept nodes x newtype.high h)
   newtype_kept newtype nodes n x (suc (suc zero)) added h line =
@@ -69,18 +70,31 @@ module _ (newtypes : List Newtype) (P : List Node → Type 0) (keeps : (nodes : 
       subst Kept (same_Some _ added line) (high_kept low.nodes x newtype.high (low_kept nodes newtype.low x h))
   newtype_kept newtype nodes n x (suc (suc (suc k))) added h line = absurd cc
 
-  type_kept : (nodes : List Node) (n x k : ℕ) (ty : Ty) (added : Added) → P nodes → type_clause newtypes nodes n x ty k ≡ Some added → Kept added
-  type_kept nodes n x k (types.Newtype t) added h line =
-      let found = then_some (λ (newtype : Newtype). newtype_clause newtype nodes n x k) (slice_get newtypes t) added line in
-      newtype_kept found.0 nodes n x k added h found.2
+  natural_kept : (nodes : List Node) (n x k : ℕ) (added : Added) → P nodes → natural_clause nodes n x k ≡ Some added → Kept added
+  natural_kept nodes n x zero added h line = subst Kept (same_Some _ added line) (low_kept nodes (pos 0) x h)
+  natural_kept nodes n x (suc zero) added h line = subst Kept (same_Some _ added line) (low_kept nodes (pos 0) x h)
+  natural_kept nodes n x (suc (suc k)) added h line = absurd cc
 
-  is_kept : (nodes : List Node) (n k : ℕ) (op : Op) (parts : List ℕ) (added : Added) → P nodes → is_clause newtypes nodes n k op parts ≡ Some added → Kept added
+  always_kept : (nodes : List Node) (n k : ℕ) (added : Added) → P nodes → always_clause nodes n k ≡ Some added → Kept added
+  always_kept nodes n zero added h line = subst Kept (same_Some _ added line) h
+  always_kept nodes n (suc k) added h line = absurd cc
+
+  type_kept : (nodes : List Node) (n x k : ℕ) (ty : Ty) (added : Added) → P nodes → type_clause world nodes n x ty k ≡ Some added → Kept added
+  type_kept nodes n x k (types.Newtype t) added h line =
+      let found = then_some (λ (newtype : Ends). newtype_clause newtype nodes n x k) (ends_at world t) added line in
+      newtype_kept found.0 nodes n x k added h found.2
+  type_kept nodes n x k types.Int added h line = always_kept nodes n k added h line
+  type_kept nodes n x k types.Nat added h line = natural_kept nodes n x k added h line
+  type_kept nodes n x k types.Bool added h line = always_kept nodes n k added h line
+  type_kept nodes n x k types.Char added h line = always_kept nodes n k added h line
+
+  is_kept : (nodes : List Node) (n k : ℕ) (op : Op) (parts : List ℕ) (added : Added) → P nodes → is_clause world nodes n k op parts ≡ Some added → Kept added
   is_kept nodes n k (ops.Is ty) (x ∷ []) added h line = type_kept nodes n x k ty added h line
   is_kept nodes n k op parts added h line = absurd cc
 
-  terms_kept : (nodes : List Node) (k : ℕ) (terms : List ℕ) (added : Added) → P nodes → of_one (schema_74 newtypes nodes k) terms ≡ Some added → Kept added
+  terms_kept : (nodes : List Node) (k : ℕ) (terms : List ℕ) (added : Added) → P nodes → of_one (schema_74 world nodes k) terms ≡ Some added → Kept added
   terms_kept nodes k (n ∷ []) added h line =
-      let found = then_some (λ (node : Node). is_clause newtypes nodes n k node.op node.parts) (slice_get nodes n) added line in
+      let found = then_some (λ (node : Node). is_clause world nodes n k node.op node.parts) (slice_get nodes n) added line in
       is_kept nodes n k found.0.op found.0.parts added h found.2
   terms_kept nodes k [] added h line = absurd cc
   terms_kept nodes k (n ∷ m ∷ others) added h line = absurd cc
@@ -88,12 +102,12 @@ module _ (newtypes : List Newtype) (P : List Node → Type 0) (keeps : (nodes : 
 -- what comparisons keep, each ground line keeps
 pub line_keeps : (s : Sequent) (P : List Node → Type 0) → ((nodes : List Node) (node : Node) → is_comparing node.op ≡ true → P nodes → P (made nodes node).nodes)
     → (nodes : List Node) (step : Step) (added : Added) → P nodes → added_by s nodes step ≡ Some added → P added.nodes
-line_keeps s P keeps nodes (Hypothesis i) added h e = only_kept s.newtypes P keeps nodes (option_map (λ h. yes h ∷ []) (slice_get s.hypotheses i)) added h e
-line_keeps s P keeps nodes Goal added h e = only_kept s.newtypes P keeps nodes (Some (no s.goal ∷ [])) added h e
+line_keeps s P keeps nodes (Hypothesis i) added h e = only_kept s.world P keeps nodes (option_map (λ h. yes h ∷ []) (slice_get s.hypotheses i)) added h e
+line_keeps s P keeps nodes Goal added h e = only_kept s.world P keeps nodes (Some (no s.goal ∷ [])) added h e
 line_keeps s P keeps nodes (Connective n k) added h e =
     let found = then_some (λ (node : Node). connective_clause nodes n k node.op node.parts) (slice_get nodes n) added e in
-    op_kept s.newtypes P keeps nodes n k found.0.op found.0.parts added h found.2
-line_keeps s P keeps nodes (Schema schema k terms) added h e = terms_kept s.newtypes P keeps nodes k terms added h (test_some (schema == 74) (of_one (schema_74 s.newtypes nodes k) terms) added e).1
+    op_kept s.world P keeps nodes n k found.0.op found.0.parts added h found.2
+line_keeps s P keeps nodes (Schema schema k terms) added h e = terms_kept s.world P keeps nodes k terms added h (test_some (schema == 74) (of_one (schema_74 s.world nodes k) terms) added e).1
 line_keeps s P keeps nodes (Propagation numbers conclusion) added h e = absurd cc
 line_keeps s P keeps nodes (Congruence conclusion pairs) added h e = absurd cc
 line_keeps s P keeps nodes (Linear conclusion combinations) added h e = absurd cc

@@ -96,6 +96,7 @@ module _ (nodes more : List Node) (g : Grows nodes more) where
     same_by_sort : (sort : Sort) (positive : Bool) (op : Op) (a b : ℕ) → a < length nodes → b < length nodes → rows_by_sort sort more positive op a b ≡ rows_by_sort sort nodes positive op a b
     same_by_sort sorts.Number positive op a b less_a less_b = same_comparison positive op a b less_a less_b
     same_by_sort sorts.Truth positive op a b less_a less_b = refl
+    same_by_sort sorts.Character positive op a b less_a less_b = refl
 
     same_of_parts : (m : ℕ) (positive : Bool) (op : Op) (parts : List ℕ) → m ≤ length nodes → list_all (λ part. nat_lt part m) parts ≡ true → rows_of_parts more positive op parts ≡ rows_of_parts nodes positive op parts
     same_of_parts m positive op [] le below = refl

@@ -1,5 +1,8 @@
 pub mod Lists
 pub mod Rounds
+pub mod TypeValues
+pub mod Knowing
+pub mod FullTypes
 pub mod FullLists
 pub mod Lines
 pub mod Comparisons

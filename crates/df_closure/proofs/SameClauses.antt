@@ -1,11 +1,11 @@
 -- A clause is the same among nodes that hold all that it made.
-use Rattle.std.proofs.Common.{◌≡◌, ℕ, zero, suc, ℤ, List, [], ◌∷◌, Option, Some, None, slice_get, refl, sym, ap, ◌∙◌, subst}
+use Rattle.std.proofs.Common.{◌≡◌, ℕ, zero, suc, ℤ, pos, List, [], ◌∷◌, Option, Some, None, slice_get, refl, sym, ap, ◌∙◌, subst}
 use Rattle.std.specs.Option.{option_map, option_and_then}
 use Rattle.std.proofs.lemmas.Option.{same_Some}
 use Rattle.df_lemmas.proofs.Options.{then_some, map_some}
-use Rattle.df_types.specs.declared.newtype.Ty.{Ty}
-use Rattle.df_types.specs.declared.newtype.Ty.TheVariants as types
-use Rattle.df_types.specs.Newtype.{Newtype}
+use Rattle.df_lang.specs.declared.ty.Ty.{Ty}
+use Rattle.df_lang.specs.declared.ty.Ty.TheVariants as types
+use Rattle.df_form.specs.World.{World, Ends, ends_at}
 use Rattle.df_form.specs.declared.node.Sort.{Sort}
 use Rattle.df_form.specs.declared.node.Sort.TheVariants as sorts
 use Rattle.df_form.specs.declared.node.Op.{Op}
@@ -18,7 +18,7 @@ use Rattle.df_form.proofs.Values.{Grows, grows_twice, grown_get}
 use Rattle.df_form.proofs.Tables.{made_old, number_of_at}
 use Rattle.df_kern.specs.Bound.{number, at_most, made_at_least, made_at_most}
 use Rattle.df_kern.specs.Connective.{Added, chosen, not_clauses, and_clauses, or_clauses, implies_clauses, iff_clauses, equal_clause, equal_by_sort, connective_clause}
-use Rattle.df_kern.specs.Schema.{newtype_clause, type_clause, is_clause}
+use Rattle.df_kern.specs.Schema.{newtype_clause, natural_clause, always_clause, type_clause, is_clause}
 use Rattle.df_kern.proofs.Growth.{made-at}
 use Rattle.df_closure.proofs.KeptNodes.{made_grows}
 
@@ -80,6 +80,7 @@ module _ (nodes : List Node) (table : IsTable nodes) where
   sides_again : (sort : Sort) (before : List Node) (n a b k : ℕ) (added : Added) → equal_by_sort sort before n a b k ≡ Some added → Grows added.nodes nodes → equal_by_sort sort nodes n a b k ≡ Some (again added)
   sides_again sorts.Number before n a b k added e g = equal_again before n a b k added e g
   sides_again sorts.Truth before n a b k added e g = absurd cc
+  sides_again sorts.Character before n a b k added e g = absurd cc
 
   -- the first part is of the same sort
   abbrev pub FirstAlike : List Node → List ℕ → Type 0
@@ -95,7 +96,7 @@ module _ (nodes : List Node) (table : IsTable nodes) where
       ap (λ (sort : Sort). equal_by_sort sort nodes n a b k) (alike a (b ∷ []) refl) ∙ sides_again (sort_at before a) before n a b k added e g
   connective_again before n k op parts added alike e g = absurd cc
 
-  newtype_again : (newtype : Newtype) (before : List Node) (n x k : ℕ) (added : Added) → newtype_clause newtype before n x k ≡ Some added → Grows added.nodes nodes → newtype_clause newtype nodes n x k ≡ Some (again added)
+  newtype_again : (newtype : Ends) (before : List Node) (n x k : ℕ) (added : Added) → newtype_clause newtype before n x k ≡ Some added → Grows added.nodes nodes → newtype_clause newtype nodes n x k ≡ Some (again added)
   newtype_again newtype before n x zero added e g =
       let same = same_Some _ added e in
       let low = made_at_least before newtype.low x in
@@ -118,14 +119,35 @@ module _ (nodes : List Node) (table : IsTable nodes) where
       ∙ ap (λ (x : Added). Some (again x)) same
   newtype_again newtype before n x (suc (suc (suc k))) added e g = absurd cc
 
-  type_again : (newtypes : List Newtype) (before : List Node) (n x k : ℕ) (ty : Ty) (added : Added) → type_clause newtypes before n x ty k ≡ Some added → Grows added.nodes nodes → type_clause newtypes nodes n x ty k ≡ Some (again added)
-  type_again newtypes before n x k (types.Newtype t) added e g =
-      let found = then_some (λ (newtype : Newtype). newtype_clause newtype before n x k) (slice_get newtypes t) added e in
-      ap (λ (o : Option Newtype). option_and_then (λ (newtype : Newtype). newtype_clause newtype nodes n x k) o) found.1 ∙ newtype_again found.0 before n x k added found.2 g
+  natural_again : (before : List Node) (n x k : ℕ) (added : Added) → natural_clause before n x k ≡ Some added → Grows added.nodes nodes → natural_clause nodes n x k ≡ Some (again added)
+  natural_again before n x zero added e g =
+      let same = same_Some _ added e in
+      let low = made_at_least before (pos 0) x in
+      let from : Grows low.nodes nodes = subst (λ (x : Added). Grows x.nodes nodes) (sym same) g in
+      ap (λ (m : Made). Some (record { nodes = m.nodes; clause = no n ∷ yes m.number ∷ [] })) (at_least_again before (pos 0) x from) ∙ ap (λ (x : Added). Some (again x)) same
+  natural_again before n x (suc zero) added e g =
+      let same = same_Some _ added e in
+      let low = made_at_least before (pos 0) x in
+      let from : Grows low.nodes nodes = subst (λ (x : Added). Grows x.nodes nodes) (sym same) g in
+      ap (λ (m : Made). Some (record { nodes = m.nodes; clause = yes n ∷ no m.number ∷ [] })) (at_least_again before (pos 0) x from) ∙ ap (λ (x : Added). Some (again x)) same
+  natural_again before n x (suc (suc k)) added e g = absurd cc
 
-  pub schema_again : (newtypes : List Newtype) (before : List Node) (n k : ℕ) (op : Op) (parts : List ℕ) (added : Added) → is_clause newtypes before n k op parts ≡ Some added → Grows added.nodes nodes → is_clause newtypes nodes n k op parts ≡ Some (again added)
-  schema_again newtypes before n k (ops.Is ty) (x ∷ []) added e g = type_again newtypes before n x k ty added e g
-  schema_again newtypes before n k op parts added e g = absurd cc
+  always_again : (before : List Node) (n k : ℕ) (added : Added) → always_clause before n k ≡ Some added → always_clause nodes n k ≡ Some (again added)
+  always_again before n zero added e = ap (λ (x : Added). Some (again x)) (same_Some _ added e)
+  always_again before n (suc k) added e = absurd cc
+
+  type_again : (world : World) (before : List Node) (n x k : ℕ) (ty : Ty) (added : Added) → type_clause world before n x ty k ≡ Some added → Grows added.nodes nodes → type_clause world nodes n x ty k ≡ Some (again added)
+  type_again world before n x k (types.Newtype t) added e g =
+      let found = then_some (λ (newtype : Ends). newtype_clause newtype before n x k) (ends_at world t) added e in
+      ap (λ (o : Option Ends). option_and_then (λ (newtype : Ends). newtype_clause newtype nodes n x k) o) found.1 ∙ newtype_again found.0 before n x k added found.2 g
+  type_again world before n x k types.Int added e g = always_again before n k added e
+  type_again world before n x k types.Nat added e g = natural_again before n x k added e g
+  type_again world before n x k types.Bool added e g = always_again before n k added e
+  type_again world before n x k types.Char added e g = always_again before n k added e
+
+  pub schema_again : (world : World) (before : List Node) (n k : ℕ) (op : Op) (parts : List ℕ) (added : Added) → is_clause world before n k op parts ≡ Some added → Grows added.nodes nodes → is_clause world nodes n k op parts ≡ Some (again added)
+  schema_again world before n k (ops.Is ty) (x ∷ []) added e g = type_again world before n x k ty added e g
+  schema_again world before n k op parts added e g = absurd cc
 
 -- a clause that is one among some nodes is one among others
 chosen_too : (nodes before : List Node) (clauses : List Clause) (k : ℕ) (added : Added) → chosen nodes clauses k ≡ Some added → chosen before clauses k ≡ None → ⊥
@@ -143,6 +165,7 @@ equal_too nodes before n a b (suc (suc (suc k))) added e none = cc
 sides_too : (sort : Sort) (nodes before : List Node) (n a b k : ℕ) (added : Added) → equal_by_sort sort nodes n a b k ≡ Some added → equal_by_sort sort before n a b k ≡ None → ⊥
 sides_too sorts.Number nodes before n a b k added e none = equal_too nodes before n a b k added e none
 sides_too sorts.Truth nodes before n a b k added e none = cc
+sides_too sorts.Character nodes before n a b k added e none = cc
 
 pub connective_too : (nodes before : List Node) (n k : ℕ) (op : Op) (parts : List ℕ) (added : Added) → ((a : ℕ) (others : List ℕ) → parts ≡ a ∷ others → sort_at nodes a ≡ sort_at before a) → connective_clause nodes n k op parts ≡ Some added → connective_clause before n k op parts ≡ None → ⊥
 connective_too nodes before n k ops.Not (p ∷ []) added alike e none = chosen_too nodes before (not_clauses n p) k added e none
@@ -155,17 +178,30 @@ connective_too nodes before n k ops.Equal (a ∷ b ∷ []) added alike e none =
     sides_too (sort_at before a) nodes before n a b k added (ap (λ (sort : Sort). equal_by_sort sort nodes n a b k) (sym same) ∙ e) none
 connective_too nodes before n k op parts added alike e none = cc
 
-newtype_too : (newtype : Newtype) (nodes before : List Node) (n x k : ℕ) (added : Added) → newtype_clause newtype nodes n x k ≡ Some added → newtype_clause newtype before n x k ≡ None → ⊥
+newtype_too : (newtype : Ends) (nodes before : List Node) (n x k : ℕ) (added : Added) → newtype_clause newtype nodes n x k ≡ Some added → newtype_clause newtype before n x k ≡ None → ⊥
 newtype_too newtype nodes before n x zero added e none = cc
 newtype_too newtype nodes before n x (suc zero) added e none = cc
 newtype_too newtype nodes before n x (suc (suc zero)) added e none = cc
 newtype_too newtype nodes before n x (suc (suc (suc k))) added e none = cc
 
-type_too : (newtypes : List Newtype) (nodes before : List Node) (n x k : ℕ) (ty : Ty) (added : Added) → type_clause newtypes nodes n x ty k ≡ Some added → type_clause newtypes before n x ty k ≡ None → ⊥
-type_too newtypes nodes before n x k (types.Newtype t) added e none =
-    let found = then_some (λ (newtype : Newtype). newtype_clause newtype nodes n x k) (slice_get newtypes t) added e in
-    newtype_too found.0 nodes before n x k added found.2 (ap (λ (o : Option Newtype). option_and_then (λ (newtype : Newtype). newtype_clause newtype before n x k) o) (sym found.1) ∙ none)
+natural_too : (nodes before : List Node) (n x k : ℕ) (added : Added) → natural_clause nodes n x k ≡ Some added → natural_clause before n x k ≡ None → ⊥
+natural_too nodes before n x zero added e none = cc
+natural_too nodes before n x (suc zero) added e none = cc
+natural_too nodes before n x (suc (suc k)) added e none = cc
 
-pub schema_too : (newtypes : List Newtype) (nodes before : List Node) (n k : ℕ) (op : Op) (parts : List ℕ) (added : Added) → is_clause newtypes nodes n k op parts ≡ Some added → is_clause newtypes before n k op parts ≡ None → ⊥
-schema_too newtypes nodes before n k (ops.Is ty) (x ∷ []) added e none = type_too newtypes nodes before n x k ty added e none
-schema_too newtypes nodes before n k op parts added e none = cc
+always_too : (nodes before : List Node) (n k : ℕ) (added : Added) → always_clause nodes n k ≡ Some added → always_clause before n k ≡ None → ⊥
+always_too nodes before n zero added e none = cc
+always_too nodes before n (suc k) added e none = cc
+
+type_too : (world : World) (nodes before : List Node) (n x k : ℕ) (ty : Ty) (added : Added) → type_clause world nodes n x ty k ≡ Some added → type_clause world before n x ty k ≡ None → ⊥
+type_too world nodes before n x k (types.Newtype t) added e none =
+    let found = then_some (λ (newtype : Ends). newtype_clause newtype nodes n x k) (ends_at world t) added e in
+    newtype_too found.0 nodes before n x k added found.2 (ap (λ (o : Option Ends). option_and_then (λ (newtype : Ends). newtype_clause newtype before n x k) o) (sym found.1) ∙ none)
+type_too world nodes before n x k types.Int added e none = always_too nodes before n k added e none
+type_too world nodes before n x k types.Nat added e none = natural_too nodes before n x k added e none
+type_too world nodes before n x k types.Bool added e none = always_too nodes before n k added e none
+type_too world nodes before n x k types.Char added e none = always_too nodes before n k added e none
+
+pub schema_too : (world : World) (nodes before : List Node) (n k : ℕ) (op : Op) (parts : List ℕ) (added : Added) → is_clause world nodes n k op parts ≡ Some added → is_clause world before n k op parts ≡ None → ⊥
+schema_too world nodes before n k (ops.Is ty) (x ∷ []) added e none = type_too world nodes before n x k ty added e none
+schema_too world nodes before n k op parts added e none = cc

@@ -1,6 +1,6 @@
 -- Literals of which rows speak.
 use Rattle.std.specs.Prelude.{◌≡◌, ℕ, ℤ, true, List, [], ◌∷◌, slice_get, Some}
-use Rattle.df_types.specs.Newtype.{Newtype}
+use Rattle.df_form.specs.World.{World}
 use Rattle.df_form.specs.declared.log.Lit.{Lit}
 use Rattle.df_form.specs.declared.node.Sort.TheVariants as sorts
 use Rattle.df_form.specs.declared.node.Free.{Free}
@@ -16,13 +16,13 @@ pub data IsComparison (nodes : List Node) (l : Lit) : Type 0 where
   equal : (a b : ℕ) → l.positive ≡ true → slice_get nodes l.node ≡ Some (record { op = ops.Equal; parts = a ∷ b ∷ [] }) → sort_at nodes a ≡ sorts.Number → IsComparison nodes l
 
 -- the number of each node under an assignment
-abbrev pub numbers_of : ℕ → List Newtype → Assignment → List Node → ℕ → ℤ
-numbers_of depth newtypes assignment nodes n = number_at (values depth newtypes assignment nodes) n
+abbrev pub numbers_of : ℕ → World → Assignment → List Node → ℕ → ℤ
+numbers_of depth world assignment nodes n = number_at (values depth world assignment nodes) n
 
 -- each comparison among the literals is true
-abbrev pub ComparisonsHold : ℕ → List Newtype → Assignment → List Node → List Lit → Type 0
-ComparisonsHold depth newtypes assignment nodes literals = (l : Lit) → is_among literals l ≡ true → IsComparison nodes l → literal_truth (truth depth newtypes assignment nodes) l ≡ true
+abbrev pub ComparisonsHold : ℕ → World → Assignment → List Node → List Lit → Type 0
+ComparisonsHold depth world assignment nodes literals = (l : Lit) → is_among literals l ≡ true → IsComparison nodes l → literal_truth (truth depth world assignment nodes) l ≡ true
 
 -- each free formula among the literals is true, or false where it is negated
-abbrev pub FreeFormulasHold : ℕ → List Newtype → Assignment → List Node → List Lit → Type 0
-FreeFormulasHold depth newtypes assignment nodes literals = (l : Lit) (free : Free) (parts : List ℕ) → is_among literals l ≡ true → slice_get nodes l.node ≡ Some (record { op = ops.Free free; parts = parts }) → literal_truth (truth depth newtypes assignment nodes) l ≡ true
+abbrev pub FreeFormulasHold : ℕ → World → Assignment → List Node → List Lit → Type 0
+FreeFormulasHold depth world assignment nodes literals = (l : Lit) (free : Free) (parts : List ℕ) → is_among literals l ≡ true → slice_get nodes l.node ≡ Some (record { op = ops.Free free; parts = parts }) → literal_truth (truth depth world assignment nodes) l ≡ true

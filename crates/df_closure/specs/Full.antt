@@ -1,7 +1,7 @@
 -- Lists of literals beside which nothing is open.
 use Rattle.std.specs.Prelude.{◌≡◌, ℕ, Bool, true, false, ◌||◌, List, [], ◌∷◌, slice_get, Some}
 use Rattle.std.specs.List.{list_any}
-use Rattle.df_types.specs.Newtype.{Newtype}
+use Rattle.df_form.specs.World.{World}
 use Rattle.df_form.specs.declared.log.Lit.{Lit}
 use Rattle.df_form.specs.declared.node.Op.{Op}
 use Rattle.df_form.specs.declared.node.Op.TheVariants as ops
@@ -22,9 +22,9 @@ abbrev pub knows_of : List Lit → ℕ → Bool
 knows_of known n = is_among known (yes n) || is_among known (no n)
 
 -- Each clause that a known node means has a known literal.
-pub record IsFull (newtypes : List Newtype) (nodes : List Node) (known : List Lit) : Type 0 where
+pub record IsFull (world : World) (nodes : List Node) (known : List Lit) : Type 0 where
   pub connectives : (n k : ℕ) (added : Added) → knows_of known n ≡ true → connective_line nodes n k ≡ Some added → IsMet nodes known added
-  pub types : (n k : ℕ) (added : Added) → knows_of known n ≡ true → schema_line newtypes nodes 74 k (n ∷ []) ≡ Some added → IsMet nodes known added
+  pub types : (n k : ℕ) (added : Added) → knows_of known n ≡ true → schema_line world nodes 74 k (n ∷ []) ≡ Some added → IsMet nodes known added
 
 -- no literal is known with its negation
 abbrev pub IsConsistent : List Lit → Type 0
@@ -37,5 +37,5 @@ is_basic ops.AtMost = true
 is_basic op = false
 
 -- an assignment makes the known free terms and comparisons true
-abbrev pub Agrees : ℕ → List Newtype → Assignment → List Node → List Lit → Type 0
-Agrees depth newtypes assignment nodes known = (l : Lit) (node : Node) → is_among known l ≡ true → slice_get nodes l.node ≡ Some node → is_basic node.op ≡ true → same_truth l.positive (truth depth newtypes assignment nodes l.node) ≡ true
+abbrev pub Agrees : ℕ → World → Assignment → List Node → List Lit → Type 0
+Agrees depth world assignment nodes known = (l : Lit) (node : Node) → is_among known l ≡ true → slice_get nodes l.node ≡ Some node → is_basic node.op ≡ true → same_truth l.positive (truth depth world assignment nodes l.node) ≡ true

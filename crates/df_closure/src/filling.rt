@@ -34,7 +34,7 @@ pub fn grounds_make_comparisons()
 /// A list that leaves no clause of a ground set open has a known literal of each clause that a known node
 /// means, among all nodes that hold those of the set and comparisons beside them.
 pub fn filled_lists_are_full()
-    ensures { (s : Sequent) (g : Ground) (nodes : List Node) (known : List Lit) → IsSequent s → IsGroundOf s g → IsTable nodes → take (length g.nodes) nodes ≡ g.nodes → AreComparing (length s.nodes) nodes → IsFilled (map ground_of g.clauses.items) known → IsFull s.newtypes nodes known }
+    ensures { (s : Sequent) (g : Ground) (nodes : List Node) (known : List Lit) → IsSequent s → IsGroundOf s g → IsTable nodes → take (length g.nodes) nodes ≡ g.nodes → AreComparing (length s.nodes) nodes → IsFilled (map ground_of g.clauses.items) known → IsFull s.world nodes known }
 {}
 
 /// And each hypothesis is known in it, and the negated goal.

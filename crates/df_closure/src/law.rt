@@ -1,7 +1,7 @@
 //! What closed lists are worth.
 
 ghost use Rattle.std.specs.Prelude.{◌≡◌, ◌↔◌, ℕ, ℤ, true, List, [], ◌∷◌, ◌++◌, map, length, slice_get, Some};
-ghost use Rattle.df_types.specs.Newtype.{Newtype};
+ghost use Rattle.df_form.specs.World.{World};
 ghost use Rattle.df_form.specs.declared.log.Lit.{Lit};
 ghost use Rattle.df_form.specs.Node.{Node};
 ghost use Rattle.df_form.specs.Sorting.{IsTable};
@@ -21,18 +21,18 @@ ghost use Rattle.df_closure.specs.Comparisons.{numbers_of, ComparisonsHold, Free
 /// Where nothing is open beside a consistent list, an assignment that makes its free terms and comparisons
 /// true makes all its literals true.
 pub fn full_lists_hold()
-    ensures { (depth : ℕ) (newtypes : List Newtype) (assignment : Assignment) (nodes : List Node) (known : List Lit) → IsTable nodes → IsOfNumbers newtypes nodes → are_literals nodes known ≡ true → IsFull newtypes nodes known → IsConsistent known → Agrees depth newtypes assignment nodes known → (l : Lit) → is_among known l ≡ true → literal_truth (truth depth newtypes assignment nodes) l ≡ true }
+    ensures { (depth : ℕ) (world : World) (assignment : Assignment) (nodes : List Node) (known : List Lit) → IsTable nodes → IsOfNumbers world nodes → are_literals nodes known ≡ true → IsFull world nodes known → IsConsistent known → Agrees depth world assignment nodes known → (l : Lit) → is_among known l ≡ true → literal_truth (truth depth world assignment nodes) l ≡ true }
 {}
 
 /// The rows of literals hold at the numbers of the nodes exactly where each comparison and each equality of
 /// numbers among the literals is true.
 pub fn rows_hold_where_comparisons_do()
-    ensures { (depth : ℕ) (newtypes : List Newtype) (assignment : Assignment) (nodes : List Node) (literals : List Lit) (rows : List Row) → IsTable nodes → rows_of nodes literals ≡ Some rows → (rows_hold (length nodes) (numbers_of depth newtypes assignment nodes) rows ≡ true) ↔ ComparisonsHold depth newtypes assignment nodes literals }
+    ensures { (depth : ℕ) (world : World) (assignment : Assignment) (nodes : List Node) (literals : List Lit) (rows : List Row) → IsTable nodes → rows_of nodes literals ≡ Some rows → (rows_hold (length nodes) (numbers_of depth world assignment nodes) rows ≡ true) ↔ ComparisonsHold depth world assignment nodes literals }
 {}
 
 /// So an assignment agrees with a list where the rows of the list hold and its free formulas are true.
 pub fn rows_make_lists_agree()
-    ensures { (depth : ℕ) (newtypes : List Newtype) (assignment : Assignment) (nodes : List Node) (known : List Lit) (rows : List Row) → IsTable nodes → rows_of nodes known ≡ Some rows → rows_hold (length nodes) (numbers_of depth newtypes assignment nodes) rows ≡ true → FreeFormulasHold depth newtypes assignment nodes known → Agrees depth newtypes assignment nodes known }
+    ensures { (depth : ℕ) (world : World) (assignment : Assignment) (nodes : List Node) (known : List Lit) (rows : List Row) → IsTable nodes → rows_of nodes known ≡ Some rows → rows_hold (length nodes) (numbers_of depth world assignment nodes) rows ≡ true → FreeFormulasHold depth world assignment nodes known → Agrees depth world assignment nodes known }
 {}
 
 /// Rows of literals hold by the numbers of the atoms alone: the nodes that are no literal, no sum, and no

@@ -58,11 +58,13 @@ truths_same false b = refl
 
 negate_same : (range : Interval) (v : Value) → unary (unaries.Negate (range_of range)) (machine_value v) ≡ option_map machine_value (negated range v)
 negate_same range (values.Truth b) = refl
+negate_same range (values.Character c) = refl
 negate_same range (values.Number n) = in_range _ _
 negate_same range (values.Text cs) = refl
 
 opposite_same : (v : Value) → unary unaries.Not (machine_value v) ≡ option_map machine_value (opposite v)
 opposite_same (values.Truth b) = refl
+opposite_same (values.Character c) = refl
 opposite_same (values.Number n) = refl
 opposite_same (values.Text cs) = refl
 

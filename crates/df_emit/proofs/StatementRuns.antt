@@ -182,11 +182,13 @@ PrintsTop w p vs v t p' (Some text) = Carries w p vs (machine_value v ∷ []) t 
 
 number_top : (w : World) (q : ℕ) (vs : List Value) (t : List ℕ) → slice_get (instructions w) q ≡ Some (i.Print 0) → (v : Value) → PrintsTop w q vs v t (q + 1) (number_text v)
 number_top w q vs t h (values.Truth b) = tt
+number_top w q vs t h (values.Character c) = tt
 number_top w q vs t h (values.Number n) = print_one w q 0 vs (mach.Number n) t (text_of (values.Number n)) shapes.Number h refl refl
 number_top w q vs t h (values.Text cs) = tt
 
 truth_top : (w : World) (q : ℕ) (vs : List Value) (t : List ℕ) → slice_get (instructions w) q ≡ Some (i.Print 1) → (v : Value) → PrintsTop w q vs v t (q + 1) (truth_text v)
 truth_top w q vs t h (values.Truth b) = print_one w q 1 vs (mach.Truth b) t (text_of (values.Truth b)) shapes.Truth h refl (truths_say b)
+truth_top w q vs t h (values.Character c) = tt
 truth_top w q vs t h (values.Number n) = tt
 truth_top w q vs t h (values.Text cs) = tt
 
@@ -321,6 +323,7 @@ guards w q after p' vs (values.Truth true) t Q x y h there a b =
 guards w q after p' vs (values.Truth false) t Q x y h there a b =
     popped w q after p' vs (values.Truth false) t Q y (still_silent w q after (mach.Truth false ∷ []) [] t (i.Unless after) h (λ l. ap (λ (z : Bool). demand z (Goes (frame w after l []) [])) (below after _ there))) b
 guards w q after p' vs (values.Number n) t Q x y h there a b = tt
+guards w q after p' vs (values.Character c) t Q x y h there a b = tt
 guards w q after p' vs (values.Text cs) t Q x y h there a b = tt
 
 after_least : (s : Stmt) (n : ℕ) → n ≤ locals_after n s

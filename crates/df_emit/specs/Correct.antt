@@ -1,6 +1,6 @@
 -- The code does what the program does.
 use Rattle.std.specs.Prelude.{◌≡◌, ℕ, ℤ, List, [], map, length, Option, Some, slice_get}
-use Rattle.df_meaning.specs.Value.{Value, Truth, Number, Text}
+use Rattle.df_meaning.specs.Value.{Value, Truth, Character, Number, Text}
 use Rattle.df_plain.specs.Plain.{Method, Plain}
 use Rattle.df_plain.specs.Run.{Ended, plain_run}
 use Rattle.df_mach.specs.Value as mach
@@ -11,6 +11,7 @@ use Rattle.df_emit.specs.Ending.{Ends}
 -- the machine's value: a text is a sequence of characters
 abbrev pub machine_value : Value → mach.Value
 machine_value (Truth b) = mach.Truth b
+machine_value (Character c) = mach.Char c
 machine_value (Number n) = mach.Number n
 machine_value (Text characters) = mach.Sequence (mach.held (map mach.Char characters))
 

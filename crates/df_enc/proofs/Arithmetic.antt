@@ -2,7 +2,7 @@
 use Rattle.std.proofs.Common.{◌≡◌, ℕ, Bool, true, false, nat_lt, List, [], ◌∷◌, length, get_or, Option, Some, None, refl, sym, ap, subst}
 use Rattle.std.specs.List.{AllByRecursion}
 use Rattle.df_base.specs.declared.pos.Pos.{Pos}
-use Rattle.df_types.specs.declared.newtype.Ty.TheVariants as places
+use Rattle.df_lang.specs.declared.ty.Ty.TheVariants as places
 use Rattle.df_types.specs.Newtype.{Newtype}
 use Rattle.df_program.specs.declared.expr.Ty.{Ty}
 use Rattle.df_program.specs.declared.expr.Ty.TheVariants as types
@@ -14,12 +14,14 @@ use Rattle.df_program.specs.Expr.{Expr, Number, Truth, Local, Negate, Not, Opera
 use Rattle.df_program.specs.Typing.{same_type, is_integer, fits, compares, is_one_run, is_expr, are_members, are_links}
 use Rattle.df_meaning.specs.declared.kind.Kind.{Kind}
 use Rattle.df_meaning.specs.declared.kind.Kind.TheVariants as kinds
+use Rattle.df_form.specs.World.{of_newtypes}
 use Rattle.df_form.specs.declared.node.Sort.TheVariants as sorts
 use Rattle.df_form.specs.declared.node.Op.{Op}
 use Rattle.df_form.specs.declared.node.Op.TheVariants as ops
 use Rattle.df_form.specs.Node.{Node}
 use Rattle.df_form.specs.Arithmetic.{IsLiteral, IsArithmeticSequent}
 use Rattle.df_form.proofs.Same.{and_true}
+use Rattle.df_form.proofs.Types.{has_ends}
 use Rattle.df_form.proofs.Arithmetic.{Fits, is_plain, made_there, plain_fits, equality_fits, type_fits, made_stay, are_arithmetic, all_fit}
 use Rattle.df_form.proofs.Arithmetic as forms
 use Rattle.df_enc.specs.Obligation.{Obligation}
@@ -55,32 +57,33 @@ module _ (n : List Newtype) where
   -- an obligation over the newtypes, that is arithmetic
   pub record IsFine (o : Obligation) : Type 0 where
     pub arithmetic : IsArithmeticSequent o.sequent
-    pub over : o.sequent.newtypes ≡ n
+    pub over : o.sequent.world ≡ of_newtypes n
 
   -- what is said so far is arithmetic
   pub record Arith (p : Passed) : Type 0 where
-    pub nodes : forms.AreArithmetic n p.nodes
+    pub nodes : forms.AreArithmetic (of_newtypes n) p.nodes
     pub owed : AllByRecursion IsFine p.obligations
 
-  product_fits : (nodes : List Node) (a b : ℕ) → IsLiteral nodes a → Fits n nodes (record { op = ops.Times; parts = a ∷ b ∷ [] })
+  product_fits : (nodes : List Node) (a b : ℕ) → IsLiteral nodes a → Fits (of_newtypes n) nodes (record { op = ops.Times; parts = a ∷ b ∷ [] })
   product_fits nodes a b is = record {
     equalities = λ c d e. absurd (product_is_no_equality (a ∷ b ∷ []) (c ∷ d ∷ []) e);
     types = λ newtype parts e. absurd (product_is_no_type (a ∷ b ∷ []) parts newtype e);
+    operation = refl;
     products = λ c d e. subst (IsLiteral nodes) (ap (λ (node : Node). get_or node.parts 0 0) e) is;
   }
 
   plain : (op : Op) (parts : List ℕ) (p : Passed) → is_plain op ≡ true → Arith p → Arith (with_term op parts p)
-  plain op parts p is h = record { nodes = made_stay n p.nodes (record { op = op; parts = parts }) h.nodes (plain_fits n p.nodes (record { op = op; parts = parts }) is); owed = h.owed }
+  plain op parts p is h = record { nodes = made_stay (of_newtypes n) p.nodes (record { op = op; parts = parts }) h.nodes (plain_fits (of_newtypes n) p.nodes (record { op = op; parts = parts }) is); owed = h.owed }
 
   equality : (a b : ℕ) (p : Passed) → is_number p.nodes a ≡ true → Arith p → Arith (with_term ops.Equal (a ∷ b ∷ []) p)
   equality a b p of h = record {
-    nodes = made_stay n p.nodes (record { op = ops.Equal; parts = a ∷ b ∷ [] }) h.nodes (equality_fits n p.nodes a b (record { below = of_below sorts.Number p.nodes a of; sort = of_sort sorts.Number p.nodes a of }));
+    nodes = made_stay (of_newtypes n) p.nodes (record { op = ops.Equal; parts = a ∷ b ∷ [] }) h.nodes (equality_fits (of_newtypes n) p.nodes a b (record { below = of_below sorts.Number p.nodes a of; sort = of_sort sorts.Number p.nodes a of }));
     owed = h.owed;
   }
 
   -- the parts that nodes, obligations are
   as_it_is : (p q : Passed) → q.nodes ≡ p.nodes → q.obligations ≡ p.obligations → Arith p → Arith q
-  as_it_is p q same owed h = record { nodes = subst (forms.AreArithmetic n) (sym same) h.nodes; owed = subst (AllByRecursion IsFine) (sym owed) h.owed }
+  as_it_is p q same owed h = record { nodes = subst (forms.AreArithmetic (of_newtypes n)) (sym same) h.nodes; owed = subst (AllByRecursion IsFine) (sym owed) h.owed }
 
   fine_named : (p : Passed) → Arith p → Arith (named p)
   unfolding named
@@ -113,7 +116,7 @@ module _ (n : List Newtype) where
   unfolding demanded
   fine_demanded pos kind p h =
       let w = fine_weakened p h in
-      record { nodes = w.nodes; owed = all_joined IsFine (weakened p).obligations (obligation n pos kind (weakened p) ∷ []) w.owed (record { arithmetic = are_arithmetic n (weakened p).nodes w.nodes; over = refl }, tt) }
+      record { nodes = w.nodes; owed = all_joined IsFine (weakened p).obligations (obligation n pos kind (weakened p) ∷ []) w.owed (record { arithmetic = are_arithmetic (of_newtypes n) (weakened p).nodes w.nodes; over = refl }, tt) }
 
   fine_mentioned : (p : Passed) → is_number p.nodes p.term ≡ true → Arith p → Arith (mentioned p)
   unfolding mentioned
@@ -123,7 +126,7 @@ module _ (n : List Newtype) where
   unfolding ranged
   fine_ranged k pos p less h =
       let q = with_term (is_op k) (p.term ∷ []) p in
-      let typed : Arith (with_term (is_op k) (p.term ∷ []) p) = record { nodes = made_stay n p.nodes (record { op = is_op k; parts = p.term ∷ [] }) h.nodes (type_fits n p.nodes k (p.term ∷ []) less); owed = h.owed } in
+      let typed : Arith (with_term (is_op k) (p.term ∷ []) p) = record { nodes = made_stay (of_newtypes n) p.nodes (record { op = is_op k; parts = p.term ∷ [] }) h.nodes (type_fits (of_newtypes n) p.nodes k (p.term ∷ []) (has_ends n k less)); owed = h.owed } in
       let d = fine_demanded pos kinds.Range q typed in
       record { nodes = d.nodes; owed = d.owed }
 
@@ -137,7 +140,7 @@ module _ (n : List Newtype) where
   fine_opposite p h =
       let m = with_term minus_one [] p in
       let one = plain minus_one [] p refl h in
-      record { nodes = made_stay n m.nodes (record { op = ops.Times; parts = m.term ∷ p.term ∷ [] }) one.nodes (product_fits m.nodes m.term p.term (_, made_there p.nodes (record { op = minus_one; parts = [] }))); owed = one.owed }
+      record { nodes = made_stay (of_newtypes n) m.nodes (record { op = ops.Times; parts = m.term ∷ p.term ∷ [] }) one.nodes (product_fits m.nodes m.term p.term (_, made_there p.nodes (record { op = minus_one; parts = [] }))); owed = one.owed }
 
   fine_held : (ty : Ty) (p : Passed) → Arith p → Arith (held ty p)
   fine_held types.Bool p h = fine_named p h
@@ -282,16 +285,16 @@ module _ (n : List Newtype) where
 
 -- ---- as contracts say it
 
-both_fine : (n : List Newtype) (all : List Obligation) → AllByRecursion (λ (o : Obligation). IsArithmeticSequent o.sequent) all → AllByRecursion (λ (o : Obligation). o.sequent.newtypes ≡ n) all → AllByRecursion (IsFine n) all
+both_fine : (n : List Newtype) (all : List Obligation) → AllByRecursion (λ (o : Obligation). IsArithmeticSequent o.sequent) all → AllByRecursion (λ (o : Obligation). o.sequent.world ≡ of_newtypes n) all → AllByRecursion (IsFine n) all
 both_fine n [] a b = tt
 both_fine n (o ∷ os) a b = (record { arithmetic = a.0; over = b.0 }, both_fine n os a.1 b.1)
 
 pub stay_arithmetic : laws.ExpressionsStayArithmetic
 stay_arithmetic n p ty e order typed h =
-    let begin : Arith n p = record { nodes = all_fit n p.nodes (record { sorted = order.sorted }) h.nodes; owed = both_fine n p.obligations h.owed h.over } in
+    let begin : Arith n p = record { nodes = all_fit (of_newtypes n) p.nodes (record { sorted = order.sorted }) h.nodes; owed = both_fine n p.obligations h.owed h.over } in
     let all = fine_expr n typed.locals p e ty typed.types order.ready typed.typed begin in
     record {
-      nodes = are_arithmetic n (passed_expr n p e).nodes all.nodes;
+      nodes = are_arithmetic (of_newtypes n) (passed_expr n p e).nodes all.nodes;
       owed = all_of (IsFine n) (λ (o : Obligation). IsArithmeticSequent o.sequent) (passed_expr n p e).obligations (λ o f. f.arithmetic) all.owed;
-      over = all_of (IsFine n) (λ (o : Obligation). o.sequent.newtypes ≡ n) (passed_expr n p e).obligations (λ o f. f.over) all.owed;
+      over = all_of (IsFine n) (λ (o : Obligation). o.sequent.world ≡ of_newtypes n) (passed_expr n p e).obligations (λ o f. f.over) all.owed;
     }

@@ -3,8 +3,8 @@ use Rattle.std.proofs.Common.{◌≡◌, ℕ, ℤ, negsuc, Bool, true, List, [],
 use Rattle.std.specs.declared.alloc.AllocError.{AllocError}
 use Rattle.std.specs.List.{list_all}
 use Rattle.df_base.specs.declared.pos.Pos.{Pos}
-use Rattle.df_types.specs.declared.newtype.Ty as places_type
-use Rattle.df_types.specs.declared.newtype.Ty.TheVariants as places
+use Rattle.df_lang.specs.declared.ty.Ty as places_type
+use Rattle.df_lang.specs.declared.ty.Ty.TheVariants as places
 use Rattle.df_types.specs.Newtype.{Newtype}
 use Rattle.df_program.specs.declared.expr.Ty.{Ty}
 use Rattle.df_program.specs.declared.expr.Ty.TheVariants as types

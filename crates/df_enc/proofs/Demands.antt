@@ -3,17 +3,21 @@ use Rattle.std.proofs.Common.{◌≡◌, ℕ, inl, Bool, true, false, ◌||◌, 
 use Rattle.std.specs.List.{AllByRecursion}
 use Rattle.df_base.specs.declared.pos.Pos.{Pos}
 use Rattle.df_types.specs.Newtype.{Newtype}
+use Rattle.df_lang.specs.declared.ty.Ty.TheVariants as places
 use Rattle.df_program.specs.declared.expr.Ty.{Ty}
 use Rattle.df_program.specs.declared.expr.Ty.TheVariants as types
 use Rattle.df_meaning.specs.declared.kind.Kind.{Kind}
 use Rattle.df_meaning.specs.declared.kind.Kind.TheVariants as kinds
-use Rattle.df_meaning.specs.Value.{Value, Number, number_of, truth_of}
+use Rattle.df_meaning.specs.Value.{Value, Number, truth_of}
 use Rattle.df_meaning.specs.Outcome.{Known, Undefined}
 use Rattle.df_runs.specs.Evaluation.{is_in, in_range}
+use Rattle.df_form.specs.World.{of_newtypes}
 use Rattle.df_form.specs.declared.node.Sort.TheVariants as sorts
 use Rattle.df_form.specs.declared.node.Op.TheVariants as ops
+use Rattle.df_form.specs.Types.{has_type}
 use Rattle.df_form.specs.Sorting.{is_well_sorted}
 use Rattle.df_form.specs.Truth.{Assignment, truth}
+use Rattle.df_form.proofs.Types.{type_is_range}
 use Rattle.df_form.proofs.Values.{worth}
 use Rattle.df_enc.specs.Obligation.{Obligation, Refutes}
 use Rattle.df_enc.specs.Passing.{Passed, with_term, assumed, owed, weakened, demanded, mentioned, ranged, numbered}
@@ -70,31 +74,31 @@ module _ (at : ℕ) (newtypes : List Newtype) where
     unfolding demanded
     owed_demanded = ap (λ (xs : List Obligation). xs ++ obligation newtypes pos kind (weakened p) ∷ []) (quiet_weakened at newtypes p)
 
-    pub demand_holds : (a : Assignment) → AreKnown at newtypes a (demanded newtypes pos kind p) → comes at newtypes a p ≡ true → truth_of (worth at newtypes a p.nodes p.term) ≡ true
+    pub demand_holds : (a : Assignment) → AreKnown at newtypes a (demanded newtypes pos kind p) → comes at newtypes a p ≡ true → truth_of (worth at (of_newtypes newtypes) a p.nodes p.term) ≡ true
     unfolding demanded
     demand_holds a all c =
-        let last : truth at newtypes a (weakened p).nodes (weakened p).term ≡ true = all_last (λ h. truth at newtypes a (weakened p).nodes h ≡ true) (weakened p).known (weakened p).term all in
-        holds_where (truth_of (worth at newtypes a p.nodes p.term)) (comes at newtypes a p) (sym (weakened_value at newtypes p a order of) ∙ last) c
+        let last : truth at (of_newtypes newtypes) a (weakened p).nodes (weakened p).term ≡ true = all_last (λ h. truth at (of_newtypes newtypes) a (weakened p).nodes h ≡ true) (weakened p).known (weakened p).term all in
+        holds_where (truth_of (worth at (of_newtypes newtypes) a p.nodes p.term)) (comes at newtypes a p) (sym (weakened_value at newtypes p a order of) ∙ last) c
 
     pub demand_known : (a : Assignment) → Refutes at a (obligation newtypes pos kind (weakened p)).sequent → AreKnown at newtypes a p
     demand_known a ref = known_back at newtypes p (weakened p) a order (on_weakened p) ref.hypotheses
 
-    pub demand_fails : (a : Assignment) → Refutes at a (obligation newtypes pos kind (weakened p)).sequent → IsBad (truth_of (worth at newtypes a p.nodes p.term)) (comes at newtypes a p)
-    demand_fails a ref = bad_where (truth_of (worth at newtypes a p.nodes p.term)) (comes at newtypes a p) (sym (weakened_value at newtypes p a order of) ∙ ref.goal)
+    pub demand_fails : (a : Assignment) → Refutes at a (obligation newtypes pos kind (weakened p)).sequent → IsBad (truth_of (worth at (of_newtypes newtypes) a p.nodes p.term)) (comes at newtypes a p)
+    demand_fails a ref = bad_where (truth_of (worth at (of_newtypes newtypes) a p.nodes p.term)) (comes at newtypes a p) (sym (weakened_value at newtypes p a order of) ∙ ref.goal)
 
-    weak_known : (a : Assignment) → AreKnown at newtypes a p → AllByRecursion (λ h. truth at newtypes a (weakened p).nodes h ≡ true) (weakened p).known
-    weak_known a all = subst (AllByRecursion (λ h. truth at newtypes a (weakened p).nodes h ≡ true)) (sym (known_weakened at newtypes p)) (known_kept at newtypes p (weakened p) a order (on_weakened p) all)
+    weak_known : (a : Assignment) → AreKnown at newtypes a p → AllByRecursion (λ h. truth at (of_newtypes newtypes) a (weakened p).nodes h ≡ true) (weakened p).known
+    weak_known a all = subst (AllByRecursion (λ h. truth at (of_newtypes newtypes) a (weakened p).nodes h ≡ true)) (sym (known_weakened at newtypes p)) (known_kept at newtypes p (weakened p) a order (on_weakened p) all)
 
-    pub demand_extends : (a : Assignment) → AreKnown at newtypes a p → (comes at newtypes a p ≡ true → truth_of (worth at newtypes a p.nodes p.term) ≡ true) → AreKnown at newtypes a (demanded newtypes pos kind p)
+    pub demand_extends : (a : Assignment) → AreKnown at newtypes a p → (comes at newtypes a p ≡ true → truth_of (worth at (of_newtypes newtypes) a p.nodes p.term) ≡ true) → AreKnown at newtypes a (demanded newtypes pos kind p)
     unfolding demanded
     demand_extends a all holds =
-        let good = good_where (truth_of (worth at newtypes a p.nodes p.term)) (comes at newtypes a p) holds in
-        all_joined (λ h. truth at newtypes a (weakened p).nodes h ≡ true) (weakened p).known ((weakened p).term ∷ []) (weak_known a all) (weakened_value at newtypes p a order of ∙ good, tt)
+        let good = good_where (truth_of (worth at (of_newtypes newtypes) a p.nodes p.term)) (comes at newtypes a p) holds in
+        all_joined (λ h. truth at (of_newtypes newtypes) a (weakened p).nodes h ≡ true) (weakened p).known ((weakened p).term ∷ []) (weak_known a all) (weakened_value at newtypes p a order of ∙ good, tt)
 
-    pub demand_breaks : (a : Assignment) → AreKnown at newtypes a p → comes at newtypes a p ≡ true → truth_of (worth at newtypes a p.nodes p.term) ≡ false → Refutes at a (obligation newtypes pos kind (weakened p)).sequent
+    pub demand_breaks : (a : Assignment) → AreKnown at newtypes a p → comes at newtypes a p ≡ true → truth_of (worth at (of_newtypes newtypes) a p.nodes p.term) ≡ false → Refutes at a (obligation newtypes pos kind (weakened p)).sequent
     demand_breaks a all c fails = record {
       hypotheses = weak_known a all;
-      goal = weakened_value at newtypes p a order of ∙ is_bad (truth_of (worth at newtypes a p.nodes p.term)) (comes at newtypes a p) fails c;
+      goal = weakened_value at newtypes p a order of ∙ is_bad (truth_of (worth at (of_newtypes newtypes) a p.nodes p.term)) (comes at newtypes a p) fails c;
     }
 
   -- ---- a number is of a newtype
@@ -121,7 +125,7 @@ module _ (at : ℕ) (newtypes : List Newtype) where
   range_out true z place other kind e = absurd (let f : Known (Number z) ≡ Undefined other kind = e in cc)
   range_out false z place other kind e = let f : Undefined place kinds.Range ≡ Undefined other kind = e in record { fails = refl; at_place = cc; by_kind = cc }
 
-  module _ (P : Assignment → Type 0) (k : ℕ) (pos : Pos) (p : Passed) (z : ℤ) (order : IsInOrder p) (of : is_number p.nodes p.term ≡ true) (value : (a : Assignment) → P a → worth at newtypes a p.nodes p.term ≡ Number z) where
+  module _ (P : Assignment → Type 0) (k : ℕ) (pos : Pos) (p : Passed) (z : ℤ) (order : IsInOrder p) (of : is_number p.nodes p.term ≡ true) (value : (a : Assignment) → P a → worth at (of_newtypes newtypes) a p.nodes p.term ≡ Number z) where
     abbrev typed_term : Passed
     typed_term = with_term (is_op k) (p.term ∷ []) p
 
@@ -134,8 +138,8 @@ module _ (at : ℕ) (newtypes : List Newtype) where
     type_of : is_truth (with_term (is_op k) (p.term ∷ []) p).nodes (with_term (is_op k) (p.term ∷ []) p).term ≡ true
     type_of = of_term (is_op k) (p.term ∷ []) p
 
-    is_value : (a : Assignment) → P a → truth_of (worth at newtypes a (with_term (is_op k) (p.term ∷ []) p).nodes (with_term (is_op k) (p.term ∷ []) p).term) ≡ is_in newtypes (types.Newtype k) z
-    is_value a says = ap truth_of (value_term at newtypes p (is_op k) (p.term ∷ []) a order is_well) ∙ ap (λ (v : Value). is_in newtypes (types.Newtype k) (number_of v)) (value a says)
+    is_value : (a : Assignment) → P a → truth_of (worth at (of_newtypes newtypes) a (with_term (is_op k) (p.term ∷ []) p).nodes (with_term (is_op k) (p.term ∷ []) p).term) ≡ is_in newtypes (types.Newtype k) z
+    is_value a says = ap truth_of (value_term at newtypes p (is_op k) (p.term ∷ []) a order is_well) ∙ ap (has_type (of_newtypes newtypes) (places.Newtype k)) (value a says) ∙ type_is_range newtypes k z
 
     is_here : (a : Assignment) → comes at newtypes a (with_term (is_op k) (p.term ∷ []) p) ≡ comes at newtypes a p
     is_here a = comes_on at newtypes p (with_term (is_op k) (p.term ∷ []) p) a order (on_term (is_op k) (p.term ∷ []) p) refl
@@ -157,7 +161,7 @@ module _ (at : ℕ) (newtypes : List Newtype) where
     unfolding ranged
     order_ranged = order_again p.term (demanded newtypes pos kinds.Range (with_term (is_op k) (p.term ∷ []) p)) (order_demanded pos kinds.Range (with_term (is_op k) (p.term ∷ []) p) is_order type_of)
 
-    ranged_value : (a : Assignment) → P a → AreKnown at newtypes a (ranged newtypes k pos p) → comes at newtypes a p ≡ true → in_range newtypes (types.Newtype k) pos z ≡ Known (worth at newtypes a (ranged newtypes k pos p).nodes (ranged newtypes k pos p).term)
+    ranged_value : (a : Assignment) → P a → AreKnown at newtypes a (ranged newtypes k pos p) → comes at newtypes a p ≡ true → in_range newtypes (types.Newtype k) pos z ≡ Known (worth at (of_newtypes newtypes) a (ranged newtypes k pos p).nodes (ranged newtypes k pos p).term)
     unfolding ranged
     ranged_value a says all c =
         let q = with_term (is_op k) (p.term ∷ []) p in
@@ -229,22 +233,22 @@ module _ (at : ℕ) (newtypes : List Newtype) where
     unfolding mentioned
     mentioned_extends a all =
         let q = with_term ops.Equal (p.term ∷ p.term ∷ []) p in
-        let same = ap truth_of (value_term at newtypes p ops.Equal (p.term ∷ p.term ∷ []) a order equal_well) ∙ is_same_value (worth at newtypes a p.nodes p.term) (worth_sort at newtypes p a sorts.Number p.term order of) in
+        let same = ap truth_of (value_term at newtypes p ops.Equal (p.term ∷ p.term ∷ []) a order equal_well) ∙ is_same_value (worth at (of_newtypes newtypes) a p.nodes p.term) (worth_sort at newtypes p a sorts.Number p.term order of) in
         record {
           other = a;
           same = below_same (length p.nodes) a;
-          known = all_joined (λ h. truth at newtypes a q.nodes h ≡ true) p.known (q.term ∷ []) (known_kept at newtypes p q a order (on_term ops.Equal (p.term ∷ p.term ∷ []) p) all) (same, tt);
+          known = all_joined (λ h. truth at (of_newtypes newtypes) a q.nodes h ≡ true) p.known (q.term ∷ []) (known_kept at newtypes p q a order (on_term ops.Equal (p.term ∷ p.term ∷ []) p) all) (same, tt);
         }
 
     pub quiet_mentioned : (mentioned p).obligations ≡ p.obligations
     unfolding mentioned
     quiet_mentioned = refl
 
-    pub mentioned_value : (a : Assignment) → worth at newtypes a (mentioned p).nodes (mentioned p).term ≡ worth at newtypes a p.nodes p.term
+    pub mentioned_value : (a : Assignment) → worth at (of_newtypes newtypes) a (mentioned p).nodes (mentioned p).term ≡ worth at (of_newtypes newtypes) a p.nodes p.term
     unfolding mentioned
     mentioned_value a = kept at newtypes p (mentioned p) a (on_mentioned p) p.term (of_below sorts.Number p.nodes p.term of)
 
-  pub goes_mentioned : (P : Assignment → Type 0) (p : Passed) (v : Value) → IsInOrder p → is_number p.nodes p.term ≡ true → ((a : Assignment) → P a → worth at newtypes a p.nodes p.term ≡ v)
+  pub goes_mentioned : (P : Assignment → Type 0) (p : Passed) (v : Value) → IsInOrder p → is_number p.nodes p.term ≡ true → ((a : Assignment) → P a → worth at (of_newtypes newtypes) a p.nodes p.term ≡ v)
       → Goes at newtypes P p (mentioned p) (Known v) (AnyValue at newtypes)
   goes_mentioned P p v order of value =
       goes_known at newtypes P p (mentioned p) v (on_mentioned p) (quiet_mentioned p order of) (order_mentioned p order of)
@@ -253,7 +257,7 @@ module _ (at : ℕ) (newtypes : List Newtype) where
 
   -- ---- a number is of its type
 
-  pub goes_numbered : (P : Assignment → Type 0) (ty : Ty) (pos : Pos) (p : Passed) (z : ℤ) → IsInOrder p → is_number p.nodes p.term ≡ true → ((a : Assignment) → P a → worth at newtypes a p.nodes p.term ≡ Number z)
+  pub goes_numbered : (P : Assignment → Type 0) (ty : Ty) (pos : Pos) (p : Passed) (z : ℤ) → IsInOrder p → is_number p.nodes p.term ≡ true → ((a : Assignment) → P a → worth at (of_newtypes newtypes) a p.nodes p.term ≡ Number z)
       → Goes at newtypes P p (numbered newtypes ty pos p) (in_range newtypes ty pos z) (AnyValue at newtypes)
   goes_numbered P (types.Newtype k) pos p z order of value = goes_ranged P k pos p z order of value
   goes_numbered P types.Int pos p z order of value = goes_mentioned P p (Number z) order of value

@@ -3,8 +3,9 @@ use Rattle.std.proofs.Common.{◌≡◌, ℕ, Bool, true, false, ◌&&◌, ◌||
 use Rattle.std.specs.List.{AllByRecursion}
 use Rattle.std.proofs.lemmas.Bool.Decides.{Decides-int_eq}
 use Rattle.df_types.specs.Newtype.{Newtype}
-use Rattle.df_meaning.specs.Value.{Value, Truth, Number, Text, truth_of, same_truth, same_value}
+use Rattle.df_meaning.specs.Value.{Value, Truth, Number, Character, Text, truth_of, same_truth, same_value}
 use Rattle.df_meaning.specs.Outcome.{Known, Undefined}
+use Rattle.df_form.specs.World.{of_newtypes}
 use Rattle.df_form.specs.declared.node.Sort.TheVariants as sorts
 use Rattle.df_form.specs.declared.node.Op.{Op}
 use Rattle.df_form.specs.declared.node.Op.TheVariants as ops
@@ -37,6 +38,7 @@ pub is_same_value : (v : Value) → has_sort sorts.Number v ≡ true → same_va
 is_same_value (Truth b) e = absurd cc
 is_same_value (Number n) e = (Decides-int_eq n n).1 refl
 is_same_value (Text characters) e = absurd cc
+is_same_value (Character c) e = absurd cc
 
 free_number : Op → ℕ
 free_number (ops.Free free) = free.number
@@ -46,7 +48,7 @@ module _ (at : ℕ) (newtypes : List Newtype) where
   -- ---- a step that only makes terms, or hypotheses that can be made true
 
   pub goes_known : (P : Assignment → Type 0) (p q : Passed) (v : Value) (on : Continues p q) → q.obligations ≡ p.obligations → IsInOrder q
-      → ((a : Assignment) → P a → AreKnown at newtypes a q → v ≡ worth at newtypes a q.nodes q.term)
+      → ((a : Assignment) → P a → AreKnown at newtypes a q → v ≡ worth at (of_newtypes newtypes) a q.nodes q.term)
       → ((a : Assignment) → P a → AreKnown at newtypes a p → Extends at newtypes p q a)
       → Goes at newtypes P p q (Known v) (AnyValue at newtypes)
   goes_known P p q v on quiet order value extends = record {
@@ -66,12 +68,12 @@ module _ (at : ℕ) (newtypes : List Newtype) where
   only_nodes p q a order on same all = record {
     other = a;
     same = below_same (length p.nodes) a;
-    known = subst (AllByRecursion (λ h. truth at newtypes a q.nodes h ≡ true)) (sym same) (known_kept at newtypes p q a order on all);
+    known = subst (AllByRecursion (λ h. truth at (of_newtypes newtypes) a q.nodes h ≡ true)) (sym same) (known_kept at newtypes p q a order on all);
   }
 
   -- one more term
   pub goes_term : (P : Assignment → Type 0) (p : Passed) (op : Op) (parts : List ℕ) (v : Value) → IsInOrder p → is_well_sorted p.nodes (record { op = op; parts = parts }) ≡ true → IsNext p.nodes op
-      → ((a : Assignment) → P a → v ≡ apply at newtypes a op (map (worth at newtypes a p.nodes) parts))
+      → ((a : Assignment) → P a → v ≡ apply at (of_newtypes newtypes) a op (map (worth at (of_newtypes newtypes) a p.nodes) parts))
       → Goes at newtypes P p (with_term op parts p) (Known v) (AnyValue at newtypes)
   goes_term P p op parts v order well next value =
       goes_known P p (with_term op parts p) v (on_term op parts p) refl (order_term p op parts order well next)
@@ -90,7 +92,7 @@ module _ (at : ℕ) (newtypes : List Newtype) where
   -- the same values below make true what was known
   pub known_moved : (p : Passed) (one other : Assignment) → IsInOrder p → SameBelow (length p.nodes) one other → AreKnown at newtypes one p → AreKnown at newtypes other p
   known_moved p one other order same all =
-      all_of (λ h. truth at newtypes one p.nodes h ≡ true) (λ h. truth at newtypes other p.nodes h ≡ true) p.known (λ h e. ap truth_of (same_worth at newtypes p one other order same h) ∙ e) all
+      all_of (λ h. truth at (of_newtypes newtypes) one p.nodes h ≡ true) (λ h. truth at (of_newtypes newtypes) other p.nodes h ≡ true) p.known (λ h e. ap truth_of (same_worth at newtypes p one other order same h) ∙ e) all
 
   module _ (p : Passed) (order : IsInOrder p) (of : is_truth p.nodes p.term ≡ true) where
     with_free : Passed
@@ -132,51 +134,51 @@ module _ (at : ℕ) (newtypes : List Newtype) where
     equal_term = (with_term ops.Iff (p.term ∷ (with_name p).term ∷ []) (with_name p)).term
 
     -- the formula that equates both says this
-    equal_value : (a : Assignment) → truth at newtypes a equal_nodes equal_term ≡ same_truth (truth_of (worth at newtypes a p.nodes p.term)) (truth_of (worth at newtypes a (with_name p).nodes (with_name p).term))
+    equal_value : (a : Assignment) → truth at (of_newtypes newtypes) a equal_nodes equal_term ≡ same_truth (truth_of (worth at (of_newtypes newtypes) a p.nodes p.term)) (truth_of (worth at (of_newtypes newtypes) a (with_name p).nodes (with_name p).term))
     equal_value a =
         ap truth_of (value_term at newtypes (with_name p) ops.Iff (p.term ∷ (with_name p).term ∷ []) a free_order both_well)
-        ∙ ap (λ (v : Value). same_truth (truth_of v) (truth_of (worth at newtypes a (with_name p).nodes (with_name p).term))) (kept at newtypes p (with_name p) a on_free p.term (of_below sorts.Truth p.nodes p.term of))
+        ∙ ap (λ (v : Value). same_truth (truth_of v) (truth_of (worth at (of_newtypes newtypes) a (with_name p).nodes (with_name p).term))) (kept at newtypes p (with_name p) a on_free p.term (of_below sorts.Truth p.nodes p.term of))
 
-    name_value : (a : Assignment) → worth at newtypes a (with_name p).nodes (with_name p).term ≡ a.value (record { number = length p.nodes; sort = sorts.Truth })
+    name_value : (a : Assignment) → worth at (of_newtypes newtypes) a (with_name p).nodes (with_name p).term ≡ a.value (record { number = length p.nodes; sort = sorts.Truth })
     name_value a = value_term at newtypes p (name_op p) [] a order (name_well p)
 
-    name_later : (a : Assignment) → worth at newtypes a equal_nodes (with_name p).term ≡ worth at newtypes a (with_name p).nodes (with_name p).term
+    name_later : (a : Assignment) → worth at (of_newtypes newtypes) a equal_nodes (with_name p).term ≡ worth at (of_newtypes newtypes) a (with_name p).nodes (with_name p).term
     name_later a = kept at newtypes (with_name p) (with_term ops.Iff (p.term ∷ (with_name p).term ∷ []) (with_name p)) a on_equal (with_name p).term (of_below sorts.Truth (with_name p).nodes (with_name p).term name_of)
 
     -- the name has the value of what it names
-    pub named_value : (a : Assignment) → AreKnown at newtypes a (named p) → worth at newtypes a (named p).nodes (named p).term ≡ worth at newtypes a p.nodes p.term
+    pub named_value : (a : Assignment) → AreKnown at newtypes a (named p) → worth at (of_newtypes newtypes) a (named p).nodes (named p).term ≡ worth at (of_newtypes newtypes) a p.nodes p.term
     unfolding named
     named_value a all =
-        let last : truth at newtypes a equal_nodes equal_term ≡ true = all_last (λ h. truth at newtypes a equal_nodes h ≡ true) p.known equal_term all in
-        let same = same_truth_is (truth_of (worth at newtypes a p.nodes p.term)) (truth_of (worth at newtypes a (with_name p).nodes (with_name p).term)) (sym (equal_value a) ∙ last) in
+        let last : truth at (of_newtypes newtypes) a equal_nodes equal_term ≡ true = all_last (λ h. truth at (of_newtypes newtypes) a equal_nodes h ≡ true) p.known equal_term all in
+        let same = same_truth_is (truth_of (worth at (of_newtypes newtypes) a p.nodes p.term)) (truth_of (worth at (of_newtypes newtypes) a (with_name p).nodes (with_name p).term)) (sym (equal_value a) ∙ last) in
         name_later a
-        ∙ sym (truth_is (worth at newtypes a (with_name p).nodes (with_name p).term) (worth_sort at newtypes (with_name p) a sorts.Truth (with_name p).term free_order name_of))
+        ∙ sym (truth_is (worth at (of_newtypes newtypes) a (with_name p).nodes (with_name p).term) (worth_sort at newtypes (with_name p) a sorts.Truth (with_name p).term free_order name_of))
         ∙ ap Truth same
-        ∙ truth_is (worth at newtypes a p.nodes p.term) (worth_sort at newtypes p a sorts.Truth p.term order of)
+        ∙ truth_is (worth at (of_newtypes newtypes) a p.nodes p.term) (worth_sort at newtypes p a sorts.Truth p.term order of)
 
     pub named_extends : (a : Assignment) → AreKnown at newtypes a p → Extends at newtypes p (named p) a
     unfolding named
     named_extends a all =
-        let b = truth_of (worth at newtypes a p.nodes p.term) in
-        let other = naming a (length p.nodes) (truth_of (worth at newtypes a p.nodes p.term)) in
-        let same = naming_keeps a (length p.nodes) (truth_of (worth at newtypes a p.nodes p.term)) in
+        let b = truth_of (worth at (of_newtypes newtypes) a p.nodes p.term) in
+        let other = naming a (length p.nodes) (truth_of (worth at (of_newtypes newtypes) a p.nodes p.term)) in
+        let same = naming_keeps a (length p.nodes) (truth_of (worth at (of_newtypes newtypes) a p.nodes p.term)) in
         let known_p = known_moved p a other order same all in
         let known_free = known_kept at newtypes p (with_term ops.Iff (p.term ∷ (with_name p).term ∷ []) (with_name p)) other order (on_then p (with_name p) (with_term ops.Iff (p.term ∷ (with_name p).term ∷ []) (with_name p)) on_free on_equal) known_p in
-        let name_is : truth_of (worth at newtypes other (with_name p).nodes (with_name p).term) ≡ truth_of (worth at newtypes a p.nodes p.term) =
-        ap truth_of (name_value other ∙ naming_names a (length p.nodes) (truth_of (worth at newtypes a p.nodes p.term))) in
-        let old_is : truth_of (worth at newtypes other p.nodes p.term) ≡ truth_of (worth at newtypes a p.nodes p.term) = ap truth_of (same_worth at newtypes p a other order same p.term) in
-        let equal : truth at newtypes other equal_nodes equal_term ≡ true = equal_value other ∙ is_same_truth (truth_of (worth at newtypes other p.nodes p.term)) (truth_of (worth at newtypes other (with_name p).nodes (with_name p).term)) (name_is ∙ sym old_is) in
+        let name_is : truth_of (worth at (of_newtypes newtypes) other (with_name p).nodes (with_name p).term) ≡ truth_of (worth at (of_newtypes newtypes) a p.nodes p.term) =
+        ap truth_of (name_value other ∙ naming_names a (length p.nodes) (truth_of (worth at (of_newtypes newtypes) a p.nodes p.term))) in
+        let old_is : truth_of (worth at (of_newtypes newtypes) other p.nodes p.term) ≡ truth_of (worth at (of_newtypes newtypes) a p.nodes p.term) = ap truth_of (same_worth at newtypes p a other order same p.term) in
+        let equal : truth at (of_newtypes newtypes) other equal_nodes equal_term ≡ true = equal_value other ∙ is_same_truth (truth_of (worth at (of_newtypes newtypes) other p.nodes p.term)) (truth_of (worth at (of_newtypes newtypes) other (with_name p).nodes (with_name p).term)) (name_is ∙ sym old_is) in
         record {
           other = other;
           same = same;
-          known = all_joined (λ h. truth at newtypes other equal_nodes h ≡ true) p.known (equal_term ∷ []) known_free (equal, tt);
+          known = all_joined (λ h. truth at (of_newtypes newtypes) other equal_nodes h ≡ true) p.known (equal_term ∷ []) known_free (equal, tt);
         }
 
     pub quiet_named : (named p).obligations ≡ p.obligations
     unfolding named
     quiet_named = refl
 
-  pub goes_named : (P : Assignment → Type 0) (p : Passed) (v : Value) → IsInOrder p → is_truth p.nodes p.term ≡ true → ((a : Assignment) → P a → worth at newtypes a p.nodes p.term ≡ v)
+  pub goes_named : (P : Assignment → Type 0) (p : Passed) (v : Value) → IsInOrder p → is_truth p.nodes p.term ≡ true → ((a : Assignment) → P a → worth at (of_newtypes newtypes) a p.nodes p.term ≡ v)
       → Goes at newtypes P p (named p) (Known v) (AnyValue at newtypes)
   goes_named P p v order of value =
       goes_known P p (named p) v (on_named p) (quiet_named p order of) (order_named p order of)
@@ -206,18 +208,18 @@ module _ (at : ℕ) (newtypes : List Newtype) where
   and_unit false = refl
 
   narrowed_is : (path : Option ℕ) (p : Passed) (a : Assignment) → IsInOrder p → is_truth p.nodes p.term ≡ true → is_path p.nodes path ≡ true
-      → truth_of (worth at newtypes a (narrowed_by path p).nodes (narrowed_by path p).term) ≡ (truth_of (worth at newtypes a p.nodes p.term) && path_truth at newtypes a p.nodes path)
-  narrowed_is None p a order of is = and_unit (truth_of (worth at newtypes a p.nodes p.term))
+      → truth_of (worth at (of_newtypes newtypes) a (narrowed_by path p).nodes (narrowed_by path p).term) ≡ (truth_of (worth at (of_newtypes newtypes) a p.nodes p.term) && path_truth at newtypes a p.nodes path)
+  narrowed_is None p a order of is = and_unit (truth_of (worth at (of_newtypes newtypes) a p.nodes p.term))
   narrowed_is (Some n) p a order of is =
       ap truth_of (value_term at newtypes p ops.And (p.term ∷ n ∷ []) a order (two_parts p.nodes ops.And sorts.Truth p.term n refl of is))
-      ∙ and_last (truth_of (worth at newtypes a p.nodes p.term)) (truth_of (worth at newtypes a p.nodes n))
+      ∙ and_last (truth_of (worth at (of_newtypes newtypes) a p.nodes p.term)) (truth_of (worth at (of_newtypes newtypes) a p.nodes n))
 
   pub order_narrowed : (p : Passed) → IsInOrder p → is_truth p.nodes p.term ≡ true → IsInOrder (narrowed p)
   unfolding narrowed
   order_narrowed p order of = narrowed_order p.path p order of order.ready.path
 
   pub narrowed_value : (p : Passed) (a : Assignment) → IsInOrder p → is_truth p.nodes p.term ≡ true
-      → truth_of (worth at newtypes a (narrowed p).nodes (narrowed p).term) ≡ (truth_of (worth at newtypes a p.nodes p.term) && comes at newtypes a p)
+      → truth_of (worth at (of_newtypes newtypes) a (narrowed p).nodes (narrowed p).term) ≡ (truth_of (worth at (of_newtypes newtypes) a p.nodes p.term) && comes at newtypes a p)
   unfolding narrowed
   narrowed_value p a order of = narrowed_is p.path p a order of order.ready.path
 
@@ -258,11 +260,11 @@ module _ (at : ℕ) (newtypes : List Newtype) where
     or_last a true = refl
     or_last a false = refl
 
-    or_value : (a : Assignment) → truth_of (worth at newtypes a (weakened_by (Some n) p).nodes (weakened_by (Some n) p).term) ≡ (truth_of (worth at newtypes a p.nodes p.term) || not (truth_of (worth at newtypes a p.nodes n)))
+    or_value : (a : Assignment) → truth_of (worth at (of_newtypes newtypes) a (weakened_by (Some n) p).nodes (weakened_by (Some n) p).term) ≡ (truth_of (worth at (of_newtypes newtypes) a p.nodes p.term) || not (truth_of (worth at (of_newtypes newtypes) a p.nodes n)))
     or_value a =
         let q = with_term ops.Not (n ∷ []) p in
         ap truth_of (value_term at newtypes (with_term ops.Not (n ∷ []) p) ops.Or (p.term ∷ (with_term ops.Not (n ∷ []) p).term ∷ []) a not_order or_well)
-        ∙ or_last (truth_of (worth at newtypes a (with_term ops.Not (n ∷ []) p).nodes p.term)) (truth_of (worth at newtypes a (with_term ops.Not (n ∷ []) p).nodes (with_term ops.Not (n ∷ []) p).term))
+        ∙ or_last (truth_of (worth at (of_newtypes newtypes) a (with_term ops.Not (n ∷ []) p).nodes p.term)) (truth_of (worth at (of_newtypes newtypes) a (with_term ops.Not (n ∷ []) p).nodes (with_term ops.Not (n ∷ []) p).term))
         ∙ (λ i. truth_of (kept at newtypes p (with_term ops.Not (n ∷ []) p) a (on_term ops.Not (n ∷ []) p) p.term (of_below sorts.Truth p.nodes p.term of) i) || truth_of (value_term at newtypes p ops.Not (n ∷ []) a order not_well i))
 
   weakened_order : (path : Option ℕ) (p : Passed) → IsInOrder p → is_truth p.nodes p.term ≡ true → is_path p.nodes path ≡ true → IsInOrder (weakened_by path p)
@@ -274,8 +276,8 @@ module _ (at : ℕ) (newtypes : List Newtype) where
   or_unit false = refl
 
   weakened_is : (path : Option ℕ) (p : Passed) (a : Assignment) → IsInOrder p → is_truth p.nodes p.term ≡ true → is_path p.nodes path ≡ true
-      → truth_of (worth at newtypes a (weakened_by path p).nodes (weakened_by path p).term) ≡ (truth_of (worth at newtypes a p.nodes p.term) || not (path_truth at newtypes a p.nodes path))
-  weakened_is None p a order of is = or_unit (truth_of (worth at newtypes a p.nodes p.term))
+      → truth_of (worth at (of_newtypes newtypes) a (weakened_by path p).nodes (weakened_by path p).term) ≡ (truth_of (worth at (of_newtypes newtypes) a p.nodes p.term) || not (path_truth at newtypes a p.nodes path))
+  weakened_is None p a order of is = or_unit (truth_of (worth at (of_newtypes newtypes) a p.nodes p.term))
   weakened_is (Some n) p a order of is = or_value p n order of is a
 
   pub order_weakened : (p : Passed) → IsInOrder p → is_truth p.nodes p.term ≡ true → IsInOrder (weakened p)
@@ -283,7 +285,7 @@ module _ (at : ℕ) (newtypes : List Newtype) where
   order_weakened p order of = weakened_order p.path p order of order.ready.path
 
   pub weakened_value : (p : Passed) (a : Assignment) → IsInOrder p → is_truth p.nodes p.term ≡ true
-      → truth_of (worth at newtypes a (weakened p).nodes (weakened p).term) ≡ (truth_of (worth at newtypes a p.nodes p.term) || not (comes at newtypes a p))
+      → truth_of (worth at (of_newtypes newtypes) a (weakened p).nodes (weakened p).term) ≡ (truth_of (worth at (of_newtypes newtypes) a p.nodes p.term) || not (comes at newtypes a p))
   unfolding weakened
   weakened_value p a order of = weakened_is p.path p a order of order.ready.path
 
@@ -308,7 +310,7 @@ module _ (at : ℕ) (newtypes : List Newtype) where
     unfolding entered
     order_entered = order_path (Some (named (narrowed p)).term) (named (narrowed p)) (order_named (narrowed p) narrow_order narrow_of) (valued_named (narrowed p) narrow_order.ready).term
 
-    pub entered_comes : (a : Assignment) → AreKnown at newtypes a (entered p) → comes at newtypes a (entered p) ≡ (truth_of (worth at newtypes a p.nodes p.term) && comes at newtypes a p)
+    pub entered_comes : (a : Assignment) → AreKnown at newtypes a (entered p) → comes at newtypes a (entered p) ≡ (truth_of (worth at (of_newtypes newtypes) a p.nodes p.term) && comes at newtypes a p)
     unfolding entered
     entered_comes a all = ap truth_of (named_value (narrowed p) narrow_order narrow_of a all) ∙ narrowed_value p a order of
 
@@ -323,7 +325,7 @@ module _ (at : ℕ) (newtypes : List Newtype) where
     unfolding entered
     quiet_entered = quiet_named (narrowed p) narrow_order narrow_of ∙ quiet_narrowed p
 
-  pub enters : (P : Assignment → Type 0) (p : Passed) (v : Value) → IsInOrder p → is_truth p.nodes p.term ≡ true → ((a : Assignment) → P a → worth at newtypes a p.nodes p.term ≡ v)
+  pub enters : (P : Assignment → Type 0) (p : Passed) (v : Value) → IsInOrder p → is_truth p.nodes p.term ≡ true → ((a : Assignment) → P a → worth at (of_newtypes newtypes) a p.nodes p.term ≡ v)
       → Enters at newtypes P p (entered p) (truth_of v)
   enters P p v order of value = record {
     on = on_entered p;

@@ -14,7 +14,7 @@ use Rattle.df_meaning.specs.Value.{Value, number_of, truth_of, same_truth}
 use Rattle.df_meaning.specs.Value as values
 use Rattle.df_meaning.specs.Outcome.{State, Evaluated, Known, with_value}
 use Rattle.df_runs.specs.Evaluation.{in_range, compare, decided, combined, unless, evaluate, evaluate_members, evaluate_links}
-use Rattle.df_runs.specs.Evaluation as runs
+use Rattle.df_form.specs.World.{of_newtypes}
 use Rattle.df_form.specs.declared.node.Sort.{Sort}
 use Rattle.df_form.specs.declared.node.Sort.TheVariants as sorts
 use Rattle.df_form.specs.declared.node.Op.TheVariants as ops
@@ -81,9 +81,9 @@ module _ (at : ℕ) (n : List Newtype) (depth : ℕ) (state : State) where
 
   -- ---- one operator, once its operands are passed over
 
-  module _ (P : Assignment → Type 0) (p : Passed) (v : Value) (context : IsContext at n state P p) (value : (a : Assignment) → P a → worth at n a p.nodes p.term ≡ v) where
+  module _ (P : Assignment → Type 0) (p : Passed) (v : Value) (context : IsContext at n state P p) (value : (a : Assignment) → P a → worth at (of_newtypes n) a p.nodes p.term ≡ v) where
     -- what is passed over with the left operand's term kept
-    left_kept : (q : Passed) (sort : Sort) → Continues p q → is_of sort p.nodes p.term ≡ true → (a : Assignment) → P a → worth at n a q.nodes p.term ≡ v
+    left_kept : (q : Passed) (sort : Sort) → Continues p q → is_of sort p.nodes p.term ≡ true → (a : Assignment) → P a → worth at (of_newtypes n) a q.nodes p.term ≡ v
     left_kept q sort on of a says = kept at n p q a on p.term (of_below sort p.nodes p.term of) ∙ value a says
 
     add : (own : Ty) (place : Pos) (e : Passed) (r : Evaluated) → is_number p.nodes p.term ≡ true → Keeps types.Int p e → Says P p e r
@@ -108,7 +108,7 @@ module _ (at : ℕ) (n : List Newtype) (depth : ℕ) (state : State) where
         goes_typed at n (With at n (With at n P e e.term w) s s.term u) own place s u difference.order made.valued.term (λ a says. says.1)))
 
   -- the same of truths: the left one has a name
-  iff : (P : Assignment → Type 0) (b e : Passed) (v : Value) (r : Evaluated) → IsContext at n state P b → is_truth b.nodes b.term ≡ true → ((a : Assignment) → P a → worth at n a b.nodes b.term ≡ v) → Keeps types.Bool b e → Says P b e r
+  iff : (P : Assignment → Type 0) (b e : Passed) (v : Value) (r : Evaluated) → IsContext at n state P b → is_truth b.nodes b.term ≡ true → ((a : Assignment) → P a → worth at (of_newtypes n) a b.nodes b.term ≡ v) → Keeps types.Bool b e → Says P b e r
       → Says P b (same b.term e) (with_value r (λ w. Known (values.Truth (same_truth (truth_of v) (truth_of w)))))
   iff P b e v r context of value keeps first =
       goes_seq at n P b e (same b.term e) r (λ w. Known (values.Truth (same_truth (truth_of v) (truth_of w)))) (AnyValue at n) context.order context.stable first keeps.path (λ w.
@@ -116,7 +116,7 @@ module _ (at : ℕ) (n : List Newtype) (depth : ℕ) (state : State) where
 
   -- a plain operator on operands that are passed over
   plain_step : (operator : Operator) (P : Assignment → Type 0) (p e : Passed) (own : Ty) (place : Pos) (v : Value) (r : Evaluated) → is_plain operator ≡ true → IsContext at n state P p → IsValued (type_for operator) p
-      → ((a : Assignment) → P a → worth at n a p.nodes p.term ≡ v) → Keeps (type_for operator) (before_operand operator p) e → ((Q : Assignment → Type 0) → IsContext at n state Q (before_operand operator p) → Says Q (before_operand operator p) e r)
+      → ((a : Assignment) → P a → worth at (of_newtypes n) a p.nodes p.term ≡ v) → Keeps (type_for operator) (before_operand operator p) e → ((Q : Assignment → Type 0) → IsContext at n state Q (before_operand operator p) → Says Q (before_operand operator p) e r)
       → Says P p (after_operand n own operator place (before_operand operator p).term e) (with_value r (λ w. combined n operator own place v w))
   plain_step operators.Iff P p e own place v r plain context valued value keeps operand =
       let b = named p in
@@ -148,7 +148,7 @@ module _ (at : ℕ) (n : List Newtype) (depth : ℕ) (state : State) where
 
   -- and what comes after it
   plain_whole : (operator : Operator) (P : Assignment → Type 0) (p e s : Passed) (own : Ty) (place : Pos) (v : Value) (r : Evaluated) (go : Value → Evaluated) → is_plain operator ≡ true → IsContext at n state P p → IsValued (type_for operator) p
-      → ((a : Assignment) → P a → worth at n a p.nodes p.term ≡ v) → Keeps (type_for operator) (before_operand operator p) e → ((Q : Assignment → Type 0) → IsContext at n state Q (before_operand operator p) → Says Q (before_operand operator p) e r)
+      → ((a : Assignment) → P a → worth at (of_newtypes n) a p.nodes p.term ≡ v) → Keeps (type_for operator) (before_operand operator p) e → ((Q : Assignment → Type 0) → IsContext at n state Q (before_operand operator p) → Says Q (before_operand operator p) e r)
       → ((u : Value) → IsContext at n state (With at n P (after_operand n own operator place (before_operand operator p).term e) (after_operand n own operator place (before_operand operator p).term e).term u) (after_operand n own operator place (before_operand operator p).term e)
       → Says (With at n P (after_operand n own operator place (before_operand operator p).term e) (after_operand n own operator place (before_operand operator p).term e).term u) (after_operand n own operator place (before_operand operator p).term e) s (go u))
       → Says P p s (unless (decided operator v) (with_value r (λ w. with_value (combined n operator own place v w) go)))
@@ -173,9 +173,9 @@ module _ (at : ℕ) (n : List Newtype) (depth : ℕ) (state : State) where
 
   -- a comparison of two neighbours, and what comes after it
   compared_step : (P : Assignment → Type 0) (p e s : Passed) (own : Ty) (comparison : Comparison) (left : ℕ) (v : Value) (r : Evaluated) (go : Value → Evaluated) (A : Value → Type 0) → IsContext at n state P p → is_of (sort_for own) p.nodes left ≡ true
-      → ((a : Assignment) → P a → worth at n a p.nodes left ≡ v) → compares (length n) own comparison ≡ true → Keeps own p e → Says P p e r
+      → ((a : Assignment) → P a → worth at (of_newtypes n) a p.nodes left ≡ v) → compares (length n) own comparison ≡ true → Keeps own p e → Says P p e r
       → ((w d : Value) → IsContext at n state (With at n (With at n P e e.term w) (compared own comparison left e) (compared own comparison left e).term d) (compared own comparison left e)
-      → ((a : Assignment) → With at n (With at n P e e.term w) (compared own comparison left e) (compared own comparison left e).term d a → worth at n a (compared own comparison left e).nodes e.term ≡ w)
+      → ((a : Assignment) → With at n (With at n P e e.term w) (compared own comparison left e) (compared own comparison left e).term d a → worth at (of_newtypes n) a (compared own comparison left e).nodes e.term ≡ w)
       → Goes at n (With at n (With at n P e e.term w) (compared own comparison left e) (compared own comparison left e).term d) (compared own comparison left e) s (if truth_of d then go w else Known (values.Truth false)) A)
       → Goes at n P p s (with_value r (λ w. if compare comparison v w then go w else Known (values.Truth false))) A
   compared_step P p e s own comparison left v r go A context of value can keeps first rest =
@@ -189,7 +189,7 @@ module _ (at : ℕ) (n : List Newtype) (depth : ℕ) (state : State) where
       (λ a says. kept at n e c a test.on e.term (of_below (sort_for own) e.nodes e.term keeps.valued.term) ∙ says.0.1)))
 
   -- the negation of the term, from where evaluation goes on
-  enters_not : (P : Assignment → Type 0) (p : Passed) (v : Value) → IsContext at n state P p → is_truth p.nodes p.term ≡ true → ((a : Assignment) → P a → worth at n a p.nodes p.term ≡ v) → Enters at n P p (entered (negated p)) (not (truth_of v))
+  enters_not : (P : Assignment → Type 0) (p : Passed) (v : Value) → IsContext at n state P p → is_truth p.nodes p.term ≡ true → ((a : Assignment) → P a → worth at (of_newtypes n) a p.nodes p.term ≡ v) → Enters at n P p (entered (negated p)) (not (truth_of v))
   enters_not P p v context of value =
       let q = negated p in
       let first = goes_term at n P p ops.Not (p.term ∷ []) (values.Truth (not (truth_of v))) context.order (one_part p.nodes ops.Not sorts.Truth p.term refl of) (not_free p.nodes ops.Not refl) (λ a says i. values.Truth (not (truth_of (sym (value a says) i)))) in
@@ -206,17 +206,17 @@ module _ (at : ℕ) (n : List Newtype) (depth : ℕ) (state : State) where
             record { other = two.other; same = below_then (length p.nodes) (length q.nodes) a one.other two.other (longer p q (on_term ops.Not (p.term ∷ []) p)) one.same two.same; known = two.known });
       }
 
-  goes_held : (P : Assignment → Type 0) (p : Passed) (ty : Ty) (v : Value) → IsInOrder p → is_of (sort_for ty) p.nodes p.term ≡ true → ((a : Assignment) → P a → worth at n a p.nodes p.term ≡ v) → Says P p (held ty p) (Known v)
+  goes_held : (P : Assignment → Type 0) (p : Passed) (ty : Ty) (v : Value) → IsInOrder p → is_of (sort_for ty) p.nodes p.term ≡ true → ((a : Assignment) → P a → worth at (of_newtypes n) a p.nodes p.term ≡ v) → Says P p (held ty p) (Known v)
   goes_held P p types.Bool v order of value = goes_named at n P p v order of value
   goes_held P p types.Int v order of value = goes_not_at_all at n P p v order value
   goes_held P p (types.Newtype k) v order of value = goes_not_at_all at n P p v order value
 
   -- a single comparison
-  goes_tested : (P : Assignment → Type 0) (p : Passed) (d : Value) → IsInOrder p → is_truth p.nodes p.term ≡ true → ((a : Assignment) → P a → worth at n a p.nodes p.term ≡ d) → Says P p p (if truth_of d then Known (values.Truth true) else Known (values.Truth false))
+  goes_tested : (P : Assignment → Type 0) (p : Passed) (d : Value) → IsInOrder p → is_truth p.nodes p.term ≡ true → ((a : Assignment) → P a → worth at (of_newtypes n) a p.nodes p.term ≡ d) → Says P p p (if truth_of d then Known (values.Truth true) else Known (values.Truth false))
   goes_tested P p d order of value =
       goes_as at n P p p (Known (values.Truth (truth_of d))) (if truth_of d then Known (values.Truth true) else Known (values.Truth false)) (AnyValue at n) (truth_chosen (truth_of d))
       (goes_not_at_all at n P p (values.Truth (truth_of d)) order
-      (λ a says. sym (truth_is (worth at n a p.nodes p.term) (worth_sort at n p a sorts.Truth p.term order of)) ∙ ap (λ (u : Value). values.Truth (truth_of u)) (value a says)))
+      (λ a says. sym (truth_is (worth at (of_newtypes n) a p.nodes p.term) (worth_sort at n p a sorts.Truth p.term order of)) ∙ ap (λ (u : Value). values.Truth (truth_of u)) (value a says)))
 
   -- ---- expressions
 
@@ -285,7 +285,7 @@ module _ (at : ℕ) (n : List Newtype) (depth : ℕ) (state : State) where
     -- ---- runs
 
     goes_run : (locals : List Ty) (P : Assignment → Type 0) (p : Passed) (own : Ty) (m : Members) (ty : Ty) (v : Value) → AreTypes (length n) (length p.locals) locals → IsContext at n state P p → is_of (sort_for ty) p.nodes p.term ≡ true
-        → are_members (length n) locals ty m ≡ true → is_one_run m ≡ true → ((a : Assignment) → P a → worth at n a p.nodes p.term ≡ v)
+        → are_members (length n) locals ty m ≡ true → is_one_run m ≡ true → ((a : Assignment) → P a → worth at (of_newtypes n) a p.nodes p.term ≡ v)
         → Says P p (closed_run m (passed_members n own p m)) (evaluate_members depth n state own v m)
     goes_run locals P p own end ty v are context of is run value = goes_not_at_all at n P p v context.order value
     goes_run locals P p own (more operators.Iff place operand rest) ty v are context of is run value =
@@ -387,7 +387,7 @@ module _ (at : ℕ) (n : List Newtype) (depth : ℕ) (state : State) where
 
     -- the operations after one that is a sum or an equivalence
     goes_plain : (locals : List Ty) (P : Assignment → Type 0) (p : Passed) (own : Ty) (m : Members) (first : Operator) (ty : Ty) (v : Value) → is_plain first ≡ true → AreTypes (length n) (length p.locals) locals → IsContext at n state P p
-        → is_of (sort_for ty) p.nodes p.term ≡ true → are_members (length n) locals ty m ≡ true → all_run first m ≡ true → ((a : Assignment) → P a → worth at n a p.nodes p.term ≡ v)
+        → is_of (sort_for ty) p.nodes p.term ≡ true → are_members (length n) locals ty m ≡ true → all_run first m ≡ true → ((a : Assignment) → P a → worth at (of_newtypes n) a p.nodes p.term ≡ v)
         → Says P p (passed_members n own p m) (evaluate_members depth n state own v m)
     goes_plain locals P p own end first ty v plain are context of is run value = goes_not_at_all at n P p v context.order value
     goes_plain locals P p own (more operator place operand rest) first ty v plain are context of is run value =
@@ -408,7 +408,7 @@ module _ (at : ℕ) (n : List Newtype) (depth : ℕ) (state : State) where
         (λ u c. goes_plain locals (With at n P q q.term u) q own rest first ty u plain (types_on (length n) locals p q on are) c (valued_as (type_for operator) ty q (sym sort) made.valued).term parts.2 runs_on.1 (λ a says. says.1))
 
     goes_and : (locals : List Ty) (P : Assignment → Type 0) (p : Passed) (own : Ty) (m : Members) (ty : Ty) (v : Value) → AreTypes (length n) (length p.locals) locals → IsContext at n state P p
-        → is_of (sort_for ty) p.nodes p.term ≡ true → sort_for ty ≡ sorts.Truth → are_members (length n) locals ty m ≡ true → all_run operators.And m ≡ true → ((a : Assignment) → P a → worth at n a p.nodes p.term ≡ v)
+        → is_of (sort_for ty) p.nodes p.term ≡ true → sort_for ty ≡ sorts.Truth → are_members (length n) locals ty m ≡ true → all_run operators.And m ≡ true → ((a : Assignment) → P a → worth at (of_newtypes n) a p.nodes p.term ≡ v)
         → Goes at n P p (closed operators.And (passed_members n own p m)) (evaluate_members depth n state own v m) (λ u. u ≡ values.Truth false)
     goes_and locals P p own end ty v are context of kind is run value = goes_narrowed at n P p v context.order (subst (λ (s : Sort). is_of s p.nodes p.term ≡ true) kind of) value
     goes_and locals P p own (more operator place operand rest) ty v are context of kind is run value =
@@ -434,7 +434,7 @@ module _ (at : ℕ) (n : List Newtype) (depth : ℕ) (state : State) where
         )
 
     goes_implies : (locals : List Ty) (P : Assignment → Type 0) (p : Passed) (own : Ty) (m : Members) (ty : Ty) (v : Value) → AreTypes (length n) (length p.locals) locals → IsContext at n state P p
-        → is_of (sort_for ty) p.nodes p.term ≡ true → sort_for ty ≡ sorts.Truth → are_members (length n) locals ty m ≡ true → all_run operators.Implies m ≡ true → ((a : Assignment) → P a → worth at n a p.nodes p.term ≡ v)
+        → is_of (sort_for ty) p.nodes p.term ≡ true → sort_for ty ≡ sorts.Truth → are_members (length n) locals ty m ≡ true → all_run operators.Implies m ≡ true → ((a : Assignment) → P a → worth at (of_newtypes n) a p.nodes p.term ≡ v)
         → Goes at n P p (closed operators.Implies (passed_members n own p m)) (evaluate_members depth n state own v m) (λ u. u ≡ values.Truth true)
     goes_implies locals P p own end ty v are context of kind is run value = goes_weakened at n P p v context.order (subst (λ (s : Sort). is_of s p.nodes p.term ≡ true) kind of) value
     goes_implies locals P p own (more operator place operand rest) ty v are context of kind is run value =
@@ -460,7 +460,7 @@ module _ (at : ℕ) (n : List Newtype) (depth : ℕ) (state : State) where
         )
 
     goes_or : (locals : List Ty) (P : Assignment → Type 0) (p : Passed) (own : Ty) (m : Members) (ty : Ty) (v : Value) → AreTypes (length n) (length p.locals) locals → IsContext at n state P p
-        → is_of (sort_for ty) p.nodes p.term ≡ true → sort_for ty ≡ sorts.Truth → are_members (length n) locals ty m ≡ true → all_run operators.Or m ≡ true → ((a : Assignment) → P a → worth at n a p.nodes p.term ≡ v)
+        → is_of (sort_for ty) p.nodes p.term ≡ true → sort_for ty ≡ sorts.Truth → are_members (length n) locals ty m ≡ true → all_run operators.Or m ≡ true → ((a : Assignment) → P a → worth at (of_newtypes n) a p.nodes p.term ≡ v)
         → Goes at n P p (closed operators.Or (passed_members n own p m)) (evaluate_members depth n state own v m) (λ u. u ≡ values.Truth true)
     goes_or locals P p own end ty v are context of kind is run value = goes_weakened at n P p v context.order (subst (λ (s : Sort). is_of s p.nodes p.term ≡ true) kind of) value
     goes_or locals P p own (more operator place operand rest) ty v are context of kind is run value =
@@ -486,7 +486,7 @@ module _ (at : ℕ) (n : List Newtype) (depth : ℕ) (state : State) where
         )
 
     goes_chain : (locals : List Ty) (P : Assignment → Type 0) (p : Passed) (own : Ty) (l : Links) (v : Value) → AreTypes (length n) (length p.locals) locals → IsContext at n state P p → is_of (sort_for own) p.nodes p.term ≡ true
-        → are_links (length n) locals own l ≡ true → ((a : Assignment) → P a → worth at n a p.nodes p.term ≡ v)
+        → are_links (length n) locals own l ≡ true → ((a : Assignment) → P a → worth at (of_newtypes n) a p.nodes p.term ≡ v)
         → Says P p (passed_chain n own p l) (evaluate_links depth n state v l)
     goes_chain locals P p own last v are context of is value = goes_term at n P p ops.And [] (values.Truth true) context.order refl (not_free p.nodes ops.And refl) (λ a says. refl)
     goes_chain locals P p own (link comparison place operand last) v are context of is value =
@@ -514,12 +514,12 @@ module _ (at : ℕ) (n : List Newtype) (depth : ℕ) (state : State) where
 
     -- the comparisons after one that is the term
     goes_links : (locals : List Ty) (P : Assignment → Type 0) (p : Passed) (own : Ty) (left : ℕ) (l : Links) (v d : Value) → AreTypes (length n) (length p.locals) locals → IsContext at n state P p → is_truth p.nodes p.term ≡ true
-        → is_of (sort_for own) p.nodes left ≡ true → are_links (length n) locals own l ≡ true → ((a : Assignment) → P a → worth at n a p.nodes left ≡ v) → ((a : Assignment) → P a → worth at n a p.nodes p.term ≡ d)
+        → is_of (sort_for own) p.nodes left ≡ true → are_links (length n) locals own l ≡ true → ((a : Assignment) → P a → worth at (of_newtypes n) a p.nodes left ≡ v) → ((a : Assignment) → P a → worth at (of_newtypes n) a p.nodes p.term ≡ d)
         → Goes at n P p (narrowed (passed_links n own left p l)) (if truth_of d then evaluate_links depth n state v l else Known (values.Truth false)) (λ u. u ≡ values.Truth false)
     goes_links locals P p own left last v d are context of left_of is left_value value =
         goes_as at n P p (narrowed p) (Known (values.Truth (truth_of d))) (if truth_of d then Known (values.Truth true) else Known (values.Truth false)) (λ u. u ≡ values.Truth false) (truth_chosen (truth_of d))
         (goes_narrowed at n P p (values.Truth (truth_of d)) context.order of
-        (λ a says. sym (truth_is (worth at n a p.nodes p.term) (worth_sort at n p a sorts.Truth p.term context.order of)) ∙ ap (λ (u : Value). values.Truth (truth_of u)) (value a says)))
+        (λ a says. sym (truth_is (worth at (of_newtypes n) a p.nodes p.term) (worth_sort at n p a sorts.Truth p.term context.order of)) ∙ ap (λ (u : Value). values.Truth (truth_of u)) (value a says)))
     goes_links locals P p own left (link comparison place operand rest) v d are context of left_of is left_value value =
         let parts = three (compares (length n) own comparison) (is_expr (length n) locals own operand) (are_links (length n) locals own rest) is in
         let b = entered p in

@@ -2,12 +2,13 @@
 use Rattle.std.proofs.Common.{◌≡◌, ℕ, ◌<◌, true, nat_lt, negsuc, List, [], ◌∷◌, ◌++◌, length, Option, None, Some, slice_get, refl, sym, ap, ◌∙◌, subst, append_assoc, append-nil}
 use Rattle.std.proofs.lemmas.Bool.{ltb-true}
 use Rattle.df_base.specs.declared.pos.Pos.{Pos}
-use Rattle.df_types.specs.declared.newtype.Ty.TheVariants as places
+use Rattle.df_lang.specs.declared.ty.Ty.TheVariants as places
 use Rattle.df_types.specs.Newtype.{Newtype}
 use Rattle.df_program.specs.declared.expr.Ty.{Ty}
 use Rattle.df_program.specs.declared.expr.Ty.TheVariants as types
 use Rattle.df_meaning.specs.declared.kind.Kind.{Kind}
 use Rattle.df_meaning.specs.declared.kind.Kind.TheVariants as kinds
+use Rattle.df_form.specs.World.{of_newtypes}
 use Rattle.df_form.specs.declared.node.Sort.{Sort}
 use Rattle.df_form.specs.declared.node.Sort.TheVariants as sorts
 use Rattle.df_form.specs.declared.node.Op.{Op}
@@ -86,7 +87,7 @@ abbrev pub on_assumed : (p : Passed) → Continues p (assumed p)
 on_assumed p = record { nodes = []; known = p.term ∷ []; owed = []; more_nodes = sym (append-nil p.nodes); more_known = refl; more_owed = sym (append-nil p.obligations); locals = refl }
 
 abbrev pub obligation : List Newtype → Pos → Kind → Passed → Obligation
-obligation newtypes pos kind p = record { pos = pos; kind = kind; sequent = record { newtypes = newtypes; nodes = p.nodes; hypotheses = p.known; goal = p.term } }
+obligation newtypes pos kind p = record { pos = pos; kind = kind; sequent = record { world = of_newtypes newtypes; nodes = p.nodes; hypotheses = p.known; goal = p.term } }
 
 abbrev pub on_owed : (newtypes : List Newtype) (pos : Pos) (kind : Kind) (p : Passed) → Continues p (owed newtypes pos kind p)
 on_owed newtypes pos kind p = record { nodes = []; known = []; owed = obligation newtypes pos kind p ∷ []; more_nodes = sym (append-nil p.nodes); more_known = sym (append-nil p.known); more_owed = refl; locals = refl }

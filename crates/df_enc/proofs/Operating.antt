@@ -9,10 +9,10 @@ use Rattle.df_program.specs.declared.expr.Ty.TheVariants as types
 use Rattle.df_program.specs.declared.expr.Comparison.{Comparison}
 use Rattle.df_program.specs.declared.expr.Comparison.TheVariants as comparisons
 use Rattle.df_program.specs.Typing.{compares}
-use Rattle.df_meaning.specs.Value.{Value, Truth, Number, Text, number_of, truth_of, same_truth, same_value}
+use Rattle.df_meaning.specs.Value.{Value, Truth, Number, Character, Text, number_of, truth_of, same_truth, same_value}
 use Rattle.df_meaning.specs.Outcome.{Known}
 use Rattle.df_runs.specs.Evaluation.{in_range, compare}
-use Rattle.df_runs.specs.Evaluation as runs
+use Rattle.df_form.specs.World.{of_newtypes}
 use Rattle.df_form.specs.declared.node.Sort.{Sort}
 use Rattle.df_form.specs.declared.node.Sort.TheVariants as sorts
 use Rattle.df_form.specs.declared.node.Op.{Op}
@@ -51,8 +51,10 @@ truth_values_same : (v w : Value) → has_sort sorts.Truth v ≡ true → has_so
 truth_values_same (Truth a) (Truth b) e f = turned_truths a b
 truth_values_same (Number a) w e f = absurd cc
 truth_values_same (Text a) w e f = absurd cc
+truth_values_same (Character c) w e f = absurd cc
 truth_values_same (Truth a) (Number b) e f = absurd cc
 truth_values_same (Truth a) (Text b) e f = absurd cc
+truth_values_same (Truth a) (Character c) e f = absurd cc
 
 module _ (at : ℕ) (newtypes : List Newtype) where
   -- ---- sums
@@ -72,12 +74,12 @@ module _ (at : ℕ) (newtypes : List Newtype) where
     unfolding opposite
     opposite_of = of_term ops.Times ((with_term minus_one [] p).term ∷ p.term ∷ []) (with_term minus_one [] p)
 
-    pub opposite_value : (a : Assignment) → worth at newtypes a (opposite p).nodes (opposite p).term ≡ Number (neg_ℤ (number_of (worth at newtypes a p.nodes p.term)))
+    pub opposite_value : (a : Assignment) → worth at (of_newtypes newtypes) a (opposite p).nodes (opposite p).term ≡ Number (neg_ℤ (number_of (worth at (of_newtypes newtypes) a p.nodes p.term)))
     unfolding opposite
     opposite_value a =
         value_term at newtypes (with_term minus_one [] p) ops.Times ((with_term minus_one [] p).term ∷ p.term ∷ []) a minus_order times_well
         ∙ (λ i. Number (number_of (value_term at newtypes p minus_one [] a order refl i) *ℤ number_of (kept at newtypes p (with_term minus_one [] p) a (on_term minus_one [] p) p.term (of_below sorts.Number p.nodes p.term of) i)))
-        ∙ ap Number (minus_one_times (number_of (worth at newtypes a p.nodes p.term)))
+        ∙ ap Number (minus_one_times (number_of (worth at (of_newtypes newtypes) a p.nodes p.term)))
 
     pub known_opposite : (opposite p).known ≡ p.known
     unfolding opposite
@@ -87,7 +89,7 @@ module _ (at : ℕ) (newtypes : List Newtype) where
     unfolding opposite
     quiet_opposite = refl
 
-  pub goes_opposite : (P : Assignment → Type 0) (p : Passed) (v : Value) → IsInOrder p → is_number p.nodes p.term ≡ true → ((a : Assignment) → P a → worth at newtypes a p.nodes p.term ≡ v)
+  pub goes_opposite : (P : Assignment → Type 0) (p : Passed) (v : Value) → IsInOrder p → is_number p.nodes p.term ≡ true → ((a : Assignment) → P a → worth at (of_newtypes newtypes) a p.nodes p.term ≡ v)
       → Goes at newtypes P p (opposite p) (Known (Number (neg_ℤ (number_of v)))) (AnyValue at newtypes)
   goes_opposite P p v order of value =
       goes_known at newtypes P p (opposite p) (Number (neg_ℤ (number_of v))) (on_opposite p) (quiet_opposite p order of) (order_opposite p order of)
@@ -95,14 +97,14 @@ module _ (at : ℕ) (newtypes : List Newtype) where
       (λ a says all. only_nodes at newtypes p (opposite p) a order (on_opposite p) (known_opposite p order of) all)
 
   pub goes_plus : (P : Assignment → Type 0) (left : ℕ) (p : Passed) (v w : Value) → IsInOrder p → is_number p.nodes left ≡ true → is_number p.nodes p.term ≡ true
-      → ((a : Assignment) → P a → worth at newtypes a p.nodes left ≡ v) → ((a : Assignment) → P a → worth at newtypes a p.nodes p.term ≡ w)
+      → ((a : Assignment) → P a → worth at (of_newtypes newtypes) a p.nodes left ≡ v) → ((a : Assignment) → P a → worth at (of_newtypes newtypes) a p.nodes p.term ≡ w)
       → Goes at newtypes P p (plus left p) (Known (Number (number_of v +ℤ number_of w))) (AnyValue at newtypes)
   goes_plus P left p v w order left_of right_of left_value right_value =
       goes_term at newtypes P p ops.Plus (left ∷ p.term ∷ []) (Number (number_of v +ℤ number_of w)) order (two_parts p.nodes ops.Plus sorts.Number left p.term refl left_of right_of) (not_free p.nodes ops.Plus refl)
       (λ a says i. Number (number_of (sym (left_value a says) i) +ℤ number_of (sym (right_value a says) i)))
 
   pub goes_minus : (P : Assignment → Type 0) (left : ℕ) (p : Passed) (v w : Value) → IsInOrder p → is_number p.nodes left ≡ true → is_number p.nodes p.term ≡ true
-      → ((a : Assignment) → P a → worth at newtypes a p.nodes left ≡ v) → ((a : Assignment) → P a → worth at newtypes a p.nodes p.term ≡ w)
+      → ((a : Assignment) → P a → worth at (of_newtypes newtypes) a p.nodes left ≡ v) → ((a : Assignment) → P a → worth at (of_newtypes newtypes) a p.nodes p.term ≡ w)
       → Goes at newtypes P p (minus left p) (Known (Number (number_of v -ℤ number_of w))) (AnyValue at newtypes)
   goes_minus P left p v w order left_of right_of left_value right_value =
       let m = opposite p in
@@ -119,16 +121,16 @@ module _ (at : ℕ) (newtypes : List Newtype) where
       (λ a says all. only_nodes at newtypes p (minus left p) a order on (known_opposite p order right_of) all)
 
   -- a number of its type, whatever it is
-  pub goes_typed : (P : Assignment → Type 0) (ty : Ty) (place : Pos) (p : Passed) (v : Value) → IsInOrder p → is_number p.nodes p.term ≡ true → ((a : Assignment) → P a → worth at newtypes a p.nodes p.term ≡ v)
+  pub goes_typed : (P : Assignment → Type 0) (ty : Ty) (place : Pos) (p : Passed) (v : Value) → IsInOrder p → is_number p.nodes p.term ≡ true → ((a : Assignment) → P a → worth at (of_newtypes newtypes) a p.nodes p.term ≡ v)
       → Goes at newtypes P p (numbered newtypes ty place p) (in_range newtypes ty place (number_of v)) (AnyValue at newtypes)
   goes_typed P ty place p v order of value =
       goes_numbered at newtypes P ty place p (number_of v) order of
-      (λ a says. sym (number_is (worth at newtypes a p.nodes p.term) (worth_sort at newtypes p a sorts.Number p.term order of)) ∙ ap (λ (x : Value). Number (number_of x)) (value a says))
+      (λ a says. sym (number_is (worth at (of_newtypes newtypes) a p.nodes p.term) (worth_sort at newtypes p a sorts.Number p.term order of)) ∙ ap (λ (x : Value). Number (number_of x)) (value a says))
 
   -- ---- comparisons
 
   pub goes_not : (P : Assignment → Type 0) (p : Passed) (op : Op) (parts : List ℕ) (d : Bool) → IsInOrder p → is_well_sorted p.nodes (record { op = op; parts = parts }) ≡ true → is_truth (with_term op parts p).nodes (with_term op parts p).term ≡ true
-      → is_free op ≡ false → ((a : Assignment) → P a → d ≡ truth_of (apply at newtypes a op (map (worth at newtypes a p.nodes) parts)))
+      → is_free op ≡ false → ((a : Assignment) → P a → d ≡ truth_of (apply at (of_newtypes newtypes) a op (map (worth at (of_newtypes newtypes) a p.nodes) parts)))
       → Goes at newtypes P p (negated (with_term op parts p)) (Known (Truth (not d))) (AnyValue at newtypes)
   goes_not P p op parts d order well of free value =
       let q = with_term op parts p in
@@ -143,7 +145,7 @@ module _ (at : ℕ) (newtypes : List Newtype) where
       (λ a says all. only_nodes at newtypes p (negated q) a order on refl all)
 
   module _ (P : Assignment → Type 0) (left : ℕ) (p : Passed) (v w : Value) (order : IsInOrder p)
-      (left_value : (a : Assignment) → P a → worth at newtypes a p.nodes left ≡ v) (right_value : (a : Assignment) → P a → worth at newtypes a p.nodes p.term ≡ w) where
+      (left_value : (a : Assignment) → P a → worth at (of_newtypes newtypes) a p.nodes left ≡ v) (right_value : (a : Assignment) → P a → worth at (of_newtypes newtypes) a p.nodes p.term ≡ w) where
     pub goes_same : is_truth p.nodes left ≡ true → is_truth p.nodes p.term ≡ true → Goes at newtypes P p (same left p) (Known (Truth (same_truth (truth_of v) (truth_of w)))) (AnyValue at newtypes)
     goes_same left_of right_of =
         goes_term at newtypes P p ops.Iff (p.term ∷ left ∷ []) (Truth (same_truth (truth_of v) (truth_of w))) order (two_parts p.nodes ops.Iff sorts.Truth p.term left refl right_of left_of) (not_free p.nodes ops.Iff refl)
@@ -155,19 +157,19 @@ module _ (at : ℕ) (newtypes : List Newtype) where
     right_sort : (a : Assignment) → P a → (sort : Sort) → is_of sort p.nodes p.term ≡ true → has_sort sort w ≡ true
     right_sort a says sort of = ap (has_sort sort) (sym (right_value a says)) ∙ worth_sort at newtypes p a sort p.term order of
 
-    truths_equal : (a : Assignment) → P a → is_truth p.nodes left ≡ true → is_truth p.nodes p.term ≡ true → compare comparisons.Equal v w ≡ truth_of (apply at newtypes a ops.Iff (map (worth at newtypes a p.nodes) (p.term ∷ left ∷ [])))
+    truths_equal : (a : Assignment) → P a → is_truth p.nodes left ≡ true → is_truth p.nodes p.term ≡ true → compare comparisons.Equal v w ≡ truth_of (apply at (of_newtypes newtypes) a ops.Iff (map (worth at (of_newtypes newtypes) a p.nodes) (p.term ∷ left ∷ [])))
     truths_equal a says left_of right_of =
         sym (truth_values_same v w (left_sort a says sorts.Truth left_of) (right_sort a says sorts.Truth right_of))
         ∙ (λ i. same_truth (truth_of (sym (right_value a says) i)) (truth_of (sym (left_value a says) i)))
 
-    numbers_equal : (a : Assignment) → P a → is_number p.nodes left ≡ true → is_number p.nodes p.term ≡ true → compare comparisons.Equal v w ≡ truth_of (apply at newtypes a ops.Equal (map (worth at newtypes a p.nodes) (left ∷ p.term ∷ [])))
+    numbers_equal : (a : Assignment) → P a → is_number p.nodes left ≡ true → is_number p.nodes p.term ≡ true → compare comparisons.Equal v w ≡ truth_of (apply at (of_newtypes newtypes) a ops.Equal (map (worth at (of_newtypes newtypes) a p.nodes) (left ∷ p.term ∷ [])))
     numbers_equal a says left_of right_of =
         λ i. same_value (sym (left_value a says) i) (sym (right_value a says) i)
 
-    left_below : (a : Assignment) → P a → int_le (number_of v) (number_of w) ≡ truth_of (apply at newtypes a ops.AtMost (map (worth at newtypes a p.nodes) (left ∷ p.term ∷ [])))
+    left_below : (a : Assignment) → P a → int_le (number_of v) (number_of w) ≡ truth_of (apply at (of_newtypes newtypes) a ops.AtMost (map (worth at (of_newtypes newtypes) a p.nodes) (left ∷ p.term ∷ [])))
     left_below a says = λ i. int_le (number_of (sym (left_value a says) i)) (number_of (sym (right_value a says) i))
 
-    right_below : (a : Assignment) → P a → int_le (number_of w) (number_of v) ≡ truth_of (apply at newtypes a ops.AtMost (map (worth at newtypes a p.nodes) (p.term ∷ left ∷ [])))
+    right_below : (a : Assignment) → P a → int_le (number_of w) (number_of v) ≡ truth_of (apply at (of_newtypes newtypes) a ops.AtMost (map (worth at (of_newtypes newtypes) a p.nodes) (p.term ∷ left ∷ [])))
     right_below a says = λ i. int_le (number_of (sym (right_value a says) i)) (number_of (sym (left_value a says) i))
 
     known_as : (q : Passed) (x y : Bool) → x ≡ y → Goes at newtypes P p q (Known (Truth x)) (AnyValue at newtypes) → Goes at newtypes P p q (Known (Truth y)) (AnyValue at newtypes)

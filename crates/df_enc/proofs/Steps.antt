@@ -3,6 +3,7 @@ use Rattle.std.proofs.Common.{◌≡◌, ℕ, ◌<◌, ◌≤◌, ◌⊎◌, inl
 use Rattle.std.specs.List.{list_all, AllByRecursion}
 use Rattle.std.proofs.lemmas.Bool.{ltb-true}
 use Rattle.df_types.specs.Newtype.{Newtype}
+use Rattle.df_form.specs.World.{of_newtypes}
 use Rattle.df_form.specs.declared.node.Sort.{Sort}
 use Rattle.df_form.specs.declared.node.Sort.TheVariants as sorts
 use Rattle.df_form.specs.declared.node.Free.{Free}
@@ -115,12 +116,12 @@ order_assumed p order of = record {
 
 module _ (at : ℕ) (newtypes : List Newtype) where
   pub value_term : (p : Passed) (op : Op) (parts : List ℕ) (a : Assignment) → IsInOrder p → is_well_sorted p.nodes (record { op = op; parts = parts }) ≡ true
-      → worth at newtypes a (with_term op parts p).nodes (with_term op parts p).term ≡ apply at newtypes a op (map (worth at newtypes a p.nodes) parts)
+      → worth at (of_newtypes newtypes) a (with_term op parts p).nodes (with_term op parts p).term ≡ apply at (of_newtypes newtypes) a op (map (worth at (of_newtypes newtypes) a p.nodes) parts)
   value_term p op parts a order well =
       let node : Node = record { op = op; parts = parts } in
       let m = made p.nodes node in
       let s = stands p op parts order well in
       let all = (and_true (list_all (λ part. nat_lt part (length p.nodes)) parts) (takes op (map (sort_at p.nodes) parts)) well).0 in
-      let same : map (worth at newtypes a m.nodes) parts ≡ map (worth at newtypes a p.nodes) parts = map_agree (λ part. nat_lt part (length p.nodes)) (worth at newtypes a m.nodes) (worth at newtypes a p.nodes) parts
+      let same : map (worth at (of_newtypes newtypes) a m.nodes) parts ≡ map (worth at (of_newtypes newtypes) a p.nodes) parts = map_agree (λ part. nat_lt part (length p.nodes)) (worth at (of_newtypes newtypes) a m.nodes) (worth at (of_newtypes newtypes) a p.nodes) parts
       (λ part less. kept at newtypes p (with_term op parts p) a (on_term op parts p) part (ltb-true part (length p.nodes) less)) all in
-      value_is at newtypes a m.nodes m.number node s.sorted s.there ∙ ap (λ vs. apply at newtypes a op vs) same
+      value_is at (of_newtypes newtypes) a m.nodes m.number node s.sorted s.there ∙ ap (λ vs. apply at (of_newtypes newtypes) a op vs) same

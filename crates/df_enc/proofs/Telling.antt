@@ -6,6 +6,7 @@ use Rattle.df_types.specs.Newtype.{Newtype}
 use Rattle.df_meaning.specs.declared.kind.Kind.{Kind}
 use Rattle.df_meaning.specs.Value.{Value, Truth, truth_of}
 use Rattle.df_meaning.specs.Outcome.{Evaluated, Known, Undefined, OutOfDepth, with_value}
+use Rattle.df_form.specs.World.{of_newtypes}
 use Rattle.df_form.specs.declared.node.Sort.TheVariants as sorts
 use Rattle.df_form.specs.Truth.{Assignment}
 use Rattle.df_form.proofs.Same.{and_true}
@@ -120,7 +121,7 @@ module _ (at : ℕ) (newtypes : List Newtype) where
 
   -- and a term has the value
   abbrev pub With : (Assignment → Type 0) → Passed → ℕ → Value → Assignment → Type 0
-  With P q term v a = P a × (worth at newtypes a q.nodes term ≡ v)
+  With P q term v a = P a × (worth at (of_newtypes newtypes) a q.nodes term ≡ v)
 
   pub stable_with : (p : Passed) (P : Assignment → Type 0) (term : ℕ) (v : Value) → IsInOrder p → IsStable (length p.nodes) P → IsStable (length p.nodes) (With P p term v)
   stable_with p P term v order stable = record { moves = λ one other same h. (stable.moves one other same h.0, same_worth at newtypes p one other order same term ∙ h.1) }
@@ -130,7 +131,7 @@ module _ (at : ℕ) (newtypes : List Newtype) where
     pub on : Continues p q
     pub order : IsInOrder q
     pub tells : Tells at newtypes P p q on.owed r
-    pub away : (a : Assignment) → P a → AreKnown at newtypes a q → comes at newtypes a p ≡ false → A (worth at newtypes a q.nodes q.term)
+    pub away : (a : Assignment) → P a → AreKnown at newtypes a q → comes at newtypes a p ≡ false → A (worth at (of_newtypes newtypes) a q.nodes q.term)
 
   abbrev pub AnyValue : Value → Type 0
   AnyValue v = Unit {0}
@@ -148,12 +149,12 @@ module _ (at : ℕ) (newtypes : List Newtype) where
   module _ (P : Assignment → Type 0) (p q s : Passed) (r : Evaluated) (go : Value → Evaluated) (A : Value → Type 0)
       (order : IsInOrder p) (stable : IsStable (length p.nodes) P) (first : Goes P p q r AnyValue) (path : q.path ≡ p.path) (then_on : Continues q s) (s_order : IsInOrder s)
       (second : (v : Value) → Tells at newtypes (With P q q.term v) q s then_on.owed (go v))
-      (away : (a : Assignment) (v : Value) → With P q q.term v a → AreKnown at newtypes a s → comes at newtypes a q ≡ false → A (worth at newtypes a s.nodes s.term)) where
+      (away : (a : Assignment) (v : Value) → With P q q.term v a → AreKnown at newtypes a s → comes at newtypes a q ≡ false → A (worth at (of_newtypes newtypes) a s.nodes s.term)) where
     both : Evaluated
     both = with_value r go
 
     value_between : Assignment → Value
-    value_between a = worth at newtypes a q.nodes q.term
+    value_between a = worth at (of_newtypes newtypes) a q.nodes q.term
 
     back : (a : Assignment) → AreKnown at newtypes a s → AreKnown at newtypes a q
     back a all = known_back at newtypes q s a first.order then_on all
@@ -161,10 +162,10 @@ module _ (at : ℕ) (newtypes : List Newtype) where
     here : (a : Assignment) → comes at newtypes a q ≡ comes at newtypes a p
     here a = comes_on p q a order first.on path
 
-    then_value : (a : Assignment) → P a → AreKnown at newtypes a s → comes at newtypes a p ≡ true → with_value r go ≡ Known (worth at newtypes a s.nodes s.term)
+    then_value : (a : Assignment) → P a → AreKnown at newtypes a s → comes at newtypes a p ≡ true → with_value r go ≡ Known (worth at (of_newtypes newtypes) a s.nodes s.term)
     then_value a says all c =
         let one = first.tells.value a says (back a all) c in
-        let two = (second (worth at newtypes a q.nodes q.term)).value a (says, refl) all (here a ∙ c) in
+        let two = (second (worth at (of_newtypes newtypes) a q.nodes q.term)).value a (says, refl) all (here a ∙ c) in
         ap (λ (x : Evaluated). with_value x go) one ∙ two
 
     left_owed : (o : Obligation) → IsOwed at newtypes P p r o → IsOwed at newtypes P p (with_value r go) o
@@ -172,10 +173,10 @@ module _ (at : ℕ) (newtypes : List Newtype) where
 
     right_owed : (o : Obligation) → ((v : Value) → IsOwed at newtypes (With P q q.term v) q (go v) o) → IsOwed at newtypes P p (with_value r go) o
     right_owed o h = record {
-      known = λ a says ref. known_back at newtypes p q a order first.on ((h (worth at newtypes a q.nodes q.term)).known a (says, refl) ref);
-      reaches = λ a says ref. sym (here a) ∙ (h (worth at newtypes a q.nodes q.term)).reaches a (says, refl) ref;
+      known = λ a says ref. known_back at newtypes p q a order first.on ((h (worth at (of_newtypes newtypes) a q.nodes q.term)).known a (says, refl) ref);
+      reaches = λ a says ref. sym (here a) ∙ (h (worth at (of_newtypes newtypes) a q.nodes q.term)).reaches a (says, refl) ref;
       undefined = λ a says ref. (
-          let w = worth at newtypes a q.nodes q.term in
+          let w = worth at (of_newtypes newtypes) a q.nodes q.term in
           let known = (h w).known a (says, refl) ref in
           let c = sym (here a) ∙ (h w).reaches a (says, refl) ref in
           ap (λ (x : Evaluated). with_value x go) (first.tells.value a says known c) ∙ (h w).undefined a (says, refl) ref);
@@ -186,7 +187,7 @@ module _ (at : ℕ) (newtypes : List Newtype) where
         let one = first.tells.extends a says all (λ c. first_value r go (has c)) in
         let b = one.other in
         let says_b = stable.moves a b one.same says in
-        let w = worth at newtypes b q.nodes q.term in
+        let w = worth at (of_newtypes newtypes) b q.nodes q.term in
         let two = (second w).extends b (says_b, refl) one.known (λ c.
         let c_b : comes at newtypes b p ≡ true = sym (here b) ∙ c in
         let c_a : comes at newtypes a p ≡ true = sym (same_comes at newtypes p a b order one.same) ∙ c_b in
@@ -201,7 +202,7 @@ module _ (at : ℕ) (newtypes : List Newtype) where
         let one = first.tells.extends a says all (λ c. record { value = v; is = is }) in
         let b = one.other in
         let says_b = stable.moves a b one.same says in
-        let w = worth at newtypes b q.nodes q.term in
+        let w = worth at (of_newtypes newtypes) b q.nodes q.term in
         let c_b : comes at newtypes b p ≡ true = same_comes at newtypes p a b order one.same ∙ c in
         let value = first.tells.value b says_b one.known c_b in
         let go_on : go w ≡ Undefined place kind = sym (ap (λ (x : Evaluated). with_value x go) value) ∙ e in
@@ -227,7 +228,7 @@ module _ (at : ℕ) (newtypes : List Newtype) where
         extends = then_extends;
         breaks = λ a place kind says all c e. then_breaks a place kind says all c e (cases_of r);
       };
-      away = λ a says all c. away a (worth at newtypes a q.nodes q.term) (says, refl) all (here a ∙ c);
+      away = λ a says all c. away a (worth at (of_newtypes newtypes) a q.nodes q.term) (says, refl) all (here a ∙ c);
     }
 
   -- ---- where evaluation goes on only if a truth holds
@@ -283,7 +284,7 @@ module _ (at : ℕ) (newtypes : List Newtype) where
       on = on_then p b s entering second.on;
       order = second.order;
       tells = record {
-        value = λ a says all c. if_value d _ _ r other (worth at newtypes a s.nodes s.term) (first.goes a says (before a all)) c (second.tells.value a says all) (second.away a says all);
+        value = λ a says all c. if_value d _ _ r other (worth at (of_newtypes newtypes) a s.nodes s.term) (first.goes a says (before a all)) c (second.tells.value a says all) (second.away a says all);
         owes = all_of (IsOwed at newtypes P b r) (IsOwed at newtypes P p (if d then r else Known (Truth other))) second.on.owed enter_owed second.tells.owes;
         extends = enter_extends;
         breaks = enter_breaks;

@@ -9,6 +9,7 @@ use Rattle.df_meaning.specs.declared.kind.Kind.{Kind}
 use Rattle.df_meaning.specs.Value.{Value}
 use Rattle.df_meaning.specs.Outcome.{State, Evaluated, Known, Undefined}
 use Rattle.df_runs.specs.Evaluation.{evaluate}
+use Rattle.df_form.specs.World.{of_newtypes}
 use Rattle.df_form.specs.declared.node.Free.{Free}
 use Rattle.df_form.specs.declared.node.Op.TheVariants as ops
 use Rattle.df_form.specs.Node.{Node}
@@ -30,16 +31,16 @@ pub record IsInOrder (p : Passed) : Type 0 where
 
 -- the value of a node
 abbrev pub value_of : ℕ → List Newtype → Assignment → List Node → ℕ → Value
-value_of depth newtypes assignment nodes n = value_at (values depth newtypes assignment nodes) n
+value_of depth newtypes assignment nodes n = value_at (values depth (of_newtypes newtypes) assignment nodes) n
 
 -- all that is known is true
 abbrev pub AreKnown : ℕ → List Newtype → Assignment → Passed → Type 0
-AreKnown depth newtypes assignment p = AllByRecursion (λ h. truth depth newtypes assignment p.nodes h ≡ true) p.known
+AreKnown depth newtypes assignment p = AllByRecursion (λ h. truth depth (of_newtypes newtypes) assignment p.nodes h ≡ true) p.known
 
 -- evaluation comes here
 abbrev pub path_truth : ℕ → List Newtype → Assignment → List Node → Option ℕ → Bool
 path_truth depth newtypes assignment nodes None = true
-path_truth depth newtypes assignment nodes (Some n) = truth depth newtypes assignment nodes n
+path_truth depth newtypes assignment nodes (Some n) = truth depth (of_newtypes newtypes) assignment nodes n
 
 abbrev pub comes : ℕ → List Newtype → Assignment → Passed → Bool
 comes depth newtypes assignment p = path_truth depth newtypes assignment p.nodes p.path
@@ -121,9 +122,9 @@ ExpressionsArePassed = (newtypes : List Newtype) (p : Passed) (ty : Ty) (e : Exp
 
 -- what is arithmetic stays so
 pub record AreArithmetic (newtypes : List Newtype) (p : Passed) : Type 0 where
-  pub nodes : IsArithmetic newtypes p.nodes
+  pub nodes : IsArithmetic (of_newtypes newtypes) p.nodes
   pub owed : AllByRecursion (λ (o : Obligation). IsArithmeticSequent o.sequent) p.obligations
-  pub over : AllByRecursion (λ (o : Obligation). o.sequent.newtypes ≡ newtypes) p.obligations
+  pub over : AllByRecursion (λ (o : Obligation). o.sequent.world ≡ of_newtypes newtypes) p.obligations
 
 abbrev pub ExpressionsStayArithmetic : Type 0
 ExpressionsStayArithmetic = (newtypes : List Newtype) (p : Passed) (ty : Ty) (e : Expr) → IsInOrder p → IsExpr (length newtypes) (length p.locals) ty e → AreArithmetic newtypes p → AreArithmetic newtypes (passed_expr newtypes p e)

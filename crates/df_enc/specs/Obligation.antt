@@ -19,5 +19,5 @@ obligation_of o = record { pos = o.pos; kind = o.kind; sequent = sequent_of o.se
 
 -- the hypotheses are true and the goal is false
 pub record Refutes (depth : ℕ) (assignment : Assignment) (s : Sequent) : Type 0 where
-  pub hypotheses : AllByRecursion (λ h. truth depth s.newtypes assignment s.nodes h ≡ true) s.hypotheses
-  pub goal : truth depth s.newtypes assignment s.nodes s.goal ≡ false
+  pub hypotheses : AllByRecursion (λ h. truth depth s.world assignment s.nodes h ≡ true) s.hypotheses
+  pub goal : truth depth s.world assignment s.nodes s.goal ≡ false

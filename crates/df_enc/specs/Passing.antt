@@ -1,7 +1,7 @@
 -- What passing over an expression adds to what is known, and to what is owed.
 use Rattle.std.specs.Prelude.{ℕ, ℤ, negsuc, Bool, true, false, List, [], ◌∷◌, ◌++◌, length, slice_index_or, Option, None, Some}
 use Rattle.df_base.specs.declared.pos.Pos.{Pos}
-use Rattle.df_types.specs.declared.newtype.Ty.TheVariants as places
+use Rattle.df_lang.specs.declared.ty.Ty.TheVariants as places
 use Rattle.df_types.specs.Newtype.{Newtype}
 use Rattle.df_program.specs.declared.expr.Ty.{Ty}
 use Rattle.df_program.specs.declared.expr.Ty.TheVariants as types
@@ -12,6 +12,7 @@ use Rattle.df_program.specs.declared.expr.Comparison.TheVariants as comparisons
 use Rattle.df_program.specs.Expr.{Expr, Number, Truth, Local, Negate, Not, Operations, Chain, Members, end, more, Links, last, link, Operation, Link}
 use Rattle.df_meaning.specs.declared.kind.Kind.{Kind}
 use Rattle.df_meaning.specs.declared.kind.Kind.TheVariants as kinds
+use Rattle.df_form.specs.World.{of_newtypes}
 use Rattle.df_form.specs.declared.node.Sort.TheVariants as sorts
 use Rattle.df_form.specs.declared.node.Op.{Op}
 use Rattle.df_form.specs.declared.node.Op.TheVariants as ops
@@ -62,7 +63,7 @@ owed newtypes pos kind p =
       locals = p.locals;
       path = p.path;
       term = p.term;
-      obligations = p.obligations ++ record { pos = pos; kind = kind; sequent = record { newtypes = newtypes; nodes = p.nodes; hypotheses = p.known; goal = p.term } } ∷ [];
+      obligations = p.obligations ++ record { pos = pos; kind = kind; sequent = record { world = of_newtypes newtypes; nodes = p.nodes; hypotheses = p.known; goal = p.term } } ∷ [];
     }
 
 abbrev pub negated : Passed → Passed

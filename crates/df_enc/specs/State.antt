@@ -24,7 +24,7 @@ passed_of e = record { nodes = e.draft.nodes; known = e.draft.hypotheses.items; 
 
 -- the newtypes of the program that it is of
 abbrev pub newtypes_in : Encoder → List Newtype
-newtypes_in e = newtypes_of e.draft.newtypes.now
+newtypes_in e = newtypes_of e.newtypes.now
 
 -- the node of this number has the sort
 abbrev pub is_of : Sort → List Node → ℕ → Bool

@@ -7,6 +7,7 @@ mod expr;
 mod law;
 mod obligation;
 mod operators;
+mod rules;
 
 pub use encoder::Encoder;
 pub use law::{expressions_are_passed, expressions_stay_arithmetic};

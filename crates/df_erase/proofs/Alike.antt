@@ -49,16 +49,19 @@ pub with_number : (P : Value → Type 0) (ty : Ty) (v : Value) → is_numeric ty
 with_number P types.Int (values.Number n) e h f = f n
 with_number P types.Int (values.Truth b) e h f = absurd h
 with_number P types.Int (values.Text t) e h f = absurd h
+with_number P types.Int (values.Character c) e h f = absurd h
 with_number P types.Bool v e h f = absurd (let g : false ≡ true = e in cc)
 with_number P (types.Newtype k) (values.Number n) e h f = f n
 with_number P (types.Newtype k) (values.Truth b) e h f = absurd h
 with_number P (types.Newtype k) (values.Text t) e h f = absurd h
+with_number P (types.Newtype k) (values.Character c) e h f = absurd h
 
 -- what holds of truths holds of a value of the truths' type
 pub with_truth : (P : Value → Type 0) (v : Value) → IsOf types.Bool v → ((b : Bool) → P (values.Truth b)) → P v
 with_truth P (values.Number n) h f = absurd h
 with_truth P (values.Truth b) h f = f b
 with_truth P (values.Text t) h f = absurd h
+with_truth P (values.Character c) h f = absurd h
 
 -- the values are equal, and of the type
 abbrev pub Alike : Ty → Evaluated → Option Value → Type 0
@@ -247,6 +250,7 @@ AreNumbers [] = Unit {0}
 AreNumbers (values.Number n ∷ vs) = AreNumbers vs
 AreNumbers (values.Truth b ∷ vs) = ⊥
 AreNumbers (values.Text t ∷ vs) = ⊥
+AreNumbers (values.Character c ∷ vs) = ⊥
 
 local_alike : (n : ℕ) (ty : Ty) (locals : List Ty) (vs : List Value) (local : ℕ) (d : Value) → list_all (is_place_type n) locals ≡ true → length locals ≤ length vs → AreNumbers vs
     → option_map_or (same_type ty) (slice_get locals local) false ≡ true → (slice_get vs local ≡ Some (slice_index_or vs local d)) × IsOf ty (slice_index_or vs local d)
@@ -254,6 +258,7 @@ local_alike n ty [] vs local d places enough numbers e = absurd (let f : false �
 local_alike n ty (t ∷ ts) [] local d places enough numbers e = absurd (omega (arith, enough))
 local_alike n ty (t ∷ ts) (values.Truth b ∷ vs) local d places enough numbers e = absurd numbers
 local_alike n ty (t ∷ ts) (values.Text x ∷ vs) local d places enough numbers e = absurd numbers
+local_alike n ty (t ∷ ts) (values.Character c ∷ vs) local d places enough numbers e = absurd numbers
 local_alike n ty (t ∷ ts) (values.Number m ∷ vs) zero d places enough numbers e =
     (refl, number_is_of ty m (ap is_numeric (same_type_equal ty t e) ∙ place_numeric n t (both (is_place_type n t) (list_all (is_place_type n) ts) places).0))
 local_alike n ty (t ∷ ts) (values.Number m ∷ vs) (suc local) d places enough numbers e =

@@ -73,6 +73,7 @@ numbers_more [] n h = tt
 numbers_more (values.Number m ∷ vs) n h = numbers_more vs n h
 numbers_more (values.Truth b ∷ vs) n h = absurd h
 numbers_more (values.Text t ∷ vs) n h = absurd h
+numbers_more (values.Character c ∷ vs) n h = absurd h
 
 numbers_take : (k : ℕ) (vs : List values.Value) → AreNumbers vs → AreNumbers (take k vs)
 numbers_take zero vs h = tt
@@ -80,11 +81,13 @@ numbers_take (suc k) [] h = tt
 numbers_take (suc k) (values.Number m ∷ vs) h = numbers_take k vs h
 numbers_take (suc k) (values.Truth b ∷ vs) h = absurd h
 numbers_take (suc k) (values.Text t ∷ vs) h = absurd h
+numbers_take (suc k) (values.Character c ∷ vs) h = absurd h
 
 numbers_replaced : (vs : List values.Value) (local : ℕ) (n : ℤ) → AreNumbers vs → AreNumbers (replaced vs local (values.Number n))
 numbers_replaced [] local n h = tt
 numbers_replaced (values.Truth b ∷ vs) local n h = absurd h
 numbers_replaced (values.Text t ∷ vs) local n h = absurd h
+numbers_replaced (values.Character c ∷ vs) local n h = absurd h
 numbers_replaced (values.Number m ∷ vs) zero n h = h
 numbers_replaced (values.Number m ∷ vs) (suc local) n h = numbers_replaced vs local n h
 

@@ -84,6 +84,7 @@ numbers_append [] ys h k = k
 numbers_append (values.Number n ∷ xs) ys h k = numbers_append xs ys h k
 numbers_append (values.Truth b ∷ xs) ys h k = absurd h
 numbers_append (values.Text t ∷ xs) ys h k = absurd h
+numbers_append (values.Character c ∷ xs) ys h k = absurd h
 
 number_first : (n : ℕ) (ns : List Newtype) (ty : Ty) (v : Value) (vs : List Value) → is_place_type n ty ≡ true → HasType ns ty v → AreNumbers vs → AreNumbers (v ∷ vs)
 number_first n ns types.Int v vs is has h = absurd (let f : false ≡ true = is in cc)
@@ -91,6 +92,7 @@ number_first n ns types.Bool v vs is has h = absurd (let f : false ≡ true = is
 number_first n ns (types.Newtype k) (values.Number m) vs is has h = h
 number_first n ns (types.Newtype k) (values.Truth b) vs is has h = absurd has
 number_first n ns (types.Newtype k) (values.Text t) vs is has h = absurd has
+number_first n ns (types.Newtype k) (values.Character c) vs is has h = absurd has
 
 arguments_are : (n : ℕ) (ns : List Newtype) (ps : List Place) (vs : List Value) → list_all (is_place_type n) (types_of ps) ≡ true → AreArguments ns ps vs → (length vs ≡ length ps) × AreNumbers vs
 arguments_are n ns [] [] is are = (refl, tt)

@@ -1,12 +1,12 @@
 -- Each clause of a connective, and each clause of the schema, is among the ground lines.
-use Rattle.std.proofs.Common.{◌≡◌, ℕ, zero, suc, ◌+◌, ◌<◌, Bool, true, false, ◌==◌, cond, List, [], ◌∷◌, ◌++◌, map, length, Option, Some, None, slice_get, refl, sym, ap, ◌∙◌, subst, arith, eqb-true}
+use Rattle.std.proofs.Common.{◌≡◌, ℕ, zero, suc, ◌+◌, ◌<◌, List, [], ◌∷◌, ◌++◌, map, length, Option, Some, None, slice_get, refl, sym, ap, ◌∙◌, subst, arith}
 use Rattle.std.specs.Option.{option_map, option_map_or, option_and_then}
 use Rattle.std.specs.List.{range_with_len, flat_map}
 use Rattle.std.proofs.lemmas.Option.{slice_get-map, same_Some, slice_get_within}
 use Rattle.df_lemmas.proofs.Lists.{get_grown}
-use Rattle.df_types.specs.declared.newtype.Ty.{Ty}
-use Rattle.df_types.specs.declared.newtype.Ty.TheVariants as types
-use Rattle.df_types.specs.Newtype.{Newtype}
+use Rattle.df_lang.specs.declared.ty.Ty.{Ty}
+use Rattle.df_lang.specs.declared.ty.Ty.TheVariants as types
+use Rattle.df_form.specs.World.{World, Ends, ends_at}
 use Rattle.df_form.specs.declared.node.Sort.{Sort}
 use Rattle.df_form.specs.declared.node.Sort.TheVariants as sorts
 use Rattle.df_form.specs.declared.node.Op.{Op}
@@ -17,7 +17,7 @@ use Rattle.df_form.specs.Sequent.{Sequent}
 use Rattle.df_form.specs.Clause.{Clause}
 use Rattle.df_form.specs.Log.{Step, Hypothesis, Goal, Connective, Schema}
 use Rattle.df_kern.specs.Connective.{chosen, of_one, not_clauses, and_clauses, or_clauses, implies_clauses, iff_clauses, equal_clause, equal_by_sort, connective_clause, connective_line}
-use Rattle.df_kern.specs.Schema.{newtype_clause, type_clause, is_clause, schema_74, schema_line}
+use Rattle.df_kern.specs.Schema.{newtype_clause, natural_clause, always_clause, type_clause, is_clause, schema_74}
 use Rattle.df_ground.specs.Lines.{sides_count, connective_count, type_count, schema_count, node_lines, lines_at, ground_lines}
 use Rattle.df_ground.specs.Among.{Among}
 use Rattle.df_ground.proofs.Presence.{and_length, or_length}
@@ -65,6 +65,7 @@ equal_counted nodes n a b (suc (suc (suc k))) there = absurd (there refl)
 sides_counted : (sort : Sort) (nodes : List Node) (n a b k : ℕ) → (equal_by_sort sort nodes n a b k ≡ None → ⊥) → k < sides_count sort
 sides_counted sorts.Number nodes n a b k there = equal_counted nodes n a b k there
 sides_counted sorts.Truth nodes n a b k there = absurd (there refl)
+sides_counted sorts.Character nodes n a b k there = absurd (there refl)
 
 op_counted : (nodes : List Node) (n k : ℕ) (op : Op) (parts : List ℕ) → (connective_clause nodes n k op parts ≡ None → ⊥) → k < connective_count nodes op parts
 op_counted nodes n k ops.Not [] there = absurd (there refl)
@@ -88,43 +89,64 @@ op_counted nodes n k (ops.Number value) parts there = absurd (there refl)
 op_counted nodes n k (ops.Free free) parts there = absurd (there refl)
 op_counted nodes n k ops.Plus parts there = absurd (there refl)
 op_counted nodes n k ops.Times parts there = absurd (there refl)
+op_counted nodes n k ops.Div parts there = absurd (there refl)
+op_counted nodes n k ops.Mod parts there = absurd (there refl)
+op_counted nodes n k ops.Code parts there = absurd (there refl)
+op_counted nodes n k ops.Chr parts there = absurd (there refl)
 op_counted nodes n k (ops.Is ty) parts there = absurd (there refl)
 op_counted nodes n k ops.AtMost parts there = absurd (there refl)
 
-newtype_counted : (newtype : Newtype) (nodes : List Node) (n x k : ℕ) → (newtype_clause newtype nodes n x k ≡ None → ⊥) → k < 3
+newtype_counted : (newtype : Ends) (nodes : List Node) (n x k : ℕ) → (newtype_clause newtype nodes n x k ≡ None → ⊥) → k < 3
 newtype_counted newtype nodes n x zero there = omega arith
 newtype_counted newtype nodes n x (suc zero) there = omega arith
 newtype_counted newtype nodes n x (suc (suc zero)) there = omega arith
 newtype_counted newtype nodes n x (suc (suc (suc k))) there = absurd (there refl)
 
-found_counted : (found : Option Newtype) (nodes : List Node) (n x k : ℕ) → (option_and_then (λ (newtype : Newtype). newtype_clause newtype nodes n x k) found ≡ None → ⊥) → k < option_map_or (λ (newtype : Newtype). 3) found 0
+found_counted : (found : Option Ends) (nodes : List Node) (n x k : ℕ) → (option_and_then (λ (newtype : Ends). newtype_clause newtype nodes n x k) found ≡ None → ⊥) → k < option_map_or (λ (newtype : Ends). 3) found 0
 found_counted (Some newtype) nodes n x k there = newtype_counted newtype nodes n x k there
 found_counted None nodes n x k there = absurd (there refl)
 
-type_counted : (newtypes : List Newtype) (nodes : List Node) (n x : ℕ) (ty : Ty) (k : ℕ) → (type_clause newtypes nodes n x ty k ≡ None → ⊥) → k < type_count newtypes ty
-type_counted newtypes nodes n x (types.Newtype t) k there = found_counted (slice_get newtypes t) nodes n x k there
+natural_counted : (nodes : List Node) (n x k : ℕ) → (natural_clause nodes n x k ≡ None → ⊥) → k < 2
+natural_counted nodes n x zero there = omega arith
+natural_counted nodes n x (suc zero) there = omega arith
+natural_counted nodes n x (suc (suc k)) there = absurd (there refl)
 
-is_counted : (newtypes : List Newtype) (nodes : List Node) (n k : ℕ) (op : Op) (parts : List ℕ) → (is_clause newtypes nodes n k op parts ≡ None → ⊥) → k < schema_count newtypes op
-is_counted newtypes nodes n k (ops.Is ty) [] there = absurd (there refl)
-is_counted newtypes nodes n k (ops.Is ty) (x ∷ []) there = type_counted newtypes nodes n x ty k there
-is_counted newtypes nodes n k (ops.Is ty) (x ∷ y ∷ others) there = absurd (there refl)
-is_counted newtypes nodes n k (ops.Number value) parts there = absurd (there refl)
-is_counted newtypes nodes n k (ops.Free free) parts there = absurd (there refl)
-is_counted newtypes nodes n k ops.Plus parts there = absurd (there refl)
-is_counted newtypes nodes n k ops.Times parts there = absurd (there refl)
-is_counted newtypes nodes n k ops.Equal parts there = absurd (there refl)
-is_counted newtypes nodes n k ops.AtMost parts there = absurd (there refl)
-is_counted newtypes nodes n k ops.Not parts there = absurd (there refl)
-is_counted newtypes nodes n k ops.And parts there = absurd (there refl)
-is_counted newtypes nodes n k ops.Or parts there = absurd (there refl)
-is_counted newtypes nodes n k ops.Implies parts there = absurd (there refl)
-is_counted newtypes nodes n k ops.Iff parts there = absurd (there refl)
+always_counted : (nodes : List Node) (n k : ℕ) → (always_clause nodes n k ≡ None → ⊥) → k < 1
+always_counted nodes n zero there = omega arith
+always_counted nodes n (suc k) there = absurd (there refl)
+
+type_counted : (world : World) (nodes : List Node) (n x : ℕ) (ty : Ty) (k : ℕ) → (type_clause world nodes n x ty k ≡ None → ⊥) → k < type_count world ty
+type_counted world nodes n x (types.Newtype t) k there = found_counted (ends_at world t) nodes n x k there
+type_counted world nodes n x types.Int k there = always_counted nodes n k there
+type_counted world nodes n x types.Nat k there = natural_counted nodes n x k there
+type_counted world nodes n x types.Bool k there = always_counted nodes n k there
+type_counted world nodes n x types.Char k there = always_counted nodes n k there
+
+is_counted : (world : World) (nodes : List Node) (n k : ℕ) (op : Op) (parts : List ℕ) → (is_clause world nodes n k op parts ≡ None → ⊥) → k < schema_count world op
+is_counted world nodes n k (ops.Is ty) [] there = absurd (there refl)
+is_counted world nodes n k (ops.Is ty) (x ∷ []) there = type_counted world nodes n x ty k there
+is_counted world nodes n k (ops.Is ty) (x ∷ y ∷ others) there = absurd (there refl)
+is_counted world nodes n k (ops.Number value) parts there = absurd (there refl)
+is_counted world nodes n k (ops.Free free) parts there = absurd (there refl)
+is_counted world nodes n k ops.Plus parts there = absurd (there refl)
+is_counted world nodes n k ops.Times parts there = absurd (there refl)
+is_counted world nodes n k ops.Div parts there = absurd (there refl)
+is_counted world nodes n k ops.Mod parts there = absurd (there refl)
+is_counted world nodes n k ops.Code parts there = absurd (there refl)
+is_counted world nodes n k ops.Chr parts there = absurd (there refl)
+is_counted world nodes n k ops.Equal parts there = absurd (there refl)
+is_counted world nodes n k ops.AtMost parts there = absurd (there refl)
+is_counted world nodes n k ops.Not parts there = absurd (there refl)
+is_counted world nodes n k ops.And parts there = absurd (there refl)
+is_counted world nodes n k ops.Or parts there = absurd (there refl)
+is_counted world nodes n k ops.Implies parts there = absurd (there refl)
+is_counted world nodes n k ops.Iff parts there = absurd (there refl)
 
 -- what is among the lines of a node is among all
-at_node : (s : Sequent) (n : ℕ) (node : Node) (step : Step) → slice_get s.nodes n ≡ Some node → Among (node_lines s.newtypes s.nodes n node) step → Among (ground_lines s) step
+at_node : (s : Sequent) (n : ℕ) (node : Node) (step : Step) → slice_get s.nodes n ≡ Some node → Among (node_lines s.world s.nodes n node) step → Among (ground_lines s) step
 at_node s n node step at h =
-    let own = lines_at s.newtypes s.nodes in
-    let here : Among (own n) step = subst (λ (o : Option Node). Among (option_map_or (node_lines s.newtypes s.nodes n) o []) step) (sym at) h in
+    let own = lines_at s.world s.nodes in
+    let here : Among (own n) step = subst (λ (o : Option Node). Among (option_map_or (node_lines s.world s.nodes n) o []) step) (sym at) h in
     let all = flat_map own (range_with_len 0 (length s.nodes)) in
     in_right (map (λ i. Hypothesis i) (range_with_len 0 (length s.hypotheses))) (Goal ∷ all) step
     (in_right (Goal ∷ []) all step (in_flat own (range_with_len 0 (length s.nodes)) n step (below (length s.nodes) n (slice_get_within s.nodes n node at)) here))
@@ -136,29 +158,22 @@ connective_among s n k there = by (slice_get s.nodes n) refl there
     by None e there = absurd (there refl)
     by (Some node) e there =
         let own = range_with_len 0 (connective_count s.nodes node.op node.parts) in
-        let other = map (λ k. Schema 74 k (n ∷ [])) (range_with_len 0 (schema_count s.newtypes node.op)) in
+        let other = map (λ k. Schema 74 k (n ∷ [])) (range_with_len 0 (schema_count s.world node.op)) in
         at_node s n node (Connective n k) e
         (in_left (map (λ k. Connective n k) own) other (Connective n k) (in_mapped (λ k. Connective n k) own k (below (connective_count s.nodes node.op node.parts) k (op_counted s.nodes n k node.op node.parts there))))
 
-term_among : (s : Sequent) (n k : ℕ) → (schema_74 s.newtypes s.nodes k n ≡ None → ⊥) → Among (ground_lines s) (Schema 74 k (n ∷ []))
+term_among : (s : Sequent) (n k : ℕ) → (schema_74 s.world s.nodes k n ≡ None → ⊥) → Among (ground_lines s) (Schema 74 k (n ∷ []))
 term_among s n k there = by (slice_get s.nodes n) refl there
   where
-    by : (o : Option Node) → slice_get s.nodes n ≡ o → (option_and_then (λ (node : Node). is_clause s.newtypes s.nodes n k node.op node.parts) o ≡ None → ⊥) → Among (ground_lines s) (Schema 74 k (n ∷ []))
+    by : (o : Option Node) → slice_get s.nodes n ≡ o → (option_and_then (λ (node : Node). is_clause s.world s.nodes n k node.op node.parts) o ≡ None → ⊥) → Among (ground_lines s) (Schema 74 k (n ∷ []))
     by None e there = absurd (there refl)
     by (Some node) e there =
-        let own = range_with_len 0 (schema_count s.newtypes node.op) in
+        let own = range_with_len 0 (schema_count s.world node.op) in
         let front = map (λ k. Connective n k) (range_with_len 0 (connective_count s.nodes node.op node.parts)) in
         at_node s n node (Schema 74 k (n ∷ [])) e
-        (in_right front (map (λ k. Schema 74 k (n ∷ [])) own) (Schema 74 k (n ∷ [])) (in_mapped (λ k. Schema 74 k (n ∷ [])) own k (below (schema_count s.newtypes node.op) k (is_counted s.newtypes s.nodes n k node.op node.parts there))))
+        (in_right front (map (λ k. Schema 74 k (n ∷ [])) own) (Schema 74 k (n ∷ [])) (in_mapped (λ k. Schema 74 k (n ∷ [])) own k (below (schema_count s.world node.op) k (is_counted s.world s.nodes n k node.op node.parts there))))
 
-terms_among : (s : Sequent) (k : ℕ) (terms : List ℕ) → (of_one (schema_74 s.newtypes s.nodes k) terms ≡ None → ⊥) → Among (ground_lines s) (Schema 74 k terms)
+pub terms_among : (s : Sequent) (k : ℕ) (terms : List ℕ) → (of_one (schema_74 s.world s.nodes k) terms ≡ None → ⊥) → Among (ground_lines s) (Schema 74 k terms)
 terms_among s k [] there = absurd (there refl)
 terms_among s k (n ∷ []) there = term_among s n k there
 terms_among s k (n ∷ m ∷ others) there = absurd (there refl)
-
-pub schema_among : (s : Sequent) (schema k : ℕ) (terms : List ℕ) → (schema_line s.newtypes s.nodes schema k terms ≡ None → ⊥) → Among (ground_lines s) (Schema schema k terms)
-schema_among s schema k terms there = by (schema == 74) refl there
-  where
-    by : (b : Bool) → (schema == 74) ≡ b → (cond b (of_one (schema_74 s.newtypes s.nodes k) terms) None ≡ None → ⊥) → Among (ground_lines s) (Schema schema k terms)
-    by true e there = subst (λ (schema : ℕ). Among (ground_lines s) (Schema schema k terms)) (sym (eqb-true schema 74 e)) (terms_among s k terms there)
-    by false e there = absurd (there refl)

@@ -1,5 +1,5 @@
 -- The literals of ground clauses are of formulas.
-use Rattle.std.proofs.Common.{◌≡◌, ℕ, zero, suc, Bool, true, ◌&&◌, ◌==◌, List, [], ◌∷◌, map, length, Option, Some, slice_get, nat_lt, refl, sym, ap, ◌∙◌, subst, arith, ltb-true, lt-ltb}
+use Rattle.std.proofs.Common.{◌≡◌, ℕ, zero, suc, pos, Bool, true, ◌&&◌, ◌==◌, List, [], ◌∷◌, map, length, Option, Some, slice_get, nat_lt, refl, sym, ap, ◌∙◌, subst, arith, ltb-true, lt-ltb}
 use Rattle.std.specs.Option.{option_map}
 use Rattle.std.specs.List.{list_all, AllByRecursion}
 use Rattle.std.proofs.lemmas.Option.{same_Some, slice_get_within}
@@ -8,15 +8,16 @@ use Rattle.df_form.proofs.Drafts.{sort_here}
 use Rattle.df_lemmas.proofs.Alls.{all_joined}
 use Rattle.df_lemmas.proofs.Lists.{all_weaker, all_parts}
 use Rattle.df_lemmas.proofs.Options.{then_some, map_some, test_some}
-use Rattle.df_types.specs.declared.newtype.Ty.{Ty}
-use Rattle.df_types.specs.declared.newtype.Ty.TheVariants as types
-use Rattle.df_types.specs.Newtype.{Newtype}
+use Rattle.df_lang.specs.declared.ty.Ty.{Ty}
+use Rattle.df_lang.specs.declared.ty.Ty.TheVariants as types
+use Rattle.df_form.specs.World.{World, Ends, ends_at}
 use Rattle.df_form.specs.declared.log.Lit.{Lit}
 use Rattle.df_form.specs.declared.node.Sort.{Sort}
 use Rattle.df_form.specs.declared.node.Sort.TheVariants as sorts
 use Rattle.df_form.specs.declared.node.Op.{Op}
 use Rattle.df_form.specs.declared.node.Op.TheVariants as ops
 use Rattle.df_form.specs.Node.{Node, same_sort}
+use Rattle.df_form.specs.Types.{sort_of_type}
 use Rattle.df_form.specs.Sorting.{sort_at, sort_of, is_formula}
 use Rattle.df_form.specs.Made.{made}
 use Rattle.df_form.specs.Sequent.{Sequent, IsSequent}
@@ -27,7 +28,7 @@ use Rattle.df_form.proofs.Values.{Grows, grown_sort, grown_below, AreSorted, par
 use Rattle.df_form.proofs.Making.{IsNumber, grown_number, made_stands}
 use Rattle.df_kern.specs.Bound.{at_most, made_at_least, made_at_most}
 use Rattle.df_kern.specs.Connective.{Added, chosen, of_one, not_clauses, and_clauses, or_clauses, implies_clauses, iff_clauses, equal_clause, equal_by_sort, connective_clause}
-use Rattle.df_kern.specs.Schema.{newtype_clause, type_clause, is_clause, schema_74}
+use Rattle.df_kern.specs.Schema.{newtype_clause, natural_clause, always_clause, type_clause, is_clause, schema_74}
 use Rattle.df_kern.specs.Derivation.{only_clause}
 use Rattle.df_kern.proofs.SoundNodes.{at_most_sorted, at_least_stands, at_most_stands}
 use Rattle.df_ground.specs.Adding.{added_by}
@@ -59,6 +60,7 @@ literals_grown before now g clause e = all_weaker (λ (l : Lit). is_formula befo
 truth_is : (sort : Sort) → same_sort sorts.Truth sort ≡ true → same_sort sort sorts.Truth ≡ true
 truth_is sorts.Truth e = refl
 truth_is sorts.Number e = absurd cc
+truth_is sorts.Character e = absurd cc
 
 each_below : (nodes : List Node) (n : ℕ) (node : Node) → AreSorted nodes → slice_get nodes n ≡ Some node → list_all (λ part. nat_lt part (length nodes)) node.parts ≡ true
 each_below nodes n node sorted e =
@@ -147,6 +149,7 @@ sides_fit sorts.Number nodes n k a b added sort all e is =
     let alike = same_sort_equal (sort_at nodes a) (sort_at nodes b) (parts_taken nodes n node all e) in
     equal_fits nodes n k a b added all (formula_at nodes n node e refl) (record { below = ltb-true a (length nodes) first.0; sort = sort }) (record { below = ltb-true b (length nodes) second.0; sort = sym alike ∙ sort }) is
 sides_fit sorts.Truth nodes n k a b added sort all e is = absurd cc
+sides_fit sorts.Character nodes n k a b added sort all e is = absurd cc
 
 op_fits : (nodes : List Node) (n k : ℕ) (op : Op) (parts : List ℕ) (added : Added) → AreSorted nodes → slice_get nodes n ≡ Some (record { op = op; parts = parts }) → connective_clause nodes n k op parts ≡ Some added → Fits added
 op_fits nodes n k ops.Not (p ∷ []) added all e is =
@@ -169,7 +172,7 @@ op_fits nodes n k ops.Iff (a ∷ b ∷ []) added all e is =
 op_fits nodes n k ops.Equal (a ∷ b ∷ []) added all e is = sides_fit (sort_at nodes a) nodes n k a b added refl all e is
 op_fits nodes n k op parts added all e is = absurd cc
 
-newtype_fits : (newtype : Newtype) (nodes : List Node) (n x k : ℕ) (added : Added) → AreSorted nodes → is_formula nodes n ≡ true → IsNumber nodes x → newtype_clause newtype nodes n x k ≡ Some added → Fits added
+newtype_fits : (newtype : Ends) (nodes : List Node) (n x k : ℕ) (added : Added) → AreSorted nodes → is_formula nodes n ≡ true → IsNumber nodes x → newtype_clause newtype nodes n x k ≡ Some added → Fits added
 newtype_fits newtype nodes n x zero added all e is line =
     let low = made_at_least nodes newtype.low x in
     let first = at_least_stands nodes newtype.low x all is in
@@ -188,24 +191,48 @@ newtype_fits newtype nodes n x (suc (suc zero)) added all e is line =
     subst Fits (same_Some _ added line) (three _ _ _ here left (formula_at high.nodes high.number (at_most x second.literal) second.there refl))
 newtype_fits newtype nodes n x (suc (suc (suc k))) added all e is line = absurd cc
 
-type_fits : (newtypes : List Newtype) (nodes : List Node) (n x k : ℕ) (ty : Ty) (added : Added) → AreSorted nodes → slice_get nodes n ≡ Some (record { op = ops.Is ty; parts = x ∷ [] }) → type_clause newtypes nodes n x ty k ≡ Some added → Fits added
-type_fits newtypes nodes n x k (types.Newtype t) added all e line =
-    let node : Node = record { op = ops.Is (types.Newtype t); parts = x ∷ [] } in
-    let found = then_some (λ (newtype : Newtype). newtype_clause newtype nodes n x k) (slice_get newtypes t) added line in
+natural_fits : (nodes : List Node) (n x k : ℕ) (added : Added) → AreSorted nodes → is_formula nodes n ≡ true → IsNumber nodes x → natural_clause nodes n x k ≡ Some added → Fits added
+natural_fits nodes n x zero added all e is line =
+    let low = made_at_least nodes (pos 0) x in
+    let first = at_least_stands nodes (pos 0) x all is in
+    subst Fits (same_Some _ added line) (two _ _ (formula_grown nodes low.nodes first.grows n e) (formula_at low.nodes low.number (at_most first.literal x) first.there refl))
+natural_fits nodes n x (suc zero) added all e is line =
+    let low = made_at_least nodes (pos 0) x in
+    let first = at_least_stands nodes (pos 0) x all is in
+    subst Fits (same_Some _ added line) (two _ _ (formula_grown nodes low.nodes first.grows n e) (formula_at low.nodes low.number (at_most first.literal x) first.there refl))
+natural_fits nodes n x (suc (suc k)) added all e is line = absurd cc
+
+always_fits : (nodes : List Node) (n k : ℕ) (added : Added) → is_formula nodes n ≡ true → always_clause nodes n k ≡ Some added → Fits added
+always_fits nodes n zero added e line = subst Fits (same_Some _ added line) (one _ e)
+always_fits nodes n (suc k) added e line = absurd cc
+
+-- a number that a node says to be of a type
+typed_number : (nodes : List Node) (n x : ℕ) (ty : Ty) → sort_of_type ty ≡ sorts.Number → AreSorted nodes → slice_get nodes n ≡ Some (record { op = ops.Is ty; parts = x ∷ [] }) → IsNumber nodes x
+typed_number nodes n x ty number all e =
+    let node : Node = record { op = ops.Is ty; parts = x ∷ [] } in
     let below = and_parts (nat_lt x (length nodes)) true (each_below nodes n node all e) in
-    let sort = same_sort_equal (sort_at nodes x) sorts.Number (parts_taken nodes n node all e) in
-    newtype_fits found.0 nodes n x k added all (formula_at nodes n node e refl) (record { below = ltb-true x (length nodes) below.0; sort = sort }) found.2
+    record { below = ltb-true x (length nodes) below.0; sort = same_sort_equal (sort_at nodes x) (sort_of_type ty) (parts_taken nodes n node all e) ∙ number }
 
-is_fits : (newtypes : List Newtype) (nodes : List Node) (n k : ℕ) (op : Op) (parts : List ℕ) (added : Added) → AreSorted nodes → slice_get nodes n ≡ Some (record { op = op; parts = parts }) → is_clause newtypes nodes n k op parts ≡ Some added → Fits added
-is_fits newtypes nodes n k (ops.Is ty) (x ∷ []) added all e line = type_fits newtypes nodes n x k ty added all e line
-is_fits newtypes nodes n k op parts added all e line = absurd cc
+type_fits : (world : World) (nodes : List Node) (n x k : ℕ) (ty : Ty) (added : Added) → AreSorted nodes → slice_get nodes n ≡ Some (record { op = ops.Is ty; parts = x ∷ [] }) → type_clause world nodes n x ty k ≡ Some added → Fits added
+type_fits world nodes n x k (types.Newtype t) added all e line =
+    let node : Node = record { op = ops.Is (types.Newtype t); parts = x ∷ [] } in
+    let found = then_some (λ (newtype : Ends). newtype_clause newtype nodes n x k) (ends_at world t) added line in
+    newtype_fits found.0 nodes n x k added all (formula_at nodes n node e refl) (typed_number nodes n x (types.Newtype t) refl all e) found.2
+type_fits world nodes n x k types.Int added all e line = always_fits nodes n k added (formula_at nodes n (record { op = ops.Is types.Int; parts = x ∷ [] }) e refl) line
+type_fits world nodes n x k types.Nat added all e line = natural_fits nodes n x k added all (formula_at nodes n (record { op = ops.Is types.Nat; parts = x ∷ [] }) e refl) (typed_number nodes n x types.Nat refl all e) line
+type_fits world nodes n x k types.Bool added all e line = always_fits nodes n k added (formula_at nodes n (record { op = ops.Is types.Bool; parts = x ∷ [] }) e refl) line
+type_fits world nodes n x k types.Char added all e line = always_fits nodes n k added (formula_at nodes n (record { op = ops.Is types.Char; parts = x ∷ [] }) e refl) line
 
-one_term : (newtypes : List Newtype) (nodes : List Node) (k : ℕ) (terms : List ℕ) (added : Added) → AreSorted nodes → of_one (schema_74 newtypes nodes k) terms ≡ Some added → Fits added
-one_term newtypes nodes k (n ∷ []) added all line =
-    let found = then_some (λ (node : Node). is_clause newtypes nodes n k node.op node.parts) (slice_get nodes n) added line in
-    is_fits newtypes nodes n k found.0.op found.0.parts added all found.1 found.2
-one_term newtypes nodes k [] added all line = absurd cc
-one_term newtypes nodes k (n ∷ m ∷ others) added all line = absurd cc
+is_fits : (world : World) (nodes : List Node) (n k : ℕ) (op : Op) (parts : List ℕ) (added : Added) → AreSorted nodes → slice_get nodes n ≡ Some (record { op = op; parts = parts }) → is_clause world nodes n k op parts ≡ Some added → Fits added
+is_fits world nodes n k (ops.Is ty) (x ∷ []) added all e line = type_fits world nodes n x k ty added all e line
+is_fits world nodes n k op parts added all e line = absurd cc
+
+one_term : (world : World) (nodes : List Node) (k : ℕ) (terms : List ℕ) (added : Added) → AreSorted nodes → of_one (schema_74 world nodes k) terms ≡ Some added → Fits added
+one_term world nodes k (n ∷ []) added all line =
+    let found = then_some (λ (node : Node). is_clause world nodes n k node.op node.parts) (slice_get nodes n) added line in
+    is_fits world nodes n k found.0.op found.0.parts added all found.1 found.2
+one_term world nodes k [] added all line = absurd cc
+one_term world nodes k (n ∷ m ∷ others) added all line = absurd cc
 
 listed : (test : ℕ → Bool) (xs : List ℕ) (i x : ℕ) → list_all test xs ≡ true → slice_get xs i ≡ Some x → test x ≡ true
 listed test [] i x all at = absurd cc
@@ -230,7 +257,7 @@ added_fits s nodes Goal added is sorted g e =
 added_fits s nodes (Connective n k) added is sorted g e =
     let found = then_some (λ (node : Node). connective_clause nodes n k node.op node.parts) (slice_get nodes n) added e in
     op_fits nodes n k found.0.op found.0.parts added sorted found.1 found.2
-added_fits s nodes (Schema schema k terms) added is sorted g e = one_term s.newtypes nodes k terms added sorted (test_some (schema == 74) (of_one (schema_74 s.newtypes nodes k) terms) added e).1
+added_fits s nodes (Schema schema k terms) added is sorted g e = one_term s.world nodes k terms added sorted (test_some (schema == 74) (of_one (schema_74 s.world nodes k) terms) added e).1
 added_fits s nodes (Propagation numbers conclusion) added is sorted g e = absurd cc
 added_fits s nodes (Congruence conclusion pairs) added is sorted g e = absurd cc
 added_fits s nodes (Linear conclusion combinations) added is sorted g e = absurd cc

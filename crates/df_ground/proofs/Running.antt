@@ -1,5 +1,5 @@
 -- Lines that are run one after another.
-use Rattle.std.proofs.Common.{◌≡◌, ℕ, pos, ◌+◌, ◌≤◌, Bool, true, false, Vec, Global, List, [], ◌∷◌, ◌++◌, map, take, drop, length, Option, Some, slice_get, refl, sym, ap, ◌∙◌, subst, add-one}
+use Rattle.std.proofs.Common.{◌≡◌, ℕ, pos, ◌+◌, ◌≤◌, Bool, true, false, Vec, Global, List, [], ◌∷◌, ◌++◌, map, take, drop, length, Option, Some, slice_get, ◌==◌, if◌then◌else◌, refl, sym, ap, ◌∙◌, subst, add-one}
 use Rattle.std.specs.Option.{option_map, option_and_then}
 use Rattle.std.specs.List.{list_all}
 use Rattle.std.proofs.Math.Seq.{take-suc, take-append_seam, take-length}
@@ -7,8 +7,8 @@ use Rattle.std.proofs.lemmas.List.{map-append, take-append-drop, take_all}
 use Rattle.std.proofs.lemmas.Option.{slice_get_within, get_or_from_slice_get, same_Some}
 use Rattle.std.proofs.lemmas.Bool.{and_from, and_parts}
 use Rattle.df_lemmas.proofs.Lists.{all_weaker}
-use Rattle.df_lemmas.proofs.Options.{then_some, map_some}
-use Rattle.df_meaning.specs.Value.{Value, Truth, Number}
+use Rattle.df_lemmas.proofs.Options.{then_some, map_some, test_some}
+use Rattle.df_meaning.specs.Value.{Value, Truth, Character, Number}
 use Rattle.df_form.specs.declared.log.Lit.{Lit}
 use Rattle.df_form.specs.declared.node.Sort.{Sort}
 use Rattle.df_form.specs.declared.node.Sort.TheVariants as sorts
@@ -19,7 +19,9 @@ use Rattle.df_form.specs.Sorting.{IsTable}
 use Rattle.df_form.specs.Clause.{Clause, yes, no, are_literals}
 use Rattle.df_form.specs.Log.{Step, Hypothesis, Goal, Connective, Schema, Propagation, Congruence, Linear, Split, Make}
 use Rattle.df_form.proofs.Values.{Grows, grows_not, grows_twice, AreSorted}
+use Rattle.df_axiom.specs.Line.{instance_line}
 use Rattle.df_kern.specs.Connective.{Added}
+use Rattle.df_kern.specs.Schema.{type_line, schema_line}
 use Rattle.df_kern.specs.Derivation.{State, begin, only_clause, with_clause, after, after_all}
 use Rattle.df_kern.proofs.SoundConnectives.{connective_is_line}
 use Rattle.df_kern.proofs.SoundBounds.{schema_is_line}
@@ -33,6 +35,7 @@ use Rattle.df_ground.proofs.Literals.{literals_grown, added_fits}
 abbrev some_value : Sort → Value
 some_value sorts.Number = Number (pos 0)
 some_value sorts.Truth = Truth false
+some_value sorts.Character = Character 0
 
 -- an assignment is there
 some_assignment : Assignment
@@ -41,18 +44,25 @@ some_assignment = record { value = λ free. some_value free.sort; sorted = λ fr
     by : (sort : Sort) → has_sort sort (some_value sort) ≡ true
     by sorts.Number = refl
     by sorts.Truth = refl
+    by sorts.Character = refl
 
 only_grows : (nodes : List Node) (o : Option Clause) (added : Added) → only_clause nodes o ≡ Some added → Grows nodes added.nodes
 only_grows nodes o added e =
     let found = map_some (λ (clause : Clause). record { nodes = nodes; clause = clause }) o added e in
     subst (λ (added : Added). Grows nodes added.nodes) found.2 (grows_not nodes)
 
+-- a line on what it is to be of a type is one of a schema
+typed_line : (s : Sequent) (nodes : List Node) (schema k : ℕ) (terms : List ℕ) (added : Added) → added_by s nodes (Schema schema k terms) ≡ Some added → schema_line s.world nodes schema k terms ≡ Some added
+typed_line s nodes schema k terms added e =
+    let tested = test_some (schema == 74) (type_line s.world nodes k terms) added e in
+    ap (λ (b : Bool). if b then type_line s.world nodes k terms else instance_line s.world nodes schema k terms) tested.0 ∙ tested.1
+
 -- the old nodes are the first of the new ones
 added_grows : (s : Sequent) (nodes : List Node) (step : Step) (added : Added) → AreSorted nodes → added_by s nodes step ≡ Some added → Grows nodes added.nodes
 added_grows s nodes (Hypothesis i) added sorted e = only_grows nodes (option_map (λ h. yes h ∷ []) (slice_get s.hypotheses i)) added e
 added_grows s nodes Goal added sorted e = only_grows nodes (Some (no s.goal ∷ [])) added e
-added_grows s nodes (Connective n k) added sorted e = (connective_is_line 0 s.newtypes some_assignment nodes n k added sorted e).grows
-added_grows s nodes (Schema schema k terms) added sorted e = (schema_is_line 0 s.newtypes some_assignment nodes schema k terms added sorted e).grows
+added_grows s nodes (Connective n k) added sorted e = (connective_is_line 0 s.world some_assignment nodes n k added sorted e).grows
+added_grows s nodes (Schema schema k terms) added sorted e = (schema_is_line 0 s.world some_assignment nodes schema k terms added sorted (typed_line s nodes schema k terms added e)).grows
 added_grows s nodes (Propagation numbers conclusion) added sorted e = absurd cc
 added_grows s nodes (Congruence conclusion pairs) added sorted e = absurd cc
 added_grows s nodes (Linear conclusion combinations) added sorted e = absurd cc
@@ -64,7 +74,7 @@ added_after : (s : Sequent) (state : State) (step : Step) (added : Added) → ad
 added_after s state (Hypothesis i) added e = ap (option_map (with_clause state)) e
 added_after s state Goal added e = ap (option_map (with_clause state)) e
 added_after s state (Connective n k) added e = ap (option_map (with_clause state)) e
-added_after s state (Schema schema k terms) added e = ap (option_map (with_clause state)) e
+added_after s state (Schema schema k terms) added e = ap (option_map (with_clause state)) (typed_line s state.nodes schema k terms added e)
 added_after s state (Propagation numbers conclusion) added e = absurd cc
 added_after s state (Congruence conclusion pairs) added e = absurd cc
 added_after s state (Linear conclusion combinations) added e = absurd cc

@@ -1,17 +1,19 @@
 -- The lines of ground clauses are of four kinds, and each adds its clause.
-use Rattle.std.proofs.Common.{◌≡◌, ℕ, zero, suc, Bool, true, false, List, [], ◌∷◌, ◌++◌, map, length, Option, None, Some, slice_get, refl, subst}
+use Rattle.std.proofs.Common.{◌≡◌, ℕ, zero, suc, Bool, true, false, List, [], ◌∷◌, ◌++◌, map, length, Option, None, Some, slice_get, ◌==◌, if◌then◌else◌, refl, sym, ap, ◌∙◌, subst}
 use Rattle.std.specs.Option.{option_map, option_map_or}
 use Rattle.std.specs.List.{list_all, range_with_len, flat_map}
 use Rattle.std.proofs.lemmas.Option.{same_Some}
 use Rattle.std.proofs.lemmas.Bool.{and_from, and_parts}
 use Rattle.df_lemmas.proofs.Lists.{get_last}
 use Rattle.df_lemmas.proofs.Options.{then_some, map_some}
-use Rattle.df_types.specs.Newtype.{Newtype}
+use Rattle.df_form.specs.World.{World}
 use Rattle.df_form.specs.Node.{Node}
 use Rattle.df_form.specs.Sequent.{Sequent}
 use Rattle.df_form.specs.Clause.{Clause}
 use Rattle.df_form.specs.Log.{Step, Hypothesis, Goal, Connective, Schema, Propagation, Congruence, Linear, Split, Make}
+use Rattle.df_axiom.specs.Line.{instance_line}
 use Rattle.df_kern.specs.Connective.{Added}
+use Rattle.df_kern.specs.Schema.{type_line}
 use Rattle.df_kern.specs.Derivation.{State, with_clause, after, after_all}
 use Rattle.df_ground.specs.Lines.{connective_count, schema_count, node_lines, lines_at, ground_lines}
 use Rattle.df_ground.specs.Adding.{added_by}
@@ -22,7 +24,7 @@ abbrev pub is_ground : Step → Bool
 is_ground (Hypothesis i) = true
 is_ground Goal = true
 is_ground (Connective n k) = true
-is_ground (Schema schema k terms) = true
+is_ground (Schema schema k terms) = schema == 74
 is_ground (Propagation numbers conclusion) = false
 is_ground (Congruence conclusion pairs) = false
 is_ground (Linear conclusion combinations) = false
@@ -43,20 +45,20 @@ all_flat : (f : ℕ → List Step) → ((n : ℕ) → list_all is_ground (f n) �
 all_flat f each [] = refl
 all_flat f each (n ∷ ns) = all_joined (f n) (flat_map f ns) (each n) (all_flat f each ns)
 
-at_node : (newtypes : List Newtype) (nodes : List Node) (n : ℕ) (node : Node) → list_all is_ground (node_lines newtypes nodes n node) ≡ true
-at_node newtypes nodes n node =
-    all_joined (map (λ k. Connective n k) (range_with_len 0 (connective_count nodes node.op node.parts))) (map (λ k. Schema 74 k (n ∷ [])) (range_with_len 0 (schema_count newtypes node.op)))
-    (all_mapped (λ k. Connective n k) (λ k. refl) (range_with_len 0 (connective_count nodes node.op node.parts))) (all_mapped (λ k. Schema 74 k (n ∷ [])) (λ k. refl) (range_with_len 0 (schema_count newtypes node.op)))
+at_node : (world : World) (nodes : List Node) (n : ℕ) (node : Node) → list_all is_ground (node_lines world nodes n node) ≡ true
+at_node world nodes n node =
+    all_joined (map (λ k. Connective n k) (range_with_len 0 (connective_count nodes node.op node.parts))) (map (λ k. Schema 74 k (n ∷ [])) (range_with_len 0 (schema_count world node.op)))
+    (all_mapped (λ k. Connective n k) (λ k. refl) (range_with_len 0 (connective_count nodes node.op node.parts))) (all_mapped (λ k. Schema 74 k (n ∷ [])) (λ k. refl) (range_with_len 0 (schema_count world node.op)))
 
-at_number : (newtypes : List Newtype) (nodes : List Node) (n : ℕ) (found : Option Node) → list_all is_ground (option_map_or (node_lines newtypes nodes n) found []) ≡ true
-at_number newtypes nodes n None = refl
-at_number newtypes nodes n (Some node) = at_node newtypes nodes n node
+at_number : (world : World) (nodes : List Node) (n : ℕ) (found : Option Node) → list_all is_ground (option_map_or (node_lines world nodes n) found []) ≡ true
+at_number world nodes n None = refl
+at_number world nodes n (Some node) = at_node world nodes n node
 
 pub lines_are_ground : (s : Sequent) → list_all is_ground (ground_lines s) ≡ true
 lines_are_ground s =
-    all_joined (map (λ i. Hypothesis i) (range_with_len 0 (length s.hypotheses))) (Goal ∷ flat_map (lines_at s.newtypes s.nodes) (range_with_len 0 (length s.nodes)))
+    all_joined (map (λ i. Hypothesis i) (range_with_len 0 (length s.hypotheses))) (Goal ∷ flat_map (lines_at s.world s.nodes) (range_with_len 0 (length s.nodes)))
     (all_mapped (λ i. Hypothesis i) (λ i. refl) (range_with_len 0 (length s.hypotheses)))
-    (all_flat (lines_at s.newtypes s.nodes) (λ n. at_number s.newtypes s.nodes n (slice_get s.nodes n)) (range_with_len 0 (length s.nodes)))
+    (all_flat (lines_at s.world s.nodes) (λ n. at_number s.world s.nodes n (slice_get s.nodes n)) (range_with_len 0 (length s.nodes)))
 
 -- what a line adds
 pub record Adds (s : Sequent) (state : State) (step : Step) (next : State) : Type 0 where
@@ -73,7 +75,11 @@ pub line_adds : (s : Sequent) (state : State) (step : Step) (next : State) → i
 line_adds s state (Hypothesis i) next ground_step e = adds_some s state (Hypothesis i) next e
 line_adds s state Goal next ground_step e = adds_some s state Goal next e
 line_adds s state (Connective n k) next ground_step e = adds_some s state (Connective n k) next e
-line_adds s state (Schema schema k terms) next ground_step e = adds_some s state (Schema schema k terms) next e
+line_adds s state (Schema schema k terms) next ground_step e =
+    let types = type_line s.world state.nodes k terms in
+    let line = ap (λ (b : Bool). option_map (with_clause state) (if b then types else instance_line s.world state.nodes schema k terms)) ground_step in
+    let own = ap (λ (b : Bool). option_map (with_clause state) (if b then types else None)) ground_step in
+    adds_some s state (Schema schema k terms) next (own ∙ sym line ∙ e)
 line_adds s state (Propagation numbers conclusion) next ground_step e = absurd cc
 line_adds s state (Congruence conclusion pairs) next ground_step e = absurd cc
 line_adds s state (Linear conclusion combinations) next ground_step e = absurd cc

@@ -3,9 +3,9 @@
 use Rattle.std.specs.Prelude.{ℕ, ◌+◌, Bool, true, false, List, [], ◌∷◌, ◌++◌, map, length, slice_get, Option, None, Some}
 use Rattle.std.specs.Option.{option_map_or, option_and_then}
 use Rattle.std.specs.List.{range_with_len, flat_map, count_by}
-use Rattle.df_types.specs.declared.newtype.Ty.{Ty}
-use Rattle.df_types.specs.declared.newtype.Ty.TheVariants as types
-use Rattle.df_types.specs.Newtype.{Newtype}
+use Rattle.df_lang.specs.declared.ty.Ty.{Ty}
+use Rattle.df_lang.specs.declared.ty.Ty.TheVariants as types
+use Rattle.df_form.specs.World.{World, Ends, ends_at}
 use Rattle.df_form.specs.declared.node.Sort.{Sort}
 use Rattle.df_form.specs.declared.node.Sort.TheVariants as sorts
 use Rattle.df_form.specs.declared.node.Op.{Op}
@@ -18,8 +18,9 @@ use Rattle.df_form.specs.Log.{Step, Hypothesis, Goal, Connective, Schema}
 abbrev pub sides_count : Sort → ℕ
 sides_count sorts.Number = 3
 sides_count sorts.Truth = 0
+sides_count sorts.Character = 0
 
--- an equality of numbers counts as the `and` of two comparisons, and one of truths is no connective
+-- an equality of numbers counts as the `and` of two comparisons, and one of truths or characters is no connective
 abbrev pub equality_count : List Node → List ℕ → ℕ
 equality_count nodes [] = 0
 equality_count nodes (a ∷ others) = sides_count (sort_at nodes a)
@@ -34,26 +35,30 @@ connective_count nodes ops.Iff parts = 4
 connective_count nodes ops.Equal parts = equality_count nodes parts
 connective_count nodes op parts = 0
 
--- a declared newtype has three
-abbrev pub type_count : List Newtype → Ty → ℕ
-type_count newtypes (types.Newtype t) = option_map_or (λ (newtype : Newtype). 3) (slice_get newtypes t) 0
+-- a declared newtype has three, `nat` two, and a type that has all values of its sort one
+abbrev pub type_count : World → Ty → ℕ
+type_count world (types.Newtype t) = option_map_or (λ (newtype : Ends). 3) (ends_at world t) 0
+type_count world types.Int = 1
+type_count world types.Nat = 2
+type_count world types.Bool = 1
+type_count world types.Char = 1
 
 -- how many clauses of schema 74 a node has
-abbrev pub schema_count : List Newtype → Op → ℕ
-schema_count newtypes (ops.Is ty) = type_count newtypes ty
-schema_count newtypes op = 0
+abbrev pub schema_count : World → Op → ℕ
+schema_count world (ops.Is ty) = type_count world ty
+schema_count world op = 0
 
-abbrev pub node_lines : List Newtype → List Node → ℕ → Node → List Step
-node_lines newtypes nodes n node =
+abbrev pub node_lines : World → List Node → ℕ → Node → List Step
+node_lines world nodes n node =
     map (λ k. Connective n k) (range_with_len 0 (connective_count nodes node.op node.parts))
-    ++ map (λ k. Schema 74 k (n ∷ [])) (range_with_len 0 (schema_count newtypes node.op))
+    ++ map (λ k. Schema 74 k (n ∷ [])) (range_with_len 0 (schema_count world node.op))
 
 -- those of the node of a number
-abbrev pub lines_at : List Newtype → List Node → ℕ → List Step
-lines_at newtypes nodes n = option_map_or (node_lines newtypes nodes n) (slice_get nodes n) []
+abbrev pub lines_at : World → List Node → ℕ → List Step
+lines_at world nodes n = option_map_or (node_lines world nodes n) (slice_get nodes n) []
 
 abbrev pub ground_lines : Sequent → List Step
-ground_lines s = map (λ i. Hypothesis i) (range_with_len 0 (length s.hypotheses)) ++ Goal ∷ flat_map (lines_at s.newtypes s.nodes) (range_with_len 0 (length s.nodes))
+ground_lines s = map (λ i. Hypothesis i) (range_with_len 0 (length s.hypotheses)) ++ Goal ∷ flat_map (lines_at s.world s.nodes) (range_with_len 0 (length s.nodes))
 
 abbrev pub bound_by : ℕ → Op → Option ℕ
 bound_by n ops.Equal = Some n

@@ -1,19 +1,19 @@
 //! What a line adds.
 
-ghost use Rattle.std.specs.Prelude.{◌≡◌, ◌∷◌, [], None, slice_get, IfOk};
+ghost use Rattle.std.specs.Prelude.{◌≡◌, ◌==◌, ◌∷◌, [], None, slice_get, IfOk, if◌then◌else◌};
 ghost use Rattle.std.specs.Option.{option_map};
-ghost use Rattle.df_types.specs.View.{newtypes_of};
+ghost use Rattle.df_form.specs.World.{world_of};
 ghost use Rattle.df_form.specs.Clause.{yes};
 ghost use Rattle.df_kern.specs.Connective.{connective_line};
-ghost use Rattle.df_kern.specs.Schema.{schema_line};
+ghost use Rattle.df_kern.specs.Schema.{type_line};
 ghost use Rattle.df_form.specs.Log.{step_of};
 ghost use Rattle.df_form.specs.SequentView.{sequent_of};
 ghost use Rattle.df_ground.specs.Adding.{added_by, AddsClause, GivesClause};
 
 use crate::fault::GroundFault;
-use df_form::{Formula, Lit, Nodes, Sequent, Step};
+use crate::lines::TYPES;
+use df_form::{Formula, Lit, Nodes, Sequent, Step, World};
 use df_kern::{AxiomFault, connective, instance};
-use df_types::Newtype;
 use std::alloc::{AllocError, Global};
 
 /// A clause of the ground set.
@@ -47,21 +47,40 @@ fn connective_of(
     }
 }
 
+/// A clause on what it is to be of a type.
+fn type_of(
+    alloc: Global,
+    world: World,
+    nodes: &mut Nodes,
+    clause: u32,
+    terms: &[usize],
+) -> Result<Vec<Lit>, GroundFault>
+    requires { type_line (world_of world) nodes.old clause terms.now ≡ None → ⊥ }
+    ensures { AddsClause nodes.new result (type_line (world_of world.entry) nodes.old clause terms.now) }
+{
+    match instance(alloc, world, nodes, TYPES, clause, terms) {
+        Ok(clause) => Ok(clause),
+        Err(AxiomFault::NoSuch) => unreachable!(),
+        Err(AxiomFault::Memory) => Err(GroundFault::Memory),
+    }
+}
+
+/// The same, by the schema.
 fn instance_of(
     alloc: Global,
-    newtypes: &[Newtype],
+    world: World,
     nodes: &mut Nodes,
     schema: u8,
     clause: u32,
     terms: &[usize],
 ) -> Result<Vec<Lit>, GroundFault>
-    requires { schema_line (newtypes_of newtypes.now) nodes.old schema clause terms.now ≡ None → ⊥ }
-    ensures { AddsClause nodes.new result (schema_line (newtypes_of newtypes.now) nodes.old schema clause terms.now) }
+    requires { (if schema == 74 then type_line (world_of world) nodes.old clause terms.now else None) ≡ None → ⊥ }
+    ensures { AddsClause nodes.new result (if schema == 74 then type_line (world_of world.entry) nodes.old clause terms.now else None) }
 {
-    match instance(alloc, newtypes, nodes, schema, clause, terms) {
-        Ok(clause) => Ok(clause),
-        Err(AxiomFault::NoSuch) => unreachable!(),
-        Err(AxiomFault::Memory) => Err(GroundFault::Memory),
+    if schema == TYPES {
+        type_of(alloc, world, nodes, clause, terms)
+    } else {
+        unreachable!()
     }
 }
 
@@ -109,7 +128,7 @@ pub(crate) fn clause_of(
             schema,
             clause,
             terms,
-        } => instance_of(alloc, sequent.newtypes, nodes, *schema, *clause, terms),
+        } => instance_of(alloc, sequent.world, nodes, *schema, *clause, terms),
         Step::Propagation { .. }
         | Step::Congruence { .. }
         | Step::Linear { .. }

@@ -2,25 +2,25 @@
 
 ghost use Rattle.std.specs.Prelude.{◌≡◌, ◌≤◌, ◌++◌, ◌∷◌, [], map, length, OnOk, IfOk};
 ghost use Rattle.std.specs.List.{range_with_len};
-ghost use Rattle.df_types.specs.View.{newtypes_of};
+ghost use Rattle.df_form.specs.World.{world_of};
 ghost use Rattle.df_form.specs.Node.{node_of};
 ghost use Rattle.df_form.specs.Log.{step_of, Hypothesis, Connective, Schema};
 ghost use Rattle.df_form.specs.SequentView.{sequent_of};
 ghost use Rattle.df_ground.specs.Lines.{sides_count, equality_count, connective_count, type_count, schema_count, node_lines, lines_at, ground_lines, bound_by, bound_of, is_free_of, unbound_count};
 
-use df_form::{Formula, Node, Nodes, Op, Sequent, Sort, Step};
-use df_types::{Newtype, Ty};
+use df_form::{Formula, Node, Nodes, Op, Sequent, Sort, Step, World};
+use df_lang::Ty;
 use std::alloc::{AllocError, Global};
 
 /// The schema of what it means to be of a type.
-const TYPES: u8 = 74;
+pub(crate) const TYPES: u8 = 74;
 
 fn sides_count(sort: Sort) -> usize
     ensures { result ≡ sides_count sort }
 {
     match sort {
         Sort::Number => 3,
-        Sort::Truth => 0,
+        Sort::Truth | Sort::Character => 0,
     }
 }
 
@@ -43,27 +43,46 @@ fn connective_count(nodes: &Nodes, node: &Node) -> usize
         Op::Implies => 3,
         Op::Iff => 4,
         Op::Equal => equality_count(nodes, node.parts.as_slice()),
-        Op::Number(_) | Op::Free(_) | Op::Plus | Op::Times | Op::Is(_) | Op::AtMost => 0,
-    }
-}
-
-/// How many clauses there are on what it is to be of a type.
-fn type_count(newtypes: &[Newtype], ty: Ty) -> u32
-    ensures { result ≡ type_count (newtypes_of newtypes.now) ty }
-{
-    let Ty::Newtype(newtype) = ty;
-    if newtype < newtypes.len() { 3 } else { 0 }
-}
-
-fn schema_count(newtypes: &[Newtype], op: Op) -> u32
-    ensures { result ≡ schema_count (newtypes_of newtypes.now) op }
-{
-    match op {
-        Op::Is(ty) => type_count(newtypes, ty),
         Op::Number(_)
         | Op::Free(_)
         | Op::Plus
         | Op::Times
+        | Op::Div
+        | Op::Mod
+        | Op::Code
+        | Op::Chr
+        | Op::Is(_)
+        | Op::AtMost => 0,
+    }
+}
+
+/// How many clauses there are on what it is to be of a type.
+fn type_count(world: World, ty: Ty) -> u32
+    ensures { result ≡ type_count (world_of world.entry) ty }
+{
+    match ty {
+        Ty::Newtype(number) => match world.interval(number) {
+            Some(_) => 3,
+            None => 0,
+        },
+        Ty::Nat => 2,
+        Ty::Int | Ty::Bool | Ty::Char => 1,
+    }
+}
+
+fn schema_count(world: World, op: Op) -> u32
+    ensures { result ≡ schema_count (world_of world.entry) op }
+{
+    match op {
+        Op::Is(ty) => type_count(world, ty),
+        Op::Number(_)
+        | Op::Free(_)
+        | Op::Plus
+        | Op::Times
+        | Op::Div
+        | Op::Mod
+        | Op::Code
+        | Op::Chr
         | Op::Equal
         | Op::AtMost
         | Op::Not
@@ -108,18 +127,13 @@ fn add_lines_at(
     lines: &mut Vec<Step>,
     number: usize,
 ) -> Result<(), AllocError>
-    ensures { OnOk result (map step_of lines.new.items ≡ map step_of lines.old.items ++ lines_at (sequent_of sequent.now).newtypes sequent.now.nodes number) }
+    ensures { OnOk result (map step_of lines.new.items ≡ map step_of lines.old.items ++ lines_at (sequent_of sequent.now).world sequent.now.nodes number) }
 {
     let Some(node) = sequent.nodes.get(number) else {
         return Ok(());
     };
     add_connective_lines(lines, number, connective_count(&sequent.nodes, node))?;
-    add_type_lines(
-        alloc,
-        lines,
-        number,
-        schema_count(sequent.newtypes, node.op),
-    )
+    add_type_lines(alloc, lines, number, schema_count(sequent.world, node.op))
 }
 
 fn hypothesis_lines(alloc: Global, count: usize) -> Result<Vec<Step>, AllocError>
@@ -153,6 +167,10 @@ fn bound_by(number: usize, op: Op) -> Option<Formula>
         | Op::Free(_)
         | Op::Plus
         | Op::Times
+        | Op::Div
+        | Op::Mod
+        | Op::Code
+        | Op::Chr
         | Op::Is(_)
         | Op::AtMost
         | Op::Not

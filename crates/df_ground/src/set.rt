@@ -60,7 +60,7 @@ fn clauses_of(
 
 impl Ground {
     ghost use Rattle.std.specs.Prelude.{IfOk};
-    ghost use Rattle.df_types.specs.View.{newtypes_of};
+    ghost use Rattle.df_form.specs.World.{world_of};
     ghost use Rattle.df_form.specs.Arithmetic.{IsArithmetic, IsArithmeticSequent};
     ghost use Rattle.df_ground.specs.GroundView.{Grounds};
 
@@ -69,7 +69,7 @@ impl Ground {
     pub fn new(alloc: Global, sequent: &Sequent) -> Result<Ground, GroundFault>
         ensures ground_set { Grounds (sequent_of sequent.now) result }
         // Where the sequent is arithmetic its ground set is.
-        ensures arithmetic { IfOk result (λ ground_set. IsArithmeticSequent (sequent_of sequent.now) → IsArithmetic (newtypes_of sequent.now.newtypes.now) ground_set.nodes) }
+        ensures arithmetic { IfOk result (λ ground_set. IsArithmeticSequent (sequent_of sequent.now) → IsArithmetic (world_of sequent.now.world) ground_set.nodes) }
     {
         let lines = lines_of(alloc, sequent)?;
         if unbound_count(&sequent.nodes, &lines) as u64 >= LIMIT {

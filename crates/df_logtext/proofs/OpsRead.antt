@@ -1,6 +1,7 @@
 -- What the word of an operation is read as, it is the word of.
 use Rattle.std.proofs.Common.{◌≡◌, ℕ, zero, suc, ◌<◌, Bool, true, false, cond, List, [], ◌∷◌, ◌++◌, take, drop, length, Some, None, Option, refl, sym, ap, subst, ◌∙◌, inl, inr, codes, arith}
-use Rattle.std.specs.Prelude.{nat_eq, slice_get, unwrap_or}
+use Rattle.std.specs.Prelude.{nat_eq, ◌≢◌, slice_get, unwrap_or}
+use Rattle.std.specs.Option.{option_map}
 use Rattle.std.specs.List.{AllByRecursion, starts_with}
 use Rattle.std.proofs.lemmas.Option.{same_Some}
 use Rattle.std.proofs.lemmas.List.{take-append-drop}
@@ -9,12 +10,13 @@ use Rattle.df_lemmas.proofs.Truths.{choice, true_is_not_false}
 use Rattle.df_lemmas.proofs.Alls.{all_back}
 use Rattle.df_base.specs.Names.{same_text}
 use Rattle.df_base.proofs.NamesLemmas.{same_text-equal, same_text-refl}
-use Rattle.df_types.specs.declared.newtype.Ty.TheVariants as types
+use Rattle.df_lang.specs.declared.ty.Ty.{Ty}
+use Rattle.df_lang.specs.declared.ty.Ty.TheVariants as types
 use Rattle.df_form.specs.declared.node.Op.{Op}
 use Rattle.df_form.specs.declared.node.Op.TheVariants as ops
-use Rattle.df_logtext.specs.Words.{place_from, type_of, plain_op_of, typed_op_of, op_of, found_or}
-use Rattle.df_logtext.specs.StepText.{op_word, op_number}
-use Rattle.df_logtext.specs.HasText.{IsWord, IsNamed, HasWord}
+use Rattle.df_logtext.specs.Words.{place_from, known_type_of, newtype_of, type_of, term_op_of, formula_op_of, plain_op_of, typed_op_of, op_of, found_or}
+use Rattle.df_logtext.specs.StepText.{type_words, type_name, op_word, op_number}
+use Rattle.df_logtext.specs.HasText.{IsWord, IsNamed, HasName, HasWord}
 use Rattle.df_logtext.proofs.Placed.{placed}
 
 -- the word is that of the operation, behind which no number stands
@@ -34,19 +36,36 @@ either names word text made op other is alone has go e =
       | inr p ↦ go p.1
     ]
 
-plain_read : (names : List (List ℕ)) (word : List ℕ) (op : Op) → plain_op_of word ≡ Some op → IsWordOf names word op
-unfolding plain_op_of
-plain_read names word op e =
+term_read : (names : List (List ℕ)) (word : List ℕ) (op : Op) → term_op_of word ≡ Some op → IsWordOf names word op
+unfolding term_op_of
+term_read names word op e =
     either names word (codes "plus") ops.Plus op _ refl refl tt
     (either names word (codes "times") ops.Times op _ refl refl tt
-    (either names word (codes "eq") ops.Equal op _ refl refl tt
+    (either names word (codes "div") ops.Div op _ refl refl tt
+    (either names word (codes "mod") ops.Mod op _ refl refl tt
+    (either names word (codes "code") ops.Code op _ refl refl tt
+    (either names word (codes "chr") ops.Chr op _ refl refl tt
+    (λ n. absurd cc)))))) e
+
+formula_read : (names : List (List ℕ)) (word : List ℕ) (op : Op) → formula_op_of word ≡ Some op → IsWordOf names word op
+unfolding formula_op_of
+formula_read names word op e =
+    either names word (codes "eq") ops.Equal op _ refl refl tt
     (either names word (codes "le") ops.AtMost op _ refl refl tt
     (either names word (codes "not") ops.Not op _ refl refl tt
     (either names word (codes "and") ops.And op _ refl refl tt
     (either names word (codes "or") ops.Or op _ refl refl tt
     (either names word (codes "imp") ops.Implies op _ refl refl tt
     (either names word (codes "iff") ops.Iff op _ refl refl tt
-    (λ n. absurd cc))))))))) e
+    (λ n. absurd cc))))))) e
+
+either_op : (names : List (List ℕ)) (word : List ℕ) (op : Op) (plain other : Option Op) → (plain ≡ Some op → IsWordOf names word op) → (other ≡ Some op → IsWordOf names word op) → found_or plain (λ o. Some o) other ≡ Some op → IsWordOf names word op
+either_op names word op None other a b e = b e
+either_op names word op (Some o) other a b e = a e
+
+plain_read : (names : List (List ℕ)) (word : List ℕ) (op : Op) → plain_op_of word ≡ Some op → IsWordOf names word op
+unfolding plain_op_of
+plain_read names word op e = either_op names word op (term_op_of word) (formula_op_of word) (term_read names word op) (formula_read names word op) e
 
 -- what stands at a place of a list that is known in parts
 get_front : {A : Type 0} (test : A → Bool) (front : List A) (x : A) (back : List A) (n : ℕ) (y : A) → n < length front → AllByRecursion (λ z. test z ≡ false) front → slice_get (front ++ x ∷ back) n ≡ Some y → test y ≡ false
@@ -58,8 +77,16 @@ get_seam : {A : Type 0} (front : List A) (x : A) (back : List A) → slice_get (
 get_seam [] x back = refl
 get_seam (y ∷ ys) x back = get_seam ys x back
 
-named : (names : List (List ℕ)) (name : List ℕ) (n : ℕ) → IsWord name → place_from (λ other. same_text other name) 0 names ≡ Some n → IsNamed names n
-named names name n plain e =
+-- a word of a type that no program declares is read as that type
+apart_from : (known name : List ℕ) (ty : Ty) → known_type_of known ≡ Some ty → known_type_of name ≡ None → known ≢ name
+apart_from known name ty a e is = let f : Some ty ≡ None = sym a ∙ ap known_type_of is ∙ e in absurd cc
+
+none_apart : (name : List ℕ) → known_type_of name ≡ None → AllByRecursion (λ known. known ≢ name) type_words
+unfolding known_type_of
+none_apart name e = (apart_from (codes "int") name types.Int refl e, (apart_from (codes "nat") name types.Nat refl e, (apart_from (codes "bool") name types.Bool refl e, (apart_from (codes "char") name types.Char refl e, tt))))
+
+named : (names : List (List ℕ)) (name : List ℕ) (n : ℕ) → IsWord name → known_type_of name ≡ None → place_from (λ other. same_text other name) 0 names ≡ Some n → IsNamed names n
+named names name n plain new e =
     let p = placed (λ other. same_text other name) 0 names n e in
     let is : p.x ≡ name = same_text-equal p.x name p.passes in
     let at : n ≡ length p.front = omega (arith, p.place) in
@@ -69,16 +96,57 @@ named names name n plain e =
       first = λ other lt there.
           let fails = get_front (λ o. same_text o name) p.front p.x p.back other name (omega (arith, at, lt)) p.fail (sym (ap (λ xs. slice_get xs other) p.list) ∙ there) in
           true_is_not_false _ (same_text-refl name) fails;
+      apart = none_apart name new;
       word = plain;
     }
 
-type_read : (names : List (List ℕ)) (name : List ℕ) (op : Op) → IsWord name → type_of names name ≡ Some op → IsWordOf names (codes "is:" ++ name) op
-unfolding type_of named
-type_read names name op plain e =
-    let t = map_some (λ n. ops.Is (types.Newtype n)) (place_from (λ other. same_text other name) 0 names) op e in
-    let is = named names name t.0 plain t.1 in
+-- the name is that of the type
+record IsNameOf (names : List (List ℕ)) (name : List ℕ) (ty : Ty) : Type 0 where
+  text : name ≡ type_name names ty
+  has : HasName names ty
+
+-- a name that is known, or what else
+either_type : (names : List (List ℕ)) (name text : List ℕ) (known ty : Ty) (other : Option Ty) → (type_name names known ≡ text) → HasName names known → (other ≡ Some ty → IsNameOf names name ty)
+    → cond (same_text name text) (Some known) other ≡ Some ty → IsNameOf names name ty
+either_type names name text known ty other is has go e =
+    elim (choice (same_text name text) (Some known) other (Some ty) e) [
+      | inl p ↦
+          let P : Ty → Type 0 = λ t. IsNameOf names name t in
+          subst P (same_Some known ty p.1) (record { text = same_text-equal name text p.0 ∙ sym is; has = has })
+      | inr p ↦ go p.1
+    ]
+
+known_read : (names : List (List ℕ)) (name : List ℕ) (ty : Ty) → known_type_of name ≡ Some ty → IsNameOf names name ty
+unfolding known_type_of
+known_read names name ty e =
+    either_type names name (codes "int") types.Int ty _ refl tt
+    (either_type names name (codes "nat") types.Nat ty _ refl tt
+    (either_type names name (codes "bool") types.Bool ty _ refl tt
+    (either_type names name (codes "char") types.Char ty _ refl tt
+    (λ n. absurd cc)))) e
+
+newtype_read : (names : List (List ℕ)) (name : List ℕ) (ty : Ty) → IsWord name → known_type_of name ≡ None → newtype_of names name ≡ Some ty → IsNameOf names name ty
+unfolding named
+newtype_read names name ty plain new e =
+    let t = map_some (λ n. types.Newtype n) (place_from (λ other. same_text other name) 0 names) ty e in
+    let is = named names name t.0 plain new t.1 in
+    let P : Ty → Type 0 = λ x. IsNameOf names name x in
+    subst P t.2 (record { text = sym (ap (λ o. unwrap_or o []) is.here); has = is })
+
+type_read_from : (names : List (List ℕ)) (name : List ℕ) (ty : Ty) (known : Option Ty) → known_type_of name ≡ known → IsWord name → found_or known (λ t. Some t) (newtype_of names name) ≡ Some ty → IsNameOf names name ty
+type_read_from names name ty None known plain e = newtype_read names name ty plain known e
+type_read_from names name ty (Some t) known plain e = known_read names name ty (known ∙ e)
+
+type_read : (names : List (List ℕ)) (name : List ℕ) (ty : Ty) → IsWord name → type_of names name ≡ Some ty → IsNameOf names name ty
+unfolding type_of
+type_read names name ty plain e = type_read_from names name ty (known_type_of name) refl plain e
+
+test_read : (names : List (List ℕ)) (name : List ℕ) (op : Op) → IsWord name → option_map (λ ty. ops.Is ty) (type_of names name) ≡ Some op → IsWordOf names (codes "is:" ++ name) op
+test_read names name op plain e =
+    let t = map_some (λ ty. ops.Is ty) (type_of names name) op e in
+    let is = type_read names name t.0 plain t.1 in
     let P : Op → Type 0 = λ o. IsWordOf names (codes "is:" ++ name) o in
-    subst P t.2 (record { text = ap (λ x. codes "is:" ++ x) (sym (ap (λ o. unwrap_or o []) is.here)); alone = refl; has = is })
+    subst P t.2 (record { text = ap (λ x. codes "is:" ++ x) is.text; alone = refl; has = is.has })
 
 begins_is : (word : List ℕ) → starts_with nat_eq word (codes "is:") ≡ true → word ≡ codes "is:" ++ drop 3 word
 begins_is word e = sym (take-append-drop 3 word) ∙ ap (λ x. x ++ drop 3 word) (sym (same_text-equal (codes "is:") (take 3 word) e))
@@ -86,16 +154,12 @@ begins_is word e = sym (take-append-drop 3 word) ∙ ap (λ x. x ++ drop 3 word)
 typed_read : (names : List (List ℕ)) (word : List ℕ) (op : Op) → IsWord word → typed_op_of names word ≡ Some op → IsWordOf names word op
 unfolding typed_op_of
 typed_read names word op plain e =
-    let t = test_some (starts_with nat_eq word (codes "is:")) (type_of names (drop 3 word)) op e in
+    let t = test_some (starts_with nat_eq word (codes "is:")) (option_map (λ ty. ops.Is ty) (type_of names (drop 3 word))) op e in
     let is = begins_is word t.0 in
     let W : List ℕ → Type 0 = λ w. IsWord w in
     let tail : IsWord (drop 3 word) = all_back _ (codes "is:") (drop 3 word) (subst W is plain) in
     let P : List ℕ → Type 0 = λ w. IsWordOf names w op in
-    subst P (sym is) (type_read names (drop 3 word) op tail t.1)
-
-either_op : (names : List (List ℕ)) (word : List ℕ) (op : Op) (plain other : Option Op) → (plain ≡ Some op → IsWordOf names word op) → (other ≡ Some op → IsWordOf names word op) → found_or plain (λ o. Some o) other ≡ Some op → IsWordOf names word op
-either_op names word op None other a b e = b e
-either_op names word op (Some o) other a b e = a e
+    subst P (sym is) (test_read names (drop 3 word) op tail t.1)
 
 pub op_read : (names : List (List ℕ)) (word : List ℕ) (op : Op) → IsWord word → op_of names word ≡ Some op → IsWordOf names word op
 unfolding op_of

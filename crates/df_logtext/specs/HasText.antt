@@ -1,14 +1,15 @@
 -- Which logs have a text: their numbers fit, and their types have names.
 use Rattle.std.specs.Prelude.{◌≡◌, ◌≢◌, ℕ, ℤ, pos, negsuc, ◌<◌, ◌^◌, List, slice_get, Some}
 use Rattle.std.specs.List.{AllByRecursion}
-use Rattle.df_types.specs.declared.newtype.Ty.{Ty}
-use Rattle.df_types.specs.declared.newtype.Ty.TheVariants as types
+use Rattle.df_lang.specs.declared.ty.Ty.{Ty}
+use Rattle.df_lang.specs.declared.ty.Ty.TheVariants as types
 use Rattle.df_form.specs.declared.log.Lit.{Lit}
 use Rattle.df_form.specs.declared.log.Multiple.{Multiple}
 use Rattle.df_form.specs.declared.log.Pair.{Pair}
 use Rattle.df_form.specs.declared.node.Op.{Op}
 use Rattle.df_form.specs.declared.node.Op.TheVariants as ops
 use Rattle.df_form.specs.Log.{Combination, Step, Hypothesis, Goal, Connective, Schema, Propagation, Congruence, Linear, Split, Make}
+use Rattle.df_logtext.specs.StepText.{type_words}
 
 -- the number of a node, a clause, a row or a hypothesis
 abbrev pub IsIndex : ℕ → Type 0
@@ -26,15 +27,18 @@ IsPlain b = (b ≢ 32) × (b ≢ 10)
 abbrev pub IsWord : List ℕ → Type 0
 IsWord word = AllByRecursion IsPlain word
 
--- the newtype of a number has a name, which is a word, and none before it has that name
+-- the declaration of a number has a name, which is a word, and neither one before it nor a type that no
+-- program declares has that name
 pub record IsNamed (names : List (List ℕ)) (number : ℕ) : Type 0 where
   pub name : List ℕ
   pub here : slice_get names number ≡ Some name
   pub first : (other : ℕ) → other < number → slice_get names other ≢ Some name
+  pub apart : AllByRecursion (λ known. known ≢ name) type_words
   pub word : IsWord name
 
 abbrev pub HasName : List (List ℕ) → Ty → Type 0
 HasName names (types.Newtype number) = IsNamed names number
+HasName names ty = Unit {0}
 
 -- no line makes a free term
 abbrev pub HasWord : List (List ℕ) → Op → Type 0

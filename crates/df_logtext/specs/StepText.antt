@@ -2,8 +2,8 @@
 use Rattle.std.specs.Prelude.{ℕ, Bool, true, false, List, [], ◌∷◌, ◌++◌, map, slice_get, codes, unwrap_or}
 use Rattle.std.specs.List.{flat_map}
 use Rattle.std.specs.Fmt.{decimal, signed_decimal}
-use Rattle.df_types.specs.declared.newtype.Ty.{Ty}
-use Rattle.df_types.specs.declared.newtype.Ty.TheVariants as types
+use Rattle.df_lang.specs.declared.ty.Ty.{Ty}
+use Rattle.df_lang.specs.declared.ty.Ty.TheVariants as types
 use Rattle.df_form.specs.declared.log.Lit.{Lit}
 use Rattle.df_form.specs.declared.log.Multiple.{Multiple}
 use Rattle.df_form.specs.declared.log.Pair.{Pair}
@@ -13,9 +13,17 @@ use Rattle.df_form.specs.Log.{Combination, Step, Hypothesis, Goal, Connective, S
 use Rattle.df_form.specs.Node.{Node}
 use Rattle.df_logtext.specs.Joined.{joined}
 
--- the name of a type: that of its newtype; the newtypes' names stand by their numbers
+-- the words of the types that no program declares
+abbrev pub type_words : List (List ℕ)
+type_words = codes "int" ∷ codes "nat" ∷ codes "bool" ∷ codes "char" ∷ []
+
+-- the name of a type: for a newtype that of its declaration; the names stand by the numbers of declarations
 abbrev pub type_name : List (List ℕ) → Ty → List ℕ
 type_name names (types.Newtype number) = unwrap_or (slice_get names number) []
+type_name names types.Int = codes "int"
+type_name names types.Nat = codes "nat"
+type_name names types.Bool = codes "bool"
+type_name names types.Char = codes "char"
 
 -- the word of an operation; no line makes a free term, which has none
 abbrev pub op_word : List (List ℕ) → Op → List ℕ
@@ -23,6 +31,10 @@ op_word names (ops.Number number) = codes "num"
 op_word names (ops.Free free) = []
 op_word names ops.Plus = codes "plus"
 op_word names ops.Times = codes "times"
+op_word names ops.Div = codes "div"
+op_word names ops.Mod = codes "mod"
+op_word names ops.Code = codes "code"
+op_word names ops.Chr = codes "chr"
 op_word names (ops.Is ty) = codes "is:" ++ type_name names ty
 op_word names ops.Equal = codes "eq"
 op_word names ops.AtMost = codes "le"

@@ -3,7 +3,8 @@ use Rattle.std.specs.Prelude.{ℕ, ◌+◌, ℤ, ◌==◌, ◌^◌, Bool, nat_eq
 use Rattle.std.specs.Option.{option_map, option_and_then}
 use Rattle.std.specs.List.{starts_with}
 use Rattle.df_base.specs.Names.{same_text}
-use Rattle.df_types.specs.declared.newtype.Ty.TheVariants as types
+use Rattle.df_lang.specs.declared.ty.Ty.{Ty}
+use Rattle.df_lang.specs.declared.ty.Ty.TheVariants as types
 use Rattle.df_form.specs.declared.log.Lit.{Lit}
 use Rattle.df_form.specs.declared.log.Multiple.{Multiple}
 use Rattle.df_form.specs.declared.log.Pair.{Pair}
@@ -78,26 +79,48 @@ combinations_from before divisor (word ∷ words) =
     found_or (integer_of word) (λ next. combinations_from (with_divisor before divisor) (Some next) words)
     (option_and_then (λ d. option_and_then (λ members. combinations_from (with_combination before d members) None words) (sum_of word)) divisor)
 
--- the type of a name
-unfoldable pub type_of : List (List ℕ) → List ℕ → Option Op
-type_of names name = option_map (λ n. ops.Is (types.Newtype n)) (place_from (λ other. same_text other name) 0 names)
+-- a type that no program declares, by its word
+unfoldable pub known_type_of : List ℕ → Option Ty
+known_type_of word =
+    if same_text word (codes "int") then Some types.Int
+    else (if same_text word (codes "nat") then Some types.Nat
+    else (if same_text word (codes "bool") then Some types.Bool
+    else (if same_text word (codes "char") then Some types.Char else None)))
 
--- an operation by its word, but for `num` and tests of types
-unfoldable pub plain_op_of : List ℕ → Option Op
-plain_op_of word =
+abbrev pub newtype_of : List (List ℕ) → List ℕ → Option Ty
+newtype_of names name = option_map (λ n. types.Newtype n) (place_from (λ other. same_text other name) 0 names)
+
+-- the type of a name
+unfoldable pub type_of : List (List ℕ) → List ℕ → Option Ty
+type_of names name = found_or (known_type_of name) (λ ty. Some ty) (newtype_of names name)
+
+-- an operation that makes a number or a character, by its word, but for `num`
+unfoldable pub term_op_of : List ℕ → Option Op
+term_op_of word =
     if same_text word (codes "plus") then Some ops.Plus
     else (if same_text word (codes "times") then Some ops.Times
-    else (if same_text word (codes "eq") then Some ops.Equal
+    else (if same_text word (codes "div") then Some ops.Div
+    else (if same_text word (codes "mod") then Some ops.Mod
+    else (if same_text word (codes "code") then Some ops.Code
+    else (if same_text word (codes "chr") then Some ops.Chr else None)))))
+
+-- an operation that makes a truth, by its word, but for tests of types
+unfoldable pub formula_op_of : List ℕ → Option Op
+formula_op_of word =
+    if same_text word (codes "eq") then Some ops.Equal
     else (if same_text word (codes "le") then Some ops.AtMost
     else (if same_text word (codes "not") then Some ops.Not
     else (if same_text word (codes "and") then Some ops.And
     else (if same_text word (codes "or") then Some ops.Or
     else (if same_text word (codes "imp") then Some ops.Implies
-    else (if same_text word (codes "iff") then Some ops.Iff else None))))))))
+    else (if same_text word (codes "iff") then Some ops.Iff else None))))))
+
+unfoldable pub plain_op_of : List ℕ → Option Op
+plain_op_of word = found_or (term_op_of word) (λ op. Some op) (formula_op_of word)
 
 -- behind `is:`
 unfoldable pub typed_op_of : List (List ℕ) → List ℕ → Option Op
-typed_op_of names word = if starts_with nat_eq word (codes "is:") then type_of names (drop 3 word) else None
+typed_op_of names word = if starts_with nat_eq word (codes "is:") then option_map (λ ty. ops.Is ty) (type_of names (drop 3 word)) else None
 
 unfoldable pub op_of : List (List ℕ) → List ℕ → Option Op
 op_of names word = found_or (plain_op_of word) (λ op. Some op) (typed_op_of names word)

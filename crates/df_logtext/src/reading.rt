@@ -57,7 +57,7 @@ mod tests {
 
     /// Each line of logs.
     const TEXT: &[u8] =
-        b"dfylog 1\no 1\nh 0\ng\nx 3 1\na 74 2 5\nu 0 1 : +3 -5\ne -3 +5 : 1 2 6 4\ne +3 :\nl -3 +5 : 2 1*0 1 -1*1+1*2 3\ns 4 -7\nn num -12\nn is:i32 4\nn and 1 2\nn plus 0 0\nu 2 :\n.\no 2\n.\nend\n";
+        b"dfylog 1\no 1\nh 0\ng\nx 3 1\na 74 2 5\nu 0 1 : +3 -5\ne -3 +5 : 1 2 6 4\ne +3 :\nl -3 +5 : 2 1*0 1 -1*1+1*2 3\ns 4 -7\nn num -12\nn is:i32 4\nn is:nat 4\nn is:int 4\nn is:bool 1\nn is:char 20\nn and 1 2\nn plus 0 0\nn div 0 4\nn mod 0 4\nn chr 0\nn code 8\nu 2 :\n.\no 2\n.\nend\n";
 
     #[test]
     fn read_and_written(rt: HostRuntime) -> Result<(), Fail> {

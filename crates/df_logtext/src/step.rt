@@ -1,6 +1,6 @@
 //! Lines of steps that are written.
 
-ghost use Rattle.std.specs.Prelude.{◌≡◌, ◌++◌, ◌∷◌, [], map, codes, OnOk};
+ghost use Rattle.std.specs.Prelude.{◌≡◌, ◌++◌, ◌∷◌, [], map, slice_get, unwrap_or, codes, OnOk};
 ghost use Rattle.std.specs.List.{flat_map};
 ghost use Rattle.std.specs.Fmt.{decimal, signed_decimal};
 ghost use Rattle.df_form.specs.Log.{step_of, combination_of};
@@ -15,17 +15,29 @@ use crate::word::{
     push_word,
 };
 use df_form::{Combination, Lit, Node, Op, Pair, Step};
-use df_types::Ty;
+use df_lang::Ty;
 use std::alloc::AllocError;
 
-/// The name of a type, or an empty one where there is no newtype of its number.
-fn type_name(names: &[String], ty: Ty) -> &str
-    ensures { result.now ≡ type_name (names_of names.now) ty }
+/// The name of a declaration, or an empty one where there is none of its number.
+fn name_at(names: &[String], number: usize) -> &str
+    ensures { result.now ≡ unwrap_or (slice_get (names_of names.now) number) [] }
 {
-    let Ty::Newtype(number) = ty;
     match names.get(number) {
         Some(name) => name.as_str(),
         None => "",
+    }
+}
+
+/// The name of a type, or an empty one where there is no declaration of its number.
+fn type_name(names: &[String], ty: Ty) -> &str
+    ensures { result.now ≡ type_name (names_of names.now) ty }
+{
+    match ty {
+        Ty::Newtype(number) => name_at(names, number),
+        Ty::Int => "int",
+        Ty::Nat => "nat",
+        Ty::Bool => "bool",
+        Ty::Char => "char",
     }
 }
 
@@ -48,6 +60,10 @@ fn push_op(text: &mut Vec<u8>, names: &[String], op: Op) -> Result<(), AllocErro
         Op::Free(_) => push_word(text, b""),
         Op::Plus => push_word(text, b"plus"),
         Op::Times => push_word(text, b"times"),
+        Op::Div => push_word(text, b"div"),
+        Op::Mod => push_word(text, b"mod"),
+        Op::Code => push_word(text, b"code"),
+        Op::Chr => push_word(text, b"chr"),
         Op::Is(ty) => push_type(text, names, ty),
         Op::Equal => push_word(text, b"eq"),
         Op::AtMost => push_word(text, b"le"),

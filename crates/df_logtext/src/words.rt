@@ -11,7 +11,7 @@ ghost use Rattle.df_logtext.specs.View.{names_of};
 use crate::number::{integer, number};
 use crate::parting::parts;
 use df_form::{Combination, Lit, Multiple, Op, Pair};
-use df_types::Ty;
+use df_lang::Ty;
 use std::alloc::{AllocError, Global};
 
 /// The number of a node, a clause, a row or a hypothesis.
@@ -205,27 +205,83 @@ fn number_of_name(names: &[String], name: &[u8]) -> Option<usize>
     None
 }
 
-/// The operation that tests the type of a name.
-#[tactic(auto, unfolding(crate::specs::Words::type_of))]
-fn type_test(names: &[String], name: &[u8]) -> Option<Op>
-    ensures { result ≡ spec.type_of (names_of names.now) name.now }
+/// A type that no program declares, by its word.
+#[tactic(auto, unfolding(crate::specs::Words::known_type_of))]
+fn known_type(word: &[u8]) -> Option<Ty>
+    ensures { result ≡ spec.known_type_of word.now }
+{
+    if word == b"int".as_slice() {
+        Some(Ty::Int)
+    } else if word == b"nat".as_slice() {
+        Some(Ty::Nat)
+    } else if word == b"bool".as_slice() {
+        Some(Ty::Bool)
+    } else if word == b"char".as_slice() {
+        Some(Ty::Char)
+    } else {
+        None
+    }
+}
+
+/// The newtype of a name.
+fn newtype(names: &[String], name: &[u8]) -> Option<Ty>
+    ensures { result ≡ spec.newtype_of (names_of names.now) name.now }
 {
     match number_of_name(names, name) {
-        Some(number) => Some(Op::Is(Ty::Newtype(number))),
+        Some(number) => Some(Ty::Newtype(number)),
         None => None,
     }
 }
 
-/// The operation of a word that is the same for each type.
-#[tactic(auto, unfolding(crate::specs::Words::plain_op_of))]
-fn plain_op(word: &[u8]) -> Option<Op>
-    ensures { result ≡ spec.plain_op_of word.now }
+/// The type of a name.
+#[tactic(auto, unfolding(crate::specs::Words::type_of))]
+fn ty(names: &[String], name: &[u8]) -> Option<Ty>
+    ensures { result ≡ spec.type_of (names_of names.now) name.now }
+{
+    match known_type(name) {
+        Some(ty) => Some(ty),
+        None => newtype(names, name),
+    }
+}
+
+/// The operation that tests the type of a name.
+fn type_test(names: &[String], name: &[u8]) -> Option<Op>
+    ensures { result ≡ option_map (λ ty. Op.Is ty) (spec.type_of (names_of names.now) name.now) }
+{
+    match ty(names, name) {
+        Some(ty) => Some(Op::Is(ty)),
+        None => None,
+    }
+}
+
+/// The operation of a word that makes a number or a character, but for `num`.
+#[tactic(auto, unfolding(crate::specs::Words::term_op_of))]
+fn term_op(word: &[u8]) -> Option<Op>
+    ensures { result ≡ spec.term_op_of word.now }
 {
     if word == b"plus".as_slice() {
         Some(Op::Plus)
     } else if word == b"times".as_slice() {
         Some(Op::Times)
-    } else if word == b"eq".as_slice() {
+    } else if word == b"div".as_slice() {
+        Some(Op::Div)
+    } else if word == b"mod".as_slice() {
+        Some(Op::Mod)
+    } else if word == b"code".as_slice() {
+        Some(Op::Code)
+    } else if word == b"chr".as_slice() {
+        Some(Op::Chr)
+    } else {
+        None
+    }
+}
+
+/// The operation of a word that makes a truth, but for tests of types.
+#[tactic(auto, unfolding(crate::specs::Words::formula_op_of))]
+fn formula_op(word: &[u8]) -> Option<Op>
+    ensures { result ≡ spec.formula_op_of word.now }
+{
+    if word == b"eq".as_slice() {
         Some(Op::Equal)
     } else if word == b"le".as_slice() {
         Some(Op::AtMost)
@@ -241,6 +297,17 @@ fn plain_op(word: &[u8]) -> Option<Op>
         Some(Op::Iff)
     } else {
         None
+    }
+}
+
+/// The operation of a word that is the same for each type.
+#[tactic(auto, unfolding(crate::specs::Words::plain_op_of))]
+fn plain_op(word: &[u8]) -> Option<Op>
+    ensures { result ≡ spec.plain_op_of word.now }
+{
+    match term_op(word) {
+        Some(op) => Some(op),
+        None => formula_op(word),
     }
 }
 

@@ -1,26 +1,36 @@
 -- An operation on values gives the number that it gives on their numbers.
-use Rattle.std.proofs.Common.{◌≡◌, ℕ, ℤ, pos, ◌+ℤ◌, ◌*ℤ◌, int_le, Bool, true, false, not, ◌&&◌, ◌||◌, List, [], ◌∷◌, map, refl, ap, subst}
+use Rattle.std.proofs.Common.{◌≡◌, ℕ, ℤ, pos, ◌+ℤ◌, ◌*ℤ◌, int_le, Bool, true, false, not, ◌&&◌, ◌||◌, nat_eq, arith, List, [], ◌∷◌, map, refl, ap, subst}
 use Rattle.std.specs.List.{list_all, list_any}
 use Rattle.std.specs.Ordering.{int_eq}
 use Rattle.std.proofs.lemmas.Bool.{and_parts}
-use Rattle.df_types.specs.Newtype.{Newtype}
-use Rattle.df_meaning.specs.Value.{Value, Number, Truth, Text, truth_of, number_of, same_truth, same_value}
-use Rattle.df_meaning.specs.Range.{is_of}
+use Rattle.std.proofs.lemmas.Int.{ints}
+use Rattle.df_lang.specs.declared.ty.Ty.{Ty}
+use Rattle.df_lang.specs.declared.ty.Ty.TheVariants as types
+use Rattle.df_form.specs.World.{World}
+use Rattle.df_form.specs.Types.{sort_of_type, has_type}
+use Rattle.df_meaning.specs.Value.{Value, Number, Truth, Character, Text, truth_of, number_of, same_truth, same_value}
 use Rattle.df_form.specs.declared.node.Sort.{Sort}
 use Rattle.df_form.specs.declared.node.Sort.TheVariants as sorts
 use Rattle.df_form.specs.declared.node.Op.{Op}
 use Rattle.df_form.specs.declared.node.Op.TheVariants as ops
 use Rattle.df_form.specs.Node.{same_sort}
 use Rattle.df_form.specs.Sorting.{takes}
-use Rattle.df_form.specs.Truth.{Assignment, has_sort, apply}
+use Rattle.df_form.specs.Truth.{Assignment, has_sort, quotient, remainder, code_in, apply}
 use Rattle.df_form.proofs.Same.{same_sort_equal}
 use Rattle.df_model.specs.Valuation.{number_of_truth, number_of_value}
-use Rattle.df_model.specs.Numbers.{counts_as_true, number_by}
+use Rattle.df_model.specs.Numbers.{counts_as_true, is_of_type, number_by}
 
 pub number_is : (v : Value) → has_sort sorts.Number v ≡ true → number_of v ≡ number_of_value v
 number_is (Number k) e = refl
 number_is (Truth b) e = absurd cc
+number_is (Character c) e = absurd cc
 number_is (Text t) e = absurd cc
+
+pub character_is : (v : Value) → has_sort sorts.Character v ≡ true → number_of v ≡ number_of_value v
+character_is (Character c) e = refl
+character_is (Number k) e = absurd cc
+character_is (Truth b) e = absurd cc
+character_is (Text t) e = absurd cc
 
 pub one_is_true : (b : Bool) → b ≡ int_le (pos 1) (number_of_truth b)
 one_is_true true = refl
@@ -29,6 +39,7 @@ one_is_true false = refl
 pub truth_is : (v : Value) → has_sort sorts.Truth v ≡ true → truth_of v ≡ counts_as_true (number_of_value v)
 truth_is (Truth b) e = one_is_true b
 truth_is (Number k) e = absurd cc
+truth_is (Character c) e = absurd cc
 truth_is (Text t) e = absurd cc
 
 same_bits : (a b : Bool) → same_truth a b ≡ int_eq (number_of_truth a) (number_of_truth b)
@@ -37,17 +48,53 @@ same_bits true false = refl
 same_bits false true = refl
 same_bits false false = refl
 
+same_codes : (a b : ℕ) → nat_eq a b ≡ int_eq (pos a) (pos b)
+same_codes a b = grind (arith, ints)
+
 pub same_is : (sort : Sort) (v w : Value) → has_sort sort v ≡ true → has_sort sort w ≡ true → same_value v w ≡ int_eq (number_of_value v) (number_of_value w)
 same_is sorts.Number (Number j) (Number k) e f = refl
 same_is sorts.Number (Number j) (Truth b) e f = absurd cc
+same_is sorts.Number (Number j) (Character c) e f = absurd cc
 same_is sorts.Number (Number j) (Text t) e f = absurd cc
 same_is sorts.Number (Truth b) w e f = absurd cc
+same_is sorts.Number (Character c) w e f = absurd cc
 same_is sorts.Number (Text t) w e f = absurd cc
 same_is sorts.Truth (Truth a) (Truth b) e f = same_bits a b
 same_is sorts.Truth (Truth a) (Number k) e f = absurd cc
+same_is sorts.Truth (Truth a) (Character c) e f = absurd cc
 same_is sorts.Truth (Truth a) (Text t) e f = absurd cc
 same_is sorts.Truth (Number k) w e f = absurd cc
+same_is sorts.Truth (Character c) w e f = absurd cc
 same_is sorts.Truth (Text t) w e f = absurd cc
+same_is sorts.Character (Character a) (Character b) e f = same_codes a b
+same_is sorts.Character (Character a) (Number k) e f = absurd cc
+same_is sorts.Character (Character a) (Truth b) e f = absurd cc
+same_is sorts.Character (Character a) (Text t) e f = absurd cc
+same_is sorts.Character (Number k) w e f = absurd cc
+same_is sorts.Character (Truth b) w e f = absurd cc
+same_is sorts.Character (Text t) w e f = absurd cc
+
+pub type_is : (world : World) (ty : Ty) (v : Value) → has_sort (sort_of_type ty) v ≡ true → has_type world ty v ≡ is_of_type world ty (number_of_value v)
+type_is world (types.Newtype number) (Number k) e = refl
+type_is world types.Int (Number k) e = refl
+type_is world types.Nat (Number k) e = refl
+type_is world types.Bool (Truth b) e = refl
+type_is world types.Char (Character c) e = e
+type_is world (types.Newtype number) (Truth b) e = absurd cc
+type_is world (types.Newtype number) (Character c) e = absurd cc
+type_is world (types.Newtype number) (Text t) e = absurd cc
+type_is world types.Int (Truth b) e = absurd cc
+type_is world types.Int (Character c) e = absurd cc
+type_is world types.Int (Text t) e = absurd cc
+type_is world types.Nat (Truth b) e = absurd cc
+type_is world types.Nat (Character c) e = absurd cc
+type_is world types.Nat (Text t) e = absurd cc
+type_is world types.Bool (Number k) e = absurd cc
+type_is world types.Bool (Character c) e = absurd cc
+type_is world types.Bool (Text t) e = absurd cc
+type_is world types.Char (Number k) e = absurd cc
+type_is world types.Char (Truth b) e = absurd cc
+type_is world types.Char (Text t) e = absurd cc
 
 -- Values of the numbers that pass a test, each of the sort of its number.
 module _ (worth : ℕ → Value) (sort : ℕ → Sort) (test : ℕ → Bool) (sorted : (p : ℕ) → test p ≡ true → has_sort (sort p) (worth p) ≡ true) where
@@ -60,6 +107,9 @@ module _ (worth : ℕ → Value) (sort : ℕ → Sort) (test : ℕ → Bool) (so
   a_number : (p : ℕ) → test p ≡ true → same_sort (sort p) sorts.Number ≡ true → number_of (worth p) ≡ num p
   a_number p passes same = number_is (worth p) (has p sorts.Number passes same)
 
+  a_character : (p : ℕ) → test p ≡ true → same_sort (sort p) sorts.Character ≡ true → number_of (worth p) ≡ num p
+  a_character p passes same = character_is (worth p) (has p sorts.Character passes same)
+
   a_truth : (p : ℕ) → test p ≡ true → same_sort (sort p) sorts.Truth ≡ true → truth_of (worth p) ≡ counts_as_true (num p)
   a_truth p passes same = truth_is (worth p) (has p sorts.Truth passes same)
 
@@ -68,6 +118,11 @@ module _ (worth : ℕ → Value) (sort : ℕ → Sort) (test : ℕ → Bool) (so
   turned sorts.Truth sorts.Truth e = refl
   turned sorts.Number sorts.Truth e = absurd cc
   turned sorts.Truth sorts.Number e = absurd cc
+  turned sorts.Character sorts.Character e = refl
+  turned sorts.Number sorts.Character e = absurd cc
+  turned sorts.Truth sorts.Character e = absurd cc
+  turned sorts.Character sorts.Number e = absurd cc
+  turned sorts.Character sorts.Truth e = absurd cc
 
   all_truths : (parts : List ℕ) → list_all test parts ≡ true → list_all (same_sort sorts.Truth) (map sort parts) ≡ true → list_all truth_of (map worth parts) ≡ list_all counts_as_true (map num parts)
   all_truths [] passes same = refl
@@ -107,14 +162,18 @@ module _ (worth : ℕ → Value) (sort : ℕ → Sort) (test : ℕ → Bool) (so
       let k = and_parts (test b) true h.1 in
       same_is (sort b) (worth a) (worth b) (has a (sort b) h.0 same) (sorted b k.0)
 
-  module _ (depth : ℕ) (newtypes : List Newtype) (assignment : Assignment) where
+  module _ (depth : ℕ) (world : World) (assignment : Assignment) where
     pub applied : (op : Op) (parts : List ℕ) → list_all test parts ≡ true → takes op (map sort parts) ≡ true
-        → number_of_value (apply depth newtypes assignment op (map worth parts)) ≡ number_by newtypes (λ free. number_of_value (assignment.value free)) op (map num parts)
+        → number_of_value (apply depth world assignment op (map worth parts)) ≡ number_by world (λ free. number_of_value (assignment.value free)) op (map num parts)
     applied (ops.Number k) parts passes taken = refl
     applied (ops.Free free) parts passes taken = refl
     applied ops.Plus (a ∷ b ∷ []) passes taken = let two = two_numbers a b passes taken in λ i. two.0 i +ℤ two.1 i
     applied ops.Times (a ∷ b ∷ []) passes taken = let two = two_numbers a b passes taken in λ i. two.0 i *ℤ two.1 i
-    applied (ops.Is ty) (a ∷ []) passes taken = let one = a_number a (and_parts (test a) true passes).0 taken in λ i. number_of_truth (is_of newtypes ty (one i))
+    applied ops.Div (a ∷ b ∷ []) passes taken = let two = two_numbers a b passes taken in λ i. quotient (two.0 i) (two.1 i)
+    applied ops.Mod (a ∷ b ∷ []) passes taken = let two = two_numbers a b passes taken in λ i. remainder (two.0 i) (two.1 i)
+    applied ops.Code (a ∷ []) passes taken = a_character a (and_parts (test a) true passes).0 taken
+    applied ops.Chr (a ∷ []) passes taken = let one = a_number a (and_parts (test a) true passes).0 taken in λ i. pos (code_in (one i))
+    applied (ops.Is ty) (a ∷ []) passes taken = ap number_of_truth (type_is world ty (worth a) (has a (sort_of_type ty) (and_parts (test a) true passes).0 taken))
     applied ops.Equal (a ∷ b ∷ []) passes taken = ap number_of_truth (two_alike a b passes taken)
     applied ops.AtMost (a ∷ b ∷ []) passes taken = let two = two_numbers a b passes taken in λ i. number_of_truth (int_le (two.0 i) (two.1 i))
     applied ops.Not (a ∷ []) passes taken = let one = a_truth a (and_parts (test a) true passes).0 taken in λ i. number_of_truth (not (one i))

@@ -1,6 +1,6 @@
 -- Free terms have what stands at their nodes.
 use Rattle.std.proofs.Common.{◌≡◌, ℕ, ℤ, Bool, true, List, [], ◌∷◌, map, Option, Some, slice_get, refl, ap, ◌∙◌}
-use Rattle.df_types.specs.Newtype.{Newtype}
+use Rattle.df_form.specs.World.{World}
 use Rattle.df_meaning.specs.Value.{truth_of, number_of}
 use Rattle.df_form.specs.declared.node.Sort.{Sort}
 use Rattle.df_form.specs.declared.node.Sort.TheVariants as sorts
@@ -33,6 +33,7 @@ module _ (numbers : ℕ → ℤ) (truths_at : ℕ → Bool) where
   value_here : (sort : Sort) (n : ℕ) → number_of_value (value_by numbers truths_at sort (Some n)) ≡ free_by (numbers n) (truths_at n) sort
   value_here sorts.Number n = refl
   value_here sorts.Truth n = refl
+  value_here sorts.Character n = refl
 
   place_is : (nodes : List Node) (n : ℕ) (free : Free) → IsTable nodes → slice_get nodes n ≡ Some (free_node free) → place_of nodes free ≡ Some n
   place_is nodes n free table e = number_of_at nodes (free_node free) n table.distinct e
@@ -44,16 +45,16 @@ module _ (numbers : ℕ → ℤ) (truths_at : ℕ → Bool) where
       let here = free_is nodes n node.op node.parts free (record { sorted = table.sorted }) e is in
       ap (λ (place : Option ℕ). number_of_value (value_by numbers truths_at free.sort place)) (place_is nodes n free table here) ∙ value_here free.sort n
 
-  worth_here : (depth : ℕ) (newtypes : List Newtype) (nodes : List Node) (n : ℕ) (free : Free) → IsTable nodes → slice_get nodes n ≡ Some (free_node free) → worth depth newtypes (assignment_of nodes numbers truths_at) nodes n ≡ value_by numbers truths_at free.sort (Some n)
-  worth_here depth newtypes nodes n free table e =
-      value_is depth newtypes (assignment_of nodes numbers truths_at) nodes n (free_node free) (record { sorted = table.sorted }) e ∙ ap (value_by numbers truths_at free.sort) (place_is nodes n free table e)
+  worth_here : (depth : ℕ) (world : World) (nodes : List Node) (n : ℕ) (free : Free) → IsTable nodes → slice_get nodes n ≡ Some (free_node free) → worth depth world (assignment_of nodes numbers truths_at) nodes n ≡ value_by numbers truths_at free.sort (Some n)
+  worth_here depth world nodes n free table e =
+      value_is depth world (assignment_of nodes numbers truths_at) nodes n (free_node free) (record { sorted = table.sorted }) e ∙ ap (value_by numbers truths_at free.sort) (place_is nodes n free table e)
 
-  pub number_follows : (depth : ℕ) (newtypes : List Newtype) (nodes : List Node) (n : ℕ) (free : Free) → IsTable nodes → slice_get nodes n ≡ Some (free_node free) → free.sort ≡ sorts.Number
-      → truths.number_at (values depth newtypes (assignment_of nodes numbers truths_at) nodes) n ≡ numbers n
-  number_follows depth newtypes nodes n free table e sort =
-      ap number_of (worth_here depth newtypes nodes n free table e) ∙ ap (λ (s : Sort). number_of (value_by numbers truths_at s (Some n))) sort
+  pub number_follows : (depth : ℕ) (world : World) (nodes : List Node) (n : ℕ) (free : Free) → IsTable nodes → slice_get nodes n ≡ Some (free_node free) → free.sort ≡ sorts.Number
+      → truths.number_at (values depth world (assignment_of nodes numbers truths_at) nodes) n ≡ numbers n
+  number_follows depth world nodes n free table e sort =
+      ap number_of (worth_here depth world nodes n free table e) ∙ ap (λ (s : Sort). number_of (value_by numbers truths_at s (Some n))) sort
 
-  pub truth_follows : (depth : ℕ) (newtypes : List Newtype) (nodes : List Node) (n : ℕ) (free : Free) → IsTable nodes → slice_get nodes n ≡ Some (free_node free) → free.sort ≡ sorts.Truth
-      → truth depth newtypes (assignment_of nodes numbers truths_at) nodes n ≡ truths_at n
-  truth_follows depth newtypes nodes n free table e sort =
-      ap truth_of (worth_here depth newtypes nodes n free table e) ∙ ap (λ (s : Sort). truth_of (value_by numbers truths_at s (Some n))) sort
+  pub truth_follows : (depth : ℕ) (world : World) (nodes : List Node) (n : ℕ) (free : Free) → IsTable nodes → slice_get nodes n ≡ Some (free_node free) → free.sort ≡ sorts.Truth
+      → truth depth world (assignment_of nodes numbers truths_at) nodes n ≡ truths_at n
+  truth_follows depth world nodes n free table e sort =
+      ap truth_of (worth_here depth world nodes n free table e) ∙ ap (λ (s : Sort). truth_of (value_by numbers truths_at s (Some n))) sort

@@ -28,37 +28,37 @@ formula_below nodes n e = ltb-true n (length nodes) (and_parts (nat_lt n (length
 
 module _ (s : Sequent) (g : Ground) (depth : ℕ) (assignment : Assignment) (is : IsSequent s) (has : IsGroundOf s g) where
   abbrev table : List ℤ
-  table = numbers_of_nodes depth s.newtypes assignment g.nodes
+  table = numbers_of_nodes depth s.world assignment g.nodes
 
   sorted : AreSorted g.nodes
   sorted = record { sorted = has.table.sorted }
 
-  numbers : (n : ℕ) (node : Node) → slice_get g.nodes n ≡ Some node → number_at table n ≡ number_by s.newtypes (λ free. number_of_value (assignment.value free)) node.op (map (number_at table) node.parts)
+  numbers : (n : ℕ) (node : Node) → slice_get g.nodes n ≡ Some node → number_at table n ≡ number_by s.world (λ free. number_of_value (assignment.value free)) node.op (map (number_at table) node.parts)
   numbers n node at =
-      let same : number_in depth s.newtypes assignment g.nodes ≡ number_at table = λ i m. sym (table_number depth s.newtypes assignment g.nodes m) i in
-      table_number depth s.newtypes assignment g.nodes n ∙ number_is depth s.newtypes assignment g.nodes n node sorted at
-      ∙ ap (λ (f : ℕ → ℤ). number_by s.newtypes (λ free. number_of_value (assignment.value free)) node.op (map f node.parts)) same
+      let same : number_in depth s.world assignment g.nodes ≡ number_at table = λ i m. sym (table_number depth s.world assignment g.nodes m) i in
+      table_number depth s.world assignment g.nodes n ∙ number_is depth s.world assignment g.nodes n node sorted at
+      ∙ ap (λ (f : ℕ → ℤ). number_by s.world (λ free. number_of_value (assignment.value free)) node.op (map f node.parts)) same
 
-  all_true : (hypotheses : List ℕ) → list_all (is_formula s.nodes) hypotheses ≡ true → ((h i : ℕ) → slice_get hypotheses i ≡ Some h → truth depth s.newtypes assignment g.nodes h ≡ true)
-      → AllByRecursion (λ h. truth depth s.newtypes assignment s.nodes h ≡ true) hypotheses
+  all_true : (hypotheses : List ℕ) → list_all (is_formula s.nodes) hypotheses ≡ true → ((h i : ℕ) → slice_get hypotheses i ≡ Some h → truth depth s.world assignment g.nodes h ≡ true)
+      → AllByRecursion (λ h. truth depth s.world assignment s.nodes h ≡ true) hypotheses
   all_true [] formulas each = tt
   all_true (h ∷ others) formulas each =
       let parts = and_parts (is_formula s.nodes h) (list_all (is_formula s.nodes) others) formulas in
-      (sym (same_truth_of_first depth s.newtypes assignment s.nodes g.nodes h has.grows (formula_below s.nodes h parts.0)) ∙ each h 0 refl, all_true others parts.1 (λ other i at. each other (suc i) at))
+      (sym (same_truth_of_first depth s.world assignment s.nodes g.nodes h has.grows (formula_below s.nodes h parts.0)) ∙ each h 0 refl, all_true others parts.1 (λ other i at. each other (suc i) at))
 
-  clauses_true : ((h i : ℕ) → slice_get s.hypotheses i ≡ Some h → truth depth s.newtypes assignment g.nodes h ≡ true) → truth depth s.newtypes assignment g.nodes s.goal ≡ false → AllByRecursion (Holds depth s.newtypes assignment g.nodes) (state_of g).clauses
+  clauses_true : ((h i : ℕ) → slice_get s.hypotheses i ≡ Some h → truth depth s.world assignment g.nodes h ≡ true) → truth depth s.world assignment g.nodes s.goal ≡ false → AllByRecursion (Holds depth s.world assignment g.nodes) (state_of g).clauses
   clauses_true each goal =
       let formulas = all_parts (is_formula s.nodes) s.hypotheses (s.goal ∷ []) is.formulas in
       let goal_formula = and_parts (is_formula s.nodes s.goal) true formulas.1 in
-      let goal_false = sym (same_truth_of_first depth s.newtypes assignment s.nodes g.nodes s.goal has.grows (formula_below s.nodes s.goal goal_formula.0)) ∙ goal in
+      let goal_false = sym (same_truth_of_first depth s.world assignment s.nodes g.nodes s.goal has.grows (formula_below s.nodes s.goal goal_formula.0)) ∙ goal in
       let true_all = all_true s.hypotheses formulas.0 each in
       let begun : Keeps depth assignment s is true_all goal_false (begin s) = record { grows = grows_not s.nodes; sorted = record { sorted = is.table.sorted }; hold = tt } in
       (after_all_keeps depth assignment s is true_all goal_false (begin s) (state_of g) (ground_lines s) begun has.run).hold
 
-  pub valuation_is_model : ((h i : ℕ) → slice_get s.hypotheses i ≡ Some h → truth depth s.newtypes assignment g.nodes h ≡ true) → truth depth s.newtypes assignment g.nodes s.goal ≡ false → IsTableModel (state_of g) table
+  pub valuation_is_model : ((h i : ℕ) → slice_get s.hypotheses i ≡ Some h → truth depth s.world assignment g.nodes h ≡ true) → truth depth s.world assignment g.nodes s.goal ≡ false → IsTableModel (state_of g) table
   valuation_is_model each goal = record {
-    covers = table_length depth s.newtypes assignment g.nodes;
-    congruent = λ m n less other a b. tables_agree s.newtypes (λ free. number_of_value (assignment.value free)) g.nodes table numbers m n a b;
-    exact = table_is_exact s.newtypes (λ free. number_of_value (assignment.value free)) g.nodes table numbers;
-    clauses = clauses_hold depth s.newtypes assignment g.nodes sorted (state_of g).clauses has.literals (clauses_true each goal);
+    covers = table_length depth s.world assignment g.nodes;
+    congruent = λ m n less other a b. tables_agree s.world (λ free. number_of_value (assignment.value free)) g.nodes table numbers m n a b;
+    exact = table_is_exact s.world (λ free. number_of_value (assignment.value free)) g.nodes table numbers;
+    clauses = clauses_hold depth s.world assignment g.nodes sorted (state_of g).clauses has.literals (clauses_true each goal);
   }

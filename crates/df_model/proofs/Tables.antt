@@ -4,13 +4,13 @@ use Rattle.std.proofs.lemmas.List.{length-append, get_or_append_left, get_or_pus
 use Rattle.std.proofs.lemmas.Option.{same_Some, slice_get_within, none-some}
 use Rattle.df_row.proofs.RowNarrow.{unfit}
 use Rattle.df_lemmas.proofs.Lists.{get_below, map_agree}
-use Rattle.df_types.specs.Newtype.{Newtype}
+use Rattle.df_form.specs.World.{World}
 use Rattle.df_form.specs.declared.node.Free.{Free}
 use Rattle.df_form.specs.declared.node.Op.{Op}
 use Rattle.df_form.specs.declared.node.Op.TheVariants as ops
 use Rattle.df_form.specs.Node.{Node}
 use Rattle.df_form.specs.Sorting.{IsTable}
-use Rattle.df_form.specs.Truth.{Assignment}
+use Rattle.df_form.specs.Truth.{Assignment, quotient}
 use Rattle.df_form.proofs.Values.{parts_below}
 use Rattle.df_row.specs.Row.{fits}
 use Rattle.df_row.specs.RowView.{narrow}
@@ -21,9 +21,9 @@ use Rattle.df_model.proofs.NodeNumbers.{number_in, number_is, table_number, tabl
 use Rattle.df_model.proofs.Atoms.{free_number}
 
 -- a table has the numbers of the first nodes
-pub record IsTabled (newtypes : List Newtype) (assignment : Assignment) (nodes : List Node) (table : List ℤ) : Type 0 where
+pub record IsTabled (world : World) (assignment : Assignment) (nodes : List Node) (table : List ℤ) : Type 0 where
   pub short : length table ≤ length nodes
-  pub numbers : (depth n : ℕ) → n < length table → number_at table n ≡ number_in depth newtypes assignment nodes n
+  pub numbers : (depth n : ℕ) → n < length table → number_at table n ≡ number_in depth world assignment nodes n
 
 narrow_some : (z y : ℤ) → narrow z ≡ Some y → z ≡ y
 narrow_some z y e = by (fits z) e
@@ -33,63 +33,65 @@ narrow_some z y e = by (fits z) e
     by false e = absurd cc
 
 -- the number, where it has 128 bits
-number_some : (newtypes : List Newtype) (free : Free → ℤ) (op : Op) (parts : List ℤ) (z : ℤ) → narrow_by newtypes free op parts ≡ Some z → number_by newtypes free op parts ≡ z
-number_some newtypes free ops.Plus parts z e = narrow_some (number_at parts 0 +ℤ number_at parts 1) z e
-number_some newtypes free ops.Times parts z e = narrow_some (number_at parts 0 *ℤ number_at parts 1) z e
-number_some newtypes free op parts z e = same_Some _ z e
+number_some : (world : World) (free : Free → ℤ) (op : Op) (parts : List ℤ) (z : ℤ) → narrow_by world free op parts ≡ Some z → number_by world free op parts ≡ z
+number_some world free ops.Plus parts z e = narrow_some (number_at parts 0 +ℤ number_at parts 1) z e
+number_some world free ops.Times parts z e = narrow_some (number_at parts 0 *ℤ number_at parts 1) z e
+number_some world free ops.Div parts z e = narrow_some (quotient (number_at parts 0) (number_at parts 1)) z e
+number_some world free op parts z e = same_Some _ z e
 
-number_none : (newtypes : List Newtype) (free : Free → ℤ) (op : Op) (parts : List ℤ) → narrow_by newtypes free op parts ≡ None → fits (number_by newtypes free op parts) ≡ false
-number_none newtypes free ops.Plus parts e = unfit (number_at parts 0 +ℤ number_at parts 1) e
-number_none newtypes free ops.Times parts e = unfit (number_at parts 0 *ℤ number_at parts 1) e
-number_none newtypes free op parts e = absurd cc
+number_none : (world : World) (free : Free → ℤ) (op : Op) (parts : List ℤ) → narrow_by world free op parts ≡ None → fits (number_by world free op parts) ≡ false
+number_none world free ops.Plus parts e = unfit (number_at parts 0 +ℤ number_at parts 1) e
+number_none world free ops.Times parts e = unfit (number_at parts 0 *ℤ number_at parts 1) e
+number_none world free ops.Div parts e = unfit (quotient (number_at parts 0) (number_at parts 1)) e
+number_none world free op parts e = absurd cc
 
 -- only a free term looks at the numbers of free terms
-same_free : (newtypes : List Newtype) (f g : Free → ℤ) (op : Op) (parts : List ℤ) → ((free : Free) → op ≡ ops.Free free → f free ≡ g free) → number_by newtypes f op parts ≡ number_by newtypes g op parts
-same_free newtypes f g (ops.Free free) parts same = same free refl
-same_free newtypes f g op parts same = refl
+same_free : (world : World) (f g : Free → ℤ) (op : Op) (parts : List ℤ) → ((free : Free) → op ≡ ops.Free free → f free ≡ g free) → number_by world f op parts ≡ number_by world g op parts
+same_free world f g (ops.Free free) parts same = same free refl
+same_free world f g op parts same = refl
 
-pub tabled_none : (newtypes : List Newtype) (assignment : Assignment) (nodes : List Node) (table : List ℤ) → table ≡ [] → IsTabled newtypes assignment nodes table
-tabled_none newtypes assignment nodes table e = let long = ap (λ (all : List ℤ). length all) e in record { short = omega arith; numbers = λ depth n less. absurd (omega arith) }
+pub tabled_none : (world : World) (assignment : Assignment) (nodes : List Node) (table : List ℤ) → table ≡ [] → IsTabled world assignment nodes table
+tabled_none world assignment nodes table e = let long = ap (λ (all : List ℤ). length all) e in record { short = omega arith; numbers = λ depth n less. absurd (omega arith) }
 
-module _ (newtypes : List Newtype) (numbers : ℕ → ℤ) (truths : ℕ → Bool) (nodes : List Node) (table : List ℤ) (n : ℕ) (node : Node)
-    (is_table : IsTable nodes) (has : IsTabled newtypes (assignment_of nodes numbers truths) nodes table) (next : length table ≡ n) (at : slice_get nodes n ≡ Some node) where
+module _ (world : World) (numbers : ℕ → ℤ) (truths : ℕ → Bool) (nodes : List Node) (table : List ℤ) (n : ℕ) (node : Node)
+    (is_table : IsTable nodes) (has : IsTabled world (assignment_of nodes numbers truths) nodes table) (next : length table ≡ n) (at : slice_get nodes n ≡ Some node) where
   abbrev free_here : Free → ℤ
   free_here free = free_by (numbers n) (truths n) free.sort
 
-  next_is : (depth : ℕ) → number_in depth newtypes (assignment_of nodes numbers truths) nodes n ≡ number_by newtypes free_here node.op (map (number_at table) node.parts)
+  next_is : (depth : ℕ) → number_in depth world (assignment_of nodes numbers truths) nodes n ≡ number_by world free_here node.op (map (number_at table) node.parts)
   next_is depth =
       let assignment = assignment_of nodes numbers truths in
-      let parts = map_agree (λ p. nat_lt p n) (number_at table) (number_in depth newtypes assignment nodes) node.parts (λ p below. has.numbers depth p (omega (arith, ltb-true p n below))) (parts_below nodes n node (record { sorted = is_table.sorted }) at) in
-      number_is depth newtypes assignment nodes n node (record { sorted = is_table.sorted }) at
-      ∙ same_free newtypes (λ free. number_of_value (assignment.value free)) free_here node.op (map (number_in depth newtypes assignment nodes) node.parts) (λ free is. free_number numbers truths nodes n node free is_table at is)
-      ∙ ap (number_by newtypes free_here node.op) (sym parts)
+      let parts = map_agree (λ p. nat_lt p n) (number_at table) (number_in depth world assignment nodes) node.parts (λ p below. has.numbers depth p (omega (arith, ltb-true p n below))) (parts_below nodes n node (record { sorted = is_table.sorted }) at) in
+      number_is depth world assignment nodes n node (record { sorted = is_table.sorted }) at
+      ∙ same_free world (λ free. number_of_value (assignment.value free)) free_here node.op (map (number_in depth world assignment nodes) node.parts) (λ free is. free_number numbers truths nodes n node free is_table at is)
+      ∙ ap (number_by world free_here node.op) (sym parts)
 
-  pub tabled_more : (z : ℤ) (longer : List ℤ) → narrow_by newtypes free_here node.op (map (number_at table) node.parts) ≡ Some z → longer ≡ table ++ z ∷ [] → IsTabled newtypes (assignment_of nodes numbers truths) nodes longer
+  pub tabled_more : (z : ℤ) (longer : List ℤ) → narrow_by world free_here node.op (map (number_at table) node.parts) ≡ Some z → longer ≡ table ++ z ∷ [] → IsTabled world (assignment_of nodes numbers truths) nodes longer
   tabled_more z longer e is =
       let long = ap (λ (all : List ℤ). length all) is ∙ length-append table (z ∷ []) in
       let within = slice_get_within nodes n node at in
       record { short = omega arith; numbers = λ depth m less. ap (λ (all : List ℤ). number_at all m) is ∙ by depth m (omega (arith, less)) }
     where
-      by : (depth m : ℕ) → m < length table + 1 → number_at (table ++ z ∷ []) m ≡ number_in depth newtypes (assignment_of nodes numbers truths) nodes m
+      by : (depth m : ℕ) → m < length table + 1 → number_at (table ++ z ∷ []) m ≡ number_in depth world (assignment_of nodes numbers truths) nodes m
       by depth m less = case (nat_lt m (length table)) refl
         where
-          case : (b : Bool) → nat_lt m (length table) ≡ b → number_at (table ++ z ∷ []) m ≡ number_in depth newtypes (assignment_of nodes numbers truths) nodes m
+          case : (b : Bool) → nat_lt m (length table) ≡ b → number_at (table ++ z ∷ []) m ≡ number_in depth world (assignment_of nodes numbers truths) nodes m
           case true before = let inside = ltb-true m (length table) before in get_or_append_left table (z ∷ []) (pos 0) m inside ∙ has.numbers depth m inside
           case false before =
               let last : length table ≡ m = grind arith in
-              get_or_push table z (pos 0) m last ∙ sym (number_some newtypes free_here node.op (map (number_at table) node.parts) z e) ∙ sym (next_is depth)
-              ∙ ap (number_in depth newtypes (assignment_of nodes numbers truths) nodes) (sym next ∙ last)
+              get_or_push table z (pos 0) m last ∙ sym (number_some world free_here node.op (map (number_at table) node.parts) z e) ∙ sym (next_is depth)
+              ∙ ap (number_in depth world (assignment_of nodes numbers truths) nodes) (sym next ∙ last)
 
-  pub tabled_wide : narrow_by newtypes free_here node.op (map (number_at table) node.parts) ≡ None → IsWide newtypes (assignment_of nodes numbers truths) nodes
+  pub tabled_wide : narrow_by world free_here node.op (map (number_at table) node.parts) ≡ None → IsWide world (assignment_of nodes numbers truths) nodes
   tabled_wide e = record {
     node = n;
-    wide = λ depth. ap fits (table_number depth newtypes (assignment_of nodes numbers truths) nodes n ∙ next_is depth) ∙ number_none newtypes free_here node.op (map (number_at table) node.parts) e;
+    wide = λ depth. ap fits (table_number depth world (assignment_of nodes numbers truths) nodes n ∙ next_is depth) ∙ number_none world free_here node.op (map (number_at table) node.parts) e;
   }
 
-pub tabled_all : (newtypes : List Newtype) (assignment : Assignment) (nodes : List Node) (table : List ℤ) → IsTabled newtypes assignment nodes table → slice_get nodes (length table) ≡ None → (depth : ℕ) → table ≡ numbers_of_nodes depth newtypes assignment nodes
-tabled_all newtypes assignment nodes table has e depth =
-    ext_get_or (pos 0) table (numbers_of_nodes depth newtypes assignment nodes) (long ∙ sym (table_length depth newtypes assignment nodes))
-    (λ n less. has.numbers depth n less ∙ sym (table_number depth newtypes assignment nodes n))
+pub tabled_all : (world : World) (assignment : Assignment) (nodes : List Node) (table : List ℤ) → IsTabled world assignment nodes table → slice_get nodes (length table) ≡ None → (depth : ℕ) → table ≡ numbers_of_nodes depth world assignment nodes
+tabled_all world assignment nodes table has e depth =
+    ext_get_or (pos 0) table (numbers_of_nodes depth world assignment nodes) (long ∙ sym (table_length depth world assignment nodes))
+    (λ n less. has.numbers depth n less ∙ sym (table_number depth world assignment nodes n))
   where
     long : length table ≡ length nodes
     long = by (nat_lt (length table) (length nodes)) refl

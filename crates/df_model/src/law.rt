@@ -1,7 +1,7 @@
 //! What tabulated assignments are worth.
 
 ghost use Rattle.std.specs.Prelude.{◌≡◌, ℕ, ℤ, ◌<◌, Bool, true, false, List, [], take, length, slice_get, Some};
-ghost use Rattle.df_types.specs.Newtype.{Newtype};
+ghost use Rattle.df_form.specs.World.{World};
 ghost use Rattle.df_form.specs.declared.node.Free.{Free};
 ghost use Rattle.df_form.specs.declared.node.Sort.TheVariants as sorts;
 ghost use Rattle.df_form.specs.declared.node.Op.TheVariants as ops;
@@ -18,17 +18,17 @@ ghost use Rattle.df_model.specs.Valuation.{assignment_of, numbers_of_nodes};
 /// The numbers of all nodes of a ground set are a model of it where the hypotheses are true and the goal
 /// is false.
 pub fn valuations_are_models()
-    ensures { (s : Sequent) (g : Ground) (depth : ℕ) (assignment : Assignment) → IsSequent s → IsGroundOf s g → IsArithmeticSequent s → ((h i : ℕ) → slice_get s.hypotheses i ≡ Some h → truth depth s.newtypes assignment g.nodes h ≡ true) → truth depth s.newtypes assignment g.nodes s.goal ≡ false → IsTableModel (state_of g) (numbers_of_nodes depth s.newtypes assignment g.nodes) }
+    ensures { (s : Sequent) (g : Ground) (depth : ℕ) (assignment : Assignment) → IsSequent s → IsGroundOf s g → IsArithmeticSequent s → ((h i : ℕ) → slice_get s.hypotheses i ≡ Some h → truth depth s.world assignment g.nodes h ≡ true) → truth depth s.world assignment g.nodes s.goal ≡ false → IsTableModel (state_of g) (numbers_of_nodes depth s.world assignment g.nodes) }
 {}
 
 /// More nodes do not change what the first ones mean.
 pub fn truths_of_first_nodes()
-    ensures truths { (depth : ℕ) (newtypes : List Newtype) (assignment : Assignment) (nodes more : List Node) (n : ℕ) → take (length nodes) more ≡ nodes → n < length nodes → truth depth newtypes assignment more n ≡ truth depth newtypes assignment nodes n }
-    ensures numbers { (depth : ℕ) (newtypes : List Newtype) (assignment : Assignment) (nodes more : List Node) (n : ℕ) → take (length nodes) more ≡ nodes → n < length nodes → number_at (values depth newtypes assignment more) n ≡ number_at (values depth newtypes assignment nodes) n }
+    ensures truths { (depth : ℕ) (world : World) (assignment : Assignment) (nodes more : List Node) (n : ℕ) → take (length nodes) more ≡ nodes → n < length nodes → truth depth world assignment more n ≡ truth depth world assignment nodes n }
+    ensures numbers { (depth : ℕ) (world : World) (assignment : Assignment) (nodes more : List Node) (n : ℕ) → take (length nodes) more ≡ nodes → n < length nodes → number_at (values depth world assignment more) n ≡ number_at (values depth world assignment nodes) n }
 {}
 
 /// A free term has the number or the truth that stands at its node.
 pub fn numbers_follow_atoms()
-    ensures numbers { (nodes : List Node) (x : ℕ → ℤ) (p : ℕ → Bool) (depth : ℕ) (newtypes : List Newtype) (n : ℕ) (free : Free) → IsTable nodes → slice_get nodes n ≡ Some (record { op = ops.Free free; parts = [] }) → free.sort ≡ sorts.Number → number_at (values depth newtypes (assignment_of nodes x p) nodes) n ≡ x n }
-    ensures truths { (nodes : List Node) (x : ℕ → ℤ) (p : ℕ → Bool) (depth : ℕ) (newtypes : List Newtype) (n : ℕ) (free : Free) → IsTable nodes → slice_get nodes n ≡ Some (record { op = ops.Free free; parts = [] }) → free.sort ≡ sorts.Truth → truth depth newtypes (assignment_of nodes x p) nodes n ≡ p n }
+    ensures numbers { (nodes : List Node) (x : ℕ → ℤ) (p : ℕ → Bool) (depth : ℕ) (world : World) (n : ℕ) (free : Free) → IsTable nodes → slice_get nodes n ≡ Some (record { op = ops.Free free; parts = [] }) → free.sort ≡ sorts.Number → number_at (values depth world (assignment_of nodes x p) nodes) n ≡ x n }
+    ensures truths { (nodes : List Node) (x : ℕ → ℤ) (p : ℕ → Bool) (depth : ℕ) (world : World) (n : ℕ) (free : Free) → IsTable nodes → slice_get nodes n ≡ Some (record { op = ops.Free free; parts = [] }) → free.sort ≡ sorts.Truth → truth depth world (assignment_of nodes x p) nodes n ≡ p n }
 {}

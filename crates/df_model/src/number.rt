@@ -1,19 +1,23 @@
 //! The numbers of nodes by those of their parts.
 
-ghost use Rattle.std.specs.Prelude.{◌≡◌, length, map};
+ghost use Rattle.std.specs.Prelude.{◌≡◌, ◌≢◌, pos, length, map};
+ghost use Rattle.std.specs.Int.{int_div_euclid};
 ghost use Rattle.std.specs.List.{list_all, list_any};
-ghost use Rattle.df_types.specs.View.{newtypes_of};
-ghost use Rattle.df_meaning.specs.Range.{is_of};
+ghost use Rattle.df_lang.specs.declared.ty.Ty.TheVariants as types;
+ghost use Rattle.df_form.specs.World.{world_of};
+ghost use Rattle.df_form.specs.Types.{has_number};
 ghost use Rattle.df_form.specs.Clause.{yes};
+ghost use Rattle.df_form.specs.Truth.{quotient, remainder, code_in};
 ghost use Rattle.df_meaning.specs.Value.{same_truth};
 ghost use Rattle.df_kern.specs.Known.{knows};
+ghost use Rattle.df_row.specs.RowView.{narrow};
 ghost use Rattle.df_table.specs.TableModel.{number_at, is_true};
 ghost use Rattle.df_model.specs.Valuation.{number_of_truth};
-ghost use Rattle.df_model.specs.Numbers.{truth_by, narrow_by, free_by};
+ghost use Rattle.df_model.specs.Numbers.{is_of_type, truth_by, narrow_by, free_by};
 
-use df_form::{Free, Lit, Node, Op, Sort};
+use df_form::{Free, Lit, Node, Op, Sort, World};
 use df_kern::Known;
-use df_types::{Newtype, Ty};
+use df_lang::Ty;
 
 /// The number at a place; 0 past the end.
 fn number_at(numbers: &[i128], place: usize) -> i128
@@ -65,23 +69,73 @@ fn is_any_true(table: &[i128], parts: &[usize]) -> bool
     parts.iter().any(|part| 1 <= number_at(table, *part))
 }
 
-fn is_of(newtypes: &[Newtype], ty: Ty, number: i128) -> bool
-    ensures { result ≡ is_of (newtypes_of newtypes.now) ty number }
+/// Whether a number is of the newtype of this number.
+fn is_of_newtype(world: World, newtype: usize, number: i128) -> bool
+    ensures { result ≡ has_number (world_of world.entry) (types.Newtype newtype) number }
 {
-    let Ty::Newtype(newtype) = ty;
-    match newtypes.get(newtype) {
-        Some(newtype) => newtype.interval.holds(number),
+    match world.interval(newtype) {
+        Some(interval) => interval.holds(number),
         None => false,
+    }
+}
+
+/// Whether what has this number is of the type.
+fn is_of(world: World, ty: Ty, number: i128) -> bool
+    ensures { result ≡ is_of_type (world_of world.entry) ty number }
+{
+    match ty {
+        Ty::Newtype(newtype) => is_of_newtype(world, newtype, number),
+        Ty::Nat => 0 <= number,
+        Ty::Int | Ty::Bool | Ty::Char => true,
+    }
+}
+
+/// The quotient by a divisor that is not 0, where it has 128 bits.
+fn divided(number: i128, divisor: i128) -> Option<i128>
+    requires { divisor ≢ pos 0 }
+    ensures { result ≡ narrow (int_div_euclid number divisor) }
+{
+    number.checked_div_euclid(divisor)
+}
+
+/// The quotient that leaves a remainder of at least 0, where it has 128 bits; by 0 it is 0.
+fn quotient(number: i128, divisor: i128) -> Option<i128>
+    ensures { result ≡ narrow (quotient number divisor) }
+{
+    if divisor == 0 {
+        return Some(0);
+    }
+    divided(number, divisor)
+}
+
+/// That remainder; by 0 it is 0.
+fn remainder(number: i128, divisor: i128) -> i128
+    ensures { result ≡ remainder number divisor }
+{
+    if divisor == 0 {
+        return 0;
+    }
+    number.wrapping_rem_euclid(divisor)
+}
+
+/// The number where it is the code of a character, else that of `D`.
+fn code_in(number: i128) -> i128
+    ensures { result ≡ pos (code_in number) }
+{
+    if 0 <= number && number < 128 {
+        number
+    } else {
+        68
     }
 }
 
 /// Whether a formula is true.
 #[tactic(auto, using(df_lemmas::proofs::Lists::mapped))]
-fn is_formula_true(newtypes: &[Newtype], table: &[i128], op: Op, parts: &[usize]) -> bool
-    ensures { result ≡ truth_by (newtypes_of newtypes.now) op (map (number_at table.now) parts.now) }
+fn is_formula_true(world: World, table: &[i128], op: Op, parts: &[usize]) -> bool
+    ensures { result ≡ truth_by (world_of world.entry) op (map (number_at table.now) parts.now) }
 {
     match op {
-        Op::Is(ty) => is_of(newtypes, ty, part(table, parts, 0)),
+        Op::Is(ty) => is_of(world, ty, part(table, parts, 0)),
         Op::Equal => part(table, parts, 0) == part(table, parts, 1),
         Op::AtMost => part(table, parts, 0) <= part(table, parts, 1),
         Op::Not => !is_part_true(table, parts, 0),
@@ -89,7 +143,14 @@ fn is_formula_true(newtypes: &[Newtype], table: &[i128], op: Op, parts: &[usize]
         Op::Or => is_any_true(table, parts),
         Op::Implies => !is_part_true(table, parts, 0) || is_part_true(table, parts, 1),
         Op::Iff => is_same_truth(is_part_true(table, parts, 0), is_part_true(table, parts, 1)),
-        Op::Number(_) | Op::Free(_) | Op::Plus | Op::Times => false,
+        Op::Number(_)
+        | Op::Free(_)
+        | Op::Plus
+        | Op::Times
+        | Op::Div
+        | Op::Mod
+        | Op::Code
+        | Op::Chr => false,
     }
 }
 
@@ -99,6 +160,7 @@ fn free_number(numbers: &[i128], known: &Known, sort: Sort, node: usize) -> i128
 {
     match sort {
         Sort::Number => number_at(numbers, node),
+        Sort::Character => code_in(number_at(numbers, node)),
         Sort::Truth => number_of_truth(known.has(Lit {
             positive: true,
             node,
@@ -108,13 +170,13 @@ fn free_number(numbers: &[i128], known: &Known, sort: Sort, node: usize) -> i128
 
 /// The number of the node that comes next after those of the table, where it has 128 bits.
 pub(crate) fn next_number(
-    newtypes: &[Newtype],
+    world: World,
     numbers: &[i128],
     known: &Known,
     table: &[i128],
     node: &Node,
 ) -> Option<i128>
-    ensures { result ≡ narrow_by (newtypes_of newtypes.now) (λ free. free_by (number_at numbers.now (length table.now)) (knows known.now (yes (length table.now))) free.sort) node.now.op (map (number_at table.now) node.now.parts.items) }
+    ensures { result ≡ narrow_by (world_of world.entry) (λ free. free_by (number_at numbers.now (length table.now)) (knows known.now (yes (length table.now))) free.sort) node.now.op (map (number_at table.now) node.now.parts.items) }
 {
     let parts = node.parts.as_slice();
     match node.op {
@@ -122,8 +184,12 @@ pub(crate) fn next_number(
         Op::Free(Free { sort, .. }) => Some(free_number(numbers, known, sort, table.len())),
         Op::Plus => part(table, parts, 0).checked_add(part(table, parts, 1)),
         Op::Times => part(table, parts, 0).checked_mul(part(table, parts, 1)),
+        Op::Div => quotient(part(table, parts, 0), part(table, parts, 1)),
+        Op::Mod => Some(remainder(part(table, parts, 0), part(table, parts, 1))),
+        Op::Code => Some(part(table, parts, 0)),
+        Op::Chr => Some(code_in(part(table, parts, 0))),
         Op::Is(_) | Op::Equal | Op::AtMost | Op::Not | Op::And | Op::Or | Op::Implies | Op::Iff => {
-            Some(number_of_truth(is_formula_true(newtypes, table, node.op, parts)))
+            Some(number_of_truth(is_formula_true(world, table, node.op, parts)))
         }
     }
 }

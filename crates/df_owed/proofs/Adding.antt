@@ -3,6 +3,7 @@ use Rattle.std.proofs.Common.{◌≡◌, ℕ, ◌<◌, ◌≤◌, true, List, []
 use Rattle.std.specs.List.{AllByRecursion}
 use Rattle.df_types.specs.Newtype.{Newtype}
 use Rattle.df_meaning.specs.Value.{truth_of}
+use Rattle.df_form.specs.World.{of_newtypes}
 use Rattle.df_form.specs.declared.node.Sort.{Sort}
 use Rattle.df_form.specs.declared.node.Sort.TheVariants as sorts
 use Rattle.df_form.specs.Truth.{Assignment, truth}
@@ -68,7 +69,7 @@ module _ (at : ℕ) (newtypes : List Newtype) where
   pub adds_known_back : (p q : Passed) (a : Assignment) → IsInOrder p → Adds p q → AreKnown at newtypes a q → AreKnown at newtypes a p
   adds_known_back p q a order adds all = known_back at newtypes p (with_locals p.locals q) a order (on_back p q adds) all
 
-  pub adds_known_kept : (p q : Passed) (a : Assignment) → IsInOrder p → Adds p q → AreKnown at newtypes a p → AllByRecursion (λ h. truth at newtypes a q.nodes h ≡ true) p.known
+  pub adds_known_kept : (p q : Passed) (a : Assignment) → IsInOrder p → Adds p q → AreKnown at newtypes a p → AllByRecursion (λ h. truth at (of_newtypes newtypes) a q.nodes h ≡ true) p.known
   adds_known_kept p q a order adds all = known_kept at newtypes p (with_locals p.locals q) a order (on_back p q adds) all
 
   pub adds_path : (p q : Passed) (a : Assignment) → Adds p q → (path : Option ℕ) → is_path p.nodes path ≡ true → path_truth at newtypes a q.nodes path ≡ path_truth at newtypes a p.nodes path

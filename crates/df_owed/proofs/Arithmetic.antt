@@ -12,6 +12,7 @@ use Rattle.df_program.specs.Program.{Place, Clause, Method}
 use Rattle.df_program.specs.Typing.{is_place_type, is_expr, is_operand, is_value_for, locals_after, is_stmt, are_stmts, are_branches, is_clause, types_of, is_method}
 use Rattle.df_meaning.specs.declared.kind.Kind.{Kind}
 use Rattle.df_meaning.specs.declared.kind.Kind.TheVariants as kinds
+use Rattle.df_form.specs.World.{of_newtypes}
 use Rattle.df_form.specs.declared.node.Sort.{Sort}
 use Rattle.df_form.specs.declared.node.Sort.TheVariants as sorts
 use Rattle.df_form.specs.declared.node.Op.TheVariants as ops
@@ -368,5 +369,5 @@ module _ (n : List Newtype) where
     all_arithmetic = all_of (IsFine n) (λ (o : Obligation). IsArithmeticSequent o.sequent) (obligations_of n m) (λ o f. f.arithmetic) fine_method.owed
 
     -- over the newtypes
-    pub all_over : AllByRecursion (λ (o : Obligation). o.sequent.newtypes ≡ n) (obligations_of n m)
-    all_over = all_of (IsFine n) (λ (o : Obligation). o.sequent.newtypes ≡ n) (obligations_of n m) (λ o f. f.over) fine_method.owed
+    pub all_over : AllByRecursion (λ (o : Obligation). o.sequent.world ≡ of_newtypes n) (obligations_of n m)
+    all_over = all_of (IsFine n) (λ (o : Obligation). o.sequent.world ≡ of_newtypes n) (obligations_of n m) (λ o f. f.over) fine_method.owed

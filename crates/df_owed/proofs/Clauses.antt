@@ -12,6 +12,7 @@ use Rattle.df_meaning.specs.declared.kind.Kind.TheVariants as kinds
 use Rattle.df_meaning.specs.Value.{truth_of}
 use Rattle.df_meaning.specs.Outcome.{State, Outcome, Next, Wrong, NoChoice, after_value, after_stmt}
 use Rattle.df_runs.specs.Evaluation.{evaluate}
+use Rattle.df_form.specs.World.{of_newtypes}
 use Rattle.df_form.specs.Truth.{Assignment, truth}
 use Rattle.df_form.proofs.Same.{and_true}
 use Rattle.df_enc.specs.Passing.{Passed, assumed, demanded, passed_expr}
@@ -71,13 +72,13 @@ module _ (at : ℕ) (newtypes : List Newtype) where
     in_order = order_assumed p order of;
     ends = λ a text all c. record {
       text = text;
-      is = required_next (truth_of (value_of at newtypes a p.nodes p.term)) (state_at at newtypes a p text) (all_last (λ h. truth at newtypes a p.nodes h ≡ true) p.known p.term all);
+      is = required_next (truth_of (value_of at newtypes a p.nodes p.term)) (state_at at newtypes a p text) (all_last (λ h. truth at (of_newtypes newtypes) a p.nodes h ≡ true) p.known p.term all);
     };
     owes = tt;
     extends = λ a text all has. record {
       other = a;
       same = below_same (length p.nodes) a;
-      known = all_joined (λ h. truth at newtypes a p.nodes h ≡ true) p.known (p.term ∷ []) all
+      known = all_joined (λ h. truth at (of_newtypes newtypes) a p.nodes h ≡ true) p.known (p.term ∷ []) all
           (required_true (truth_of (value_of at newtypes a p.nodes p.term)) (state_at at newtypes a p text) (has (always p a path)), tt);
     };
     breaks = λ a text place kind all c e. absurd (required_right (truth_of (value_of at newtypes a p.nodes p.term)) (state_at at newtypes a p text) place kind e);

@@ -6,8 +6,9 @@ use Rattle.df_types.specs.Newtype.{Newtype}
 use Rattle.df_program.specs.declared.expr.Ty.{Ty}
 use Rattle.df_program.specs.Program.{Place, Method}
 use Rattle.df_program.specs.Typing.{is_place_type, is_clause, are_stmts, types_of, is_method}
-use Rattle.df_meaning.specs.Value.{Value, Truth, Number, number_of}
+use Rattle.df_meaning.specs.Value.{Value, Truth, Character, Number, number_of}
 use Rattle.df_runs.specs.Modular.{HasType, AreArguments}
+use Rattle.df_form.specs.World.{of_newtypes}
 use Rattle.df_form.specs.declared.node.Sort.{Sort}
 use Rattle.df_form.specs.declared.node.Sort.TheVariants as sorts
 use Rattle.df_form.specs.Truth.{Assignment, has_sort}
@@ -41,7 +42,7 @@ module _ (at : ℕ) (newtypes : List Newtype) where
     pub path : q.path ≡ p.path
     pub quiet : q.obligations ≡ p.obligations
     pub locals : q.locals ≡ p.locals ++ frees_from n places
-    pub values : (a : Assignment) → map (worth at newtypes a q.nodes) (frees_from n places) ≡ values_of a (frees_from n places)
+    pub values : (a : Assignment) → map (worth at (of_newtypes newtypes) a q.nodes) (frees_from n places) ≡ values_of a (frees_from n places)
     pub typed : (a : Assignment) → AreKnown at newtypes a q → AreArguments newtypes places (values_of a (frees_from n places))
     pub covers : (a : Assignment) (arguments : List Value) → AreKnown at newtypes a p → AreArguments newtypes places arguments
         → (b : Assignment) × SameBelow n a b × AreKnown at newtypes b q × (values_of b (frees_from n places) ≡ arguments)
@@ -114,7 +115,7 @@ module _ (at : ℕ) (newtypes : List Newtype) where
     pub terms : List ℕ
     pub long : length terms ≡ length places
     pub locals : q.locals ≡ p.locals ++ terms
-    pub values : (a : Assignment) → map (worth at newtypes a q.nodes) terms ≡ map (λ (place : Place). Number (pos 0)) places
+    pub values : (a : Assignment) → map (worth at (of_newtypes newtypes) a q.nodes) terms ≡ map (λ (place : Place). Number (pos 0)) places
     pub covers : (a : Assignment) → AreKnown at newtypes a p → AreKnown at newtypes a q
 
   results : (places : List Place) (p : Passed) → IsInOrder p → AreResults places p (fold with_result p places)
@@ -153,11 +154,13 @@ module _ (at : ℕ) (newtypes : List Newtype) where
 any_value : Sort → Value
 any_value sorts.Number = Number (pos 0)
 any_value sorts.Truth = Truth false
+any_value sorts.Character = Character 0
 
 any_sorted : (sort : Sort) → has_sort sort (any_value sort) ≡ true
 unfolding any_value
 any_sorted sorts.Number = refl
 any_sorted sorts.Truth = refl
+any_sorted sorts.Character = refl
 
 any_assignment : Assignment
 any_assignment = record { value = λ free. any_value free.sort; sorted = λ free. any_sorted free.sort }
@@ -205,16 +208,16 @@ module _ (newtypes : List Newtype) (m : Method) (is : is_method (length newtypes
   results_at : (at : ℕ) → AreResults at newtypes m.results (fold with_parameter begin m.parameters) (entry m)
   results_at at = results at newtypes m.results (fold with_parameter begin m.parameters) (parameters_at at).order
 
-  begin_values : (at : ℕ) (a : Assignment) → map (worth at newtypes a (entry m).nodes) (entry m).locals ≡ values_of a (frees_from 0 m.parameters) ++ map (λ (place : Place). Number (pos 0)) m.results
+  begin_values : (at : ℕ) (a : Assignment) → map (worth at (of_newtypes newtypes) a (entry m).nodes) (entry m).locals ≡ values_of a (frees_from 0 m.parameters) ++ map (λ (place : Place). Number (pos 0)) m.results
   begin_values at a =
       let p = with_parameters in
       let q = entry m in
-      let value = worth at newtypes a q.nodes in
+      let value = worth at (of_newtypes newtypes) a q.nodes in
       let one = parameters_at at in
       let two = results_at at in
-      let kept : map (worth at newtypes a q.nodes) p.locals ≡ map (worth at newtypes a p.nodes) p.locals =
-      map_agree (is_number p.nodes) (worth at newtypes a q.nodes) (worth at newtypes a p.nodes) p.locals (λ n of. adds_kept at newtypes p q a two.adds n (of_below sorts.Number p.nodes n of)) one.order.ready.locals in
-      let front : map (worth at newtypes a q.nodes) p.locals ≡ values_of a all_frees = kept ∙ ap (map (worth at newtypes a p.nodes)) one.locals ∙ one.values a in
+      let kept : map (worth at (of_newtypes newtypes) a q.nodes) p.locals ≡ map (worth at (of_newtypes newtypes) a p.nodes) p.locals =
+      map_agree (is_number p.nodes) (worth at (of_newtypes newtypes) a q.nodes) (worth at (of_newtypes newtypes) a p.nodes) p.locals (λ n of. adds_kept at newtypes p q a two.adds n (of_below sorts.Number p.nodes n of)) one.order.ready.locals in
+      let front : map (worth at (of_newtypes newtypes) a q.nodes) p.locals ≡ values_of a all_frees = kept ∙ ap (map (worth at (of_newtypes newtypes) a p.nodes)) one.locals ∙ one.values a in
       ap (map value) two.locals ∙ map-append value p.locals two.terms ∙ (λ i. front i ++ two.values a i)
 
   pub entered : (at : ℕ) → IsEntered at newtypes m (entry m)

@@ -6,9 +6,11 @@ use Rattle.df_types.specs.Newtype.{Newtype}
 use Rattle.df_program.specs.declared.expr.Ty.{Ty}
 use Rattle.df_program.specs.declared.expr.Ty.TheVariants as types
 use Rattle.df_meaning.specs.declared.kind.Kind.{Kind}
+use Rattle.df_form.specs.World.{of_newtypes}
 use Rattle.df_form.specs.declared.node.Sort.TheVariants as sorts
 use Rattle.df_form.specs.declared.node.Op.{Op}
 use Rattle.df_form.specs.declared.node.Op.TheVariants as ops
+use Rattle.df_form.proofs.Types.{has_ends}
 use Rattle.df_form.proofs.Arithmetic.{is_plain, plain_fits, equality_fits, type_fits, made_stay, are_arithmetic}
 use Rattle.df_form.proofs.Arithmetic as forms
 use Rattle.df_form.proofs.Lists.{all_weaker}
@@ -48,20 +50,20 @@ module _ (n : List Newtype) where
   -- ---- terms
 
   pub plain : (op : Op) (parts : List ℕ) (p : Passed) → is_plain op ≡ true → Arith n p → Arith n (with_term op parts p)
-  plain op parts p is h = record { nodes = made_stay n p.nodes (record { op = op; parts = parts }) h.nodes (plain_fits n p.nodes (record { op = op; parts = parts }) is); owed = h.owed }
+  plain op parts p is h = record { nodes = made_stay (of_newtypes n) p.nodes (record { op = op; parts = parts }) h.nodes (plain_fits (of_newtypes n) p.nodes (record { op = op; parts = parts }) is); owed = h.owed }
 
   pub equality : (a b : ℕ) (p : Passed) → is_number p.nodes a ≡ true → Arith n p → Arith n (with_term ops.Equal (a ∷ b ∷ []) p)
   equality a b p of h = record {
-    nodes = made_stay n p.nodes (record { op = ops.Equal; parts = a ∷ b ∷ [] }) h.nodes (equality_fits n p.nodes a b (record { below = of_below sorts.Number p.nodes a of; sort = of_sort sorts.Number p.nodes a of }));
+    nodes = made_stay (of_newtypes n) p.nodes (record { op = ops.Equal; parts = a ∷ b ∷ [] }) h.nodes (equality_fits (of_newtypes n) p.nodes a b (record { below = of_below sorts.Number p.nodes a of; sort = of_sort sorts.Number p.nodes a of }));
     owed = h.owed;
   }
 
   pub typing : (k : ℕ) (parts : List ℕ) (p : Passed) → nat_lt k (length n) ≡ true → Arith n p → Arith n (with_term (is_op k) parts p)
-  typing k parts p less h = record { nodes = made_stay n p.nodes (record { op = is_op k; parts = parts }) h.nodes (type_fits n p.nodes k parts less); owed = h.owed }
+  typing k parts p less h = record { nodes = made_stay (of_newtypes n) p.nodes (record { op = is_op k; parts = parts }) h.nodes (type_fits (of_newtypes n) p.nodes k parts (has_ends n k less)); owed = h.owed }
 
   -- the nodes and the obligations that there are
   pub as_it_is : (p q : Passed) → q.nodes ≡ p.nodes → q.obligations ≡ p.obligations → Arith n p → Arith n q
-  as_it_is p q same owed h = record { nodes = subst (forms.AreArithmetic n) (sym same) h.nodes; owed = subst (AllByRecursion (IsFine n)) (sym owed) h.owed }
+  as_it_is p q same owed h = record { nodes = subst (forms.AreArithmetic (of_newtypes n)) (sym same) h.nodes; owed = subst (AllByRecursion (IsFine n)) (sym owed) h.owed }
 
   pub arith_named : (p : Passed) → Arith n p → Arith n (named p)
   unfolding named
@@ -94,7 +96,7 @@ module _ (n : List Newtype) where
   unfolding demanded
   arith_demanded pos kind p h =
       let w = arith_weakened p h in
-      record { nodes = w.nodes; owed = all_joined (IsFine n) (weakened p).obligations (obligation n pos kind (weakened p) ∷ []) w.owed (record { arithmetic = are_arithmetic n (weakened p).nodes w.nodes; over = refl }, tt) }
+      record { nodes = w.nodes; owed = all_joined (IsFine n) (weakened p).obligations (obligation n pos kind (weakened p) ∷ []) w.owed (record { arithmetic = are_arithmetic (of_newtypes n) (weakened p).nodes w.nodes; over = refl }, tt) }
 
   pub arith_mentioned : (p : Passed) → is_number p.nodes p.term ≡ true → Arith n p → Arith n (mentioned p)
   unfolding mentioned

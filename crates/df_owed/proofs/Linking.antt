@@ -3,6 +3,7 @@ use Rattle.std.proofs.Common.{◌≡◌, ℕ, Bool, true, false, ◌||◌, not, 
 use Rattle.std.specs.List.{AllByRecursion}
 use Rattle.df_types.specs.Newtype.{Newtype}
 use Rattle.df_meaning.specs.Value.{truth_of, same_value}
+use Rattle.df_form.specs.World.{of_newtypes}
 use Rattle.df_form.specs.declared.node.Sort.TheVariants as sorts
 use Rattle.df_form.specs.declared.node.Op.TheVariants as ops
 use Rattle.df_form.specs.Sorting.{is_well_sorted}
@@ -68,7 +69,7 @@ module _ (at : ℕ) (newtypes : List Newtype) where
     weak_known = known_weakened at newtypes (on_path path (with_term ops.Equal (p.term ∷ other ∷ []) p))
 
     -- they are the same, or evaluation does not come to the path
-    weak_value : (a : Assignment) → truth at newtypes a (weakened (on_path path (with_term ops.Equal (p.term ∷ other ∷ []) p))).nodes (weakened (on_path path (with_term ops.Equal (p.term ∷ other ∷ []) p))).term
+    weak_value : (a : Assignment) → truth at (of_newtypes newtypes) a (weakened (on_path path (with_term ops.Equal (p.term ∷ other ∷ []) p))).nodes (weakened (on_path path (with_term ops.Equal (p.term ∷ other ∷ []) p))).term
         ≡ (same_value (value_of at newtypes a p.nodes p.term) (value_of at newtypes a p.nodes other) || not (path_truth at newtypes a p.nodes path))
     weak_value a =
         let q = on_path path (with_term ops.Equal (p.term ∷ other ∷ []) p) in
@@ -76,10 +77,10 @@ module _ (at : ℕ) (newtypes : List Newtype) where
         let here = adds_path at newtypes p q a (adds_on p q on_equal) path is in
         weakened_value at newtypes q a equal_order equal_of ∙ (λ i. equal i || not (here i))
 
-    link_known : (a : Assignment) → AreKnown at newtypes a p → AllByRecursion (λ h. truth at newtypes a (weakened (on_path path (with_term ops.Equal (p.term ∷ other ∷ []) p))).nodes h ≡ true) (weakened (on_path path (with_term ops.Equal (p.term ∷ other ∷ []) p))).known
+    link_known : (a : Assignment) → AreKnown at newtypes a p → AllByRecursion (λ h. truth at (of_newtypes newtypes) a (weakened (on_path path (with_term ops.Equal (p.term ∷ other ∷ []) p))).nodes h ≡ true) (weakened (on_path path (with_term ops.Equal (p.term ∷ other ∷ []) p))).known
     link_known a all =
         let w = weakened (on_path path (with_term ops.Equal (p.term ∷ other ∷ []) p)) in
-        subst (AllByRecursion (λ h. truth at newtypes a w.nodes h ≡ true)) (sym weak_known) (known_kept at newtypes p w a order on_weak all)
+        subst (AllByRecursion (λ h. truth at (of_newtypes newtypes) a w.nodes h ≡ true)) (sym weak_known) (known_kept at newtypes p w a order on_weak all)
 
     link_order : IsInOrder (linked path other p)
     unfolding linked
@@ -103,12 +104,12 @@ module _ (at : ℕ) (newtypes : List Newtype) where
       order = link_order;
       same = λ a all c. (
           let w = weakened (on_path path (with_term ops.Equal (p.term ∷ other ∷ []) p)) in
-          let last : truth at newtypes a w.nodes w.term ≡ true = all_last (λ h. truth at newtypes a w.nodes h ≡ true) w.known w.term all in
+          let last : truth at (of_newtypes newtypes) a w.nodes w.term ≡ true = all_last (λ h. truth at (of_newtypes newtypes) a w.nodes h ≡ true) w.known w.term all in
           let holds = holds_where (same_value (value_of at newtypes a p.nodes p.term) (value_of at newtypes a p.nodes other)) (path_truth at newtypes a p.nodes path) (sym (weak_value a) ∙ last) c in
           same_number (value_of at newtypes a p.nodes p.term) (value_of at newtypes a p.nodes other) (worth_sort at newtypes p a sorts.Number p.term order one_of) (worth_sort at newtypes p a sorts.Number other order other_of) holds);
       known = λ a all same. (
           let w = weakened (on_path path (with_term ops.Equal (p.term ∷ other ∷ []) p)) in
           let good = good_where (same_value (value_of at newtypes a p.nodes p.term) (value_of at newtypes a p.nodes other)) (path_truth at newtypes a p.nodes path) (λ c.
           ap (λ v. same_value v (value_of at newtypes a p.nodes other)) (same c) ∙ is_same_value (value_of at newtypes a p.nodes other) (worth_sort at newtypes p a sorts.Number other order other_of)) in
-          all_joined (λ h. truth at newtypes a w.nodes h ≡ true) w.known (w.term ∷ []) (link_known a all) (weak_value a ∙ good, tt));
+          all_joined (λ h. truth at (of_newtypes newtypes) a w.nodes h ≡ true) w.known (w.term ∷ []) (link_known a all) (weak_value a ∙ good, tt));
     }

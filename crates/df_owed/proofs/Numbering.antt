@@ -1,7 +1,7 @@
 -- An assignment that gives a free number a value.
 use Rattle.std.proofs.Common.{◌≡◌, ℕ, ◌<◌, ℤ, Bool, true, false, nat_eq, List, length, refl, ap, arith}
 use Rattle.std.proofs.lemmas.Bool.Decides.{nat_tests, Decides-int_eq}
-use Rattle.df_meaning.specs.Value.{Value, Truth, Number, Text, same_value}
+use Rattle.df_meaning.specs.Value.{Value, Truth, Number, Character, Text, same_value}
 use Rattle.df_form.specs.declared.node.Sort.{Sort}
 use Rattle.df_form.specs.declared.node.Sort.TheVariants as sorts
 use Rattle.df_form.specs.declared.node.Op.{Op}
@@ -14,6 +14,7 @@ use Rattle.df_enc.proofs.Steps.{IsNext}
 by_sort : Sort → ℤ → Value
 by_sort sorts.Number z = Number z
 by_sort sorts.Truth z = Truth true
+by_sort sorts.Character z = Character 0
 
 pick : Bool → Sort → ℤ → Value → Value
 pick true sort z other = by_sort sort z
@@ -23,6 +24,7 @@ pick_sorted : (is : Bool) (sort : Sort) (z : ℤ) (other : Value) → has_sort s
 unfolding pick by_sort
 pick_sorted true sorts.Number z other e = refl
 pick_sorted true sorts.Truth z other e = refl
+pick_sorted true sorts.Character z other e = refl
 pick_sorted false sort z other e = e
 
 pub numbering : Assignment → ℕ → ℤ → Assignment
@@ -70,5 +72,7 @@ pub same_number : (v w : Value) → has_sort sorts.Number v ≡ true → has_sor
 same_number (Number x) (Number y) p q e = ap Number ((Decides-int_eq x y).0 e)
 same_number (Truth b) w p q e = absurd cc
 same_number (Text characters) w p q e = absurd cc
+same_number (Character c) w p q e = absurd cc
 same_number (Number x) (Truth b) p q e = absurd cc
 same_number (Number x) (Text characters) p q e = absurd cc
+same_number (Number x) (Character c) p q e = absurd cc

@@ -4,12 +4,14 @@ use Rattle.std.proofs.lemmas.Bool.{ltb-true}
 use Rattle.std.proofs.lemmas.Option.{slice_get-get_or}
 use Rattle.std.proofs.lemmas.List.Quantifiers.{position-Some}
 use Rattle.df_types.specs.Newtype.{Newtype}
+use Rattle.df_lang.specs.declared.ty.Ty.TheVariants as places
 use Rattle.df_program.specs.declared.expr.Ty.{Ty}
 use Rattle.df_program.specs.declared.expr.Ty.TheVariants as types
 use Rattle.df_program.specs.Typing.{is_place_type}
-use Rattle.df_meaning.specs.Value.{Value, Truth, Number, Text, number_of, truth_of}
+use Rattle.df_meaning.specs.Value.{Value, Truth, Number, Character, Text, number_of, truth_of}
 use Rattle.df_runs.specs.Evaluation.{is_in}
 use Rattle.df_runs.specs.Modular.{HasType}
+use Rattle.df_form.specs.World.{of_newtypes}
 use Rattle.df_form.specs.declared.node.Sort.TheVariants as sorts
 use Rattle.df_form.specs.declared.node.Free.{Free}
 use Rattle.df_form.specs.declared.node.Op.{Op}
@@ -17,17 +19,19 @@ use Rattle.df_form.specs.declared.node.Op.TheVariants as ops
 use Rattle.df_form.specs.Node.{Node, same_node}
 use Rattle.df_form.specs.Node as nodes
 use Rattle.df_form.specs.Made.{Made, made, made_where}
+use Rattle.df_form.specs.Types.{has_type}
 use Rattle.df_form.specs.Sorting.{is_well_sorted}
 use Rattle.df_form.specs.Truth.{Assignment, has_sort, truth}
 use Rattle.df_form.proofs.Same.{and_true, same_node_equal}
 use Rattle.df_form.proofs.Lists.{get_within}
+use Rattle.df_form.proofs.Types.{type_is_range}
 use Rattle.df_form.proofs.Values.{AreSorted, worth, parts_below}
 use Rattle.df_enc.specs.Passing.{Passed, with_term, literal, mentioned}
 use Rattle.df_enc.specs.State.{is_number}
 use Rattle.df_enc.specs.Laws.{IsInOrder, AreKnown}
 use Rattle.df_enc.proofs.Lists.{all_joined, all_last}
 use Rattle.df_enc.proofs.Growing.{is_op, on_then, on_term, on_assumed, on_mentioned, path_mentioned, term_mentioned, of_term, of_below, on_keeps}
-use Rattle.df_enc.proofs.Assigning.{are_sorted, kept, known_kept, worth_sort}
+use Rattle.df_enc.proofs.Assigning.{are_sorted, kept, known_kept, worth_sort, number_is}
 use Rattle.df_enc.proofs.Steps.{no_parts, one_part, two_parts, not_free, order_term, order_assumed, value_term}
 use Rattle.df_enc.proofs.Doing.{is_same_value}
 use Rattle.df_enc.proofs.Demands.{order_mentioned, quiet_mentioned, mentioned_value}
@@ -80,6 +84,7 @@ number_typed n types.Bool v place sort is = absurd (let f : false ≡ true = pla
 number_typed n (types.Newtype k) (Truth b) place sort is = absurd (let f : false ≡ true = sort in cc)
 number_typed n (types.Newtype k) (Number z) place sort is = is
 number_typed n (types.Newtype k) (Text characters) place sort is = absurd (let f : false ≡ true = sort in cc)
+number_typed n (types.Newtype k) (Character c) place sort is = absurd (let f : false ≡ true = sort in cc)
 
 -- a value of a newtype is a number in it
 pub record IsNumberIn (n : List Newtype) (ty : Ty) (v : Value) : Type 0 where
@@ -92,6 +97,7 @@ typed_number n types.Bool v place is = absurd (let f : false ≡ true = place in
 typed_number n (types.Newtype k) (Truth b) place is = absurd is
 typed_number n (types.Newtype k) (Number z) place is = record { number = refl; is = is }
 typed_number n (types.Newtype k) (Text characters) place is = absurd is
+typed_number n (types.Newtype k) (Character c) place is = absurd is
 
 module _ (at : ℕ) (newtypes : List Newtype) where
   -- from one to the other one more parameter has its term
@@ -102,7 +108,7 @@ module _ (at : ℕ) (newtypes : List Newtype) where
     pub quiet : q.obligations ≡ p.obligations
     pub long : length q.nodes ≡ length p.nodes + 2
     pub locals : q.locals ≡ p.locals ++ length p.nodes ∷ []
-    pub value : (a : Assignment) → worth at newtypes a q.nodes (length p.nodes) ≡ a.value (record { number = length p.nodes; sort = sorts.Number })
+    pub value : (a : Assignment) → worth at (of_newtypes newtypes) a q.nodes (length p.nodes) ≡ a.value (record { number = length p.nodes; sort = sorts.Number })
     pub typed : (a : Assignment) → AreKnown at newtypes a q → HasType newtypes ty (a.value (record { number = length p.nodes; sort = sorts.Number }))
     pub covers : (a : Assignment) → AreKnown at newtypes a p → HasType newtypes ty (a.value (record { number = length p.nodes; sort = sorts.Number })) → AreKnown at newtypes a q
 
@@ -157,7 +163,7 @@ module _ (at : ℕ) (newtypes : List Newtype) where
     all_adds : Adds p parameter
     all_adds = adds_then p is_term parameter is_adds (adds_on is_term parameter (on_assumed is_term))
 
-    free_value : (a : Assignment) → worth at newtypes a (with_number p).nodes (with_number p).term ≡ a.value free
+    free_value : (a : Assignment) → worth at (of_newtypes newtypes) a (with_number p).nodes (with_number p).term ≡ a.value free
     free_value a = value_term at newtypes p (free_op p) [] a order (no_parts p.nodes (free_op p) refl)
 
     adds_since : Adds (with_number p) parameter
@@ -165,28 +171,29 @@ module _ (at : ℕ) (newtypes : List Newtype) where
         (adds_undeclared (with_number p) is_term (adds_on (declared (with_number p)) is_term (on_term (is_op k) ((with_number p).term ∷ []) (declared (with_number p)))))
         (adds_on is_term parameter (on_assumed is_term))
 
-    free_later : (a : Assignment) → worth at newtypes a parameter.nodes (length p.nodes) ≡ a.value free
+    free_later : (a : Assignment) → worth at (of_newtypes newtypes) a parameter.nodes (length p.nodes) ≡ a.value free
     free_later a =
-        ap (worth at newtypes a parameter.nodes) (sym free_term)
+        ap (worth at (of_newtypes newtypes) a parameter.nodes) (sym free_term)
         ∙ kept at newtypes (with_number p) (with_locals (with_number p).locals parameter) a (on_back (with_number p) parameter adds_since) (with_number p).term (of_below sorts.Number (with_number p).nodes (with_number p).term free_of)
         ∙ free_value a
 
     -- what is known then says this
-    is_value : (a : Assignment) → truth at newtypes a is_term.nodes is_term.term ≡ is_in newtypes (types.Newtype k) (number_of (a.value free))
+    is_value : (a : Assignment) → truth at (of_newtypes newtypes) a is_term.nodes is_term.term ≡ is_in newtypes (types.Newtype k) (number_of (a.value free))
     is_value a =
         ap truth_of (value_term at newtypes (declared (with_number p)) (is_op k) ((with_number p).term ∷ []) a declared_order is_well)
-        ∙ ap (λ (v : Value). is_in newtypes (types.Newtype k) (number_of v)) (free_value a)
+        ∙ ap (has_type (of_newtypes newtypes) (places.Newtype k)) (free_value a ∙ sym (number_is (a.value free) (a.sorted free)))
+        ∙ type_is_range newtypes k (number_of (a.value free))
 
     is_typed : (a : Assignment) → AreKnown at newtypes a parameter → HasType newtypes (types.Newtype k) (a.value free)
     is_typed a all =
-        let last : truth at newtypes a is_term.nodes is_term.term ≡ true = all_last (λ h. truth at newtypes a is_term.nodes h ≡ true) p.known is_term.term all in
+        let last : truth at (of_newtypes newtypes) a is_term.nodes is_term.term ≡ true = all_last (λ h. truth at (of_newtypes newtypes) a is_term.nodes h ≡ true) p.known is_term.term all in
         number_typed newtypes (types.Newtype k) (a.value free) less (a.sorted free) (sym (is_value a) ∙ last)
 
     is_covered : (a : Assignment) → AreKnown at newtypes a p → HasType newtypes (types.Newtype k) (a.value free) → AreKnown at newtypes a parameter
     is_covered a all is =
         let before = known_kept at newtypes p (with_locals p.locals is_term) a order (on_back p is_term is_adds) all in
-        let here : truth at newtypes a is_term.nodes is_term.term ≡ true = is_value a ∙ (typed_number newtypes (types.Newtype k) (a.value free) less is).is in
-        all_joined (λ h. truth at newtypes a is_term.nodes h ≡ true) p.known (is_term.term ∷ []) before (here, tt)
+        let here : truth at (of_newtypes newtypes) a is_term.nodes is_term.term ≡ true = is_value a ∙ (typed_number newtypes (types.Newtype k) (a.value free) less is).is in
+        all_joined (λ h. truth at (of_newtypes newtypes) a is_term.nodes h ≡ true) p.known (is_term.term ∷ []) before (here, tt)
 
     newtype_parameter : IsParameter (types.Newtype k) p parameter
     newtype_parameter = record {
@@ -212,8 +219,8 @@ module _ (at : ℕ) (newtypes : List Newtype) where
   known_mentioned p order of a all =
       let q = with_term ops.Equal (p.term ∷ p.term ∷ []) p in
       let well = two_parts p.nodes ops.Equal sorts.Number p.term p.term refl of of in
-      let same = ap truth_of (value_term at newtypes p ops.Equal (p.term ∷ p.term ∷ []) a order well) ∙ is_same_value (worth at newtypes a p.nodes p.term) (worth_sort at newtypes p a sorts.Number p.term order of) in
-      all_joined (λ h. truth at newtypes a q.nodes h ≡ true) p.known (q.term ∷ []) (known_kept at newtypes p q a order (on_term ops.Equal (p.term ∷ p.term ∷ []) p) all) (same, tt)
+      let same = ap truth_of (value_term at newtypes p ops.Equal (p.term ∷ p.term ∷ []) a order well) ∙ is_same_value (worth at (of_newtypes newtypes) a p.nodes p.term) (worth_sort at newtypes p a sorts.Number p.term order of) in
+      all_joined (λ h. truth at (of_newtypes newtypes) a q.nodes h ≡ true) p.known (q.term ∷ []) (known_kept at newtypes p q a order (on_term ops.Equal (p.term ∷ p.term ∷ []) p) all) (same, tt)
 
   -- from one to the other one more result is 0
   pub record IsResult (p q : Passed) : Type 0 where
@@ -224,7 +231,7 @@ module _ (at : ℕ) (newtypes : List Newtype) where
     pub term : ℕ
     pub below : term < length q.nodes
     pub locals : q.locals ≡ p.locals ++ term ∷ []
-    pub value : (a : Assignment) → worth at newtypes a q.nodes term ≡ Number (pos 0)
+    pub value : (a : Assignment) → worth at (of_newtypes newtypes) a q.nodes term ≡ Number (pos 0)
     pub covers : (a : Assignment) → AreKnown at newtypes a p → AreKnown at newtypes a q
 
   pub one_result : (p : Passed) → IsInOrder p → IsResult p (declared (mentioned (literal (pos 0) p)))

@@ -8,6 +8,7 @@ use Rattle.df_program.specs.Program.{Method}
 use Rattle.df_program.specs.Typing.{is_method}
 use Rattle.df_runs.specs.Modular.{IsModularlySafeMethod}
 use Rattle.df_runs.specs.Reaching.{RunsReachTheDepth}
+use Rattle.df_form.specs.World.{of_newtypes}
 use Rattle.df_form.specs.Arithmetic.{IsArithmeticSequent}
 use Rattle.df_enc.specs.Obligation.{Obligation}
 use Rattle.df_owed.specs.Passing.{obligations_of}
@@ -35,6 +36,6 @@ module _ {A : Type 0} (listed : A → List Obligation) (n : List Newtype) (m : M
   told_arithmetic (Ok owed) all = subst (AllByRecursion (λ (o : Obligation). IsArithmeticSequent o.sequent)) (sym all) (all_arithmetic n m is)
   told_arithmetic (Err error) all = tt
 
-  pub told_over : (result : Result A AllocError) → IfOk result (λ owed. listed owed ≡ obligations_of n m) → IfOk result (λ owed. AllByRecursion (λ (o : Obligation). o.sequent.newtypes ≡ n) (listed owed))
-  told_over (Ok owed) all = subst (AllByRecursion (λ (o : Obligation). o.sequent.newtypes ≡ n)) (sym all) (all_over n m is)
+  pub told_over : (result : Result A AllocError) → IfOk result (λ owed. listed owed ≡ obligations_of n m) → IfOk result (λ owed. AllByRecursion (λ (o : Obligation). o.sequent.world ≡ of_newtypes n) (listed owed))
+  told_over (Ok owed) all = subst (AllByRecursion (λ (o : Obligation). o.sequent.world ≡ of_newtypes n)) (sym all) (all_over n m is)
   told_over (Err error) all = tt

@@ -5,7 +5,7 @@ use Rattle.std.specs.declared.alloc.AllocError.{AllocError}
 use Rattle.std.specs.List.{list_all}
 use Rattle.std.proofs.lemmas.List.{drop_all, length-map}
 use Rattle.df_types.specs.Newtype.{Newtype}
-use Rattle.df_types.specs.declared.newtype.Ty.TheVariants as places
+use Rattle.df_lang.specs.declared.ty.Ty.TheVariants as places
 use Rattle.df_program.specs.declared.expr.Ty.{Ty}
 use Rattle.df_program.specs.declared.expr.Ty.TheVariants as types
 use Rattle.df_program.specs.Program.{Place, Clause, Method}

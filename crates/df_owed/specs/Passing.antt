@@ -1,7 +1,7 @@
 -- What passing over statements and methods adds to what is known, and to what is owed: in single-assignment
 -- form, each local is the term of its last value.
 use Rattle.std.specs.Prelude.{ℕ, pos, ◌==◌, List, [], ◌∷◌, ◌++◌, length, take, slice_set, fold, Option, if◌then◌else◌}
-use Rattle.df_types.specs.declared.newtype.Ty.TheVariants as places
+use Rattle.df_lang.specs.declared.ty.Ty.TheVariants as places
 use Rattle.df_types.specs.Newtype.{Newtype}
 use Rattle.df_program.specs.declared.expr.Ty.{Ty}
 use Rattle.df_program.specs.declared.expr.Ty.TheVariants as types

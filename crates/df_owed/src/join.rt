@@ -150,9 +150,11 @@ impl<'a> Pass<'a> {
         ensures stack { OnOk result (self.new.encoder.draft.stack.items ≡ []) }
         ensures newtypes { newtypes_over self.new ≡ newtypes_over self.old }
     {
-        let others = mem::replace(&mut self.encoder.locals, Vec::new(self.alloc));
-        let other_path = self.encoder.path;
-        self.encoder.path = way.before;
+        let none = Vec::new(self.alloc);
+        let encoder = &mut self.encoder;
+        let others = mem::replace(&mut encoder.locals, none);
+        let other_path = encoder.path;
+        encoder.path = way.before;
         self.join_locals(
             way.path,
             other_path,

@@ -7,6 +7,7 @@ ghost use Rattle.df_program.specs.MethodView.{place_of, clause_of, method_of};
 ghost use Rattle.df_program.specs.Typing.{is_method};
 ghost use Rattle.std.specs.List.{AllByRecursion};
 ghost use Rattle.df_runs.specs.Modular.{IsModularlySafeMethod};
+ghost use Rattle.df_form.specs.World.{of_newtypes};
 ghost use Rattle.df_form.specs.Arithmetic.{IsArithmeticSequent};
 ghost use Rattle.df_enc.specs.Obligation.{obligation_of};
 ghost use Rattle.df_owed.specs.Obligation.{AreValid, IsOwed};
@@ -222,7 +223,7 @@ pub fn obligations<'a>(
     ensures parameters { IfOk result (λ owed. owed.parameters.items ≡ frees_of (method_of method.now)) }
     // Each is of sums and comparisons of numbers.
     ensures arithmetic { IfOk result (λ owed. AllByRecursion (λ obligation. IsArithmeticSequent obligation.sequent) (map obligation_of owed.all.items)) }
-    ensures newtypes { IfOk result (λ owed. AllByRecursion (λ obligation. obligation.sequent.newtypes ≡ newtypes_of newtypes.now) (map obligation_of owed.all.items)) }
+    ensures newtypes { IfOk result (λ owed. AllByRecursion (λ obligation. obligation.sequent.world ≡ of_newtypes (newtypes_of newtypes.now)) (map obligation_of owed.all.items)) }
 {
     runs_reach_the_depth();
     passed(alloc, newtypes, method)

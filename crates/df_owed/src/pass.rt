@@ -2,7 +2,7 @@
 
 ghost use Rattle.std.specs.Prelude.{◌≡◌, ◌<◌, [], ◌∷◌, length, OnOk};
 ghost use Rattle.df_types.specs.View.{newtypes_of};
-ghost use Rattle.df_types.specs.declared.newtype.Ty.TheVariants as places;
+ghost use Rattle.df_lang.specs.declared.ty.Ty.TheVariants as places;
 ghost use Rattle.df_program.specs.declared.expr.Ty.TheVariants as types;
 ghost use Rattle.df_enc.specs.Passing.{begin, again, mentioned};
 ghost use Rattle.df_enc.specs.State.{IsReady, IsValued};
@@ -22,10 +22,10 @@ pub(crate) struct Pass<'a> {
 }
 
 /// The newtype of this number.
-fn newtype(number: usize) -> df_types::Ty
+fn newtype(number: usize) -> df_lang::Ty
     ensures { result ≡ places.Newtype number }
 {
-    df_types::Ty::Newtype(number)
+    df_lang::Ty::Newtype(number)
 }
 
 impl<'a> Pass<'a> {
@@ -48,7 +48,8 @@ impl<'a> Pass<'a> {
         ensures newtypes { newtypes_over self.new ≡ newtypes_over self.old }
     {
         let term = self.encoder.term;
-        self.encoder.locals.push(term)?;
+        let encoder = &mut self.encoder;
+        encoder.locals.push(term)?;
         Ok(())
     }
 
@@ -59,7 +60,8 @@ impl<'a> Pass<'a> {
         ensures stack { self.new.encoder.draft.stack.items ≡ self.old.encoder.draft.stack.items }
         ensures newtypes { newtypes_over self.new ≡ newtypes_over self.old }
     {
-        self.encoder.locals[local] = self.encoder.term;
+        let encoder = &mut self.encoder;
+        encoder.locals[local] = encoder.term;
     }
 
     /// So many locals are left in scope.
@@ -68,7 +70,8 @@ impl<'a> Pass<'a> {
         ensures stack { self.new.encoder.draft.stack.items ≡ self.old.encoder.draft.stack.items }
         ensures newtypes { newtypes_over self.new ≡ newtypes_over self.old }
     {
-        self.encoder.locals.truncate(count);
+        let encoder = &mut self.encoder;
+        encoder.locals.truncate(count);
     }
 
     /// Puts a new number on the stack.

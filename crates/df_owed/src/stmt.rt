@@ -130,13 +130,14 @@ impl<'a> Pass<'a> {
         ensures stack { OnOk result (self.new.encoder.draft.stack.items ≡ []) }
         ensures newtypes { newtypes_over self.new ≡ newtypes_over self.old }
     {
-        let ended = mem::replace(&mut self.encoder.locals, locals);
-        let path = self.encoder.path;
-        self.encoder.path = before;
-        self.encoder.draft.again(guard)?;
-        self.encoder.term = guard;
-        self.encoder.negate()?;
-        self.encoder.enter()?;
+        let encoder = &mut self.encoder;
+        let ended = mem::replace(&mut encoder.locals, locals);
+        let path = encoder.path;
+        encoder.path = before;
+        encoder.draft.again(guard)?;
+        encoder.term = guard;
+        encoder.negate()?;
+        encoder.enter()?;
         Ok(Way {
             before,
             path,

@@ -1,9 +1,10 @@
 //! The kernel: which logs it accepts, and where it refuses the others.
 
 use df_cases::{
-    I8, Line, P, Q, Signed, Terms, UNDECLARED, X, Y, Z, literals, newtypes, sequent, step, steps,
+    BOOL, CHAR, I8, INT, Line, NAT, P, Q, Signed, Terms, UNDECLARED, X, Y, Z, literals, newtypes,
+    sequent, step, steps,
 };
-use df_form::{Op, Sequent};
+use df_form::{Op, Sequent, World};
 use df_kern::{AxiomFault, Checker, KernFault, check, connective, instance};
 use std::alloc::Global;
 use std::process::Abort;
@@ -390,7 +391,145 @@ const TYPED: Sheet = (
     )],
 );
 
-const SHEETS: [Sheet; 7] = [
+/// Instances of schemas: x is 0, y 1, x * y 2, y * x 3, and the goal x * y = y * x 4.
+const FACTORS: Sheet = (
+    &[],
+    &[
+        (X, 0),
+        (Y, 0),
+        (Op::Times, 2),
+        (Y, 0),
+        (X, 0),
+        (Op::Times, 2),
+        (Op::Equal, 2),
+    ],
+    &[Line::G],
+    &[
+        (&[Line::A(5, 0, &[2]), Line::U(&[0, 1], &[])], None),
+        (&[Line::A(5, 1, &[2])], Some((2, 5))),
+        (&[Line::A(5, 0, &[0])], Some((2, 5))),
+        (&[Line::A(5, 0, &[2, 3])], Some((2, 5))),
+        (&[Line::A(5, 0, &[])], Some((2, 5))),
+        (&[Line::A(5, 0, &[9])], Some((2, 5))),
+        // no literal, no product in a product, no sum
+        (&[Line::A(8, 0, &[2])], Some((2, 5))),
+        (&[Line::A(6, 0, &[2])], Some((2, 5))),
+        (&[Line::A(7, 0, &[2])], Some((2, 5))),
+        // two products with one second factor
+        (&[Line::A(10, 0, &[2, 3])], Some((2, 5))),
+        (&[Line::A(10, 0, &[2, 2])], Some((3, 0))),
+        (&[Line::A(11, 0, &[2])], Some((2, 5))),
+    ],
+);
+
+/// x is 0, 7 1, x mod 7 2, 6 3, and the goal x mod 7 <= 6 4. 1 becomes 5, 1 <= 7 6, x mod 7 + 1 7, and
+/// x mod 7 + 1 <= 7 8.
+const REMAINDER: Sheet = (
+    &[],
+    &[
+        (X, 0),
+        (Op::Number(7), 0),
+        (Op::Mod, 2),
+        (Op::Number(6), 0),
+        (Op::AtMost, 2),
+    ],
+    &[Line::G, Line::A(3, 0, &[2])],
+    &[
+        (
+            &[
+                Line::L(&[(true, 6)], &[(1, &[(1, 0)])]),
+                Line::L(&[(false, 8), (true, 4)], &[(1, &[(1, 0), (1, 1)])]),
+                Line::U(&[0, 3, 2, 1], &[]),
+            ],
+            None,
+        ),
+        (&[Line::A(3, 0, &[0])], Some((3, 5))),
+        (&[Line::A(1, 0, &[0])], Some((3, 5))),
+        (&[Line::A(1, 0, &[2])], Some((4, 0))),
+        (&[Line::A(1, 1, &[2])], Some((3, 5))),
+    ],
+);
+
+/// 65 is 0, its character 1, the code of this 2, and the goal that it is 65 3. 0 becomes 4, 0 <= 65 5,
+/// 127 6, and 65 <= 127 7.
+const CHARACTER: Sheet = (
+    &[],
+    &[
+        (Op::Number(65), 0),
+        (Op::Chr, 1),
+        (Op::Code, 1),
+        (Op::Number(65), 0),
+        (Op::Equal, 2),
+    ],
+    &[Line::G, Line::A(110, 0, &[1])],
+    &[
+        (
+            &[
+                Line::L(&[(true, 5)], &[(1, &[(1, 0)])]),
+                Line::L(&[(true, 7)], &[(1, &[(1, 0)])]),
+                Line::U(&[0, 2, 3, 1], &[]),
+            ],
+            None,
+        ),
+        (&[Line::A(110, 0, &[2])], Some((3, 5))),
+        (&[Line::A(109, 2, &[2])], Some((4, 0))),
+        (&[Line::A(109, 3, &[2])], Some((3, 5))),
+    ],
+);
+
+/// 3 is 0, x 1, 3 <= x 2, and the goal that x is a nat 3. 0 becomes 4, and 0 <= x 5.
+const NATURAL: Sheet = (
+    &[&[(Op::Number(3), 0), (X, 0), (Op::AtMost, 2)]],
+    &[(X, 0), (NAT, 1)],
+    &[Line::H(0), Line::G],
+    &[
+        (
+            &[
+                Line::A(74, 1, &[3]),
+                Line::L(&[(false, 2), (true, 5)], &[(1, &[(1, 0), (1, 1)])]),
+                Line::U(&[0, 3, 2, 1], &[]),
+            ],
+            None,
+        ),
+        (&[Line::A(74, 0, &[3])], Some((4, 0))),
+        (&[Line::A(74, 2, &[3])], Some((3, 5))),
+    ],
+);
+
+/// x is 0, and the goal that it is an int 1.
+const WHOLE: Sheet = (
+    &[],
+    &[(X, 0), (INT, 1)],
+    &[Line::G],
+    &[
+        (&[Line::A(74, 0, &[1]), Line::U(&[0, 1], &[])], None),
+        (&[Line::A(74, 1, &[1])], Some((2, 5))),
+    ],
+);
+
+/// p is 0, and the goal that it is a bool 1.
+const BOOLEAN: Sheet = (
+    &[],
+    &[(P, 0), (BOOL, 1)],
+    &[Line::G],
+    &[
+        (&[Line::A(74, 0, &[1]), Line::U(&[0, 1], &[])], None),
+        (&[Line::A(74, 1, &[1])], Some((2, 5))),
+    ],
+);
+
+/// 65 is 0, its character 1, and the goal that this is a char 2.
+const LETTER: Sheet = (
+    &[],
+    &[(Op::Number(65), 0), (Op::Chr, 1), (CHAR, 1)],
+    &[Line::G],
+    &[
+        (&[Line::A(74, 0, &[2]), Line::U(&[0, 1], &[])], None),
+        (&[Line::A(74, 1, &[2])], Some((2, 5))),
+    ],
+);
+
+const SHEETS: [Sheet; 14] = [
     (&[], &[(P, 0)], &[], &PLACES),
     (&[&[(P, 0)], &[(P, 0), (Op::Not, 1)]], &EACH, &[], &KINDS),
     (&[], &EACH, DOUBLES, &CONGRUENCES),
@@ -398,6 +537,13 @@ const SHEETS: [Sheet; 7] = [
     LINEAR,
     SPLITTING,
     TYPED,
+    FACTORS,
+    REMAINDER,
+    CHARACTER,
+    NATURAL,
+    WHOLE,
+    BOOLEAN,
+    LETTER,
 ];
 
 /// Each log is accepted, or refused at its place.
@@ -475,10 +621,10 @@ fn gives_clauses_of_types_and_connectives(rt: HostRuntime) -> Result<(), Fail> {
     let goal = [(X, 0), (I8, 1), (Op::Not, 1)];
     let sequent = sequent(alloc, newtypes.as_slice(), &[], &goal)?;
     let mut nodes = sequent.nodes.copy(alloc)?;
-    let clause = instance(alloc, newtypes.as_slice(), &mut nodes, 74, 2, &[1])?;
+    let clause = instance(alloc, sequent.world, &mut nodes, 74, 2, &[1])?;
     let expected = literals(alloc, &[(true, 1), (false, 4), (false, 6)])?;
     assert_eq!(rt; clause.as_slice(), expected.as_slice());
-    let other = instance(alloc, newtypes.as_slice(), &mut nodes, 74, 3, &[1]);
+    let other = instance(alloc, sequent.world, &mut nodes, 74, 3, &[1]);
     assert_eq!(rt; (other.err(), nodes.len()), (Some(AxiomFault::NoSuch), 7));
     let clause = connective(alloc, &mut nodes, 2, 1)?;
     let expected = literals(alloc, &[(true, 2), (true, 1)])?;

@@ -1,7 +1,7 @@
 //! Sequents that are drafted.
 
 use df_cases::{X, assume, conclude, newtypes};
-use df_form::{Draft, Node, Op};
+use df_form::{Draft, Node, Op, World};
 use std::test::Fail;
 
 /// x <= 3 |- x + 1 <= 4. The nodes are x 0, 3 1, x <= 3 2, 1 3, x + 1 4, 4 5, and x + 1 <= 4 6.
@@ -9,7 +9,8 @@ use std::test::Fail;
 fn numbers_nodes_in_postorder_of_first_occurrence(rt: HostRuntime) -> Result<(), Fail> {
     let alloc = rt.alloc();
     let newtypes = newtypes(alloc)?;
-    let mut draft = Draft::new(alloc, newtypes.as_slice());
+    let world = World::Newtypes(newtypes.as_slice());
+    let mut draft = Draft::new(alloc, world);
     assume(&mut draft, &[(X, 0), (Op::Number(3), 0), (Op::AtMost, 2)])?;
     let goal = [
         (X, 0),

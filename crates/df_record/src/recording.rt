@@ -159,14 +159,12 @@ impl<'a> Recorder<'a> {
     }
 
     fn schema(&mut self, node: usize, clause: u32) -> Result<Step, AllocError> {
-        if let Shape::Is { newtype, part } = self.terms.shape(node) {
-            if let Some(interval) = self.terms.interval(newtype) {
-                if clause != 1 {
-                    self.name_at_least(interval.low, part)?;
-                }
-                if clause != 0 {
-                    self.name_at_most(part, interval.high)?;
-                }
+        if let Shape::Is { ends, part } = self.terms.shape(node) {
+            if let Some(low) = ends.low_in(clause as usize) {
+                self.name_at_least(low, part)?;
+            }
+            if let Some(high) = ends.high_in(clause as usize) {
+                self.name_at_most(part, high)?;
             }
         }
         Ok(Step::Schema {

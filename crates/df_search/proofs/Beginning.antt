@@ -5,7 +5,7 @@ use Rattle.std.specs.List.{list_all}
 use Rattle.std.specs.declared.alloc.Global.{Global}
 use Rattle.std.proofs.lemmas.Option.{slice_get_within}
 use Rattle.std.proofs.lemmas.List.Folds.{list_all-map}
-use Rattle.df_types.specs.View.{newtypes_of}
+use Rattle.df_form.specs.World.{world_of}
 use Rattle.df_form.specs.declared.log.Lit.{Lit}
 use Rattle.df_form.specs.Node.{Node}
 use Rattle.df_form.specs.Clause.{Clause, are_literals}
@@ -37,9 +37,9 @@ ground_clause_at (c ∷ others) zero clause e = ap (λ (g : Option GroundClause)
     literals_in None = None
 ground_clause_at (c ∷ others) (suc n) clause e = ground_clause_at others n clause e
 
-pub begins : (s : Sequent) (g : Ground) (state : State) → IsGroundOf s g → newtypes_of state.newtypes.now ≡ s.newtypes → state.set ≡ g.nodes → state.clauses ≡ g.clauses → state.derivation.nodes ≡ g.nodes → state.derivation.lines ≡ g.lines → state.derivation.clauses ≡ length g.clauses.items
+pub begins : (s : Sequent) (g : Ground) (state : State) → IsGroundOf s g → world_of state.world ≡ s.world → state.set ≡ g.nodes → state.clauses ≡ g.clauses → state.derivation.nodes ≡ g.nodes → state.derivation.lines ≡ g.lines → state.derivation.clauses ≡ length g.clauses.items
     → state.trail.decisions.items ≡ [] → state.closed.items ≡ [] → Searches s state
-begins s g state is newtypes_are set_is clauses_are nodes_are lines_are count_is trail_is closed_is = record {
+begins s g state is world_is set_is clauses_are nodes_are lines_are count_is trail_is closed_is = record {
   all = all;
   is = record {
     standing = record {
@@ -47,7 +47,7 @@ begins s g state is newtypes_are set_is clauses_are nodes_are lines_are count_is
       is_of = is;
       set_is = set_is;
       clauses_are = ground_clauses;
-      newtypes_are = newtypes_are;
+      world_is = world_is;
       lines = record { at = λ n clause there. ground_clause_at g.clauses.items n clause (sym (ap (λ (cs : List GroundClause). slice_get cs n) ground_clauses) ∙ there) };
       place = place;
       trail = subst (AreDecided all []) (sym trail_is) tt;

@@ -4,8 +4,8 @@ use Rattle.std.specs.List.{list_all, list_any}
 use Rattle.std.proofs.lemmas.Option.{same_Some}
 use Rattle.std.proofs.lemmas.Bool.{and_from, or_cases, or_parts, cases_Bool, and_parts}
 use Rattle.df_lemmas.proofs.Truths.{true_is_not_false}
-use Rattle.df_types.specs.Newtype.{Newtype}
-use Rattle.df_types.specs.View.{newtypes_of}
+use Rattle.df_form.specs.World.{World, world_of}
+use Rattle.df_form.specs.World.{world_of}
 use Rattle.df_table.specs.declared.table.Table.{Table}
 use Rattle.df_form.specs.declared.log.Lit.{Lit}
 use Rattle.df_form.specs.Node.{Node}
@@ -55,7 +55,7 @@ decides s all old is l follows formula trail trail_is = record {
     is_of = is.standing.is_of;
     set_is = is.standing.set_is;
     clauses_are = is.standing.clauses_are;
-    newtypes_are = is.standing.newtypes_are;
+    world_is = is.standing.world_is;
     lines = is.standing.lines;
     place = place_for old.set (clauses_of old) old.derivation.nodes branch (branch_of trail) is.standing.place
         (ap (are_literals old.derivation.nodes) branch_is ∙ formulas_more old.derivation.nodes branch l is.standing.place.formulas formula)
@@ -124,11 +124,11 @@ module _ (s : Sequent) (all : List Clause) (state : State) (is : IsSearching s a
   pub open_decides : (l : Lit) → IsOpenLeaf (clauses_of state) state.derivation.nodes (branch_of state.trail) l → (trail : Trail) → trail.decisions.items ≡ state.trail.decisions.items ++ decided l ∷ [] → IsSearching s all (record state { trail = trail })
   open_decides l leaf trail trail_is = decides s all state is l (open_follows (clauses_of state) state.derivation.nodes (branch_of state.trail) l leaf) (open_formula l leaf) trail trail_is
 
-  pub modelled : (table : Table) → IsModelOf (newtypes_of state.newtypes.now) state.set (clauses_of state) table → IsSequent s → IsArithmeticSequent s → HasModel s table
+  pub modelled : (table : Table) → IsModelOf (world_of state.world) state.set (clauses_of state) table → IsSequent s → IsArithmeticSequent s → HasModel s table
   modelled table model sequent arithmetic = record {
     set = is.standing.ground_set;
     is_of = is.standing.is_of;
-    model = model s is.standing.ground_set sequent is.standing.is_of arithmetic (sym is.standing.newtypes_are) (sym is.standing.set_is) (sym is.standing.clauses_are);
+    model = model s is.standing.ground_set sequent is.standing.is_of arithmetic (sym is.standing.world_is) (sym is.standing.set_is) (sym is.standing.clauses_are);
   }
 
   abbrev pub stop : IsStop s state.derivation.nodes (clauses_of state) (branches_of state) (branch_of state.trail)
@@ -139,12 +139,12 @@ module _ (s : Sequent) (all : List Clause) (state : State) (is : IsSearching s a
     is_branch = is.standing.branch;
   }
 
-  pub too_wide : IsWideLeaf (newtypes_of state.newtypes.now) state.set (clauses_of state) state.derivation.nodes (branch_of state.trail) → IsTooWide s (branches_of state) (branch_of state.trail)
+  pub too_wide : IsWideLeaf (world_of state.world) state.set (clauses_of state) state.derivation.nodes (branch_of state.trail) → IsTooWide s (branches_of state) (branch_of state.trail)
   too_wide wide = there
-      (subst (λ (newtypes : List Newtype). IsWideLeaf newtypes is.standing.ground_set.nodes (clauses_of state) state.derivation.nodes (branch_of state.trail)) is.standing.newtypes_are
-      (subst (λ (ns : List Node). IsWideLeaf (newtypes_of state.newtypes.now) ns (clauses_of state) state.derivation.nodes (branch_of state.trail)) is.standing.set_is wide))
+      (subst (λ (world : World). IsWideLeaf world is.standing.ground_set.nodes (clauses_of state) state.derivation.nodes (branch_of state.trail)) is.standing.world_is
+      (subst (λ (ns : List Node). IsWideLeaf (world_of state.world) ns (clauses_of state) state.derivation.nodes (branch_of state.trail)) is.standing.set_is wide))
     where
-      there : IsWideLeaf s.newtypes is.standing.ground_set.nodes (clauses_of state) state.derivation.nodes (branch_of state.trail) → IsTooWide s (branches_of state) (branch_of state.trail)
+      there : IsWideLeaf s.world is.standing.ground_set.nodes (clauses_of state) state.derivation.nodes (branch_of state.trail) → IsTooWide s (branches_of state) (branch_of state.trail)
       there here = record {
         nodes = state.derivation.nodes;
         clauses = clauses_of state;

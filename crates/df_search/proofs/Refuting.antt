@@ -43,7 +43,7 @@ module _ (s : Sequent) (all : List Clause) (old : State) (is : IsSearching s all
       is_of = is.standing.is_of;
       set_is = is.standing.set_is;
       clauses_are = is.standing.clauses_are;
-      newtypes_are = is.standing.newtypes_are;
+      world_is = is.standing.world_is;
       lines = in_longer (clauses_of old) all (clause ∷ []) is.standing.lines;
       place = place_there;
       trail = decided_grown all (clause ∷ []) [] old.trail.decisions.items is.standing.trail;
@@ -62,7 +62,7 @@ module _ (s : Sequent) (all : List Clause) (old : State) (is : IsSearching s all
       is_of = is.standing.is_of;
       set_is = is.standing.set_is;
       clauses_are = is.standing.clauses_are;
-      newtypes_are = is.standing.newtypes_are;
+      world_is = is.standing.world_is;
       lines = is.standing.lines;
       place = place_there;
       trail = is.standing.trail;

@@ -57,7 +57,7 @@ module _ (s : Sequent) (front : List Clause) (number : ℕ) (old : State) (is : 
           is_of = is.standing.is_of;
           set_is = is.standing.set_is;
           clauses_are = is.standing.clauses_are;
-          newtypes_are = is.standing.newtypes_are;
+          world_is = is.standing.world_is;
           lines = is.standing.lines;
           place = is.standing.place;
           trail = is.standing.trail;
@@ -77,7 +77,7 @@ module _ (s : Sequent) (front : List Clause) (number : ℕ) (mid : State) (is : 
       is_of = is.standing.is_of;
       set_is = is.standing.set_is;
       clauses_are = is.standing.clauses_are;
-      newtypes_are = is.standing.newtypes_are;
+      world_is = is.standing.world_is;
       lines = in_longer (clauses_of mid) front has.more is.standing.lines;
       place = place_for mid.set (clauses_of mid) derivation.nodes (branch_of mid.trail) (branch_of trail) (subst (λ (ns : List Node). IsPlace mid.set (clauses_of mid) ns (branch_of mid.trail)) (sym nodes) is.standing.place) has.formulas (trail_consistent (front ++ has.more) trail has.trail);
       trail = has.trail;

@@ -48,7 +48,7 @@ pub record IsTooWide (s : Sequent) (closed : List (List Lit)) (branch : List Lit
   pub nodes : List Node
   pub clauses : List GroundClause
   pub stop : IsStop s nodes clauses closed branch
-  pub wide : IsWideLeaf s.newtypes stop.of_sequent.set.nodes clauses nodes branch
+  pub wide : IsWideLeaf s.world stop.of_sequent.set.nodes clauses nodes branch
   pub consistent : IsConsistent (after branch wide.learned)
 
 -- There a level has so many rows, and the closed list holds no literal with its negation.

@@ -1,7 +1,7 @@
 -- A search so far.
 use Rattle.std.specs.Prelude.{◌≡◌, ◌⊎◌, ℕ, suc, ℤ, ◌≤◌, ◌<◌, true, false, List, [], ◌∷◌, ◌++◌, map, length, None, Some, Vec}
 use Rattle.std.specs.declared.alloc.Global.{Global}
-use Rattle.df_types.specs.View.{newtypes_of}
+use Rattle.df_form.specs.World.{world_of}
 use Rattle.df_form.specs.declared.log.Lit.{Lit}
 use Rattle.df_form.specs.declared.log.Combination.{Combination}
 use Rattle.df_form.specs.Node.{Node}
@@ -84,7 +84,7 @@ pub record IsStanding (s : Sequent) (all : List Clause) (state : State) : Type 0
   pub is_of : IsGroundOf s ground_set
   pub set_is : state.set ≡ ground_set.nodes
   pub clauses_are : clauses_of state ≡ map ground_of ground_set.clauses.items
-  pub newtypes_are : newtypes_of state.newtypes.now ≡ s.newtypes
+  pub world_is : world_of state.world ≡ s.world
   pub lines : AreIn (clauses_of state) all
   pub place : IsPlace state.set (clauses_of state) state.derivation.nodes (branch_of state.trail)
   pub trail : IsTrail all state.trail
@@ -148,7 +148,7 @@ abbrev pub TurnsTo : State → ℕ → State → Turn → Type 0
 TurnsTo old steps new turn = (s : Sequent) → Searches s old → length old.closed.items < steps → Comes s steps new turn
 
 abbrev pub Tells : State → Leaf → Type 0
-Tells state leaf = TellsLeaf (newtypes_of state.newtypes.now) state.set (clauses_of state) state.derivation.nodes (branch_of state.trail) leaf
+Tells state leaf = TellsLeaf (world_of state.world) state.set (clauses_of state) state.derivation.nodes (branch_of state.trail) leaf
 
 -- a further decision, at a bound
 abbrev pub SplitsAt : State → ℕ → ℤ → State → Type 0

@@ -1,7 +1,7 @@
 //! The search.
 
 ghost use Rattle.std.specs.Prelude.{◌≡◌, ◌<◌, ◌≤◌, ◌++◌, ◌∷◌, [], suc, ℕ, Err, map, length, true, IfOk, OnOk, IsTrue, List};
-ghost use Rattle.df_types.specs.View.{newtypes_of};
+ghost use Rattle.df_form.specs.World.{world_of};
 ghost use Rattle.df_form.specs.Arithmetic.{IsArithmeticSequent};
 ghost use Rattle.df_form.specs.Clause.{negation, is_among};
 ghost use Rattle.df_form.specs.Sequent.{Sequent as Claim};
@@ -15,19 +15,18 @@ ghost use Rattle.df_search.specs.Searching.{clauses_of, branches_of, Searches, R
 
 use crate::found::{Budget, Found, What};
 use df_branch::{Leaf, leaf_at};
-use df_form::{Combination, Lit, Node, Nodes, Op, Sequent};
+use df_form::{Combination, Lit, Node, Nodes, Op, Sequent, World};
 use df_ground::{Ground, GroundClause, GroundFault};
 use df_logbuild::Derivation;
 use df_table::Table;
 use df_trail::{Retreat, Trail};
-use df_types::Newtype;
 use std::alloc::{AllocError, Global};
 
 /// A search so far.
 #[derive(Drop)]
 struct State<'a> {
     alloc: Global,
-    newtypes: &'a [Newtype],
+    world: World<'a>,
     /// The nodes of the ground set, and its clauses.
     set: Nodes,
     clauses: Vec<GroundClause>,
@@ -93,16 +92,16 @@ fn is_apart_from(branch: &[Lit], others: &[Vec<Lit>]) -> bool
 
 impl<'a> State<'a> {
     /// No decisions yet.
-    fn new(alloc: Global, newtypes: &'a [Newtype], ground: Ground) -> Result<State<'a>, AllocError>
+    fn new(alloc: Global, world: World<'a>, ground: Ground) -> Result<State<'a>, AllocError>
         requires { length ground.clauses.items ≤ length ground.lines.items }
-        ensures begins { IfOk result (λ state. (s : Claim) → IsGroundOf s ground → newtypes_of newtypes.now ≡ s.newtypes → Searches s state) }
+        ensures begins { IfOk result (λ state. (s : Claim) → IsGroundOf s ground → world_of world.entry ≡ s.world → Searches s state) }
         ensures none { IfOk result (λ state. state.closed.items ≡ []) }
     {
         let nodes = ground.nodes.copy(alloc)?;
         let count = ground.clauses.len();
         Ok(State {
             alloc,
-            newtypes,
+            world,
             set: ground.nodes,
             clauses: ground.clauses,
             derivation: Derivation::new(nodes, ground.lines, count),
@@ -224,7 +223,7 @@ impl<'a> State<'a> {
         let branch = self.trail.branch(self.alloc)?;
         leaf_at(
             self.alloc,
-            self.newtypes,
+            self.world,
             &self.set,
             &self.clauses,
             &self.derivation.nodes,
@@ -286,7 +285,7 @@ pub(crate) fn exhaust(alloc: Global, sequent: &Sequent, budget: Budget) -> Resul
         Ok(set) => set,
         Err(fault) => return without_ground(fault),
     };
-    let mut search = State::new(alloc, sequent.newtypes, set)?;
+    let mut search = State::new(alloc, sequent.world, set)?;
     loop {
         match search.turn(budget.steps)? {
             Turn::On => {}

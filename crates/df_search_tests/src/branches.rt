@@ -7,7 +7,7 @@ ghost use Rattle.df_closure.specs.Closure.{GroundClause as Clause, ground_of};
 
 use df_branch::{Leaf, leaf_at};
 use df_cases::{P, Signed, literals, newtypes, nodes};
-use df_form::Nodes;
+use df_form::{Nodes, World};
 use df_ground::GroundClause;
 use df_types::Newtype;
 use std::alloc::Global;
@@ -46,7 +46,7 @@ fn end(
     if count == 0 || !are_of(nodes, clauses) {
         return Err(Fail::new("no formula"));
     }
-    Ok(leaf_at(alloc, newtypes, nodes, clauses, nodes, &[])?)
+    Ok(leaf_at(alloc, World::Newtypes(newtypes), nodes, clauses, nodes, &[])?)
 }
 
 /// Clauses, and the number of the formula in their model.

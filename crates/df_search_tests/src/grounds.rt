@@ -1,9 +1,10 @@
 //! Ground sets that are listed by hand.
 
 use df_cases::{
-    BYTE, I8, P, Q, Signed, Terms, UNDECLARED, X, Y, assume, conclude, newtypes, sequent,
+    BYTE, CHAR, I8, INT, NAT, P, Q, Signed, Terms, UNDECLARED, X, Y, assume, conclude, newtypes,
+    sequent,
 };
-use df_form::{Draft, Op, Sequent};
+use df_form::{Draft, Op, Sequent, World};
 use df_ground::{Ground, GroundClause, GroundFault};
 use df_kern::Checker;
 use std::alloc::Global;
@@ -23,7 +24,7 @@ type Sheet<'a> = (
     &'a [(usize, i128)],
 );
 
-const SHEETS: [Sheet; 5] = [
+const SHEETS: [Sheet; 7] = [
     // x is 0, 3 is 1, x <= 3 is 2, 1 is 3, x + 1 is 4, 4 is 5, and x + 1 <= 4 is 6
     (
         &[&[(X, 0), (Op::Number(3), 0), (Op::AtMost, 2)]],
@@ -69,6 +70,32 @@ const SHEETS: [Sheet; 5] = [
         ],
         11,
         &[(3, -128), (5, 127), (7, 0), (9, 255)],
+    ),
+    // x is 0, "x is a nat" is 1, and "x is an int" 2; 0 becomes 3, and 0 <= x 4
+    (
+        &[&[(X, 0), (NAT, 1)]],
+        &[(X, 0), (INT, 1)],
+        &[
+            (&[(true, 1)], None),
+            (&[(false, 2)], None),
+            (&[(false, 1), (true, 4)], None),
+            (&[(true, 1), (false, 4)], None),
+            (&[(true, 2)], None),
+        ],
+        5,
+        &[(3, 0)],
+    ),
+    // p is 0, 65 1, its character 2, and that this is a char 3
+    (
+        &[&[(P, 0)]],
+        &[(Op::Number(65), 0), (Op::Chr, 1), (CHAR, 1)],
+        &[
+            (&[(true, 0)], None),
+            (&[(false, 3)], None),
+            (&[(true, 3)], None),
+        ],
+        4,
+        &[(1, 65)],
     ),
     // x is 0, y 1, x = y 2, and x <= y 3; y <= x becomes 7; an equality of truths, 6, has no clauses
     (
@@ -186,7 +213,8 @@ fn lists_clauses(rt: HostRuntime) -> Result<(), Fail> {
 /// The answer for the hypothesis p so many times, and the goal q.
 fn repeated(rt: &impl Abort, alloc: Global, count: usize) -> Result<Option<GroundFault>, Fail> {
     let newtypes = newtypes(alloc)?;
-    let mut draft = Draft::new(alloc, newtypes.as_slice());
+    let world = World::Newtypes(newtypes.as_slice());
+    let mut draft = Draft::new(alloc, world);
     for _ in 0..count {
         assume(&mut draft, &[(P, 0)])?;
     }

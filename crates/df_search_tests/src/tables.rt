@@ -1,7 +1,9 @@
 //! Tables by hand: those that are models of ground sets and those that are not, and those of assignments.
 
-use df_cases::{I8, P, Plain, Q, Terms, UNDECLARED, X, Y, Z, newtypes, nodes, sequent};
-use df_form::{Lit, Op, Sequent};
+use df_cases::{
+    BOOL, CHAR, I8, INT, NAT, P, Plain, Q, Terms, UNDECLARED, X, Y, Z, newtypes, nodes, sequent,
+};
+use df_form::{Lit, Op, Sequent, World};
 use df_ground::Ground;
 use df_kern::Known;
 use df_model::{Valuation, valuation};
@@ -121,7 +123,7 @@ fn tells_models(rt: HostRuntime) -> Result<(), Fail> {
 
 /// Nodes with their numbers, where the first two free numbers are 5 and -3, and node 2 alone is known
 /// to be true.
-const TABLE: [(Plain, i128); 27] = [
+const TABLE: [(Plain, i128); 42] = [
     ((X, &[]), 5),
     ((Y, &[]), -3),
     ((P, &[]), 1),
@@ -151,12 +153,31 @@ const TABLE: [(Plain, i128); 27] = [
     ((Op::Implies, &[3, 3]), 1),
     ((Op::Iff, &[2, 3]), 0),
     ((Op::Iff, &[3, 3]), 1),
+    // 27: quotients and remainders, also by 0
+    ((Op::Div, &[0, 1]), -1),
+    ((Op::Mod, &[0, 1]), 2),
+    ((Op::Div, &[1, 5]), -2),
+    ((Op::Mod, &[1, 5]), 1),
+    ((Op::Div, &[0, 4]), 0),
+    ((Op::Mod, &[0, 4]), 0),
+    // 33: characters, also of a number that none has
+    ((Op::Chr, &[0]), 5),
+    ((Op::Chr, &[8]), 0),
+    ((Op::Code, &[33]), 5),
+    ((Op::Equal, &[33, 34]), 0),
+    // 37: types
+    ((NAT, &[0]), 1),
+    ((NAT, &[1]), 0),
+    ((INT, &[1]), 1),
+    ((BOOL, &[3]), 1),
+    ((CHAR, &[34]), 1),
 ];
 
 #[test]
 fn tabulates_each_operation(rt: HostRuntime) -> Result<(), Fail> {
     let alloc = rt.alloc();
     let newtypes = newtypes(alloc)?;
+    let world = World::Newtypes(newtypes.as_slice());
     let mut plain = Vec::new(alloc);
     for (node, _) in TABLE.iter() {
         plain.push(*node)?;
@@ -167,8 +188,7 @@ fn tabulates_each_operation(rt: HostRuntime) -> Result<(), Fail> {
         positive: true,
         node: 2,
     })?;
-    let Valuation::Table(table) = valuation(alloc, newtypes.as_slice(), &nodes, &[5, -3], &known)?
-    else {
+    let Valuation::Table(table) = valuation(alloc, world, &nodes, &[5, -3], &known)? else {
         return Err(Fail::new("wide"));
     };
     assert_eq!(rt; table.len(), TABLE.len());
@@ -179,7 +199,7 @@ fn tabulates_each_operation(rt: HostRuntime) -> Result<(), Fail> {
 }
 
 /// Operations on two numbers, and whether the result is past 128 bits.
-const WIDE: [(Op, [i128; 2], bool); 7] = [
+const WIDE: [(Op, [i128; 2], bool); 10] = [
     (Op::Plus, [i128::MAX, 0], false),
     (Op::Plus, [i128::MAX, 1], true),
     (Op::Plus, [i128::MIN, -1], true),
@@ -187,16 +207,20 @@ const WIDE: [(Op, [i128; 2], bool); 7] = [
     (Op::Times, [1 << 126, 2], true),
     (Op::Times, [1 << 126, -2], false),
     (Op::Times, [i128::MIN, -1], true),
+    (Op::Div, [i128::MIN, 1], false),
+    (Op::Div, [i128::MIN, -1], true),
+    (Op::Mod, [i128::MIN, -1], false),
 ];
 
 #[test]
 fn tells_of_wide_numbers(rt: HostRuntime) -> Result<(), Fail> {
     let alloc = rt.alloc();
     let newtypes = newtypes(alloc)?;
+    let world = World::Newtypes(newtypes.as_slice());
     let known = Known::new(alloc);
     for (case, (op, numbers, wide)) in WIDE.iter().enumerate() {
         let nodes = nodes(alloc, &[(X, &[]), (Y, &[]), (*op, &[0, 1])])?;
-        let valuation = valuation(alloc, newtypes.as_slice(), &nodes, numbers, &known)?;
+        let valuation = valuation(alloc, world, &nodes, numbers, &known)?;
         assert!(rt; matches!(valuation, Valuation::Wide) == *wide, "at {case}");
     }
     Ok(())

@@ -2,7 +2,7 @@
 
 use crate::engine::Engine;
 use df_clauses::{Literal, Origin};
-use df_theory::Shape;
+use df_theory::{Ends, Shape};
 use std::alloc::AllocError;
 
 impl<'a> Engine<'a> {
@@ -36,7 +36,7 @@ impl<'a> Engine<'a> {
             Shape::Implies(..) => (0, 1, 3),
             Shape::Iff(..) => (0, 2, 4),
             Shape::Equal(..) => (0, 2, 3),
-            Shape::Is { newtype, .. } if self.terms.interval(newtype).is_some() => (0, 2, 3),
+            Shape::Is { ends, .. } => (0, ends.count(), ends.count().saturating_add(1)),
             _ => (0, 0, 0),
         };
         if positive {
@@ -54,7 +54,7 @@ impl<'a> Engine<'a> {
         clause: usize,
     ) -> Result<Option<usize>, AllocError> {
         match shape {
-            Shape::Is { newtype, part } => self.add_type(node, newtype, part, clause),
+            Shape::Is { ends, part } => self.add_type(node, ends, part, clause),
             Shape::And => self.add_and(node, clause),
             Shape::Or => self.add_or(node, clause),
             Shape::Equal(a, b) => self.add_equality(node, a, b, clause),
@@ -174,32 +174,23 @@ impl<'a> Engine<'a> {
         self.add_connective(literals, node, clause)
     }
 
-    /// Adds a clause on what it is to be of a newtype.
+    /// Adds a clause on what it is to be of a type.
     fn add_type(
         &mut self,
         node: usize,
-        newtype: usize,
+        ends: Ends,
         part: usize,
         clause: usize,
     ) -> Result<Option<usize>, AllocError> {
-        let Some(interval) = self.terms.interval(newtype) else {
-            return Ok(None);
-        };
-        let literals = match clause {
-            0 => {
-                let low = self.terms.at_least(interval.low, part)?;
-                self.with_literals(node, false, &[(low, true)])?
-            }
-            1 => {
-                let high = self.terms.at_most(part, interval.high)?;
-                self.with_literals(node, false, &[(high, true)])?
-            }
-            _ => {
-                let low = self.terms.at_least(interval.low, part)?;
-                let high = self.terms.at_most(part, interval.high)?;
-                self.with_literals(node, true, &[(low, false), (high, false)])?
-            }
-        };
+        let is_last = clause >= ends.count();
+        let mut others = Vec::new(self.alloc);
+        if let Some(low) = ends.low_in(clause) {
+            others.push((self.terms.at_least(low, part)?, !is_last))?;
+        }
+        if let Some(high) = ends.high_in(clause) {
+            others.push((self.terms.at_most(part, high)?, !is_last))?;
+        }
+        let literals = self.with_literals(node, is_last, &others)?;
         let clause = u32::try_from(clause).unwrap_or(u32::MAX);
         self.add_clause(literals, Origin::Type { node, clause })
     }

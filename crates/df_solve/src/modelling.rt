@@ -75,7 +75,7 @@ pub(crate) fn counterexample(
     };
     let numbers = numbers(alloc, engine, sequent.nodes.len())?;
     let known = truths(alloc, engine)?;
-    match valuation(alloc, sequent.newtypes, &ground.nodes, &numbers, &known)? {
+    match valuation(alloc, sequent.world, &ground.nodes, &numbers, &known)? {
         Valuation::Table(table) if is_counterexample(sequent, &table) => Ok(Some(table)),
         Valuation::Table(_) | Valuation::Wide => Ok(None),
     }

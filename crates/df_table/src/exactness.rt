@@ -32,6 +32,10 @@ fn literal(nodes: &Nodes, node: usize) -> Option<i128>
         Op::Free(_)
         | Op::Plus
         | Op::Times
+        | Op::Div
+        | Op::Mod
+        | Op::Code
+        | Op::Chr
         | Op::Is(_)
         | Op::Equal
         | Op::AtMost

@@ -14,6 +14,6 @@ mod variables;
 pub use choosing::Facts;
 pub use explanation::Explained;
 pub use forms::{Atom, Column, Forms, Meaning};
-pub use terms::{Made, Shape, Terms};
+pub use terms::{Ends, Made, Shape, Terms};
 pub use theory::Theory;
 pub use variables::Variables;

@@ -1,7 +1,7 @@
 //! The nodes of a sequent, and those that clauses make.
 
-use df_form::{Node, Nodes, Op, Sequent, Sort};
-use df_types::{Interval, Ty};
+use df_form::{Node, Nodes, Op, Sequent, Sort, World};
+use df_lang::Ty;
 use std::alloc::{AllocError, Global};
 use std::collections::HashMap;
 
@@ -12,6 +12,44 @@ pub enum Made {
     AtMost(usize, usize),
 }
 
+/// The ends of the numbers that are values of a type, where it has any: an end on one side, on both, or on
+/// none. A type of other values has none.
+#[derive(Clone, Copy, Debug, PartialEq, Eq)]
+pub struct Ends {
+    pub low: Option<i128>,
+    pub high: Option<i128>,
+}
+
+impl Ends {
+    /// How many there are. So many clauses say that a value of the type is within one of them, and one
+    /// more that what is within all of them is a value.
+    pub fn count(&self) -> usize {
+        match (self.low, self.high) {
+            (None, None) => 0,
+            (Some(_), None) | (None, Some(_)) => 1,
+            (Some(_), Some(_)) => 2,
+        }
+    }
+
+    /// The low end, if the clause of this number speaks of it.
+    pub fn low_in(&self, clause: usize) -> Option<i128> {
+        if clause == 0 || clause >= self.count() {
+            self.low
+        } else {
+            None
+        }
+    }
+
+    /// The high end, if the clause of this number speaks of it.
+    pub fn high_in(&self, clause: usize) -> Option<i128> {
+        if clause.saturating_add(1) >= self.count() {
+            self.high
+        } else {
+            None
+        }
+    }
+}
+
 /// What a node is to the engine.
 #[derive(Clone, Copy, Debug, PartialEq, Eq)]
 pub enum Shape {
@@ -19,12 +57,13 @@ pub enum Shape {
     Sum(usize, usize),
     /// So many times another node.
     Multiple(i128, usize),
-    /// Any other number.
+    /// Any other number, or a character.
     Unknown,
     AtMost(usize, usize),
     /// Two numbers are equal.
     Equal(usize, usize),
-    Is { newtype: usize, part: usize },
+    /// A value is of a type.
+    Is { ends: Ends, part: usize },
     Not(usize),
     And,
     Or,
@@ -52,30 +91,55 @@ fn product(nodes: &Nodes, a: usize, b: usize) -> Shape {
 fn equality(nodes: &Nodes, a: usize, b: usize) -> Shape {
     match nodes.sort(a) {
         Sort::Number => Shape::Equal(a, b),
-        Sort::Truth => Shape::Atom,
+        Sort::Truth | Sort::Character => Shape::Atom,
     }
 }
 
 fn free(sort: Sort) -> Shape {
     match sort {
-        Sort::Number => Shape::Unknown,
+        Sort::Number | Sort::Character => Shape::Unknown,
         Sort::Truth => Shape::Atom,
     }
 }
 
-fn shape_of(nodes: &Nodes, node: &Node) -> Shape {
+/// The ends of a type, if it is no newtype that is not declared.
+fn ends_of(world: World, ty: Ty) -> Option<Ends> {
+    match ty {
+        Ty::Newtype(number) => {
+            let interval = world.interval(number)?;
+            Some(Ends {
+                low: Some(interval.low),
+                high: Some(interval.high),
+            })
+        }
+        Ty::Nat => Some(Ends {
+            low: Some(0),
+            high: None,
+        }),
+        Ty::Int | Ty::Bool | Ty::Char => Some(Ends {
+            low: None,
+            high: None,
+        }),
+    }
+}
+
+fn type_test(world: World, ty: Ty, part: usize) -> Shape {
+    match ends_of(world, ty) {
+        Some(ends) => Shape::Is { ends, part },
+        None => Shape::Atom,
+    }
+}
+
+fn shape_of(world: World, nodes: &Nodes, node: &Node) -> Shape {
     match (node.op, node.parts.as_slice()) {
         (Op::Number(number), _) => Shape::Number(number),
         (Op::Free(found), _) => free(found.sort),
         (Op::Plus, [a, b]) => Shape::Sum(*a, *b),
         (Op::Times, [a, b]) => product(nodes, *a, *b),
-        (Op::Plus | Op::Times, _) => Shape::Unknown,
+        (Op::Plus | Op::Times | Op::Div | Op::Mod | Op::Code | Op::Chr, _) => Shape::Unknown,
         (Op::AtMost, [a, b]) => Shape::AtMost(*a, *b),
         (Op::Equal, [a, b]) => equality(nodes, *a, *b),
-        (Op::Is(Ty::Newtype(newtype)), [part]) => Shape::Is {
-            newtype,
-            part: *part,
-        },
+        (Op::Is(ty), [part]) => type_test(world, ty, *part),
         (Op::Not, [part]) => Shape::Not(*part),
         (Op::And, _) => Shape::And,
         (Op::Or, _) => Shape::Or,
@@ -125,7 +189,7 @@ impl<'a> Terms<'a> {
 
     pub fn shape(&self, node: usize) -> Shape {
         match self.sequent.nodes.get(node) {
-            Some(found) => shape_of(&self.sequent.nodes, found),
+            Some(found) => shape_of(self.sequent.world, &self.sequent.nodes, found),
             None => self.made_shape(node),
         }
     }
@@ -142,14 +206,6 @@ impl<'a> Terms<'a> {
     pub fn made(&self, node: usize) -> Option<Made> {
         let place = node.checked_sub(self.sequent.nodes.len())?;
         self.made.get(place).copied()
-    }
-
-    /// The interval of a newtype.
-    pub fn interval(&self, newtype: usize) -> Option<Interval> {
-        match self.sequent.newtypes.get(newtype) {
-            Some(found) => Some(found.interval),
-            None => None,
-        }
     }
 
     /// How many parts a node of the sequent has.

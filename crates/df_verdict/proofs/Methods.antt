@@ -9,6 +9,7 @@ use Rattle.df_program.specs.declared.program.Method as declared
 use Rattle.df_program.specs.Typing.{is_method, are_methods}
 use Rattle.df_program.specs.Program.{Method, Program}
 use Rattle.df_program.specs.MethodView.{place_of, method_of}
+use Rattle.df_form.specs.World.{of_newtypes}
 use Rattle.df_form.specs.Log.{Step}
 use Rattle.df_form.specs.Sequent.{Sequent, IsSequent, IsValid}
 use Rattle.df_kern.specs.declared.accepted.Accepted.{Accepted}
@@ -32,7 +33,7 @@ pub is_judged : (newtypes : List Newtype) (steps : ℕ) (method : Method) (frees
     → frees ≡ frees_of method
     → (AreValid (map obligation_of all) → IsModularlySafeMethod newtypes method)
     → AllByRecursion (IsOwed newtypes method frees) (map obligation_of all)
-    → AllByRecursion (λ (o : Obligation). o.sequent.newtypes ≡ newtypes) (map obligation_of all)
+    → AllByRecursion (λ (o : Obligation). o.sequent.world ≡ of_newtypes newtypes) (map obligation_of all)
     → Judges method.parameters frees steps (map obligation_of all) (map failure_of outcome.failures.items) accepted
     → string_bytes outcome.name ≡ method.text
     → IsJudgedMethod newtypes steps method (outcome_of outcome) accepted

@@ -6,6 +6,7 @@ use Rattle.df_types.specs.Newtype.{Newtype}
 use Rattle.df_program.specs.Program.{Place, Method, Program}
 use Rattle.df_meaning.specs.Kind.{word_of}
 use Rattle.df_runs.specs.Modular.{IsModularlySafeMethod}
+use Rattle.df_form.specs.World.{of_newtypes}
 use Rattle.df_form.specs.declared.node.Sort.TheVariants as sorts
 use Rattle.df_form.specs.declared.node.Op.{Op}
 use Rattle.df_form.specs.declared.node.Op.TheVariants as ops
@@ -76,7 +77,7 @@ pub record IsJudgedMethod (newtypes : List Newtype) (steps : ℕ) (method : Meth
   pub safe : AreValid all → IsModularlySafeMethod newtypes method
   pub owed : AllByRecursion (IsOwed newtypes method frees) all
   pub sequents : AllByRecursion (λ (o : Obligation). IsSequent o.sequent) all
-  pub over : AllByRecursion (λ (o : Obligation). o.sequent.newtypes ≡ newtypes) all
+  pub over : AllByRecursion (λ (o : Obligation). o.sequent.world ≡ of_newtypes newtypes) all
   pub failures : List Failure
   pub judges : Judges method.parameters frees steps all failures accepted
   pub outcome_is : outcome ≡ record { name = method.text; failures = failures }

@@ -10,5 +10,5 @@ pub loop-number-preserved : goal.loop-number-preserved
 loop-number-preserved c =
     let s = sequent_of c.args.sequent.now in
     let n = c.loop-number.number in
-    c.in_ok-add_lines_at.ensures ∙ ap (λ (front : List Step). front ++ lines_at s.newtypes s.nodes n) c.loop-number.invariant
-    ∙ nodes_more (lines_at s.newtypes s.nodes) (map (λ i. Hypothesis i) (range_with_len 0 (length s.hypotheses))) n
+    c.in_ok-add_lines_at.ensures ∙ ap (λ (front : List Step). front ++ lines_at s.world s.nodes n) c.loop-number.invariant
+    ∙ nodes_more (lines_at s.world s.nodes) (map (λ i. Hypothesis i) (range_with_len 0 (length s.hypotheses))) n

@@ -8,4 +8,4 @@ use Rattle.df_ground.proofs.lines.lines_of.Given as goal
 abbrev pub invariant-loop-number : goal.invariant-loop-number
 invariant-loop-number l =
     map step_of l.lines.items
-    ≡ map (λ i. Hypothesis i) (range_with_len 0 (length (sequent_of l.fn.sequent).hypotheses)) ++ Goal ∷ flat_map (lines_at (sequent_of l.fn.sequent).newtypes (sequent_of l.fn.sequent).nodes) (range_with_len 0 l.number)
+    ≡ map (λ i. Hypothesis i) (range_with_len 0 (length (sequent_of l.fn.sequent).hypotheses)) ++ Goal ∷ flat_map (lines_at (sequent_of l.fn.sequent).world (sequent_of l.fn.sequent).nodes) (range_with_len 0 l.number)

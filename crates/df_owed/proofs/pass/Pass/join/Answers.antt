@@ -11,5 +11,5 @@ returns-clause-passed c =
     let way = way_of c.args.way.now in
     let p = passed_in c.args.self.now in
     let others = c.as_slice-2.ensures.value ∙ (λ i. (c.replace-others.ensures.value i).items) in
-    let none = (λ i. (c.replace-others.ensures.after i).items) ∙ c.new.ensures.items in
+    let none = (λ i. (c.replace-others.ensures.after i).items) ∙ c.new-none.ensures.items in
     way_joined way p _ (passed_in c.join_locals.new.self) c.join_locals.result _ _ c.as_slice.ensures.value others (λ i. on_path way.before (with_locals (none i) p)) c.join_locals.ensures.passed
