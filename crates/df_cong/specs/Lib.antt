@@ -1,3 +1,8 @@
 pub mod Equal
 pub mod Labels
 pub mod Laws
+pub mod Theory
+pub mod PartitionView
+pub mod HoldingView
+pub mod ClassesView
+pub mod mirror

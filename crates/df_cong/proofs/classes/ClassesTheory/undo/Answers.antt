@@ -1,0 +1,15 @@
+use Rattle.std.proofs.Common.{ap, ◌∙◌}
+use Rattle.df_form.specs.Clause.{are_literals}
+use Rattle.df_cong.proofs.Answering.{literals_fewer}
+use Rattle.df_cong.proofs.Holds.{cut_holds}
+use Rattle.df_cong.proofs.classes.ClassesTheory.undo.Goals as goal
+
+pub invariant_of-self : goal.invariant_of-self
+invariant_of-self c =
+    let old = c.self.inside.holding in
+    let nodes = c.self.inside.nodes in record {
+      users_are = c.self.invariant.users_are;
+      numbers_are = c.self.invariant.numbers_are;
+      literals_are = ap (are_literals nodes) c.cut.ensures.held ∙ literals_fewer nodes old.held.items c.args.mark.held c.self.invariant.literals_are;
+      holds = cut_holds nodes old c.cut.new.self c.args.mark.held c.self.invariant.holds c.cut.ensures;
+    }

@@ -1,0 +1,24 @@
+//! What a theory answers.
+
+use df_form::{Lit, Pair};
+
+/// Why held literals contradict one another: some of them whose negations are the clause of a line of
+/// congruence, and the pairs of the line.
+#[derive(Debug, Drop)]
+pub struct Reason {
+    pub literals: Vec<Lit>,
+    pub pairs: Vec<Pair>,
+}
+
+/// Whether the held literals contradict one another.
+#[derive(Debug, Drop)]
+pub enum Answer {
+    Quiet,
+    Conflict(Reason),
+}
+
+/// How many literals were held.
+#[derive(Clone, Copy, Debug, PartialEq, Eq)]
+pub struct Mark {
+    pub held: usize,
+}
