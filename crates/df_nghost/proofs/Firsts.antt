@@ -1,5 +1,5 @@
 -- The first of some uses is one of them, and none is told before it.
-use Rattle.std.proofs.Common.{◌≡◌, zero, suc, ◌⊎◌, inl, inr, Bool, true, false, List, [], ◌∷◌, Some, None, if◌then◌else◌, Contains, refl, ap, subst, arith}
+use Rattle.std.proofs.Common.{◌≡◌, ◌⊎◌, inl, inr, Bool, true, false, List, [], ◌∷◌, Some, None, if◌then◌else◌, Contains, refl, ap, subst, arith}
 use Rattle.std.proofs.lemmas.Option.{none-some, same_Some}
 use Rattle.df_lang.specs.Assignment as pure
 use Rattle.df_ntyping.proofs.LeastExists.{first_or_rest, is_first, is_later}

@@ -3,6 +3,7 @@ mod Order
 mod Firsts
 mod Uses
 mod Sets
+mod Counting
 mod Carrying
 mod Ways
 mod Points

@@ -7,7 +7,8 @@ use Rattle.std.proofs.lemmas.List.{get_or-set_other}
 use Rattle.df_lang.specs.Assignment.{Assigned, Unreached, Reached, join, mark}
 use Rattle.df_nghost.specs.declared.assigned.Assigned as declared
 use Rattle.df_nghost.specs.declared.join.Join.{Join}
-use Rattle.df_nghost.specs.mirror.Known.{holds, set_of, assigned_of, among, Extends, IsBack, cleared, joined_with, joined_of, Joins}
+use Rattle.df_nghost.specs.mirror.Listed.{holds, cleared}
+use Rattle.df_nghost.specs.mirror.Known.{set_of, assigned_of, among, Extends, IsBack, joined_with, joined_of, Joins}
 
 abbrev Point : Type 0
 Point = declared.Assigned
@@ -23,23 +24,23 @@ reached_same s t h = λ i. Reached (λ k. h k i)
 
 -- ---- what extends what
 
-pub extends_same : (a b : Point) → b.taken.items ≡ a.taken.items → ((k : ℕ) → holds b.values.items k ≡ holds a.values.items k) → Extends a b
-extends_same a b taken values = record { more = []; taken = taken ∙ sym (append-nil a.taken.items); values = λ k. values k ∙ sym (or-false (holds a.values.items k)); fresh = λ k e. absurd (let f : false ≡ true = e in cc) }
+pub extends_same : (a b : Point) → b.taken.items ≡ a.taken.items → ((k : ℕ) → holds b.values.listed.items k ≡ holds a.values.listed.items k) → Extends a b
+extends_same a b taken values = record { more = []; taken = taken ∙ sym (append-nil a.taken.items); values = λ k. values k ∙ sym (or-false (holds a.values.listed.items k)); fresh = λ k e. absurd (let f : false ≡ true = e in cc) }
 
 pub extends_on : (a b c : Point) → Extends a b → Extends b c → Extends a c
 extends_on a b c one other = record {
   more = one.more ++ other.more;
   taken = other.taken ∙ ap (λ (xs : List ℕ). xs ++ other.more) one.taken ∙ append_assoc a.taken.items one.more other.more;
-  values = λ k. other.values k ∙ ap (λ (b : Bool). b || among other.more k) (one.values k) ∙ or_assoc (holds a.values.items k) (among one.more k) (among other.more k)
-      ∙ ap (λ (b : Bool). holds a.values.items k || b) (sym (among_joined one.more other.more k));
+  values = λ k. other.values k ∙ ap (λ (b : Bool). b || among other.more k) (one.values k) ∙ or_assoc (holds a.values.listed.items k) (among one.more k) (among other.more k)
+      ∙ ap (λ (b : Bool). holds a.values.listed.items k || b) (sym (among_joined one.more other.more k));
   fresh = λ k e. new k (among one.more k) refl (sym (among_joined one.more other.more k) ∙ e);
 }
   where
-    new : (k : ℕ) (b : Bool) → among one.more k ≡ b → (among one.more k || among other.more k) ≡ true → holds a.values.items k ≡ false
+    new : (k : ℕ) (b : Bool) → among one.more k ≡ b → (among one.more k || among other.more k) ≡ true → holds a.values.listed.items k ≡ false
     new k true here e = one.fresh k here
     new k false here e =
         let there : among other.more k ≡ true = ap (λ (b : Bool). b || among other.more k) (sym here) ∙ e in
-        (or_parts (holds a.values.items k) (among one.more k) (sym (one.values k) ∙ other.fresh k there)).0
+        (or_parts (holds a.values.listed.items k) (among one.more k) (sym (one.values k) ∙ other.fresh k there)).0
 
 -- ---- back to a point
 
@@ -80,15 +81,15 @@ no_more false true h = refl
 no_more true false h = refl
 no_more false false h = refl
 
-pub back_to : (a b c : Point) → Extends a b → (count : ℕ) → count ≡ length a.taken.items → c.reached ≡ a.reached → c.values.items ≡ cleared b.values.items (drop count b.taken.items) → c.taken.items ≡ take count b.taken.items → IsBack a c
+pub back_to : (a b c : Point) → Extends a b → (count : ℕ) → count ≡ length a.taken.items → c.reached ≡ a.reached → c.values.listed.items ≡ cleared b.values.listed.items (drop count b.taken.items) → c.taken.items ≡ take count b.taken.items → IsBack a c
 back_to a b c e count is reached values taken = record {
   reached = reached;
   taken = taken ∙ more_taken a b e count is;
   values = λ k.
-      ap (λ (vs : List Bool). holds vs k) (values ∙ ap (cleared b.values.items) (more_dropped a b e count is))
-      ∙ cleared_holds b.values.items e.more k
+      ap (λ (vs : List Bool). holds vs k) (values ∙ ap (cleared b.values.listed.items) (more_dropped a b e count is))
+      ∙ cleared_holds b.values.listed.items e.more k
       ∙ ap (λ (v : Bool). v && not (among e.more k)) (e.values k)
-      ∙ no_more (holds a.values.items k) (among e.more k) (e.fresh k);
+      ∙ no_more (holds a.values.listed.items k) (among e.more k) (e.fresh k);
 }
 
 set_back : (r s : Bool) (values others : List Bool) → s ≡ r → ((k : ℕ) → holds others k ≡ holds values k) → set_of s others ≡ set_of r values
@@ -97,7 +98,7 @@ set_back false s values others e h = ap (λ (b : Bool). set_of b others) e
 
 -- the same is assigned
 pub back_assigned : (a b : Point) → IsBack a b → assigned_of b ≡ assigned_of a
-back_assigned a b back = set_back a.reached b.reached a.values.items b.values.items back.reached back.values
+back_assigned a b back = set_back a.reached b.reached a.values.listed.items b.values.listed.items back.reached back.values
 
 joined_back : (r : Bool) (values others : List Bool) (taken : List ℕ) → ((k : ℕ) → holds others k ≡ holds values k) → joined_with r others taken ≡ joined_with r values taken
 joined_back true values others taken h = λ i. Reached (λ k. h k i || among taken k)
@@ -105,13 +106,13 @@ joined_back false values others taken h = refl
 
 -- and ways from there join as before
 pub back_joined : (a b : Point) → IsBack a b → (ways : Join) → joined_of b ways ≡ joined_of a ways
-back_joined a b back ways = joined_back ways.reached a.values.items b.values.items ways.taken.items back.values
+back_joined a b back ways = joined_back ways.reached a.values.listed.items b.values.listed.items ways.taken.items back.values
 
 pub back_on : (a b c : Point) → IsBack a b → IsBack b c → IsBack a c
 back_on a b c one other = record { reached = other.reached ∙ one.reached; taken = other.taken ∙ one.taken; values = λ k. other.values k ∙ one.values k }
 
 pub back_same : (a b : Point) → b ≡ a → IsBack a b
-back_same a b e = record { reached = ap (λ (p : Point). p.reached) e; taken = ap (λ (p : Point). p.taken.items) e; values = λ k. ap (λ (p : Point). holds p.values.items k) e }
+back_same a b e = record { reached = ap (λ (p : Point). p.reached) e; taken = ap (λ (p : Point). p.taken.items) e; values = λ k. ap (λ (p : Point). holds p.values.listed.items k) e }
 
 -- ---- locals take a value
 
@@ -155,15 +156,15 @@ or_and true t w h = sym (h refl)
 or_and false t w h = refl
 
 -- one more
-pub joins_more : (way : Point) (old new : Join) (count : ℕ) → way.reached ≡ true → old.reached ≡ true → new.reached ≡ true → new.taken.items ≡ filter (λ k. holds way.values.items k) old.taken.items → Joins old new way count
+pub joins_more : (way : Point) (old new : Join) (count : ℕ) → way.reached ≡ true → old.reached ≡ true → new.reached ≡ true → new.taken.items ≡ filter (λ k. holds way.values.listed.items k) old.taken.items → Joins old new way count
 joins_more way old new count comes some reached taken before e is =
-    ap (λ (b : Bool). joined_with b before.values.items new.taken.items) reached
-    ∙ ap (λ (ts : List ℕ). joined_with true before.values.items ts) taken
-    ∙ reached_same (λ k. holds before.values.items k || among (filter (λ j. holds way.values.items j) old.taken.items) k) (λ k. (holds before.values.items k || among old.taken.items k) && holds way.values.items k) each
-    ∙ ap (λ (b : Bool). join (joined_with true before.values.items old.taken.items) (set_of b way.values.items)) (sym comes)
-    ∙ ap (λ (b : Bool). join (joined_with b before.values.items old.taken.items) (assigned_of way)) (sym some)
+    ap (λ (b : Bool). joined_with b before.values.listed.items new.taken.items) reached
+    ∙ ap (λ (ts : List ℕ). joined_with true before.values.listed.items ts) taken
+    ∙ reached_same (λ k. holds before.values.listed.items k || among (filter (λ j. holds way.values.listed.items j) old.taken.items) k) (λ k. (holds before.values.listed.items k || among old.taken.items k) && holds way.values.listed.items k) each
+    ∙ ap (λ (b : Bool). join (joined_with true before.values.listed.items old.taken.items) (set_of b way.values.listed.items)) (sym comes)
+    ∙ ap (λ (b : Bool). join (joined_with b before.values.listed.items old.taken.items) (assigned_of way)) (sym some)
   where
-    each : (k : ℕ) → (holds before.values.items k || among (filter (λ j. holds way.values.items j) old.taken.items) k) ≡ ((holds before.values.items k || among old.taken.items k) && holds way.values.items k)
+    each : (k : ℕ) → (holds before.values.listed.items k || among (filter (λ j. holds way.values.listed.items j) old.taken.items) k) ≡ ((holds before.values.listed.items k || among old.taken.items k) && holds way.values.listed.items k)
     each k =
-        ap (λ (b : Bool). holds before.values.items k || b) (among_filtered (λ j. holds way.values.items j) old.taken.items k)
-        ∙ or_and (holds before.values.items k) (among old.taken.items k) (holds way.values.items k) (λ has. e.values k ∙ or_left (holds before.values.items k) (among e.more k) has)
+        ap (λ (b : Bool). holds before.values.listed.items k || b) (among_filtered (λ j. holds way.values.listed.items j) old.taken.items k)
+        ∙ or_and (holds before.values.listed.items k) (among old.taken.items k) (holds way.values.listed.items k) (λ has. e.values k ∙ or_left (holds before.values.listed.items k) (among e.more k) has)

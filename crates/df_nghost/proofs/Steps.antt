@@ -73,7 +73,7 @@ choice_is m old s t u none one all stmt branches otherwise is unreached ways bac
     let A : Assigned = assigned_of old.assigned in
     let gone : Known = go_branches m A (returned (known old)) branches in
     let begins : ways_of old.assigned one s.first ≡ gone =
-    ways ∙ ap (λ (b : Assigned). go_branches m A (with_first b old.first) branches) (ap (λ (r : Bool). joined_with r old.assigned.values.items none.taken.items) unreached) in
+    ways ∙ ap (λ (b : Assigned). go_branches m A (with_first b old.first) branches) (ap (λ (r : Bool). joined_with r old.assigned.values.listed.items none.taken.items) unreached) in
     let first_there : s.first ≡ gone.first = ap (λ (k : Known). k.first) begins in
     let known_there : known s ≡ begun A gone = λ i. with_first (back_assigned old.assigned s.assigned back i) (first_there i) in
     let there : ways_of s.assigned one s.first ≡ gone = ap (λ (b : Assigned). with_first b s.first) (back_joined old.assigned s.assigned back one) ∙ begins in

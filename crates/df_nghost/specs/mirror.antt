@@ -1,4 +1,5 @@
 pub mod Parts
+pub mod Listed
 pub mod Known
 pub mod Uses
 pub mod Way

@@ -1,11 +1,13 @@
 //! Which locals have a value at a point of a body.
 
-ghost use Rattle.std.specs.Prelude.{◌≡◌, ◌<◌, ◌≤◌, ℕ, true, false, set, nat_lt, length, take, drop, map, IfOk, OnOk};
+ghost use Rattle.std.specs.Prelude.{◌≡◌, ◌≤◌, true, nat_lt, length, take, drop, map, IfOk, OnOk};
 ghost use Rattle.df_lang.specs.StmtView.{target_of};
 ghost use Rattle.df_lang.specs.Assignment as pure;
-ghost use Rattle.df_nghost.specs.mirror.Known.{holds, assigned_of, joined_of, cleared, Extends};
+ghost use Rattle.df_nghost.specs.mirror.Listed.{holds, cleared, without};
+ghost use Rattle.df_nghost.specs.mirror.Known.{assigned_of, joined_of, Extends};
 
 use crate::join::Join;
+use crate::values::Values;
 use df_base::{Global, Memory};
 use df_lang::Target;
 
@@ -14,58 +16,33 @@ use df_lang::Target;
 pub(crate) struct Assigned {
     /// Whether a path comes there. Unreached code counts as assigned.
     pub(crate) reached: bool,
-    /// A local that is not listed has no value.
-    pub(crate) values: Vec<bool>,
+    /// The locals that have a value where a path comes there.
+    pub(crate) values: Values,
     /// The locals that took their value in the body, in order.
     pub(crate) taken: Vec<usize>,
 }
 
-/// Lists the local, and those before it that are not listed.
-fn list(values: &mut Vec<bool>, local: usize) -> Result<(), Memory>
-    ensures listed { OnOk result (local < length values.new.items) }
-    ensures same { (k : ℕ) → holds values.new.items k ≡ holds values.old.items k }
-{
-    while values.len() <= local {
-        values.push(false)?;
-    }
-    Ok(())
-}
-
-/// The local has no value.
-fn unset(values: &mut Vec<bool>, local: usize)
-    ensures { values.new.items ≡ set values.old.items local false }
-{
-    if local < values.len() {
-        values[local] = false;
-    }
-}
-
-/// The locals have no value.
-fn clear(values: &mut Vec<bool>, locals: &[usize])
-    ensures { values.new.items ≡ cleared values.old.items locals.now }
-{
-    for local in locals {
-        unset(values, *local);
-    }
-}
-
 impl Assigned {
-    /// Where a body opens: so many locals have a value.
-    pub(crate) fn at_entry(alloc: Global, count: usize) -> Result<Assigned, Memory>
-        ensures { IfOk result (λ assigned. assigned_of assigned ≡ pure.Reached (λ local. nat_lt local count)) }
+    /// Where a body opens: so many parameters have a value, and so many results behind them have none.
+    pub(crate) fn at_entry(
+        alloc: Global,
+        parameters: usize,
+        results: usize,
+    ) -> Result<Assigned, Memory>
+        ensures { IfOk result (λ assigned. assigned_of assigned ≡ pure.Reached (λ local. nat_lt local parameters)) }
     {
         Ok(Assigned {
             reached: true,
-            values: vec![in alloc; true; count]?,
+            values: Values::at_entry(alloc, parameters, results)?,
             taken: Vec::new(alloc),
         })
     }
 
     /// Whether the local has a value on each path that comes there.
     pub(crate) fn holds(&self, local: usize) -> bool
-        ensures { result ≡ holds self.now.values.items local }
+        ensures { result ≡ holds self.now.values.listed.items local }
     {
-        local < self.values.len() && self.values[local]
+        self.values.holds(local)
     }
 
     /// Whether the local counts as assigned.
@@ -73,6 +50,13 @@ impl Assigned {
         ensures { result ≡ pure.has_value (assigned_of self.now) local }
     {
         !self.reached || self.holds(local)
+    }
+
+    /// Whether it is known without a look at each that so many results, behind so many parameters, count as assigned.
+    pub(crate) fn has_results(&self, parameters: usize, results: usize) -> bool
+        ensures { result ≡ true → without (pure.has_value (assigned_of self.now)) parameters results ≡ 0 }
+    {
+        !self.reached || self.values.has_results(parameters, results)
     }
 
     /// The local has a value from here on.
@@ -83,8 +67,7 @@ impl Assigned {
         if self.has_value(local) {
             return Ok(());
         }
-        list(&mut self.values, local)?;
-        self.values[local] = true;
+        self.values.put(local)?;
         self.taken.push(local)?;
         Ok(())
     }
@@ -112,10 +95,10 @@ impl Assigned {
     pub(crate) fn back(&mut self, count: usize, reached: bool)
         requires { count ≤ length self.old.taken.items }
         ensures reached { self.new.reached ≡ reached }
-        ensures values { self.new.values.items ≡ cleared self.old.values.items (drop count self.old.taken.items) }
+        ensures values { self.new.values.listed.items ≡ cleared self.old.values.listed.items (drop count self.old.taken.items) }
         ensures taken { self.new.taken.items ≡ take count self.old.taken.items }
     {
-        clear(&mut self.values, &self.taken[count..]);
+        self.values.clear(&self.taken[count..]);
         self.taken.truncate(count);
         self.reached = reached;
     }

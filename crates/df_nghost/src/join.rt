@@ -1,7 +1,8 @@
 //! Where ways join.
 
 ghost use Rattle.std.specs.Prelude.{◌≡◌, ◌≤◌, false, length, filter, OnOk};
-ghost use Rattle.df_nghost.specs.mirror.Known.{holds, Joins};
+ghost use Rattle.df_nghost.specs.mirror.Listed.{holds};
+ghost use Rattle.df_nghost.specs.mirror.Known.{Joins};
 
 use crate::assigned::Assigned;
 use df_base::{Global, Memory};
@@ -18,7 +19,7 @@ pub(crate) struct Join {
 
 /// Keeps the locals that have a value.
 fn keep(locals: &mut Vec<usize>, assigned: &Assigned)
-    ensures { locals.new.items ≡ filter (λ local. holds assigned.now.values.items local) locals.old.items }
+    ensures { locals.new.items ≡ filter (λ local. holds assigned.now.values.listed.items local) locals.old.items }
 {
     locals.retain(|local| assigned.holds(*local));
 }

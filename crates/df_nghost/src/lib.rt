@@ -9,6 +9,7 @@ mod law;
 mod method;
 mod program;
 mod reads;
+mod values;
 
 pub use checked::Checked;
 pub use law::assigned_or_told;

@@ -34,7 +34,7 @@ pub(crate) fn follow(alloc: Global, method: &Method) -> Result<(), Stop>
     ensures refused { IfErr result (IfRefused (TellsOf (method_of method.now))) }
 {
     let mut flow = Flow {
-        assigned: Assigned::at_entry(alloc, method.parameters.len())?,
+        assigned: Assigned::at_entry(alloc, method.parameters.len(), method.results.len())?,
         first: None,
         alloc,
     };

@@ -273,9 +273,22 @@ pub(crate) fn first_of_operands(
     first
 }
 
+/// Whether a use was found at an earlier place.
+fn is_found_before(first: Option<Use>, pos: Pos) -> bool
+    ensures { result ≡ uses.is_found_before first pos }
+{
+    match first {
+        Some(found) => {
+            let by_col = (found.pos.col as usize) < pos.col as usize;
+            by_number(found.pos.line as usize, pos.line as usize, by_col)
+        }
+        None => false,
+    }
+}
+
 /// The first use without a value: one that was found, or one of the results of a method, used at `pos`. They
 /// are numbered behind the parameters.
-pub(crate) fn first_of_results(
+fn first_of_each_result(
     assigned: &Assigned,
     first: Option<Use>,
     parameters: &[Param],
@@ -294,4 +307,20 @@ pub(crate) fn first_of_results(
         first = first_of_use(assigned, first, used);
     }
     first
+}
+
+/// The same. The results are not looked at one by one where each has a value, or an earlier use was found.
+pub(crate) fn first_of_results(
+    assigned: &Assigned,
+    first: Option<Use>,
+    parameters: &[Param],
+    results: &[Param],
+    pos: Pos,
+) -> Option<Use>
+    ensures { result ≡ uses.pick (assigned_of assigned.now) first (pure.results_from pos (length parameters.now) (map param_of results.now)) }
+{
+    if assigned.has_results(parameters.len(), results.len()) || is_found_before(first, pos) {
+        return first;
+    }
+    first_of_each_result(assigned, first, parameters, results, pos)
 }

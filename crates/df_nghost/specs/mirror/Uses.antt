@@ -1,6 +1,7 @@
 -- The use that is told first, of those that are found one after another.
-use Rattle.std.specs.Prelude.{nat_lt, Bool, List, [], ◌∷◌, Option, Some, None, if◌then◌else◌}
+use Rattle.std.specs.Prelude.{nat_lt, Bool, false, List, [], ◌∷◌, Option, Some, None, if◌then◌else◌}
 use Rattle.std.specs.List.{flat_map}
+use Rattle.df_base.specs.declared.pos.Pos.{Pos}
 use Rattle.df_lang.specs.Stmt.{Measure}
 use Rattle.df_lang.specs.Assignment as pure
 use Rattle.df_lang.specs.Assignment.{Assigned, has_value, reads}
@@ -30,6 +31,11 @@ earlier (Some first) used = if precedes used first then Some used else Some firs
 abbrev pub least : Option Use → List pure.Use → Option Use
 least first [] = first
 least first (u ∷ others) = least (earlier first (shown u)) others
+
+-- a use was found at an earlier place
+abbrev pub is_found_before : Option Use → Pos → Bool
+is_found_before None pos = false
+is_found_before (Some first) pos = by_number first.pos.line pos.line (nat_lt first.pos.col pos.col)
 
 -- whether it has a value, or else is told
 abbrev pub first_with : Bool → Option Use → Use → Option Use

@@ -9,7 +9,7 @@ pub loop-local-init : goal.loop-local-init
 loop-local-init c =
     let begun : Assigned = record c.args.self.now { reached = c.args.join.now.reached } in
     record {
-      assigned = rw c.deref-local-items.ensures.value (marks_joined c.args.join.now.reached c.args.self.now.values.items c.args.join.now.taken.items);
+      assigned = rw c.deref-local-items.ensures.value (marks_joined c.args.join.now.reached c.args.self.now.values.listed.items c.args.join.now.taken.items);
       extends = extends_same c.args.self.now begun refl (λ k. refl);
     }
 

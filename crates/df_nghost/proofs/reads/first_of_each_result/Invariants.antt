@@ -3,7 +3,7 @@ use Rattle.df_lang.specs.DeclView.{param_of}
 use Rattle.df_lang.specs.Assignment.{results_from}
 use Rattle.df_nghost.specs.mirror.Known.{assigned_of}
 use Rattle.df_nghost.specs.mirror.Uses.{pick}
-use Rattle.df_nghost.proofs.reads.first_of_results.Given as goal
+use Rattle.df_nghost.proofs.reads.first_of_each_result.Given as goal
 
 -- the first so far and of what is left is the first of all
 abbrev pub invariant-loop-index : goal.invariant-loop-index
