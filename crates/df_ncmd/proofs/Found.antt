@@ -1,20 +1,20 @@
 -- What the getters of `clap` find.
 use Rattle.std.proofs.Common.{◌≡◌, ◌∙◌, ap, ap₂, sym, refl, [], ℕ, Bool, true, false, List, Option, Some, None, Result, Ok, Err, arith}
 use Rattle.std.specs.Box.{box_value}
-use Rattle.std.specs.Prelude.{unwrap_or, nat_le, ◌≤◌, nat_lt, ◌<◌, ◌^◌, ◌&&◌}
+use Rattle.std.specs.Prelude.{unwrap_or, nat_le, ◌≤◌, nat_lt, ◌<◌, ◌^◌, ◌&&◌, if◌then◌else◌}
 use Rattle.std.specs.Option.{option_and_then, option_map}
+use Rattle.std.specs.Result.{result_ok}
 use Rattle.std.specs.Borrow.{Bor}
 use Rattle.std.specs.Str.Parse.{IsNumeral, ParsesUnsigned, digits_value, without_leading_plus}
-use Rattle.std.proofs.lemmas.Bool.{leb-true, le-leb}
-use Rattle.clap.specs.Words.{ReadsOne, Row, Text, first_of, first_value, found_of, one_of, one_text, rows_of, subcommand_name_of, subcommand_rows_of}
-use Rattle.clap.specs.ValueTests.{accepts, is_numeral, is_unsigned_in}
+use Rattle.std.proofs.Math.Bool.{and-true}
+use Rattle.clap.specs.Words.{Row, Text, first_of, first_value, found_of, rows_of, subcommand_name_of, subcommand_rows_of}
+use Rattle.clap.specs.ValueTests.{is_numeral, is_unsigned_in}
 use Rattle.clap.specs.declared.builder.value_parser.ValueParser.TheVariants as parsers
 use Rattle.clap.specs.declared.parser.matches.ArgMatches.{ArgMatches}
 use Rattle.clap.specs.declared.parser.matches.ArgMatches.TheViews.{out-ArgMatches, out-SubCommand}
-use Rattle.clap.specs.declared.parser.matches.Found.{Found}
 use Rattle.clap.proofs.ValueTestLemmas.{Accepts-accepts, accepts-Accepts}
-use Rattle.clap.proofs.WalkLemmas.{both, first_value-rows, one_text-rows}
-use Rattle.df_ncmd.specs.Line.{named, number_in, number_of, of_named, within}
+use Rattle.clap.proofs.WalkLemmas.{both, first_value-rows}
+use Rattle.df_ncmd.specs.Line.{is_decimal, named, number_in, of_named, value_of, within}
 use Rattle.df_ncmd.specs.View.{rows_in}
 
 -- the text that `get_str` finds
@@ -32,36 +32,36 @@ passes text numeral small =
     let all = both _ _ (Accepts-accepts false (parsers.Unsigned 0 n) text (numeral, small, low, high)) in
     (all.0, (both _ _ all.1).0)
 
-module _ {E : Type 0} (G : List ℕ → Result ℕ E → Type 0) (only : (u : List ℕ) (x : Result ℕ E) → G u x → ParsesUnsigned 64 10 u x) where
-  -- a text that `parse` reads has its number where the test passes, and else is out of the limits
-  number_read : (least greatest : ℕ) (text : Text) (r : Option ℕ) → ReadsOne G text r
-      → number_in least greatest text ≡ option_and_then (within least greatest) r
-  number_read least greatest text (Some n) reads =
-      let parsed = only text (Ok n) reads in
-      let tests = passes text parsed.0.0 parsed.0.1 in
-      rw (parsed.1, tests.0, tests.1) refl
-  number_read least greatest text None reads = go (is_unsigned_in least greatest text) refl
+module _ {E : Type 0} (text : Text) (r : Result ℕ E) (parsed : ParsesUnsigned 64 10 text r) where
+  -- a text that `parse` refuses is out of all limits
+  pub unread : result_ok r ≡ None → (least greatest : ℕ) → number_in least greatest text ≡ None
+  unread none least greatest = go r parsed none (is_unsigned_in least greatest text) refl
     where
-      go : (b : Bool) → is_unsigned_in least greatest text ≡ b → number_in least greatest text ≡ None
-      go true passed =
+      go : (s : Result ℕ E) → ParsesUnsigned 64 10 text s → result_ok s ≡ None
+          → (b : Bool) → is_unsigned_in least greatest text ≡ b → number_in least greatest text ≡ None
+      go (Ok n) reads none b test = absurd cc
+      go (Err e) refused none true passed =
           let accepted = accepts-Accepts false (parsers.Unsigned least greatest) text passed in
-          absurd (only text (Err reads.0) reads.1 (accepted.0, accepted.1))
-      go false refused = rw refused refl
+          absurd (refused (accepted.0, accepted.1))
+      go (Err e) refused none false test = rw test refl
 
-  -- the number that `get_one` finds
-  pub number_found : (m : ArgMatches) (id : Text) (least greatest : ℕ) (r : Option ℕ)
-      → (one_text (found_of m) id ≡ None → r ≡ None)
-      → ((text : Text) → one_text (found_of m) id ≡ Some text → ReadsOne G text r)
-      → option_and_then (within least greatest) r ≡ number_of id least greatest (rows_in m)
-  number_found m id least greatest r none value =
-      go (one_text (found_of m) id) refl ∙ ap (option_and_then (number_in least greatest)) (one_text-rows (found_of m) id)
+  -- what `parse` reads
+  pub read : (n : ℕ) → result_ok r ≡ Some n → (IsNumeral 10 (without_leading_plus text) × (value_of text < 2 ^ 64)) × (n ≡ value_of text)
+  read n some = go r parsed some
     where
-      go : (o : Option Text) → one_text (found_of m) id ≡ o
-          → option_and_then (within least greatest) r ≡ option_and_then (number_in least greatest) (one_text (found_of m) id)
-      go None is =
-          ap (option_and_then (within least greatest)) (none is) ∙ sym (ap (option_and_then (number_in least greatest)) is)
-      go (Some text) is =
-          sym (number_read least greatest text r (value text is)) ∙ sym (ap (option_and_then (number_in least greatest)) is)
+      go : (s : Result ℕ E) → ParsesUnsigned 64 10 text s → result_ok s ≡ Some n
+          → (IsNumeral 10 (without_leading_plus text) × (value_of text < 2 ^ 64)) × (n ≡ value_of text)
+      go (Ok m) reads some = (reads.0, ap (λ (o : Option ℕ). unwrap_or o n) (sym some) ∙ reads.1)
+      go (Err e) refused some = absurd cc
+
+  -- the number, where the text is its decimal
+  pub written : (n : ℕ) → result_ok r ≡ Some n → is_decimal text ≡ true
+      → (least greatest : ℕ) → option_and_then (within least greatest) (Some n) ≡ number_in least greatest text
+  written n some decimal least greatest =
+      let found = read n some in
+      let tests = passes text found.0.0 found.0.1 in
+      let within_both = nat_le least (value_of text) && nat_le (value_of text) greatest in
+      rw (found.1, tests.0, tests.1, decimal) (ap (λ (b : Bool). if b then Some (value_of text) else None) (sym (and-true within_both)))
 
 -- two ways to find a pair, part by part
 paired : {X : Type 0} (name : X → Text) (rows : X → List Row) (s : Option X) (r : Option (Bor Text × Bor ArgMatches))

@@ -1,29 +1,29 @@
 -- The numbers of a command lie within their limits.
 use Rattle.std.proofs.Common.{◌≡◌, ap, refl, subst, ℕ, Bool, true, false, List, [], ◌∷◌, codes, Option, Some, None}
-use Rattle.std.specs.Prelude.{◌≤◌, if◌then◌else◌, unwrap_or}
+use Rattle.std.specs.Prelude.{◌≤◌, ◌&&◌, if◌then◌else◌, unwrap_or}
 use Rattle.std.specs.Option.{option_and_then, option_map}
-use Rattle.std.specs.Str.Parse.{digits_value, without_leading_plus}
 use Rattle.df_base.specs.Names.{same_text}
-use Rattle.clap.specs.Words.{Kinds, Row, Text, fault_of, first_of, one_of, subcommand_of}
+use Rattle.clap.specs.Words.{Kinds, Row, Text, fault_of, first_of, subcommand_of}
 use Rattle.clap.specs.ValueTests.{is_unsigned_in}
 use Rattle.clap.specs.declared.builder.value_parser.ValueParser.TheVariants as parsers
 use Rattle.clap.proofs.ValueTestLemmas.{accepts-Accepts}
-use Rattle.df_ncmd.specs.Line.{Budget, Build, Bulk, Check, Command, IsBudget, IsInLimits, Prove, Run, Verify, budget_in, line_of, named, number_in, number_of, of_build, of_bulk, of_check, of_named, of_numbers, of_prove, of_run, of_verify, unless_faulty}
+use Rattle.df_ncmd.specs.Line.{Budget, Build, Bulk, Check, Command, IsBudget, IsInLimits, Prove, Run, Verify, budget_in, is_decimal, line_of, named, number_in, number_of, of_build, of_bulk, of_check, of_named, of_numbers, of_prove, of_run, of_verify, unless_faulty, value_of}
 use Rattle.df_ncmd.specs.Table.{table}
 
 text_in_limits : (least greatest : ℕ) (text : Text) (n : ℕ) → number_in least greatest text ≡ Some n → (least ≤ n) × (n ≤ greatest)
-text_in_limits least greatest text n is = go (is_unsigned_in least greatest text) refl is
+text_in_limits least greatest text n is = go (is_unsigned_in least greatest text) refl (is_decimal text) is
   where
-    go : (b : Bool) → is_unsigned_in least greatest text ≡ b
-        → (if b then Some (digits_value 10 (without_leading_plus text)) else None) ≡ Some n → (least ≤ n) × (n ≤ greatest)
-    go true passed is =
+    go : (b : Bool) → is_unsigned_in least greatest text ≡ b → (d : Bool)
+        → (if b && d then Some (value_of text) else None) ≡ Some n → (least ≤ n) × (n ≤ greatest)
+    go true passed true is =
         let accepted = accepts-Accepts false (parsers.Unsigned least greatest) text passed in
-        let same : digits_value 10 (without_leading_plus text) ≡ n = ap (λ (o : Option ℕ). unwrap_or o n) is in
+        let same : value_of text ≡ n = ap (λ (o : Option ℕ). unwrap_or o n) is in
         subst (λ k. (least ≤ k) × (k ≤ greatest)) same (accepted.2, accepted.3)
-    go false refused is = cc
+    go true passed false is = cc
+    go false refused d is = cc
 
 number_in_limits : (id : Text) (least greatest : ℕ) (rows : List Row) (n : ℕ) → number_of id least greatest rows ≡ Some n → (least ≤ n) × (n ≤ greatest)
-number_in_limits id least greatest rows n is = go (one_of id rows) is
+number_in_limits id least greatest rows n is = go (first_of id rows) is
   where
     go : (o : Option Text) → option_and_then (number_in least greatest) o ≡ Some n → (least ≤ n) × (n ≤ greatest)
     go None is = cc

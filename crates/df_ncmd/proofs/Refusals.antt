@@ -1,13 +1,12 @@
 -- What a fault of `clap` says of the words.
-use Rattle.std.proofs.Common.{◌≡◌, ◌⊎◌, refl, List, [], ◌∷◌, inl, inr, Option, Some, None, Result, Ok, Err, sym, ap, subst, ◌∙◌, true}
+use Rattle.std.proofs.Common.{◌≡◌, ◌⊎◌, refl, List, [], ◌∷◌, inl, inr, Option, None, Result, Ok, Err, sym, ap, subst, ◌∙◌, true}
 use Rattle.std.specs.Borrow.{Bor}
 use Rattle.std.specs.Option.{option_and_then, option_map}
 use Rattle.std.specs.Result.{IsErr, IsErrAnd}
 use Rattle.std.proofs.lemmas.Result.{err_from_is_err_and}
-use Rattle.clap.specs.Words.{App, FailsBy, HasKind, HasMatchesOf, IsAmong, Kinds, Text, fault_of, found_of, is_simple_and_free, kind_of, rows_of, subcommand_name_of, subcommand_of, subcommand_rows_of}
+use Rattle.clap.specs.Words.{App, FailsBy, HasMatchesOf, IsAmong, Kinds, Text, fault_of, found_of, is_simple_and_free, kind_of, rows_of, subcommand_name_of, subcommand_of, subcommand_rows_of}
 use Rattle.clap.specs.declared.error.Error.{Error}
 use Rattle.clap.specs.declared.error.kind.ErrorKind.{ErrorKind}
-use Rattle.clap.specs.declared.error.kind.ErrorKind.TheVariants as kinds
 use Rattle.clap.specs.declared.error.kind.ErrorKind.TheVariants.{OutOfMemory}
 use Rattle.clap.specs.declared.parser.matches.ArgMatches.{ArgMatches}
 use Rattle.df_ncmd.specs.declared.command.Command as declared

@@ -1,6 +1,6 @@
 -- What is built for `clap`: arguments and commands that are those of the table.
 use Rattle.std.specs.Prelude.{◌≡◌, false, []}
-use Rattle.clap.specs.Words.{App, Rule, Shape, app_of, rule_of}
+use Rattle.clap.specs.Words.{Rule, Shape, app_of, rule_of}
 use Rattle.clap.specs.declared.builder.command.Command.TheViews.{out-Command}
 use Rattle.clap.specs.declared.builder.arg.Arg.{Arg}
 use Rattle.clap.specs.declared.builder.command.Command.{Command}

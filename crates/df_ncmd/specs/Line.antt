@@ -1,9 +1,10 @@
 -- Command lines: which command words ask for.
-use Rattle.std.specs.Prelude.{◌≡◌, ◌≤◌, ℕ, nat_le, Bool, ◌&&◌, List, [], ◌∷◌, codes, Option, Some, None, if◌then◌else◌, ⊤}
+use Rattle.std.specs.Prelude.{◌≤◌, ℕ, nat_le, Bool, ◌&&◌, List, [], ◌∷◌, codes, Option, Some, None, if◌then◌else◌, ⊤}
 use Rattle.std.specs.Option.{option_and_then, option_map}
+use Rattle.std.specs.Fmt.{decimal}
 use Rattle.std.specs.Str.Parse.{digits_value, without_leading_plus}
 use Rattle.df_base.specs.Names.{same_text}
-use Rattle.clap.specs.Words.{Kinds, Row, Text, fault_of, first_of, one_of, subcommand_of}
+use Rattle.clap.specs.Words.{Kinds, Row, Text, fault_of, first_of, subcommand_of}
 use Rattle.clap.specs.ValueTests.{is_unsigned_in}
 use Rattle.df_ncmd.specs.Table.{table}
 
@@ -23,13 +24,21 @@ pub data Command : Type 0 where
 
 -- ---- what was given
 
--- the number that a text writes, where it lies within the limits
+-- the number that `clap` reads from a text, behind a plus or zeros
+abbrev pub value_of : Text → ℕ
+value_of text = digits_value 10 (without_leading_plus text)
+
+-- the text is the decimal of its number, so it has no sign and no zero in front
+abbrev pub is_decimal : Text → Bool
+is_decimal text = same_text (decimal (value_of text)) text
+
+-- the number that a text is the decimal of, where it lies within the limits
 abbrev pub number_in : ℕ → ℕ → Text → Option ℕ
 number_in least greatest text =
-    if is_unsigned_in least greatest text then Some (digits_value 10 (without_leading_plus text)) else None
+    if is_unsigned_in least greatest text && is_decimal text then Some (value_of text) else None
 
 abbrev pub number_of : Text → ℕ → ℕ → List Row → Option ℕ
-number_of id least greatest rows = option_and_then (number_in least greatest) (one_of id rows)
+number_of id least greatest rows = option_and_then (number_in least greatest) (first_of id rows)
 
 -- the same of a number
 abbrev pub within : ℕ → ℕ → ℕ → Option ℕ

@@ -29,17 +29,15 @@ pub record Lines : Type 0 where
   pub file_of_a_name : Asks (codes "verify" ∷ codes "help" ∷ []) (Verify (codes "help") usual)
   pub empty_log : Asks (codes "build" ∷ codes "p" ∷ codes "--proof=" ∷ []) (Build (codes "p") (Some []) usual)
 
--- zeros or a plus may stand in front; the ends of ranges
+-- the ends of ranges
 pub record Numbers : Type 0 where
-  pub zeros_in_front : Asks (codes "verify" ∷ codes "p" ∷ codes "--steps" ∷ codes "007" ∷ []) (Verify (codes "p") (record { steps = 7; rounds = 4 }))
-  pub plus_in_front : Asks (codes "verify" ∷ codes "p" ∷ codes "--steps=+5" ∷ []) (Verify (codes "p") (record { steps = 5; rounds = 4 }))
   pub most_steps : Asks (codes "verify" ∷ codes "p" ∷ codes "--steps" ∷ codes "10000000" ∷ []) (Verify (codes "p") (record { steps = 10000000; rounds = 4 }))
   pub most_rounds : Asks (codes "verify" ∷ codes "p" ∷ codes "--rounds" ∷ codes "8" ∷ []) (Verify (codes "p") (record { steps = 20000; rounds = 8 }))
   pub no_fuel : Asks (codes "run" ∷ codes "p" ∷ codes "--fuel" ∷ codes "0" ∷ []) (Run (codes "p") None usual 0)
   pub most_fuel : Asks (codes "run" ∷ codes "p" ∷ codes "--fuel" ∷ codes "9223372036854775807" ∷ []) (Run (codes "p") None usual 9223372036854775807)
   pub greatest_seed : Asks (codes "bulk" ∷ codes "9223372036854775807" ∷ codes "1" ∷ []) (Bulk 9223372036854775807 1)
 
--- what is missing, past a range, doubled, no number, of another command, no option, or a call for help
+-- what is missing, past a range, doubled, no decimal, of another command, no option, or a call for help
 pub record Usages : Type 0 where
   pub no_words : IsUsage ([])
   pub no_command : IsUsage (codes "p" ∷ [])
@@ -59,6 +57,10 @@ pub record Usages : Type 0 where
   pub log_doubled : IsUsage (codes "build" ∷ codes "--proof" ∷ codes "l" ∷ codes "p" ∷ codes "--proof=l" ∷ [])
   pub no_number : IsUsage (codes "verify" ∷ codes "p" ∷ codes "--steps" ∷ [])
   pub empty_number : IsUsage (codes "verify" ∷ codes "p" ∷ codes "--rounds=" ∷ [])
+  pub zeros_in_front : IsUsage (codes "verify" ∷ codes "p" ∷ codes "--steps" ∷ codes "007" ∷ [])
+  pub plus_in_front : IsUsage (codes "verify" ∷ codes "p" ∷ codes "--steps=+5" ∷ [])
+  pub zero_in_front_of_seed : IsUsage (codes "bulk" ∷ codes "00" ∷ codes "1" ∷ [])
+  pub plus_in_front_of_count : IsUsage (codes "bulk" ∷ codes "0" ∷ codes "+1" ∷ [])
   pub minus_in_front : IsUsage (codes "verify" ∷ codes "p" ∷ codes "--steps" ∷ codes "-5" ∷ [])
   pub minus_behind_sign : IsUsage (codes "verify" ∷ codes "p" ∷ codes "--steps=-5" ∷ [])
   pub no_digits : IsUsage (codes "verify" ∷ codes "p" ∷ codes "--steps" ∷ codes "5x" ∷ [])

@@ -16,12 +16,12 @@ pub fn lines()
     ensures { shown.Lines }
 {}
 
-/// How numbers may be written, and the ends of their ranges.
+/// The ends of the ranges of numbers.
 pub fn numbers()
     ensures { shown.Numbers }
 {}
 
-/// Words that are no line.
+/// Words that are no line, also by how a number is written.
 pub fn usages()
     ensures { shown.Usages }
 {}

@@ -1,9 +1,10 @@
 //! What was given for arguments.
 
-ghost use Rattle.std.specs.Prelude.{◌≡◌, IfOk, string_bytes};
+ghost use Rattle.std.specs.Prelude.{◌≡◌, ◌<◌, ◌^◌, ℕ, IfOk, string_bytes};
 ghost use Rattle.std.specs.Option.{option_and_then, option_map};
+ghost use Rattle.std.specs.Str.Parse.{IsNumeral, without_leading_plus};
 ghost use Rattle.clap.specs.Words.{first_of};
-ghost use Rattle.df_ncmd.specs.Line.{budget_in, number_of, within};
+ghost use Rattle.df_ncmd.specs.Line.{budget_in, is_decimal, number_in, number_of, value_of, within};
 ghost use Rattle.df_ncmd.specs.View.{Gives, budget_of, rows_in};
 
 use crate::command::{Budget, LineFault};
@@ -40,6 +41,25 @@ pub(crate) fn text(alloc: Global, given: &ArgMatches, id: &str) -> Result<String
     }
 }
 
+/// Whether a number, as `parse` takes it, has no plus and no zeros in front.
+fn is_plain(text: &str) -> bool
+    ensures { IsNumeral 10 (without_leading_plus text.now) → value_of text.now < 2 ^ 64 → result ≡ is_decimal text.now }
+{
+    match text.as_bytes().first() {
+        Some(b'0') => text.len() == 1,
+        Some(first) => *first != b'+',
+        None => false,
+    }
+}
+
+/// The number that the text is the decimal of.
+fn number_written(text: &str) -> Option<u64>
+    ensures { (least greatest : ℕ) → option_and_then (within least greatest) result ≡ number_in least greatest text.now }
+{
+    let number = text.parse::<u64>().ok()?;
+    if is_plain(text) { Some(number) } else { None }
+}
+
 /// The number, where it lies within the limits.
 fn in_limits(number: Option<u64>, least: u64, greatest: u64) -> Option<u64>
     ensures { result ≡ option_and_then (within least greatest) number }
@@ -55,7 +75,8 @@ fn in_limits(number: Option<u64>, least: u64, greatest: u64) -> Option<u64>
 fn number_given(given: &ArgMatches, id: &str, least: u64, greatest: u64) -> Option<u64>
     ensures { result ≡ number_of id.now least greatest (rows_in given.now) }
 {
-    in_limits(given.get_one::<u64>(id), least, greatest)
+    let text = text_given(given, id)?;
+    in_limits(number_written(text), least, greatest)
 }
 
 /// A number that is there.
