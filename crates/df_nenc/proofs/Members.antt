@@ -1,0 +1,81 @@
+-- One more member of a junction, an implication or an equivalence.
+use Rattle.std.proofs.Common.{◌≡◌, ℕ, List, [], ◌∷◌, ◌++◌, Option, Some, refl, sym, ap, ◌∙◌}
+use Rattle.std.specs.List.{AllByRecursion}
+use Rattle.df_base.specs.declared.pos.Pos.{Pos}
+use Rattle.df_lang.specs.declared.expr.Junction.{Junction as JunctionKind}
+use Rattle.df_lang.specs.Expr.{Expr, Members, member}
+use Rattle.df_form.specs.Node.{Node}
+use Rattle.df_nterm.specs.Term.{Term, Truths, iff}
+use Rattle.df_nterm.specs.Expressions.{Environment, Condition, term_of, members_of, implication_of, equivalence_of, joined, goes_on, narrowed_path, conditions_under, conditions_of_junction, conditions_of_implication, conditions_of_members}
+use Rattle.df_nenc.specs.declared.condition.Condition as declared
+use Rattle.df_nenc.specs.Tree.{tree_at, trees_at, trees_in, path_in}
+use Rattle.df_nenc.specs.Growing.{Grows}
+use Rattle.df_nenc.specs.Standing.{IsTerm, Stands, IsPath}
+use Rattle.df_nenc.specs.Encoding.{Encodes}
+use Rattle.df_nenc.specs.Siblings.{implied_by}
+use Rattle.df_nenc.proofs.Growing.{tree_stays, path_same, grows_then, stays}
+use Rattle.df_nenc.proofs.Adding.{adds_as}
+use Rattle.df_nenc.proofs.Joining.{terms_with, with_next, implied_next, trees_next}
+use Rattle.df_nenc.proofs.Reaching.{Reached, reached_next, reached_grown}
+
+module _ (tree : Term) (conditions : List Condition) (old now : List Node) (terms : List ℕ) (path : Option ℕ) (env : Environment) (before after : List declared.Condition) (at : Pos) (e : Expr) (rest : Members) where
+  -- the member's operand, at a place whose formula is known
+  operand_next : (middle next : List Node) (inner : Option ℕ) (on : Option Term) (operand : ℕ) (between : List declared.Condition) (rest_tree next_tree : Term) (rest_conditions next_conditions : List Condition)
+      → trees_in middle terms ≡ env → path_in middle inner ≡ on
+      → Reached tree conditions old now before after rest_tree rest_conditions → Grows now middle → Encodes middle next terms inner e operand after between
+      → next_tree ≡ rest_tree → rest_conditions ≡ conditions_under env on e ++ next_conditions
+      → Reached tree conditions old next before between next_tree next_conditions
+  operand_next middle next inner on operand between rest_tree next_tree rest_conditions next_conditions same_env same_path r g h same is =
+      let first : conditions_under (trees_in middle terms) (path_in middle inner) e ≡ conditions_under env on e = λ i. conditions_under (same_env i) (same_path i) e in
+      reached_next tree conditions old now next before after between rest_tree next_tree (conditions_under env on e) rest_conditions next_conditions r (grows_then now middle next g h.grows)
+      (adds_as next _ (conditions_under env on e) after between first h.adds) same is
+
+  pub junction_next : (j : JunctionKind) (n1 n2 next : List Node) (formulas : List ℕ) (last guard p operand : ℕ) (between : List declared.Condition)
+      → trees_in n2 terms ≡ env
+      → Reached tree conditions old now before after (joined j (terms_with (trees_at now formulas) (members_of env (member at e rest)))) (conditions_of_junction env (path_in now path) j (tree_at now last) (member at e rest))
+      → AllByRecursion (IsTerm Truths now) formulas → IsPath now path
+      → Grows now n1 → Stands n1 (goes_on j (tree_at now last)) guard → Grows n1 n2 → Stands n2 (narrowed_path (path_in n1 path) (tree_at n1 guard)) p
+      → Encodes n2 next terms (Some p) e operand after between
+      → Reached tree conditions old next before between (joined j (terms_with (trees_at next (formulas ++ operand ∷ [])) (members_of env rest))) (conditions_of_junction env (path_in next (Some p)) j (tree_at next operand) rest)
+  junction_next j n1 n2 next formulas last guard p operand between same_env r all is_path g1 guard_is g2 path_is h =
+      let on : Term = narrowed_path (path_in now path) (goes_on j (tree_at now last)) in
+      let outer = path_same now n1 path g1 is_path in
+      let inner : tree_at n2 p ≡ on = path_is.tree_is ∙ (λ i. narrowed_path (outer i) (guard_is.tree_is i)) in
+      let later : tree_at next p ≡ on = (stays n2 next on p h.grows (record { below = path_is.below; tree_is = inner })).tree_is in
+      let made : tree_at next operand ≡ term_of env e = h.stands.tree_is ∙ ap (λ (v : Environment). term_of v e) same_env in
+      let trees = trees_next now next formulas operand (term_of env e) (grows_then now n1 next g1 (grows_then n1 n2 next g2 h.grows)) all made in
+      operand_next n2 next (Some p) (Some on) operand between _ _ _ (conditions_of_junction env (path_in next (Some p)) j (tree_at next operand) rest) same_env (ap Some inner) r (grows_then now n1 n2 g1 g2) h
+      (ap (λ z. joined j (terms_with z (members_of env rest))) trees ∙ ap (joined j) (with_next (trees_at now formulas) (term_of env e) (members_of env rest)))
+      (λ i. conditions_under env (Some on) e ++ conditions_of_junction env (Some (sym later i)) j (sym made i) rest)
+
+  pub implication_next : (n1 next : List Node) (premises : List ℕ) (last p operand : ℕ) (between : List declared.Condition)
+      → trees_in n1 terms ≡ env
+      → Reached tree conditions old now before after (implied_by (trees_at now premises) (implication_of env (tree_at now last) (member at e rest))) (conditions_of_implication env (path_in now path) (tree_at now last) (member at e rest))
+      → AllByRecursion (IsTerm Truths now) premises → IsTerm Truths now last
+      → Grows now n1 → Stands n1 (narrowed_path (path_in now path) (tree_at now last)) p
+      → Encodes n1 next terms (Some p) e operand after between
+      → Reached tree conditions old next before between (implied_by (trees_at next (premises ++ last ∷ [])) (implication_of env (tree_at next operand) rest)) (conditions_of_implication env (path_in next (Some p)) (tree_at next operand) rest)
+  implication_next n1 next premises last p operand between same_env r all is_last g path_is h =
+      let on : Term = narrowed_path (path_in now path) (tree_at now last) in
+      let later : tree_at next p ≡ on = (stays n1 next on p h.grows path_is).tree_is in
+      let made : tree_at next operand ≡ term_of env e = h.stands.tree_is ∙ ap (λ (v : Environment). term_of v e) same_env in
+      let grows = grows_then now n1 next g h.grows in
+      let trees = trees_next now next premises last (tree_at now last) grows all (tree_stays Truths now next last grows is_last) in
+      operand_next n1 next (Some p) (Some on) operand between _ _ _ (conditions_of_implication env (path_in next (Some p)) (tree_at next operand) rest) same_env (ap Some path_is.tree_is) r g h
+      ((λ i. implied_by (trees i) (implication_of env (made i) rest)) ∙ implied_next (trees_at now premises) (tree_at now last) (implication_of env (term_of env e) rest))
+      (λ i. conditions_under env (Some on) e ++ conditions_of_implication env (Some (sym later i)) (sym made i) rest)
+
+  pub equivalence_next : (n1 next : List Node) (on : Option Term) (formula operand n : ℕ) (between : List declared.Condition)
+      → trees_in now terms ≡ env → path_in now path ≡ on
+      → Reached tree conditions old now before after (equivalence_of env (tree_at now formula) (member at e rest)) (conditions_of_members env on (member at e rest))
+      → IsTerm Truths now formula
+      → Encodes now n1 terms path e operand after between → Grows n1 next → Stands next (iff (tree_at n1 formula) (tree_at n1 operand)) n
+      → Reached tree conditions old next before between (equivalence_of env (tree_at next n) rest) (conditions_of_members env on rest)
+  equivalence_next n1 next on formula operand n between same_env same_path r is_formula h g made =
+      let kept = tree_stays Truths now n1 formula h.grows is_formula in
+      let right : tree_at n1 operand ≡ term_of env e = h.stands.tree_is ∙ ap (λ (v : Environment). term_of v e) same_env in
+      let a : Term = iff (tree_at now formula) (term_of env e) in
+      let is : tree_at next n ≡ a = made.tree_is ∙ (λ i. iff (kept i) (right i)) in
+      let first : conditions_under (trees_in now terms) (path_in now path) e ≡ conditions_under env on e = λ i. conditions_under (same_env i) (same_path i) e in
+      let after_operand = reached_next tree conditions old now n1 before after between _ (equivalence_of env a rest) (conditions_under env on e) _ (conditions_of_members env on rest) r h.grows (adds_as n1 _ (conditions_under env on e) after between first h.adds) refl refl in
+      reached_grown tree conditions old n1 next before between (equivalence_of env a rest) (equivalence_of env (tree_at next n) rest) (conditions_of_members env on rest) (conditions_of_members env on rest) after_operand g (ap (λ z. equivalence_of env z rest) is) refl

@@ -1,0 +1,98 @@
+-- Operands of one level are well typed, and so is each of them.
+use Rattle.std.proofs.Common.{◌≡◌, ℕ, true, ◌<◌, ◌+◌, suc, List, ◌∷◌, length, drop, get_or, add-one, drop-cons, refl, sym, ap}
+use Rattle.df_base.specs.declared.pos.Pos.{Pos}
+use Rattle.df_lang.specs.declared.ty.Ty.{Ty}
+use Rattle.df_lang.specs.declared.ty.Ty.TheVariants as types
+use Rattle.df_lang.specs.declared.expr.AddendOperator.{AddendOperator}
+use Rattle.df_lang.specs.declared.expr.FactorOperator.{FactorOperator}
+use Rattle.df_lang.specs.declared.expr.Comparison.{Comparison}
+use Rattle.df_lang.specs.declared.expr.Comparison.TheVariants as comparisons
+use Rattle.df_lang.specs.Expr.{Expr, Addends, addend, Factors, factor, Members, member, Links, link}
+use Rattle.df_lang.specs.Program.{Program}
+use Rattle.df_lang.specs.Typing.{compares, is_expr, are_addends, are_factors, are_members, are_links}
+use Rattle.df_form.specs.Node.{Node}
+use Rattle.df_mean.proofs.Cases.{both, three}
+use Rattle.df_nterm.specs.Term.{Numbers, Truths, sort_of_type}
+use Rattle.df_nterm.proofs.Sorted.{integer_sort, arithmetic_integer}
+use Rattle.df_nenc.specs.Growing.{Grows}
+use Rattle.df_nenc.specs.Standing.{may_compare}
+use Rattle.df_nenc.specs.Siblings.{AreAddendsOver, AreFactorsOver, AreMembersOver, AreLinksOver}
+use Rattle.df_nenc.proofs.Growing.{locals_stay}
+use Rattle.df_nenc.proofs.Parts.{Part, part}
+
+-- what is left of a list, from an element on
+pub drop_next : {X : Type 0} (xs : List X) (i : ℕ) (x : X) → x ≡ get_or xs i x → i < length xs → drop i xs ≡ x ∷ drop (i + 1) xs
+drop_next {X = X} xs i x is less = rw (add-one, drop-cons xs i x) (ap (λ (y : X). y ∷ drop (suc i) xs) (sym is))
+
+compared_types : (p : Program) (ty : Ty) (c : Comparison) → compares p ty c ≡ true → may_compare ty c ≡ true
+compared_types p ty comparisons.Equal h = refl
+compared_types p ty comparisons.NotEqual h = refl
+compared_types p types.Char comparisons.Less h = refl
+compared_types p types.Char comparisons.AtMost h = refl
+compared_types p types.Char comparisons.Greater h = refl
+compared_types p types.Char comparisons.AtLeast h = refl
+compared_types p types.Int comparisons.Less h = refl
+compared_types p types.Int comparisons.AtMost h = refl
+compared_types p types.Int comparisons.Greater h = refl
+compared_types p types.Int comparisons.AtLeast h = refl
+compared_types p types.Nat comparisons.Less h = refl
+compared_types p types.Nat comparisons.AtMost h = refl
+compared_types p types.Nat comparisons.Greater h = refl
+compared_types p types.Nat comparisons.AtLeast h = refl
+compared_types p (types.Newtype id) comparisons.Less h = refl
+compared_types p (types.Newtype id) comparisons.AtMost h = refl
+compared_types p (types.Newtype id) comparisons.Greater h = refl
+compared_types p (types.Newtype id) comparisons.AtLeast h = refl
+compared_types p types.Bool comparisons.Less h = cc
+compared_types p types.Bool comparisons.AtMost h = cc
+compared_types p types.Bool comparisons.Greater h = cc
+compared_types p types.Bool comparisons.AtLeast h = cc
+
+module _ (nodes : List Node) (terms : List ℕ) where
+  pub addend_part : (o : AddendOperator) (at : Pos) (e : Expr) (rest : Addends) → AreAddendsOver nodes terms (addend o at e rest) → Part Numbers nodes terms e
+  addend_part o at e rest h =
+      let is = both (is_expr h.program h.types h.ty e) (are_addends h.program h.types h.ty rest) h.typed in
+      part h.program h.types h.ty Numbers nodes terms e is.0 (integer_sort h.program h.ty (arithmetic_integer h.program h.ty h.arithmetic)) h.locals
+
+  pub factor_part : (o : FactorOperator) (at : Pos) (e : Expr) (rest : Factors) → AreFactorsOver nodes terms (factor o at e rest) → Part Numbers nodes terms e
+  factor_part o at e rest h =
+      let is = both (is_expr h.program h.types h.ty e) (are_factors h.program h.types h.ty rest) h.typed in
+      part h.program h.types h.ty Numbers nodes terms e is.0 (integer_sort h.program h.ty (arithmetic_integer h.program h.ty h.arithmetic)) h.locals
+
+  pub member_part : (at : Pos) (e : Expr) (rest : Members) → AreMembersOver nodes terms (member at e rest) → Part Truths nodes terms e
+  member_part at e rest h =
+      let is = both (is_expr h.program h.types types.Bool e) (are_members h.program h.types rest) h.typed in
+      part h.program h.types types.Bool Truths nodes terms e is.0 refl h.locals
+
+  pub link_part : (ty : Ty) (c : Comparison) (at : Pos) (e : Expr) (rest : Links) → AreLinksOver nodes terms ty (link c at e rest) → Part (sort_of_type ty) nodes terms e
+  link_part ty c at e rest h =
+      let is = three (compares h.program ty c) (is_expr h.program h.types ty e) (are_links h.program h.types ty rest) h.typed in
+      part h.program h.types ty (sort_of_type ty) nodes terms e is.1 refl h.locals
+
+  pub link_compares : (ty : Ty) (c : Comparison) (at : Pos) (e : Expr) (rest : Links) → AreLinksOver nodes terms ty (link c at e rest) → may_compare ty c ≡ true
+  link_compares ty c at e rest h = compared_types h.program ty c (three (compares h.program ty c) (is_expr h.program h.types ty e) (are_links h.program h.types ty rest) h.typed).0
+
+module _ (before now : List Node) (terms : List ℕ) (g : Grows before now) where
+  pub addends_left : (o : AddendOperator) (at : Pos) (e : Expr) (rest : Addends) → AreAddendsOver before terms (addend o at e rest) → AreAddendsOver now terms rest
+  addends_left o at e rest h = record { program = h.program; types = h.types; ty = h.ty; arithmetic = h.arithmetic; typed = (both (is_expr h.program h.types h.ty e) (are_addends h.program h.types h.ty rest) h.typed).1; locals = locals_stay before now h.types terms g h.locals }
+
+  pub factors_left : (o : FactorOperator) (at : Pos) (e : Expr) (rest : Factors) → AreFactorsOver before terms (factor o at e rest) → AreFactorsOver now terms rest
+  factors_left o at e rest h = record { program = h.program; types = h.types; ty = h.ty; arithmetic = h.arithmetic; typed = (both (is_expr h.program h.types h.ty e) (are_factors h.program h.types h.ty rest) h.typed).1; locals = locals_stay before now h.types terms g h.locals }
+
+  pub members_left : (at : Pos) (e : Expr) (rest : Members) → AreMembersOver before terms (member at e rest) → AreMembersOver now terms rest
+  members_left at e rest h = record { program = h.program; types = h.types; typed = (both (is_expr h.program h.types types.Bool e) (are_members h.program h.types rest) h.typed).1; locals = locals_stay before now h.types terms g h.locals }
+
+  pub links_left : (ty : Ty) (c : Comparison) (at : Pos) (e : Expr) (rest : Links) → AreLinksOver before terms ty (link c at e rest) → AreLinksOver now terms ty rest
+  links_left ty c at e rest h = record { program = h.program; types = h.types; typed = (three (compares h.program ty c) (is_expr h.program h.types ty e) (are_links h.program h.types ty rest) h.typed).2; locals = locals_stay before now h.types terms g h.locals }
+
+  pub addends_stay : (rest : Addends) → AreAddendsOver before terms rest → AreAddendsOver now terms rest
+  addends_stay rest h = record { program = h.program; types = h.types; ty = h.ty; arithmetic = h.arithmetic; typed = h.typed; locals = locals_stay before now h.types terms g h.locals }
+
+  pub factors_stay : (rest : Factors) → AreFactorsOver before terms rest → AreFactorsOver now terms rest
+  factors_stay rest h = record { program = h.program; types = h.types; ty = h.ty; arithmetic = h.arithmetic; typed = h.typed; locals = locals_stay before now h.types terms g h.locals }
+
+  pub members_stay : (rest : Members) → AreMembersOver before terms rest → AreMembersOver now terms rest
+  members_stay rest h = record { program = h.program; types = h.types; typed = h.typed; locals = locals_stay before now h.types terms g h.locals }
+
+  pub links_stay : (ty : Ty) (rest : Links) → AreLinksOver before terms ty rest → AreLinksOver now terms ty rest
+  links_stay ty rest h = record { program = h.program; types = h.types; typed = h.typed; locals = locals_stay before now h.types terms g h.locals }

@@ -1,0 +1,91 @@
+-- Operations take parts whose trees are of their sorts.
+use Rattle.std.proofs.Common.{◌≡◌, ℕ, ◌<◌, true, ◌&&◌, List, [], ◌∷◌, map, length, nat_lt, refl, sym, ap, ◌∙◌}
+use Rattle.std.specs.List.{AllByRecursion, list_all}
+use Rattle.std.proofs.lemmas.Bool.{lt-ltb, and_from}
+use Rattle.df_lang.specs.declared.ty.Ty.{Ty}
+use Rattle.df_lang.specs.declared.ty.Ty.TheVariants as types
+use Rattle.df_form.specs.declared.node.Sort.{Sort}
+use Rattle.df_form.specs.declared.node.Sort.TheVariants as sorts
+use Rattle.df_form.specs.declared.node.Op.{Op}
+use Rattle.df_form.specs.declared.node.Op.TheVariants as ops
+use Rattle.df_form.specs.Node.{Node, same_sort}
+use Rattle.df_form.specs.Sorting.{is_well_sorted, sort_at, takes}
+use Rattle.df_form.specs.Types as form
+use Rattle.df_nterm.specs.Term.{Truths, sort_of_type}
+use Rattle.df_nenc.specs.Tree.{sort_of, sort_of_term, tree_at}
+use Rattle.df_nenc.specs.Standing.{IsTerm}
+use Rattle.df_nenc.proofs.Trees.{tree_sort}
+
+same : (a b : Sort) → sort_of a ≡ sort_of b → a ≡ b
+same sorts.Number sorts.Number e = refl
+same sorts.Number sorts.Truth e = cc
+same sorts.Number sorts.Character e = cc
+same sorts.Truth sorts.Number e = cc
+same sorts.Truth sorts.Truth e = refl
+same sorts.Truth sorts.Character e = cc
+same sorts.Character sorts.Number e = cc
+same sorts.Character sorts.Truth e = cc
+same sorts.Character sorts.Character e = refl
+
+-- a type has the same sort in both
+pub type_sort : (ty : Ty) → sort_of (form.sort_of_type ty) ≡ sort_of_type ty
+type_sort (types.Newtype id) = refl
+type_sort types.Int = refl
+type_sort types.Nat = refl
+type_sort types.Bool = refl
+type_sort types.Char = refl
+
+pub node_sort : (sort : Sort) (nodes : List Node) (n : ℕ) → IsTerm (sort_of sort) nodes n → sort_at nodes n ≡ sort
+node_sort sort nodes n t = same (sort_at nodes n) sort (tree_sort nodes n t.below ∙ t.sort_is)
+
+-- two terms of one sort
+pub alike_sort : (nodes : List Node) (a b : ℕ) → a < length nodes → b < length nodes → sort_of_term (tree_at nodes a) ≡ sort_of_term (tree_at nodes b) → sort_at nodes a ≡ sort_at nodes b
+alike_sort nodes a b at_a at_b e = same (sort_at nodes a) (sort_at nodes b) (tree_sort nodes a at_a ∙ e ∙ sym (tree_sort nodes b at_b))
+
+-- ---- one and two parts
+
+pub takes_one : (op : Op) (sort : Sort) (nodes : List Node) (a : ℕ) → takes op (sort ∷ []) ≡ true → IsTerm (sort_of sort) nodes a → is_well_sorted nodes (record { op = op; parts = a ∷ [] }) ≡ true
+takes_one op sort nodes a e t =
+    let is = node_sort sort nodes a t in
+    let sorts : takes op (sort_at nodes a ∷ []) ≡ true = ap (λ s. takes op (s ∷ [])) is ∙ e in
+    and_from (nat_lt a (length nodes) && true) (takes op (sort_at nodes a ∷ [])) (and_from (nat_lt a (length nodes)) true (lt-ltb a (length nodes) t.below) refl) sorts
+
+takes_parts : (op : Op) (nodes : List Node) (a b : ℕ) → a < length nodes → b < length nodes → takes op (sort_at nodes a ∷ sort_at nodes b ∷ []) ≡ true → is_well_sorted nodes (record { op = op; parts = a ∷ b ∷ [] }) ≡ true
+takes_parts op nodes a b at_a at_b e =
+    and_from (nat_lt a (length nodes) && (nat_lt b (length nodes) && true)) (takes op (sort_at nodes a ∷ sort_at nodes b ∷ []))
+    (and_from (nat_lt a (length nodes)) (nat_lt b (length nodes) && true) (lt-ltb a (length nodes) at_a) (and_from (nat_lt b (length nodes)) true (lt-ltb b (length nodes) at_b) refl)) e
+
+pub takes_two : (op : Op) (sort : Sort) (nodes : List Node) (a b : ℕ) → takes op (sort ∷ sort ∷ []) ≡ true → IsTerm (sort_of sort) nodes a → IsTerm (sort_of sort) nodes b → is_well_sorted nodes (record { op = op; parts = a ∷ b ∷ [] }) ≡ true
+takes_two op sort nodes a b e t u =
+    let one = node_sort sort nodes a t in
+    let other = node_sort sort nodes b u in
+    let parts : sort_at nodes a ∷ sort_at nodes b ∷ [] ≡ sort ∷ sort ∷ [] = λ i. one i ∷ other i ∷ [] in
+    takes_parts op nodes a b t.below u.below (ap (takes op) parts ∙ e)
+
+same_itself : (s : Sort) → same_sort s s ≡ true
+same_itself sorts.Number = refl
+same_itself sorts.Truth = refl
+same_itself sorts.Character = refl
+
+pub takes_alike : (nodes : List Node) (a b : ℕ) → a < length nodes → b < length nodes → sort_of_term (tree_at nodes a) ≡ sort_of_term (tree_at nodes b) → is_well_sorted nodes (record { op = ops.Equal; parts = a ∷ b ∷ [] }) ≡ true
+takes_alike nodes a b at_a at_b e = takes_parts ops.Equal nodes a b at_a at_b (ap (λ s. same_sort s (sort_at nodes b)) (alike_sort nodes a b at_a at_b e) ∙ same_itself (sort_at nodes b))
+
+-- that a value is of a type
+pub takes_typed : (ty : Ty) (nodes : List Node) (a : ℕ) → IsTerm (sort_of_type ty) nodes a → is_well_sorted nodes (record { op = ops.Is ty; parts = a ∷ [] }) ≡ true
+takes_typed ty nodes a t = takes_one (ops.Is ty) (form.sort_of_type ty) nodes a (same_itself (form.sort_of_type ty)) (record { below = t.below; sort_is = t.sort_is ∙ sym (type_sort ty) })
+
+-- ---- any number of formulas
+
+all_there : (nodes : List Node) (ns : List ℕ) → AllByRecursion (IsTerm Truths nodes) ns → list_all (λ n. nat_lt n (length nodes)) ns ≡ true
+all_there nodes [] all = refl
+all_there nodes (n ∷ ns) all = and_from (nat_lt n (length nodes)) (list_all (λ n. nat_lt n (length nodes)) ns) (lt-ltb n (length nodes) all.0.below) (all_there nodes ns all.1)
+
+all_truths : (nodes : List Node) (ns : List ℕ) → AllByRecursion (IsTerm Truths nodes) ns → list_all (same_sort sorts.Truth) (map (sort_at nodes) ns) ≡ true
+all_truths nodes [] all = refl
+all_truths nodes (n ∷ ns) all = and_from (same_sort sorts.Truth (sort_at nodes n)) (list_all (same_sort sorts.Truth) (map (sort_at nodes) ns)) (ap (same_sort sorts.Truth) (node_sort sorts.Truth nodes n all.0)) (all_truths nodes ns all.1)
+
+pub takes_all : (nodes : List Node) (ns : List ℕ) → AllByRecursion (IsTerm Truths nodes) ns → is_well_sorted nodes (record { op = ops.And; parts = ns }) ≡ true
+takes_all nodes ns all = and_from (list_all (λ n. nat_lt n (length nodes)) ns) (list_all (same_sort sorts.Truth) (map (sort_at nodes) ns)) (all_there nodes ns all) (all_truths nodes ns all)
+
+pub takes_any : (nodes : List Node) (ns : List ℕ) → AllByRecursion (IsTerm Truths nodes) ns → is_well_sorted nodes (record { op = ops.Or; parts = ns }) ≡ true
+takes_any nodes ns all = and_from (list_all (λ n. nat_lt n (length nodes)) ns) (list_all (same_sort sorts.Truth) (map (sort_at nodes) ns)) (all_there nodes ns all) (all_truths nodes ns all)

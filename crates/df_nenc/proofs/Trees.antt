@@ -1,0 +1,97 @@
+-- The trees of nodes: each is that of its operation over those of its parts, and more nodes change none.
+use Rattle.std.proofs.Common.{◌≡◌, ℕ, suc, ◌<◌, ◌≤◌, List, [], ◌∷◌, ◌++◌, map, take, drop, length, Some, slice_get, nat_lt, refl, sym, ap, ◌∙◌, arith, append_assoc, ltb-true}
+use Rattle.std.specs.Option.{option_map_or}
+use Rattle.std.proofs.lemmas.List.{get_or_append_left, get_or_at, length-take-le, append-nil}
+use Rattle.std.proofs.lemmas.Option.{slice_get_within}
+use Rattle.df_lemmas.proofs.Lists.{get_below, get_split, map_agree}
+use Rattle.df_form.specs.declared.node.Sort.TheVariants as sorts
+use Rattle.df_form.specs.declared.node.Op.{Op}
+use Rattle.df_form.specs.declared.node.Op.TheVariants as ops
+use Rattle.df_form.specs.Node.{Node}
+use Rattle.df_form.specs.Sorting as sorting
+use Rattle.df_form.proofs.Values.{AreSorted, parts_below}
+use Rattle.df_nterm.specs.Term.{Term, node, terms_of}
+use Rattle.df_nenc.specs.Tree.{op_of, sort_of, sort_of_op, sort_of_term, tree_among, tree_over, trees_after, tree_at}
+use Rattle.df_nenc.specs.Growing.{Grows}
+
+onto : (known : List Term) (nodes : List Node) → (rest : List Term) × (trees_after known nodes ≡ known ++ rest) × (length rest ≡ length nodes)
+onto known [] = ([], sym (append-nil known), refl)
+onto known (one ∷ nodes) =
+    let others = onto (known ++ tree_over known one ∷ []) nodes in
+    (tree_over known one ∷ others.0, others.1 ∙ append_assoc known (tree_over known one ∷ []) others.0, ap suc others.2)
+
+after_append : (known : List Term) (first second : List Node) → trees_after known (first ++ second) ≡ trees_after (trees_after known first) second
+after_append known [] second = refl
+after_append known (one ∷ first) second = after_append (known ++ tree_over known one ∷ []) first second
+
+length-trees : (nodes : List Node) → length (trees_after [] nodes) ≡ length nodes
+length-trees nodes = let all = onto [] nodes in ap (λ z. length z) all.1 ∙ all.2
+
+-- more nodes
+pub grown_tree : (before now : List Node) → Grows before now → (n : ℕ) → n < length before → tree_at now n ≡ tree_at before n
+unfolding tree_at
+grown_tree before now g n lt =
+    let known = trees_after [] before in
+    let all = onto known g.more in
+    let is : trees_after [] now ≡ known ++ all.0 = ap (trees_after []) g.is ∙ after_append [] before g.more ∙ all.1 in
+    let inside : n < length known = omega (arith, length-trees before) in
+    ap (λ z. tree_among z n) is ∙ get_or_append_left known all.0 _ n inside
+
+front_grows : (nodes : List Node) (n : ℕ) (one : Node) → slice_get nodes n ≡ Some one → Grows (take n nodes) nodes
+front_grows nodes n one e = record { more = one ∷ drop (suc n) nodes; is = get_split nodes n one e }
+
+tree_here : (nodes : List Node) (n : ℕ) (one : Node) → slice_get nodes n ≡ Some one → tree_at nodes n ≡ tree_over (trees_after [] (take n nodes)) one
+unfolding tree_at
+tree_here nodes n one e =
+    let lt = slice_get_within nodes n one e in
+    let le : n ≤ length nodes = omega arith in
+    let front = take n nodes in
+    let long : length front ≡ n = length-take-le n nodes le in
+    let known = trees_after [] front in
+    let rest = drop (suc n) nodes in
+    let tree = tree_over known one in
+    let others = onto (known ++ tree ∷ []) rest in
+    let is : trees_after [] nodes ≡ (known ++ tree ∷ []) ++ others.0 = ap (trees_after []) (get_split nodes n one e) ∙ after_append [] front (one ∷ rest) ∙ others.1 in
+    let place : length known ≡ n = length-trees front ∙ long in
+    ap (λ z. tree_among z n) (is ∙ append_assoc known (tree ∷ []) others.0) ∙ get_or_at known tree others.0 _ n place
+
+over_front : (front : List Node) (one : Node) → tree_over (trees_after [] front) one ≡ node (op_of one.op) (terms_of (map (tree_at front) one.parts))
+unfolding tree_at
+over_front front one = refl
+
+-- of an operation, those of its parts
+pub tree_of : (nodes : List Node) (n : ℕ) (one : Node) → AreSorted nodes → slice_get nodes n ≡ Some one → tree_at nodes n ≡ node (op_of one.op) (terms_of (map (tree_at nodes) one.parts))
+tree_of nodes n one all e =
+    let lt = slice_get_within nodes n one e in
+    let le : n ≤ length nodes = omega arith in
+    let front = take n nodes in
+    let long : length front ≡ n = length-take-le n nodes le in
+    let same : map (tree_at nodes) one.parts ≡ map (tree_at front) one.parts = map_agree (λ part. nat_lt part n) (tree_at nodes) (tree_at front) one.parts
+    (λ part below. grown_tree front nodes (front_grows nodes n one e) part (omega (arith, long, ltb-true part n below))) (parts_below nodes n one all e) in
+    tree_here nodes n one e ∙ over_front front one ∙ ap (λ z. node (op_of one.op) (terms_of z)) (sym same)
+
+op_sort : (op : Op) → sort_of (sorting.sort_of op) ≡ sort_of_op (op_of op)
+op_sort (ops.Number n) = refl
+op_sort (ops.Free free) = refl
+op_sort ops.Plus = refl
+op_sort ops.Times = refl
+op_sort ops.Div = refl
+op_sort ops.Mod = refl
+op_sort ops.Code = refl
+op_sort ops.Chr = refl
+op_sort (ops.Is ty) = refl
+op_sort ops.Equal = refl
+op_sort ops.AtMost = refl
+op_sort ops.Not = refl
+op_sort ops.And = refl
+op_sort ops.Or = refl
+op_sort ops.Implies = refl
+op_sort ops.Iff = refl
+
+-- a node has the sort of its tree
+pub tree_sort : (nodes : List Node) (n : ℕ) → n < length nodes → sort_of (sorting.sort_at nodes n) ≡ sort_of_term (tree_at nodes n)
+tree_sort nodes n lt =
+    let at = get_below nodes n lt in
+    let one = at.0 in
+    let is : slice_get nodes n ≡ Some one = at.1 in
+    ap (λ o. sort_of (option_map_or (λ (node : Node). sorting.sort_of node.op) o sorts.Number)) is ∙ op_sort one.op ∙ sym (ap sort_of_term (tree_here nodes n one is))

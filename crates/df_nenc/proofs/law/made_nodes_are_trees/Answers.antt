@@ -1,0 +1,5 @@
+use Rattle.df_nenc.proofs.Made.{made_tree}
+use Rattle.df_nenc.proofs.law.made_nodes_are_trees.Goals as goal
+
+pub returns : goal.returns
+returns c = made_tree

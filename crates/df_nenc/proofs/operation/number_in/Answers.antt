@@ -1,0 +1,10 @@
+use Rattle.std.proofs.Common.{subst, refl}
+use Rattle.df_form.specs.declared.node.Op.TheVariants as ops
+use Rattle.df_form.specs.declared.node.Sort.TheVariants as sorts
+use Rattle.df_nterm.specs.Term.{sort_of_type}
+use Rattle.df_nenc.specs.Standing.{IsTerm}
+use Rattle.df_nenc.proofs.Sorts.{takes_one}
+use Rattle.df_nenc.proofs.operation.number_in.Goals as goal
+
+pub one-requires : goal.one-requires
+one-requires c = takes_one ops.Code sorts.Character c.args.nodes.now c.args.value refl (subst (λ v. IsTerm (sort_of_type v) c.args.nodes.now c.args.value) c.in-Char.is c.requires)

@@ -1,0 +1,8 @@
+use Rattle.std.proofs.Common.{refl}
+use Rattle.df_form.specs.declared.node.Op.TheVariants as ops
+use Rattle.df_form.specs.declared.node.Sort.TheVariants as sorts
+use Rattle.df_nenc.proofs.Sorts.{takes_one}
+use Rattle.df_nenc.proofs.operation.value_in.Goals as goal
+
+pub one-requires : goal.one-requires
+one-requires c = takes_one ops.Chr sorts.Number c.args.nodes.now c.args.number refl c.requires

@@ -1,0 +1,21 @@
+use Rattle.df_nterm.specs.Term.{Numbers}
+use Rattle.df_nenc.specs.Tree.{tree_at}
+use Rattle.df_nenc.proofs.Growing.{grows_then, term_stays, is_term, path_stays}
+use Rattle.df_nenc.proofs.Typed.{multiplied_is}
+use Rattle.df_nenc.proofs.Owing.{owing_factor}
+use Rattle.df_nenc.proofs.step.with_factor.Goals as goal
+
+pub owe_divisor-requires-clause-path : goal.owe_divisor-requires-clause-path
+owe_divisor-requires-clause-path c = path_stays c.args.nodes.now c.multiplied.new.nodes c.args.path c.multiplied.ensures.grows c.requires.path
+
+pub owe_divisor-requires-clause-number : goal.owe_divisor-requires-clause-number
+owe_divisor-requires-clause-number c = term_stays Numbers c.args.nodes.now c.multiplied.new.nodes c.args.operand c.multiplied.ensures.grows c.requires.operand
+
+pub owe_range-requires-clause-path : goal.owe_range-requires-clause-path
+owe_range-requires-clause-path c = path_stays c.args.nodes.now c.owe_divisor.new.nodes c.args.path (grows_then c.args.nodes.now c.multiplied.new.nodes c.owe_divisor.new.nodes c.multiplied.ensures.grows c.owe_divisor.ensures.grows) c.requires.path
+
+pub owe_range-requires-clause-number : goal.owe_range-requires-clause-number
+owe_range-requires-clause-number c = term_stays Numbers c.multiplied.new.nodes c.owe_divisor.new.nodes c.in_ok-product.product c.owe_divisor.ensures.grows (is_term _ Numbers _ _ c.in_ok-product.ensures.stands (multiplied_is c.args.operator _ _))
+
+pub returns-clause-gives : goal.returns-clause-gives
+returns-clause-gives c = owing_factor c.args.nodes.now c.multiplied.new.nodes c.owe_divisor.new.nodes c.owe_range.new.nodes c.args.path c.args.ty c.args.operator c.args.pos (tree_at c.args.nodes.now c.args.product) c.args.operand c.in_ok-product.product c.args.out.now.items c.owe_divisor.new.out.items c.owe_range.new.out.items c.multiplied.ensures.grows c.requires.path c.requires.operand c.in_ok-product.ensures.stands c.owe_divisor.ensures.grows c.in_ok-owe_divisor.ensures.adds c.owe_range.ensures.grows c.in_ok-owe_range.ensures.adds

@@ -1,0 +1,61 @@
+//! Nodes by their operations.
+#![tactic(auto, using(crate::proofs::Growing::grows_not, crate::proofs::Growing::grows_then))]
+
+ghost use Rattle.std.specs.Prelude.{◌≡◌, true, [], ◌∷◌, map, IfOk};
+ghost use Rattle.df_form.specs.Sorting.{is_well_sorted};
+ghost use Rattle.df_nterm.specs.Term as trees;
+ghost use Rattle.df_nenc.specs.Tree.{op_of, tree_at};
+ghost use Rattle.df_nenc.specs.Growing.{Grows};
+ghost use Rattle.df_nenc.specs.Standing.{Stands};
+
+use df_form::{Node, Nodes, Op, Term};
+use std::alloc::{AllocError, Global};
+
+/// The number of the operation on these parts, which is added last where it does not stand yet.
+pub(crate) fn make(
+    alloc: Global,
+    nodes: &mut Nodes,
+    op: Op,
+    parts: &[Term],
+) -> Result<Term, AllocError>
+    requires { is_well_sorted nodes.old (record { op = op; parts = parts.now }) ≡ true }
+    ensures stands { IfOk result (λ n. Stands nodes.new (trees.node (op_of op) (trees.terms_of (map (tree_at nodes.old) parts.now))) n) }
+    ensures grows { Grows nodes.old nodes.new }
+{
+    let _ = nodes.len();
+    let parts = Vec::from_slice(alloc, parts)?;
+    nodes.add(Node { op, parts })
+}
+
+/// The number of an operation that takes no parts.
+pub(crate) fn none(alloc: Global, nodes: &mut Nodes, op: Op) -> Result<Term, AllocError>
+    requires { is_well_sorted nodes.old (record { op = op; parts = [] }) ≡ true }
+    ensures stands { IfOk result (λ n. Stands nodes.new (trees.node (op_of op) trees.no_term) n) }
+    ensures grows { Grows nodes.old nodes.new }
+{
+    make(alloc, nodes, op, &[])
+}
+
+/// The number of the operation on one part.
+pub(crate) fn one(alloc: Global, nodes: &mut Nodes, op: Op, part: Term) -> Result<Term, AllocError>
+    requires { is_well_sorted nodes.old (record { op = op; parts = part ∷ [] }) ≡ true }
+    ensures stands { IfOk result (λ n. Stands nodes.new (trees.of_one (op_of op) (tree_at nodes.old part)) n) }
+    ensures grows { Grows nodes.old nodes.new }
+{
+    make(alloc, nodes, op, &[part])
+}
+
+/// The number of the operation on two parts.
+pub(crate) fn two(
+    alloc: Global,
+    nodes: &mut Nodes,
+    op: Op,
+    left: Term,
+    right: Term,
+) -> Result<Term, AllocError>
+    requires { is_well_sorted nodes.old (record { op = op; parts = left ∷ right ∷ [] }) ≡ true }
+    ensures stands { IfOk result (λ n. Stands nodes.new (trees.of_two (op_of op) (tree_at nodes.old left) (tree_at nodes.old right)) n) }
+    ensures grows { Grows nodes.old nodes.new }
+{
+    make(alloc, nodes, op, &[left, right])
+}

@@ -1,0 +1,25 @@
+use Rattle.std.proofs.Common.{[], ◌∷◌, ◌++◌, sym, ap, ◌∙◌, subst}
+use Rattle.df_lang.specs.declared.ty.Ty.TheVariants as types
+use Rattle.df_lang.specs.ExprView.{expr_of}
+use Rattle.df_nterm.specs.Expressions.{conditions_of}
+use Rattle.df_nenc.specs.Tree.{trees_in}
+use Rattle.df_nmeas.specs.Measuring.{Measures, distance_in}
+use Rattle.df_nmeas.proofs.Distance.{low_over, high_term, low_term, distance_made}
+use Rattle.df_nmeas.proofs.making.distance.Goals as goal
+
+pub defined-requires-2 : goal.defined-requires-2
+defined-requires-2 c = low_over c.args.terms.now (expr_of c.args.low.now) (expr_of c.args.high.now) c.args.nodes.now c.defined.new.nodes c.defined.new.nodes c.in_ok-high.high c.in_ok-high.high c.args.out.now.items c.defined.new.out.items c.defined.new.out.items c.requires.low c.defined.ensures.grows
+
+pub summed-requires-clause-left : goal.summed-requires-clause-left
+summed-requires-clause-left c = high_term c.args.terms.now (expr_of c.args.low.now) (expr_of c.args.high.now) c.args.nodes.now c.defined.new.nodes c.defined-2.new.nodes c.in_ok-high.high c.in_ok-low.low c.args.out.now.items c.defined.new.out.items c.defined-2.new.out.items c.requires.high c.in_ok-high.ensures.gives c.defined-2.ensures.grows
+
+pub summed-requires-clause-right : goal.summed-requires-clause-right
+summed-requires-clause-right c = low_term c.args.terms.now (expr_of c.args.low.now) (expr_of c.args.high.now) c.args.nodes.now c.defined.new.nodes c.defined-2.new.nodes c.in_ok-high.high c.in_ok-low.low c.args.out.now.items c.defined.new.out.items c.defined-2.new.out.items c.requires.low c.defined.ensures.grows c.in_ok-low.ensures.gives
+
+pub returns-clause-measures : goal.returns-clause-measures
+returns-clause-measures c =
+    let env = trees_in c.args.nodes.now c.args.terms.now in
+    subst (λ made. Measures (distance_in env (expr_of c.args.low.now) (expr_of c.args.high.now)) (conditions_of env (expr_of c.args.high.now) ++ conditions_of env (expr_of c.args.low.now)) c.args.nodes.now c.summed.new.nodes made c.args.out.now.items c.defined-2.new.out.items)
+    (sym (c.in_ok-push.ensures.items ∙ ap (λ before. before ++ record { ty = types.Int; value = c.in_ok-value.value } ∷ []) c.new-members.ensures.items))
+    (distance_made c.args.terms.now (expr_of c.args.low.now) (expr_of c.args.high.now) c.args.nodes.now c.defined.new.nodes c.defined-2.new.nodes c.in_ok-high.high c.in_ok-low.low c.args.out.now.items c.defined.new.out.items c.defined-2.new.out.items c.summed.new.nodes c.in_ok-value.value c.requires.low
+    c.in_ok-high.ensures.gives c.in_ok-low.ensures.gives c.summed.ensures.grows c.in_ok-value.ensures.stands)
