@@ -1,9 +1,11 @@
 //! What follows of compiled code.
 
-ghost use Rattle.std.specs.Prelude.{ℕ};
-ghost use Rattle.df_lang.specs.Program.{Method, Program};
+ghost use Rattle.std.specs.Prelude.{◌≡◌, ℕ, true, Some};
+ghost use Rattle.df_lang.specs.Program.{Method, Program, method_at};
 ghost use Rattle.df_mean.specs.Correct.{IsCorrect, IsEntry};
+ghost use Rattle.df_nmach.specs.Name.{is_name};
 ghost use Rattle.df_nmach.specs.State.{Code};
+ghost use Rattle.df_nback.specs.Compiled.{has_names};
 ghost use Rattle.df_nback.specs.Run.{IsCompiled, NeverFaultsWhereCorrect, RunsAsEntry};
 
 /// A correct entry runs on the machine without arguments, and prints what its run with ghosts prints.
@@ -15,4 +17,9 @@ pub fn the_entry_runs()
 /// of the machine faults: what the machine's runner asks for.
 pub fn compiled_code_never_faults()
     ensures { (program : Program) (code : Code) → IsCompiled program code → NeverFaultsWhereCorrect program code }
+{}
+
+/// The methods of a program have names where the method of each number has one: what `compile` asks for.
+pub fn methods_by_number_have_names()
+    ensures { (program : Program) → ((number : ℕ) (method : Method) → method_at program number ≡ Some method → is_name method.declared.text ≡ true) → has_names program ≡ true }
 {}
