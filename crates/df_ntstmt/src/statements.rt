@@ -119,6 +119,9 @@ fn whole(alloc: Global, env: &Environment<'_>, e: &Expr) -> Result<Stmt, Stop>
 fn give_back(alloc: Global, env: &Environment<'_>, pos: Pos, values: &[Expr]) -> Result<Stmt, Stop>
     ensures { Replies view.stmt_of result (statement_in env.now (source.Return pos (map expr_of values.now))) }
 {
+    if values.is_empty() {
+        return Ok(Stmt::Return { pos, update: None });
+    }
     let places = returned(alloc, env, pos)?;
     let update = may_update(alloc, env, Rule::Returned, pos, &places, values)?;
     Ok(Stmt::Return { pos, update })
