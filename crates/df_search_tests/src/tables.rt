@@ -160,9 +160,9 @@ const TABLE: [(Plain, i128); 42] = [
     ((Op::Mod, &[1, 5]), 1),
     ((Op::Div, &[0, 4]), 0),
     ((Op::Mod, &[0, 4]), 0),
-    // 33: characters, also of a number that none has
+    // 33: characters, `D` of a number that none has
     ((Op::Chr, &[0]), 5),
-    ((Op::Chr, &[8]), 0),
+    ((Op::Chr, &[8]), 68),
     ((Op::Code, &[33]), 5),
     ((Op::Equal, &[33, 34]), 0),
     // 37: types
