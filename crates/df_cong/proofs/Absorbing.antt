@@ -8,7 +8,7 @@ use Rattle.df_form.specs.declared.log.Pair.{Pair}
 use Rattle.df_cong.specs.declared.partition.Partition.{Partition}
 use Rattle.df_cong.specs.PartitionView.{state_of, Extends}
 use Rattle.df_cong.specs.mirror.State.{State, label_of, list_at, moved, moved_all}
-use Rattle.df_cong.specs.mirror.Partition.{IsPartition, IsJoined}
+use Rattle.df_cong.specs.mirror.Partition.{IsJoined}
 use Rattle.df_cong.specs.mirror.Closure.{CanAbsorb, CanJoin, Absorbs, Joins}
 use Rattle.df_cong.proofs.Moving.{AreNodes, first_there, there_cases, are_more}
 use Rattle.df_cong.proofs.Joining.{inside, joins}

@@ -1,5 +1,5 @@
 -- Looking at nodes that wait.
-use Rattle.std.proofs.Common.{◌≡◌, ℕ, zero, suc, ◌+◌, ◌<◌, ◌≤◌, ◌==◌, ◌⊎◌, inl, inr, Bool, true, false, not, ◌&&◌, List, [], ◌∷◌, ◌++◌, length, get_or, take, drop, find, cond, Contains, Option, None, Some, slice_get, refl, sym, ap, ◌∙◌, subst, arith, append_assoc, append-nil, eqb-true, true≢false}
+use Rattle.std.proofs.Common.{◌≡◌, ℕ, ◌+◌, ◌<◌, ◌≤◌, ◌==◌, ◌⊎◌, inl, inr, Bool, true, false, not, List, [], ◌∷◌, ◌++◌, length, get_or, take, find, cond, Contains, None, Some, slice_get, refl, sym, ap, ◌∙◌, subst, arith, append_assoc, append-nil, eqb-true, true≢false}
 use Rattle.std.specs.List.{list_any}
 use Rattle.std.proofs.lemmas.Bool.{and_parts, and_from, not-true, or_cases, eqb-false}
 use Rattle.std.proofs.lemmas.Nat.{mod_below}
@@ -9,10 +9,10 @@ use Rattle.df_form.specs.declared.log.Pair.{Pair}
 use Rattle.df_form.specs.Node.{Node}
 use Rattle.df_kern.specs.CongruenceLine.{is_congruent}
 use Rattle.df_cong.specs.declared.partition.Partition.{Partition}
-use Rattle.df_cong.specs.PartitionView.{state_of, Extends}
+use Rattle.df_cong.specs.PartitionView.{state_of}
 use Rattle.df_cong.specs.mirror.State.{State, label_of, list_at, entered}
-use Rattle.df_cong.specs.mirror.Partition.{IsPartition, IsJoined, class_count}
-use Rattle.df_cong.specs.mirror.Closure.{AreAlike, bucket_of, mixed, HasTwin, IsBucketOf, StandsBut, AreUsers, CanJoin, Absorbs, Joins, pair_of, alike_to, apart_from, Enters}
+use Rattle.df_cong.specs.mirror.Partition.{IsPartition, class_count}
+use Rattle.df_cong.specs.mirror.Closure.{AreAlike, bucket_of, mixed, HasTwin, IsBucketOf, StandsBut, AreUsers, CanJoin, Joins, pair_of, alike_to, apart_from, Enters}
 use Rattle.df_cong.specs.mirror.Steps.{IsReady, Advances, Closes}
 use Rattle.df_cong.proofs.Moving.{first_there, later_there, there_cases}
 use Rattle.df_cong.proofs.Alike.{alike_tested, tested_alike}

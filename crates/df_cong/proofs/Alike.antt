@@ -1,5 +1,5 @@
 -- Nodes that are alike.
-use Rattle.std.proofs.Common.{◌≡◌, ℕ, ◌%◌, ◌==◌, ◌&&◌, Bool, true, List, [], ◌∷◌, length, Contains, Option, None, Some, slice_get, refl, sym, ap, ◌∙◌, subst, eqb-true}
+use Rattle.std.proofs.Common.{◌≡◌, ℕ, ◌==◌, true, List, [], ◌∷◌, Contains, Option, None, Some, slice_get, refl, sym, ap, ◌∙◌, subst, eqb-true}
 use Rattle.std.specs.List.{AllZip}
 use Rattle.std.specs.Cmp.Lexicographic.{pointwise}
 use Rattle.std.proofs.lemmas.Bool.{and_parts, and_from}
@@ -11,8 +11,7 @@ use Rattle.df_lemmas.proofs.Numbers.{equal_self}
 use Rattle.df_kern.specs.Classes.{is_together}
 use Rattle.df_kern.specs.CongruenceLine.{are_congruent, is_congruent}
 use Rattle.df_cong.specs.Labels.{HaveOneLabel}
-use Rattle.df_cong.specs.mirror.State.{State, label_of}
-use Rattle.df_cong.specs.mirror.Closure.{AreAlike, mixed_with, mixed, bucket_of}
+use Rattle.df_cong.specs.mirror.Closure.{AreAlike, mixed_with, mixed}
 use Rattle.df_cong.proofs.Moving.{first_there, later_there}
 
 -- ---- parts

@@ -1,9 +1,7 @@
 -- What held literals come to.
-use Rattle.std.proofs.Common.{◌≡◌, ℕ, zero, suc, Bool, true, false, ◌&&◌, List, [], ◌∷◌, ◌++◌, map, take, length, Contains, Result, Ok, Err, OnOk, OnErr, refl, sym, ap, ◌∙◌, subst}
-use Rattle.std.specs.List.{list_all}
+use Rattle.std.proofs.Common.{◌≡◌, ℕ, zero, suc, true, false, List, [], ◌∷◌, ◌++◌, map, take, Contains, Result, Ok, Err, OnOk, OnErr, refl, sym, ap, ◌∙◌, subst}
 use Rattle.std.proofs.lemmas.Bool.{and_parts, and_from}
 use Rattle.df_form.specs.declared.log.Lit.{Lit}
-use Rattle.df_form.specs.declared.log.Pair.{Pair}
 use Rattle.df_form.specs.Node.{Node}
 use Rattle.df_form.specs.Sorting.{is_formula}
 use Rattle.df_form.specs.Clause.{negation, are_literals}

@@ -1,10 +1,9 @@
 -- Held literals clash exactly where the least congruence contradicts them.
-use Rattle.std.proofs.Common.{◌≡◌, ℕ, zero, suc, ℤ, ◌==◌, ◌⊎◌, inl, inr, Bool, true, false, not, ◌&&◌, ◌||◌, List, [], ◌∷◌, ◌++◌, map, Contains, Option, None, Some, slice_get, refl, sym, ap, subst, ◌∙◌, arith, eqb-true, true≢false, if◌then◌else◌, int_eq}
+use Rattle.std.proofs.Common.{◌≡◌, ℕ, zero, suc, ℤ, ◌==◌, ◌⊎◌, inl, inr, Bool, true, false, not, ◌&&◌, ◌||◌, List, [], ◌∷◌, ◌++◌, map, Contains, Option, None, Some, refl, sym, ap, subst, ◌∙◌, arith, eqb-true, true≢false, if◌then◌else◌, int_eq}
 use Rattle.std.specs.Option.{option_or}
-use Rattle.std.specs.List.{list_any, list_all}
+use Rattle.std.specs.List.{list_any}
 use Rattle.std.proofs.lemmas.Bool.{and_parts, and_from, or_cases, or_left, or_right, not-true}
 use Rattle.std.proofs.lemmas.Bool.Decides.{Decides-int_eq}
-use Rattle.std.proofs.lemmas.Option.{same_Some}
 use Rattle.std.proofs.lemmas.List.Elements.{Contains-append_right}
 use Rattle.df_lemmas.proofs.Alls.{none_there}
 use Rattle.df_lemmas.proofs.Numbers.{equal_self}
@@ -15,13 +14,11 @@ use Rattle.df_form.specs.Node.{Node}
 use Rattle.df_form.specs.Sorting.{is_formula}
 use Rattle.df_form.specs.Clause.{Clause, yes, no, negation, are_literals}
 use Rattle.df_form.proofs.Literals.{negated_twice}
-use Rattle.df_row.specs.Row.{literal_number}
 use Rattle.df_kern.specs.Classes.{InOneClass}
 use Rattle.df_kern.specs.Congruence.{equality, Closes, IsCongruence}
 use Rattle.df_kern.specs.Congruence as kern
 use Rattle.df_kern.specs.CongruenceLine.{is_paired, has_positive, has_opposites, number_at, number_in, are_different, has_two_numbers}
 use Rattle.df_cong.specs.Equal.{AreEqual, IsContradicted, equals, opposites, numbers}
-use Rattle.df_cong.specs.Labels.{HaveOneLabel, AreLabels}
 use Rattle.df_cong.specs.HoldingView.{held_equalities}
 use Rattle.df_cong.specs.mirror.State.{State, label_of}
 use Rattle.df_cong.specs.mirror.Closure.{StandsBut}

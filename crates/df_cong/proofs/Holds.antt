@@ -1,24 +1,20 @@
 -- Literals are held.
-use Rattle.std.proofs.Common.{◌≡◌, ℕ, zero, suc, ◌+◌, ◌<◌, ◌≤◌, ◌⊎◌, inl, inr, Bool, true, false, not, ◌&&◌, nat_lt, List, [], ◌∷◌, ◌++◌, length, map, take, drop, get_or, Contains, Option, None, Some, slice_get, refl, sym, ap, ◌∙◌, subst, arith, append-nil, if◌then◌else◌}
-use Rattle.std.specs.List.{list_all, filter_map, cons_option}
-use Rattle.std.specs.Option.{option_and_then}
-use Rattle.std.proofs.lemmas.Bool.{and_parts, and_from, cases_lt, ltb-true}
-use Rattle.std.proofs.lemmas.List.{length-take, length_push, take_all, take_at}
-use Rattle.std.proofs.lemmas.Option.{none-some, slice_get_within}
+use Rattle.std.proofs.Common.{◌≡◌, ℕ, zero, suc, ◌+◌, ◌<◌, ◌≤◌, ◌⊎◌, inl, inr, Bool, true, false, not, List, [], ◌∷◌, ◌++◌, length, take, Contains, Option, None, slice_get, refl, sym, ap, ◌∙◌, subst, arith, append-nil, if◌then◌else◌}
+use Rattle.std.specs.List.{cons_option}
+use Rattle.std.proofs.lemmas.Bool.{cases_lt}
+use Rattle.std.proofs.lemmas.List.{length_push, take_all, take_at}
+use Rattle.std.proofs.lemmas.Option.{none-some}
 use Rattle.df_lemmas.proofs.Lists.{get_below}
-use Rattle.df_lemmas.proofs.Alls.{none_there}
 use Rattle.df_form.specs.declared.log.Lit.{Lit}
 use Rattle.df_form.specs.declared.log.Pair.{Pair}
 use Rattle.df_form.specs.Node.{Node}
-use Rattle.df_form.specs.Clause.{negation}
-use Rattle.df_form.specs.Sorting.{is_well_sorted, takes, sort_at}
-use Rattle.df_kern.specs.Congruence.{equality, negative_equality}
+use Rattle.df_kern.specs.Congruence.{equality}
 use Rattle.df_cong.specs.declared.partition.Partition.{Partition}
 use Rattle.df_cong.specs.declared.holding.Level.{Level}
 use Rattle.df_cong.specs.declared.holding.Holding.{Holding}
 use Rattle.df_cong.specs.PartitionView.{state_of, Extends}
-use Rattle.df_cong.specs.HoldingView.{held_equalities, equality_held, Equates, IsLevel, IsBelow, AreLevels, IsHolding, level_of, Pushes, RetreatsTo, Cuts}
-use Rattle.df_cong.specs.mirror.State.{State, label_of, list_at, alone, counted_from}
+use Rattle.df_cong.specs.HoldingView.{equality_held, Equates, AreLevels, IsHolding, level_of, Pushes, RetreatsTo, Cuts}
+use Rattle.df_cong.specs.mirror.State.{State, label_of, alone, counted_from}
 use Rattle.df_cong.specs.mirror.Partition.{IsPartition}
 use Rattle.df_cong.specs.mirror.Closure.{StandsBut, AreUsers, CanJoin, Joins}
 use Rattle.df_cong.specs.mirror.Steps.{IsReady, Closes}

@@ -1,11 +1,11 @@
 -- Levels, and the way back to them.
-use Rattle.std.proofs.Common.{◌≡◌, ℕ, zero, suc, ◌+◌, ◌<◌, ◌≤◌, ◌⊎◌, inl, inr, List, [], ◌∷◌, ◌++◌, length, map, take, drop, Option, None, Some, slice_get, refl, sym, ap, ◌∙◌, subst, arith}
+use Rattle.std.proofs.Common.{◌≡◌, ℕ, zero, suc, ◌<◌, ◌≤◌, ◌⊎◌, inl, inr, List, [], ◌∷◌, ◌++◌, length, map, take, drop, Some, slice_get, refl, sym, ap, ◌∙◌, subst, arith}
 use Rattle.std.specs.List.{filter_map}
-use Rattle.std.proofs.lemmas.Bool.{cases_lt, cases_eq}
-use Rattle.std.proofs.lemmas.Option.{same_Some, slice_get_within}
+use Rattle.std.proofs.lemmas.Bool.{cases_lt}
+use Rattle.std.proofs.lemmas.Option.{slice_get_within}
 use Rattle.std.proofs.lemmas.List.{length_push, length-append, length-take-le, take-append-drop, take-append-le, drop-append-le, take_all, drop_all, take-take, map_push}
 use Rattle.std.proofs.lemmas.List.Elements.{filter_map-append}
-use Rattle.df_lemmas.proofs.Lists.{get_pushed, get_below}
+use Rattle.df_lemmas.proofs.Lists.{get_pushed}
 use Rattle.df_form.specs.declared.log.Lit.{Lit}
 use Rattle.df_form.specs.declared.log.Pair.{Pair}
 use Rattle.df_form.specs.Node.{Node}
@@ -14,11 +14,10 @@ use Rattle.df_kern.specs.Congruence.{negative_equality}
 use Rattle.df_cong.specs.declared.partition.Change.{Change}
 use Rattle.df_cong.specs.declared.partition.Partition.{Partition}
 use Rattle.df_cong.specs.declared.holding.Level.{Level}
-use Rattle.df_cong.specs.declared.holding.Holding.{Holding}
 use Rattle.df_cong.specs.PartitionView.{state_of, Extends}
 use Rattle.df_cong.specs.mirror.State.{State, back}
 use Rattle.df_cong.specs.mirror.Closure.{StandsBut}
-use Rattle.df_cong.specs.HoldingView.{held_equalities, equality_held, Equates, IsLevel, IsBelow, AreLevels, IsHolding, level_of, Pushes, Retreats, Cuts}
+use Rattle.df_cong.specs.HoldingView.{held_equalities, equality_held, Equates, IsLevel, IsBelow, AreLevels, IsHolding, level_of, Retreats}
 use Rattle.df_cong.proofs.Undoing.{back_more}
 
 get_taken : {A : Type 0} (xs : List A) (count i : ℕ) → i < count → slice_get (take count xs) i ≡ slice_get xs i

@@ -19,3 +19,7 @@ pub mod Parts
 pub mod Results
 pub mod Holds
 pub mod Answering
+pub mod Telling
+pub mod Growing
+pub mod OneLater
+pub mod LaterNodes

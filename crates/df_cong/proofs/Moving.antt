@@ -1,10 +1,10 @@
 -- Nodes that are moved to another label.
-use Rattle.std.proofs.Common.{◌≡◌, ℕ, zero, suc, ◌<◌, ◌⊎◌, inl, inr, List, [], ◌∷◌, ◌++◌, length, get_or, set, Contains, refl, sym, ap, ◌∙◌, subst, arith, append_assoc, append-nil}
+use Rattle.std.proofs.Common.{◌≡◌, ℕ, zero, suc, ◌<◌, ◌⊎◌, inl, inr, List, [], ◌∷◌, ◌++◌, length, Contains, refl, sym, ap, ◌∙◌, subst, arith, append_assoc, append-nil}
 use Rattle.std.proofs.lemmas.List.{get_or-set_same, get_or-set_other, length-set}
 use Rattle.std.proofs.lemmas.List.Elements.{Contains-append_right}
 use Rattle.std.proofs.lemmas.Bool.{cases_eq}
 use Rattle.df_lemmas.proofs.Alls.{none_there}
-use Rattle.df_cong.specs.mirror.State.{State, label_of, list_at, pushed, moved, moved_all}
+use Rattle.df_cong.specs.mirror.State.{State, label_of, list_at, moved, moved_all}
 
 pub first_there : (x : ℕ) (xs : List ℕ) → Contains (x ∷ xs) x
 first_there x xs = (0, omega arith, refl)

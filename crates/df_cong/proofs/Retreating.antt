@@ -1,10 +1,10 @@
 -- Changes are taken back one by one.
-use Rattle.std.proofs.Common.{◌≡◌, ℕ, ◌+◌, ◌<◌, ◌≤◌, List, [], ◌∷◌, ◌++◌, length, take, drop, refl, sym, ap, ◌∙◌, arith, append_assoc, append-nil}
+use Rattle.std.proofs.Common.{◌≡◌, ℕ, ◌<◌, ◌≤◌, List, [], ◌∷◌, ◌++◌, length, take, drop, refl, sym, ap, ◌∙◌, arith, append_assoc, append-nil}
 use Rattle.std.proofs.lemmas.List.{length_push, drop-append-le, take-append-le, take_all, drop_all}
 use Rattle.df_cong.specs.declared.partition.Change.{Change}
 use Rattle.df_cong.specs.declared.partition.Partition.{Partition}
 use Rattle.df_form.specs.declared.log.Pair.{Pair}
-use Rattle.df_cong.specs.mirror.State.{State, undone, back}
+use Rattle.df_cong.specs.mirror.State.{undone, back}
 use Rattle.df_cong.specs.PartitionView.{state_of, Extends, UndoesLast}
 use Rattle.df_cong.proofs.Undoing.{back_more, back_last}
 

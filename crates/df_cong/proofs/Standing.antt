@@ -1,6 +1,5 @@
 -- Labels that stand: from none to those of the least congruence.
-use Rattle.std.proofs.Common.{◌≡◌, ℕ, ◌<◌, ◌≤◌, ◌%◌, ◌==◌, ◌⊎◌, inl, inr, Bool, true, false, if◌then◌else◌, List, [], ◌∷◌, ◌++◌, length, Contains, Option, None, Some, slice_get, refl, sym, ap, ◌∙◌, subst, arith, append-nil, append_assoc}
-use Rattle.std.specs.List.{AllZip}
+use Rattle.std.proofs.Common.{◌≡◌, ℕ, ◌<◌, ◌≤◌, ◌%◌, ◌==◌, ◌⊎◌, inl, inr, Bool, true, false, if◌then◌else◌, List, [], ◌∷◌, ◌++◌, length, Contains, None, Some, slice_get, refl, sym, ap, ◌∙◌, subst, append_assoc}
 use Rattle.std.proofs.lemmas.Option.{slice_get_within}
 use Rattle.std.proofs.lemmas.Bool.{cases_eq, cases_lt}
 use Rattle.std.proofs.lemmas.List.{get_or-set_same, get_or-set_other, get_or_past, length-set}
@@ -9,18 +8,17 @@ use Rattle.df_lemmas.proofs.Alls.{none_there}
 use Rattle.df_form.specs.declared.log.Pair.{Pair}
 use Rattle.df_form.specs.Node.{Node}
 use Rattle.df_kern.specs.Classes.{InOneClass, named, itself, turned, through}
-use Rattle.df_kern.specs.Congruence.{IsCongruent, AreCongruent}
+use Rattle.df_kern.specs.Congruence.{AreCongruent}
 use Rattle.df_kern.proofs.OneClass.{wider}
-use Rattle.df_cong.specs.Equal.{AreEqual}
-use Rattle.df_cong.specs.Labels.{HaveOneLabel, AreLabels}
+use Rattle.df_cong.specs.Labels.{AreLabels}
 use Rattle.df_cong.specs.mirror.State.{State, label_of, list_at, entered, alone}
-use Rattle.df_cong.specs.mirror.Partition.{IsPartition, renamed, IsJoined}
-use Rattle.df_cong.specs.mirror.Closure.{AreAlike, mixed, bucket_of, HasTwin, IsClosedBut, StandsBut, Absorbs, Joins}
+use Rattle.df_cong.specs.mirror.Partition.{renamed}
+use Rattle.df_cong.specs.mirror.Closure.{AreAlike, mixed, bucket_of, HasTwin, StandsBut, Absorbs, Joins}
 use Rattle.df_cong.proofs.Pairs.{AllAmong, class_equal, pairs_equal, congruents_join, congruents_wider}
 use Rattle.df_cong.proofs.Moving.{there_cases}
 use Rattle.df_cong.proofs.Joining.{renamed_loser}
 use Rattle.df_cong.proofs.Alike.{alike_itself}
-use Rattle.df_cong.proofs.StillClosed.{still_one, closed_joined, missing, settled, congruent_alike, equal_joined, linked}
+use Rattle.df_cong.proofs.StillClosed.{closed_joined, missing, settled, congruent_alike, equal_joined, linked}
 use Rattle.df_cong.proofs.Starting.{own_label, alone_is, buckets_long}
 
 -- ---- the labels at the end are those of the least congruence

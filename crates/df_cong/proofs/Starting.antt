@@ -1,9 +1,9 @@
 -- Each node alone.
-use Rattle.std.proofs.Common.{◌≡◌, ℕ, zero, suc, ◌+◌, ◌<◌, ◌≤◌, ◌⊎◌, inl, inr, List, [], ◌∷◌, ◌++◌, length, get_or, map, set, replicate, Contains, refl, sym, ap, ◌∙◌, subst, arith}
+use Rattle.std.proofs.Common.{◌≡◌, ℕ, zero, suc, ◌+◌, ◌<◌, ◌≤◌, ◌⊎◌, inl, inr, List, [], ◌∷◌, ◌++◌, length, get_or, map, set, Contains, refl, sym, ap, ◌∙◌, subst, arith}
 use Rattle.std.proofs.lemmas.List.{length-map, length-replicate, get_or_past, get_or-map, map-set, map_push, set-get_or, set_past}
 use Rattle.std.proofs.lemmas.Bool.{cases_lt}
 use Rattle.df_lemmas.proofs.Alls.{none_there}
-use Rattle.df_cong.specs.mirror.State.{State, label_of, list_at, pushed, without_last, popped, counted_from, ones_from, alone}
+use Rattle.df_cong.specs.mirror.State.{label_of, list_at, pushed, without_last, popped, counted_from, ones_from, alone}
 use Rattle.df_cong.specs.mirror.Partition.{IsPartition}
 use Rattle.df_cong.proofs.Moving.{first_there, there_cases}
 

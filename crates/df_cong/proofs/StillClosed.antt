@@ -1,22 +1,21 @@
 -- Steps towards labels that are closed.
-use Rattle.std.proofs.Common.{◌≡◌, ℕ, ◌<◌, ◌≤◌, ◌%◌, ◌⊎◌, inl, inr, List, [], ◌∷◌, ◌++◌, length, get_or, Contains, Option, None, Some, slice_get, refl, sym, ap, ◌∙◌, subst, arith}
+use Rattle.std.proofs.Common.{◌≡◌, ℕ, ◌%◌, ◌⊎◌, inl, inr, List, [], ◌∷◌, length, get_or, Contains, None, Some, slice_get, sym, ap, ◌∙◌, subst}
 use Rattle.std.specs.List.{AllZip}
 use Rattle.std.proofs.lemmas.Bool.{cases_eq}
 use Rattle.std.proofs.lemmas.Option.{same_Some, none-some}
-use Rattle.std.proofs.lemmas.List.Elements.{Contains-append_left, Contains-append_right, Contains-append_cases, Contains-push}
 use Rattle.df_form.specs.declared.log.Pair.{Pair}
 use Rattle.df_form.specs.Node.{Node}
-use Rattle.df_kern.specs.Classes.{InOneClass, named, itself, turned, through}
-use Rattle.df_kern.specs.Congruence.{IsCongruent, AreCongruent}
+use Rattle.df_kern.specs.Classes.{InOneClass, turned, through}
+use Rattle.df_kern.specs.Congruence.{IsCongruent}
 use Rattle.df_kern.proofs.OneClass.{wider}
 use Rattle.df_cong.specs.Labels.{HaveOneLabel}
 use Rattle.df_cong.specs.mirror.State.{State, label_of, list_at}
-use Rattle.df_cong.specs.mirror.Partition.{IsPartition, renamed, IsJoined}
-use Rattle.df_cong.specs.mirror.Closure.{AreAlike, mixed, bucket_of, HasTwin, IsClosedBut, StandsBut}
-use Rattle.df_cong.proofs.Pairs.{AllAmong, congruents_join, congruents_wider}
-use Rattle.df_cong.proofs.Moving.{first_there, later_there, there_cases}
+use Rattle.df_cong.specs.mirror.Partition.{renamed}
+use Rattle.df_cong.specs.mirror.Closure.{AreAlike, mixed, bucket_of, HasTwin, IsClosedBut}
+use Rattle.df_cong.proofs.Pairs.{AllAmong}
+use Rattle.df_cong.proofs.Moving.{there_cases}
 use Rattle.df_cong.proofs.Joining.{renamed_loser, renamed_other}
-use Rattle.df_cong.proofs.Alike.{same_mixed, mixed_elsewhere, zip_weaker, zip_elsewhere, alike_itself, alike_turned, alike_through}
+use Rattle.df_cong.proofs.Alike.{same_mixed, mixed_elsewhere, zip_weaker, zip_elsewhere, alike_turned, alike_through}
 
 -- ---- a class goes to another, and the nodes that it touches wait
 

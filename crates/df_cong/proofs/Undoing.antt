@@ -1,6 +1,6 @@
 -- What is taken back stands as before.
-use Rattle.std.proofs.Common.{◌≡◌, ℕ, ◌-◌, ◌+◌, ◌<◌, ◌≤◌, List, [], ◌∷◌, ◌++◌, length, get_or, take, drop, set, refl, sym, ap, ◌∙◌, arith, length-append, append-nil, append_assoc}
-use Rattle.std.proofs.lemmas.List.{set-set, set-get_or, get_or-set_same, take_at, length_push, length-set, drop-append-le, take-append-le, take_all, drop_all}
+use Rattle.std.proofs.Common.{◌≡◌, ℕ, ◌-◌, ◌<◌, List, [], ◌∷◌, ◌++◌, length, set, refl, ap, ◌∙◌, arith}
+use Rattle.std.proofs.lemmas.List.{set-set, set-get_or, get_or-set_same, take_at, length_push}
 use Rattle.df_cong.specs.declared.partition.Change.{Change}
 use Rattle.df_cong.specs.declared.partition.Change.TheVariants as changes
 use Rattle.df_cong.specs.mirror.State.{State, label_of, list_at, pushed, without_last, popped, moved, entered, undone, back}

@@ -1,8 +1,10 @@
 -- What congruence comes to.
-use Rattle.std.specs.Prelude.{◌≡◌, ◌↔◌, ℕ, true, List}
+use Rattle.std.specs.Prelude.{◌≡◌, ◌↔◌, ℕ, true, List, length, map, take, Contains}
+use Rattle.df_form.specs.declared.log.Lit.{Lit}
 use Rattle.df_form.specs.declared.log.Pair.{Pair}
 use Rattle.df_form.specs.Node.{Node}
-use Rattle.df_form.specs.Clause.{Clause, are_literals}
+use Rattle.df_form.specs.Clause.{Clause, negation, are_literals}
+use Rattle.df_form.specs.Sorting.{IsTable}
 use Rattle.df_kern.specs.Congruence.{IsCongruence}
 use Rattle.df_cong.specs.Equal.{AreEqual, IsContradicted}
 use Rattle.df_cong.specs.Labels.{HaveOneLabel, AreLabels}
@@ -19,3 +21,11 @@ LinesAreContradictions = (nodes : List Node) (clause : Clause) → are_literals 
 -- Labels of classes that are closed under operations are those of the least congruence.
 abbrev pub LabelsAreExact : Type 0
 LabelsAreExact = (nodes : List Node) (pairs : List Pair) (label : ℕ → ℕ) → AreLabels nodes pairs label → (a b : ℕ) → HaveOneLabel label a b ↔ AreEqual nodes pairs a b
+
+-- More literals and more nodes keep a contradiction.
+abbrev pub ContradictionsStay : Type 0
+ContradictionsStay = (nodes more : List Node) (few many : List Lit) → take (length nodes) more ≡ nodes → ((l : Lit) → Contains few l → Contains many l) → IsContradicted nodes (map negation few) → IsContradicted more (map negation many)
+
+-- Nodes that come later contradict no literals of those before them.
+abbrev pub LaterNodesAddNone : Type 0
+LaterNodesAddNone = (nodes more : List Node) (literals : List Lit) → IsTable more → take (length nodes) more ≡ nodes → are_literals nodes literals ≡ true → IsContradicted more (map negation literals) → IsContradicted nodes (map negation literals)

@@ -5,4 +5,5 @@ pub mod Theory
 pub mod PartitionView
 pub mod HoldingView
 pub mod ClassesView
+pub mod Congruence
 pub mod mirror

@@ -17,6 +17,16 @@ pub enum Answer {
     Conflict(Reason),
 }
 
+/// What congruence tells of literals.
+#[derive(Debug, Drop)]
+pub enum Congruence {
+    /// A line of congruence has just the negations of some of the literals in its clause.
+    Contradicted(Reason),
+    /// A label for each node, the same exactly for nodes that the equalities among the literals make equal.
+    /// They contradict no literal.
+    Labels(Vec<usize>),
+}
+
 /// How many literals were held.
 #[derive(Clone, Copy, Debug, PartialEq, Eq)]
 pub struct Mark {

@@ -53,7 +53,7 @@ fn whole_reason(alloc: Global, holding: &Holding) -> Result<Reason, AllocError>
 }
 
 /// What held literals come to, where all nodes that are numbers are given.
-fn answer_for(
+pub(crate) fn answer_for(
     alloc: Global,
     nodes: &Nodes,
     numbers: &[usize],

@@ -6,16 +6,18 @@ mod answer;
 mod clash;
 mod classes;
 mod closing;
+mod deciding;
 mod holding;
 mod lists;
 mod partition;
 mod theory;
 mod users;
 
-ghost use Rattle.df_cong.specs.Laws.{LinesAreContradictions, LabelsAreExact};
+ghost use Rattle.df_cong.specs.Laws.{LinesAreContradictions, LabelsAreExact, ContradictionsStay, LaterNodesAddNone};
 
-pub use answer::{Answer, Mark, Reason};
+pub use answer::{Answer, Congruence, Mark, Reason};
 pub use classes::Classes;
+pub use deciding::congruence;
 pub use theory::Theory;
 
 /// A clause of literals has a line of congruence exactly where the least congruence contradicts its negation.
@@ -26,4 +28,14 @@ pub fn lines_are_contradictions()
 /// Labels of classes that are closed under operations are those of the least congruence.
 pub fn labels_are_exact()
     ensures { LabelsAreExact }
+{}
+
+/// More literals and more nodes keep a contradiction.
+pub fn contradictions_stay()
+    ensures { ContradictionsStay }
+{}
+
+/// Nodes that come later contradict no literals of those before them.
+pub fn later_nodes_add_none()
+    ensures { LaterNodesAddNone }
 {}

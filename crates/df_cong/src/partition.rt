@@ -66,6 +66,13 @@ impl Partition {
         }
     }
 
+    /// The labels of all nodes.
+    pub(crate) fn into_labels(self) -> Vec<usize>
+        ensures { result.items ≡ (state_of self).labels }
+    {
+        self.labels
+    }
+
     /// The nodes of a label.
     pub(crate) fn members(&self, label: usize) -> &[usize]
         ensures { result.now ≡ list_at (state_of self.now).members label }

@@ -1,5 +1,5 @@
 -- The tests of operations and nodes tell whether they are equal.
-use Rattle.std.proofs.Common.{◌≡◌, true, ◌&&◌, nat_eq, refl, ap}
+use Rattle.std.proofs.Common.{◌≡◌, true, ◌&&◌, nat_eq, [], ◌∷◌, refl, ap, subst}
 use Rattle.std.proofs.lemmas.Bool.Decides.{Decides-int_eq}
 use Rattle.std.proofs.lemmas.Slice.Eq.{bytes_eq-Decides}
 use Rattle.std.specs.Cmp.Lexicographic.{pointwise}
@@ -14,6 +14,7 @@ use Rattle.df_form.specs.declared.node.Sort.{Sort}
 use Rattle.df_form.specs.declared.node.Sort.TheVariants as sorts
 use Rattle.df_form.specs.declared.node.Free.{Free}
 use Rattle.df_form.specs.Node.{Node, same_sort, same_op, same_node}
+use Rattle.df_form.specs.Sorting.{are_two_values}
 pub use Rattle.std.proofs.lemmas.Bool.{and_from as both_true}
 pub use Rattle.std.proofs.lemmas.Bool.{and_parts as and_true}
 
@@ -32,6 +33,33 @@ pub same_sort-refl : (a : Sort) → same_sort a a ≡ true
 same_sort-refl sorts.Number = refl
 same_sort-refl sorts.Truth = refl
 same_sort-refl sorts.Character = refl
+
+-- an equality takes two values of one sort, and not truths
+pub values_alike : (a b : Sort) → are_two_values (a ∷ b ∷ []) ≡ true → a ≡ b
+values_alike sorts.Number sorts.Number e = refl
+values_alike sorts.Number sorts.Truth e = cc
+values_alike sorts.Truth sorts.Number e = cc
+values_alike sorts.Truth sorts.Truth e = refl
+values_alike sorts.Character sorts.Character e = refl
+values_alike sorts.Number sorts.Character e = cc
+values_alike sorts.Truth sorts.Character e = cc
+values_alike sorts.Character sorts.Number e = cc
+values_alike sorts.Character sorts.Truth e = cc
+
+pub no_truths : (a b : Sort) → are_two_values (a ∷ b ∷ []) ≡ true → a ≡ sorts.Truth → ⊥
+no_truths sorts.Number b e same = cc
+no_truths sorts.Character b e same = cc
+no_truths sorts.Truth sorts.Number e same = cc
+no_truths sorts.Truth sorts.Truth e same = cc
+no_truths sorts.Truth sorts.Character e same = cc
+
+pub values_from : (a b : Sort) → a ≡ b → (a ≡ sorts.Truth → ⊥) → are_two_values (a ∷ b ∷ []) ≡ true
+values_from a b same other = subst (λ (s : Sort). are_two_values (a ∷ s ∷ []) ≡ true) same (by a other)
+  where
+    by : (s : Sort) → (s ≡ sorts.Truth → ⊥) → are_two_values (s ∷ s ∷ []) ≡ true
+    by sorts.Number other = refl
+    by sorts.Character other = refl
+    by sorts.Truth other = absurd (other refl)
 
 same_type_equal : (a b : Ty) → same_type a b ≡ true → a ≡ b
 same_type_equal (types.Newtype a) (types.Newtype b) e = ap types.Newtype (eqb-true a b e)

@@ -1,5 +1,5 @@
 -- Sorts: what an operation takes, and what it gives.
-use Rattle.std.specs.Prelude.{◌≡◌, ℕ, Bool, true, false, ◌&&◌, nat_lt, List, [], ◌∷◌, map, take, length, slice_get, Some}
+use Rattle.std.specs.Prelude.{◌≡◌, ℕ, Bool, true, false, ◌&&◌, ◌||◌, nat_lt, List, [], ◌∷◌, map, take, length, slice_get, Some}
 use Rattle.std.specs.Option.{option_map_or}
 use Rattle.std.specs.List.{list_all}
 use Rattle.df_form.specs.declared.node.Sort.{Sort}
@@ -33,9 +33,9 @@ abbrev pub are_two : Sort → List Sort → Bool
 are_two sort (left ∷ right ∷ []) = same_sort left sort && same_sort right sort
 are_two sort parts = false
 
-abbrev pub are_two_alike : List Sort → Bool
-are_two_alike (left ∷ right ∷ []) = same_sort left right
-are_two_alike parts = false
+-- two numbers, or two characters
+abbrev pub are_two_values : List Sort → Bool
+are_two_values parts = are_two sorts.Number parts || are_two sorts.Character parts
 
 -- the operation takes parts of these sorts
 abbrev pub takes : Op → List Sort → Bool
@@ -48,7 +48,7 @@ takes ops.Mod parts = are_two sorts.Number parts
 takes ops.Code parts = is_one sorts.Character parts
 takes ops.Chr parts = is_one sorts.Number parts
 takes (ops.Is ty) parts = is_one (sort_of_type ty) parts
-takes ops.Equal parts = are_two_alike parts
+takes ops.Equal parts = are_two_values parts
 takes ops.AtMost parts = are_two sorts.Number parts
 takes ops.Not parts = is_one sorts.Truth parts
 takes ops.And parts = list_all (same_sort sorts.Truth) parts

@@ -44,7 +44,7 @@ pub enum Op {
     Chr,
     /// The value is of the type.
     Is(Ty),
-    /// Two values of one sort are equal.
+    /// Two numbers, or two characters, are equal.
     Equal,
     /// The first number is at most the second.
     AtMost,

@@ -5,7 +5,7 @@ ghost use Rattle.std.specs.List.{list_all};
 ghost use Rattle.df_form.specs.Clause.{are_literals};
 ghost use Rattle.df_form.specs.Node.{node_of, same_sort};
 ghost use Rattle.df_form.specs.Types.{sort_of_type};
-ghost use Rattle.df_form.specs.Sorting.{sort_of, sort_at, takes, is_formula, is_well_sorted, is_one, are_two, are_two_alike};
+ghost use Rattle.df_form.specs.Sorting.{sort_of, sort_at, takes, is_formula, is_well_sorted, is_one, are_two, are_two_values};
 
 use crate::log::Lit;
 use crate::node::{Node, Op, Sort};
@@ -100,13 +100,10 @@ impl Nodes {
         }
     }
 
-    fn are_two_alike(&self, parts: &[usize]) -> bool
-        ensures { result ≡ are_two_alike (map (sort_at self.now) parts.now) }
+    fn are_two_values(&self, parts: &[usize]) -> bool
+        ensures { result ≡ are_two_values (map (sort_at self.now) parts.now) }
     {
-        match parts {
-            [left, right] => is_same(self.sort(*left), self.sort(*right)),
-            [] | [_] | [_, _, _, ..] => false,
-        }
+        self.are_two(Sort::Number, parts) || self.are_two(Sort::Character, parts)
     }
 
     fn are_truths(&self, parts: &[usize]) -> bool
@@ -129,7 +126,7 @@ impl Nodes {
             Op::Code => self.is_one(Sort::Character, parts),
             Op::Chr => self.is_one(Sort::Number, parts),
             Op::Is(ty) => self.is_one(sort_of_type(ty), parts),
-            Op::Equal => self.are_two_alike(parts),
+            Op::Equal => self.are_two_values(parts),
             Op::Not => self.is_one(Sort::Truth, parts),
             Op::And | Op::Or => self.are_truths(parts),
             Op::Implies | Op::Iff => self.are_two(Sort::Truth, parts),

@@ -23,7 +23,7 @@ use Rattle.df_form.specs.Made.{made}
 use Rattle.df_form.specs.Sequent.{Sequent, IsSequent}
 use Rattle.df_form.specs.Clause.{Clause, yes, no, are_literals}
 use Rattle.df_form.specs.Log.{Step, Hypothesis, Goal, Connective, Schema, Propagation, Congruence, Linear, Split, Make}
-use Rattle.df_form.proofs.Same.{same_sort_equal}
+use Rattle.df_form.proofs.Same.{same_sort_equal, values_alike}
 use Rattle.df_form.proofs.Values.{Grows, grown_sort, grown_below, AreSorted, parts_below, parts_taken}
 use Rattle.df_form.proofs.Making.{IsNumber, grown_number, made_stands}
 use Rattle.df_kern.specs.Bound.{at_most, made_at_least, made_at_most}
@@ -146,7 +146,7 @@ sides_fit sorts.Number nodes n k a b added sort all e is =
     let node : Node = record { op = ops.Equal; parts = a ∷ b ∷ [] } in
     let first = and_parts (nat_lt a (length nodes)) (nat_lt b (length nodes) && true) (each_below nodes n node all e) in
     let second = and_parts (nat_lt b (length nodes)) true first.1 in
-    let alike = same_sort_equal (sort_at nodes a) (sort_at nodes b) (parts_taken nodes n node all e) in
+    let alike = values_alike (sort_at nodes a) (sort_at nodes b) (parts_taken nodes n node all e) in
     equal_fits nodes n k a b added all (formula_at nodes n node e refl) (record { below = ltb-true a (length nodes) first.0; sort = sort }) (record { below = ltb-true b (length nodes) second.0; sort = sym alike ∙ sort }) is
 sides_fit sorts.Truth nodes n k a b added sort all e is = absurd cc
 sides_fit sorts.Character nodes n k a b added sort all e is = absurd cc

@@ -20,7 +20,7 @@ sides_count sorts.Number = 3
 sides_count sorts.Truth = 0
 sides_count sorts.Character = 0
 
--- an equality of numbers counts as the `and` of two comparisons, and one of truths or characters is no connective
+-- an equality of numbers counts as the `and` of two comparisons, and one of characters is no connective
 abbrev pub equality_count : List Node → List ℕ → ℕ
 equality_count nodes [] = 0
 equality_count nodes (a ∷ others) = sides_count (sort_at nodes a)

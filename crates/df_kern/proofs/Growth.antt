@@ -10,9 +10,9 @@ use Rattle.df_form.specs.declared.node.Sort.{Sort}
 use Rattle.df_form.specs.declared.node.Sort.TheVariants as sorts
 use Rattle.df_form.specs.Node.{Node, number_of, same_sort}
 use Rattle.df_form.specs.Made.{Made, made, made_where}
-use Rattle.df_form.specs.Sorting.{is_well_sorted, sort_at, sort_of}
+use Rattle.df_form.specs.Sorting.{is_well_sorted, sort_at, sort_of, are_two_values}
 use Rattle.df_form.proofs.Tables.{number_of_some}
-use Rattle.df_form.proofs.Same.{same_sort_equal, same_sort-refl}
+use Rattle.df_form.proofs.Same.{values_alike, same_sort-refl}
 use Rattle.df_form.specs.declared.node.Op.TheVariants as ops
 use Rattle.df_kern.specs.Bound.{at_most, number}
 use Rattle.df_kern.specs.Growth.{Grows, IsNumber}
@@ -88,12 +88,12 @@ take-of-take n nodes = ap (λ (k : ℕ). take k nodes) (length-take n nodes) ∙
 pub equality-numbers : (nodes : List Node) (n a b : ℕ) → is_well_sorted (take n nodes) (record { op = ops.Equal; parts = a ∷ b ∷ [] }) ≡ true → sort_at nodes a ≡ sorts.Number → IsNumber nodes a × IsNumber nodes b
 equality-numbers nodes n a b sorted is =
     let front = take n nodes in
-    let both = and_parts (nat_lt a (length front) && (nat_lt b (length front) && true)) (same_sort (sort_at front a) (sort_at front b)) sorted in
+    let both = and_parts (nat_lt a (length front) && (nat_lt b (length front) && true)) (are_two_values (sort_at front a ∷ sort_at front b ∷ [])) sorted in
     let there = and_parts (nat_lt a (length front)) (nat_lt b (length front) && true) both.0 in
     let there_b = and_parts (nat_lt b (length front)) true there.1 in
     let less_a = ltb-true a (length front) there.0 in
     let less_b = ltb-true b (length front) there_b.0 in
-    let alike = same_sort_equal (sort_at front a) (sort_at front b) both.1 in
+    let alike = values_alike (sort_at front a) (sort_at front b) both.1 in
     let grows : Grows front nodes = take-of-take n nodes in
     let kept_a = ap (λ (node : Option Node). option_map_or (λ (x : Node). sort_of x.op) node sorts.Number) (get-grows front nodes a grows less_a) in
     let kept_b = ap (λ (node : Option Node). option_map_or (λ (x : Node). sort_of x.op) node sorts.Number) (get-grows front nodes b grows less_b) in

@@ -25,7 +25,7 @@ use Rattle.df_kern.specs.Bound.{at_most}
 use Rattle.df_kern.specs.Connective.{Added, chosen, not_clauses, and_clauses, or_clauses, implies_clauses, iff_clauses, equal_clause, equal_by_sort, connective_clause, connective_line}
 use Rattle.df_form.proofs.Values.{grows_not, grows_twice, grown_get, AreSorted, parts_below, parts_taken, worth, value_is}
 use Rattle.df_form.proofs.Making.{made_stands, IsNumber, grown_number}
-use Rattle.df_form.proofs.Same.{same_sort_equal}
+use Rattle.df_form.proofs.Same.{values_alike}
 use Rattle.df_form.proofs.Sorts.{apply_sorted}
 use Rattle.df_kern.proofs.SoundNodes.{at_most_sorted}
 use Rattle.df_kern.proofs.SoundClauses.{Holds, is_held, chosen_holds, IsLine}
@@ -352,7 +352,7 @@ module _ (depth : ℕ) (world : World) (assignment : Assignment) where
       let node : Node = record { op = ops.Equal; parts = a ∷ b ∷ [] } in
       let first = and_parts (nat_lt a (length nodes)) (nat_lt b (length nodes) && true) (each_below nodes n node all e) in
       let second = and_parts (nat_lt b (length nodes)) true first.1 in
-      let alike = same_sort_equal (sort_at nodes a) (sort_at nodes b) (parts_taken nodes n node all e) in
+      let alike = values_alike (sort_at nodes a) (sort_at nodes b) (parts_taken nodes n node all e) in
       equal_line nodes n k a b added all e (record { below = ltb-true a (length nodes) first.0; sort = sort }) (record { below = ltb-true b (length nodes) second.0; sort = sym alike ∙ sort }) is
   by_sort sorts.Truth nodes n k a b added sort all e is = absurd cc
   by_sort sorts.Character nodes n k a b added sort all e is = absurd cc

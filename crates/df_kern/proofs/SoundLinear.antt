@@ -28,7 +28,7 @@ use Rattle.df_row.specs.Row.{Row, constant_row, difference}
 use Rattle.df_row.specs.Linear.{one_row, two_rows, comparison_rows, rows_by_sort, rows_of_parts, rows_of_node, rows_of, all_below, sum_fits, sum_of, with_multiple, sum_from, quotient, divides, divided, combined, is_false, if_row, refutes, linear_of, linear_line}
 use Rattle.df_row.specs.Value.{sum_below, row_value}
 use Rattle.df_form.proofs.Values.{AreSorted, parts_taken, value_is}
-use Rattle.df_form.proofs.Same.{same_sort_equal}
+use Rattle.df_form.proofs.Same.{values_alike}
 use Rattle.df_kern.proofs.SoundClauses.{Holds, is_held, AllPass, holds_unless}
 use Rattle.df_kern.proofs.SoundConnectives.{number_in, at_most_truth, equal_truth, each_below}
 use Rattle.df_kern.proofs.SoundIntegers.{IsNatural, natural_by, natural_above, sum_of_naturals, no_natural, rounded, sum_added, all_below_at}
@@ -163,7 +163,7 @@ module _ (depth : ℕ) (world : World) (assignment : Assignment) (nodes : List N
       one_met (difference nodes (length nodes) b a (negsuc 0)) rows (λ row found. less_met b a row q p (sym (at_most_truth depth world assignment nodes n a b sorted at) ∙ not-true (truth depth world assignment nodes n) is) found) e
   comparison_met n a b true ops.Equal rows at p q sort is e =
       let node : Node = record { op = ops.Equal; parts = a ∷ b ∷ [] } in
-      let alike = same_sort_equal (sort_at nodes a) (sort_at nodes b) (parts_taken nodes n node sorted at) in
+      let alike = values_alike (sort_at nodes a) (sort_at nodes b) (parts_taken nodes n node sorted at) in
       let equal = equal_truth depth world assignment nodes n a b sorted at (record { below = p; sort = sort }) (record { below = q; sort = sym alike ∙ sort }) in
       let ways = and_parts (int_le (v a) (v b)) (int_le (v b) (v a)) (sym equal ∙ is) in
       two_met (difference nodes (length nodes) a b (pos 0)) (difference nodes (length nodes) b a (pos 0)) rows (λ row found. at_most_met a b row p q ways.0 found) (λ row found. at_most_met b a row q p ways.1 found) e

@@ -45,7 +45,7 @@ equal_clause nodes n a b (suc (suc zero)) =
     Some (record { nodes = down.nodes; clause = yes n ∷ no up.number ∷ no down.number ∷ [] })
 equal_clause nodes n a b (suc (suc (suc k))) = None
 
--- an equality of truths or characters is no connective
+-- an equality of characters is no connective
 abbrev pub equal_by_sort : Sort → List Node → ℕ → ℕ → ℕ → ℕ → Option Added
 equal_by_sort sorts.Number nodes n a b k = equal_clause nodes n a b k
 equal_by_sort sorts.Truth nodes n a b k = None

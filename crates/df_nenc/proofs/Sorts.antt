@@ -1,5 +1,5 @@
 -- Operations take parts whose trees are of their sorts.
-use Rattle.std.proofs.Common.{◌≡◌, ℕ, ◌<◌, true, ◌&&◌, List, [], ◌∷◌, map, length, nat_lt, refl, sym, ap, ◌∙◌}
+use Rattle.std.proofs.Common.{◌≡◌, ◌⊎◌, inl, inr, ℕ, ◌<◌, true, ◌&&◌, List, [], ◌∷◌, map, length, nat_lt, refl, sym, ap, ◌∙◌}
 use Rattle.std.specs.List.{AllByRecursion, list_all}
 use Rattle.std.proofs.lemmas.Bool.{lt-ltb, and_from}
 use Rattle.df_lang.specs.declared.ty.Ty.{Ty}
@@ -11,7 +11,8 @@ use Rattle.df_form.specs.declared.node.Op.TheVariants as ops
 use Rattle.df_form.specs.Node.{Node, same_sort}
 use Rattle.df_form.specs.Sorting.{is_well_sorted, sort_at, takes}
 use Rattle.df_form.specs.Types as form
-use Rattle.df_nterm.specs.Term.{Truths, sort_of_type}
+use Rattle.df_form.proofs.Same.{values_from}
+use Rattle.df_nterm.specs.Term.{Numbers, Truths, sort_of_type}
 use Rattle.df_nenc.specs.Tree.{sort_of, sort_of_term, tree_at}
 use Rattle.df_nenc.specs.Standing.{IsTerm}
 use Rattle.df_nenc.proofs.Trees.{tree_sort}
@@ -67,8 +68,24 @@ same_itself sorts.Number = refl
 same_itself sorts.Truth = refl
 same_itself sorts.Character = refl
 
-pub takes_alike : (nodes : List Node) (a b : ℕ) → a < length nodes → b < length nodes → sort_of_term (tree_at nodes a) ≡ sort_of_term (tree_at nodes b) → is_well_sorted nodes (record { op = ops.Equal; parts = a ∷ b ∷ [] }) ≡ true
-takes_alike nodes a b at_a at_b e = takes_parts ops.Equal nodes a b at_a at_b (ap (λ s. same_sort s (sort_at nodes b)) (alike_sort nodes a b at_a at_b e) ∙ same_itself (sort_at nodes b))
+pub takes_alike : (nodes : List Node) (a b : ℕ) → a < length nodes → b < length nodes → sort_of_term (tree_at nodes a) ≡ sort_of_term (tree_at nodes b) → (sort_of_term (tree_at nodes a) ≡ Truths → ⊥)
+    → is_well_sorted nodes (record { op = ops.Equal; parts = a ∷ b ∷ [] }) ≡ true
+takes_alike nodes a b at_a at_b e other =
+    takes_parts ops.Equal nodes a b at_a at_b (values_from (sort_at nodes a) (sort_at nodes b) (alike_sort nodes a b at_a at_b e) (λ is. other (sym (tree_sort nodes a at_a) ∙ ap sort_of is)))
+
+pub no_numbers : Numbers ≡ Truths → ⊥
+no_numbers e = cc
+
+-- the types whose values are compared as numbers or characters
+pub no_truths_of : (ty : Ty) → ((x : ℕ) × (ty ≡ types.Newtype x)) ⊎ ((ty ≡ types.Int) ⊎ ((ty ≡ types.Nat) ⊎ (ty ≡ types.Char))) → sort_of_type ty ≡ Truths → ⊥
+no_truths_of (types.Newtype id) is e = cc
+no_truths_of types.Int is e = cc
+no_truths_of types.Nat is e = cc
+no_truths_of types.Char is e = cc
+no_truths_of types.Bool (inl n) e = let no : types.Bool ≡ types.Newtype n.0 = n.1 in cc
+no_truths_of types.Bool (inr (inl n)) e = cc
+no_truths_of types.Bool (inr (inr (inl n))) e = cc
+no_truths_of types.Bool (inr (inr (inr n))) e = cc
 
 -- that a value is of a type
 pub takes_typed : (ty : Ty) (nodes : List Node) (a : ℕ) → IsTerm (sort_of_type ty) nodes a → is_well_sorted nodes (record { op = ops.Is ty; parts = a ∷ [] }) ≡ true

@@ -2,7 +2,7 @@
 #![tactic(auto, using(crate::proofs::Growing::grows_not, crate::proofs::Growing::grows_then))]
 
 ghost use Rattle.std.specs.Prelude.{◌≡◌, ◌<◌, length, true, IfOk};
-ghost use Rattle.df_nterm.specs.Term.{Numbers, sort_of_type};
+ghost use Rattle.df_nterm.specs.Term.{Numbers, Truths, sort_of_type};
 ghost use Rattle.df_nterm.specs.Term as trees;
 ghost use Rattle.df_nterm.specs.Expressions as expressions;
 ghost use Rattle.df_nenc.specs.Tree.{sort_of_term, tree_at};
@@ -15,7 +15,7 @@ use df_form::{Formula, Nodes, Op, Term};
 use df_lang::{Comparison, Ty};
 use std::alloc::{AllocError, Global};
 
-/// That two values of one sort are equal.
+/// That two numbers, or two characters, are equal.
 pub fn equal(
     alloc: Global,
     nodes: &mut Nodes,
@@ -25,6 +25,7 @@ pub fn equal(
     requires left { left < length nodes.old }
     requires right { right < length nodes.old }
     requires alike { sort_of_term (tree_at nodes.old left) ≡ sort_of_term (tree_at nodes.old right) }
+    requires values { sort_of_term (tree_at nodes.old left) ≡ Truths → ⊥ }
     ensures stands { IfOk result (λ n. Stands nodes.new (trees.equal (tree_at nodes.old left) (tree_at nodes.old right)) n) }
     ensures grows { Grows nodes.old nodes.new }
 {

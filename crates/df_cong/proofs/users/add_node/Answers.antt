@@ -1,4 +1,4 @@
-use Rattle.std.proofs.Common.{ℕ, List, ◌+◌, sym, subst}
+use Rattle.std.proofs.Common.{ℕ, List, sym, subst}
 use Rattle.df_form.specs.Node.{node_of}
 use Rattle.df_kern.proofs.Joining.{on_ok}
 use Rattle.df_cong.specs.mirror.Users.{AddsUser}

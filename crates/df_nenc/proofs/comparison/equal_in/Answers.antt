@@ -1,6 +1,7 @@
 use Rattle.std.proofs.Common.{sym, subst, ◌∙◌}
 use Rattle.df_nterm.specs.Term.{sort_of_type}
 use Rattle.df_nenc.specs.Standing.{IsTerm}
+use Rattle.df_nenc.proofs.Sorts.{no_truths_of}
 use Rattle.df_nenc.proofs.comparison.equal_in.Goals as goal
 
 pub iff-requires-clause-left : goal.iff-requires-clause-left
@@ -17,3 +18,6 @@ equal-requires-clause-right c = c.requires.right.below
 
 pub equal-requires-clause-alike : goal.equal-requires-clause-alike
 equal-requires-clause-alike c = c.requires.left.sort_is ∙ sym c.requires.right.sort_is
+
+pub equal-requires-clause-values : goal.equal-requires-clause-values
+equal-requires-clause-values c = λ e. no_truths_of c.args.ty c.in-Newtype.is (sym c.requires.left.sort_is ∙ e)

@@ -5,6 +5,7 @@ use Rattle.df_nterm.specs.Expressions as expressions
 use Rattle.df_nenc.specs.Tree.{sort_of_term}
 use Rattle.df_nenc.proofs.Growing.{grows_then, term_stays, is_term, tree_stays, path_stays, path_same}
 use Rattle.df_nenc.proofs.Narrowing.{owed_as}
+use Rattle.df_nenc.proofs.Sorts.{no_numbers}
 use Rattle.df_meaning.specs.declared.kind.Kind.TheVariants as kinds
 use Rattle.df_nenc.proofs.condition.owe_nonzero.Goals as goal
 
@@ -16,6 +17,9 @@ equal-requires-clause-right c = c.in_ok-zero.ensures.stands.below
 
 pub equal-requires-clause-alike : goal.equal-requires-clause-alike
 equal-requires-clause-alike c = (term_stays Numbers c.args.nodes.now c.literal.new.nodes c.args.number c.literal.ensures.grows c.requires.number).sort_is ∙ sym (ap sort_of_term c.in_ok-zero.ensures.stands.tree_is)
+
+pub equal-requires-clause-values : goal.equal-requires-clause-values
+equal-requires-clause-values c = λ e. no_numbers (sym (term_stays Numbers c.args.nodes.now c.literal.new.nodes c.args.number c.literal.ensures.grows c.requires.number).sort_is ∙ e)
 
 pub negation-requires : goal.negation-requires
 negation-requires c = is_term _ Truths _ _ c.in_ok-is_zero.ensures.stands refl

@@ -1,8 +1,5 @@
-use Rattle.std.proofs.Common.{◌≡◌, List, [], ◌∷◌, ◌++◌, OnOk, OnErr, IfOk, ℕ, true, ap, sym, subst, ◌∙◌}
-use Rattle.df_form.specs.declared.log.Lit.{Lit}
-use Rattle.df_form.specs.Node.{Node}
+use Rattle.std.proofs.Common.{◌≡◌, [], ◌∷◌, ◌++◌, OnOk, OnErr, IfOk, ap, sym, subst, ◌∙◌}
 use Rattle.df_form.specs.Sorting.{is_formula}
-use Rattle.df_form.specs.Clause.{are_literals}
 use Rattle.df_cong.specs.Theory.{IsAnswer}
 use Rattle.df_cong.specs.ClassesView.{Held}
 use Rattle.df_cong.specs.mirror.Clash.{AreNumbers}

@@ -1,4 +1,4 @@
-use Rattle.std.proofs.Common.{refl, sym, subst, ap, ◌∙◌}
+use Rattle.std.proofs.Common.{refl, sym, subst}
 use Rattle.std.proofs.lemmas.Bool.{not-true, not-false}
 use Rattle.df_kern.proofs.Joining.{on_ok}
 use Rattle.df_cong.specs.HoldingView.{Equates}
