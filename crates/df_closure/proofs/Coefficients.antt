@@ -19,7 +19,7 @@ use Rattle.df_row.specs.Linear.{one_row, two_rows, comparison_rows, rows_by_sort
 use Rattle.df_row.proofs.Rows.{narrow_row_is}
 use Rattle.df_form.proofs.Values.{AreSorted, parts_below, parts_taken}
 use Rattle.df_form.proofs.Making.{IsNumber}
-use Rattle.df_form.proofs.Same.{same_sort_equal}
+use Rattle.df_form.proofs.Same.{same_sort_equal, values_alike}
 use Rattle.df_closure.specs.Atoms.{is_atom}
 
 -- the row after a step
@@ -154,7 +154,7 @@ module _ (nodes : List Node) (sorted : AreSorted nodes) where
       let is_b : IsNumber nodes b = record { below = less; sort = same_sort_equal (sort_at nodes b) sorts.Number alike } in
       one_keeps (difference nodes (length nodes) b a (negsuc 0)) rows (λ row found. difference_keeps b a (negsuc 0) row is_b is_a found) e
   op_keeps true ops.Equal a b rows is_a less taken e =
-      let is_b : IsNumber nodes b = record { below = less; sort = sym (same_sort_equal (sort_at nodes a) (sort_at nodes b) taken) ∙ is_a.sort } in
+      let is_b : IsNumber nodes b = record { below = less; sort = sym (values_alike (sort_at nodes a) (sort_at nodes b) taken) ∙ is_a.sort } in
       two_keep (difference nodes (length nodes) a b (pos 0)) (difference nodes (length nodes) b a (pos 0)) rows (λ row found. difference_keeps a b (pos 0) row is_a is_b found) (λ row found. difference_keeps b a (pos 0) row is_b is_a found) e
   op_keeps positive op a b rows is_a less taken e = none_keep rows e
 

@@ -3,12 +3,16 @@ pub mod Rounds
 pub mod TypeValues
 pub mod Knowing
 pub mod FullTypes
+pub mod Atoms
+pub mod Expansions
+pub mod Readings
+pub mod FullConnectives
 pub mod FullLists
 pub mod Lines
 pub mod Comparisons
-pub mod Atoms
 pub mod LaterRows
 pub mod Coefficients
+pub mod NumberAtoms
 pub mod KeptNodes
 pub mod GroundRuns
 pub mod SameClauses

@@ -3,7 +3,9 @@ use Rattle.std.specs.Prelude.{◌≡◌, ℕ, ℤ, Bool, true, false, List, [], 
 use Rattle.std.specs.Option.{is_none}
 use Rattle.df_form.specs.declared.node.Op.{Op}
 use Rattle.df_form.specs.declared.node.Op.TheVariants as ops
+use Rattle.df_form.specs.declared.node.Sort.TheVariants as sorts
 use Rattle.df_form.specs.Node.{Node}
+use Rattle.df_form.specs.Sorting.{sort_at}
 use Rattle.df_row.specs.Row.{literal_number}
 
 -- The operation on these parts is an atom: no literal, no sum, and no literal times a node.
@@ -16,3 +18,7 @@ is_atom nodes op parts = true
 -- the atoms have the same numbers
 abbrev pub AreAlike : List Node → (ℕ → ℤ) → (ℕ → ℤ) → Type 0
 AreAlike nodes x y = (n : ℕ) (node : Node) → slice_get nodes n ≡ Some node → is_atom nodes node.op node.parts ≡ true → x n ≡ y n
+
+-- those of them have that are numbers
+abbrev pub AreAlikeNumbers : List Node → (ℕ → ℤ) → (ℕ → ℤ) → Type 0
+AreAlikeNumbers nodes x y = (n : ℕ) (node : Node) → slice_get nodes n ≡ Some node → is_atom nodes node.op node.parts ≡ true → sort_at nodes n ≡ sorts.Number → x n ≡ y n

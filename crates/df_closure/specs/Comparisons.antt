@@ -1,5 +1,5 @@
 -- Literals of which rows speak.
-use Rattle.std.specs.Prelude.{◌≡◌, ℕ, ℤ, true, List, [], ◌∷◌, slice_get, Some}
+use Rattle.std.specs.Prelude.{◌≡◌, ℕ, ℤ, Bool, true, List, [], ◌∷◌, slice_get, Some}
 use Rattle.df_form.specs.World.{World}
 use Rattle.df_form.specs.declared.log.Lit.{Lit}
 use Rattle.df_form.specs.declared.node.Sort.TheVariants as sorts
@@ -20,8 +20,12 @@ abbrev pub numbers_of : ℕ → World → Assignment → List Node → ℕ → �
 numbers_of depth world assignment nodes n = number_at (values depth world assignment nodes) n
 
 -- each comparison among the literals is true
+abbrev pub AreComparisonsTrue : List Node → (ℕ → Bool) → List Lit → Type 0
+AreComparisonsTrue nodes t literals = (l : Lit) → is_among literals l ≡ true → IsComparison nodes l → literal_truth t l ≡ true
+
+-- and so under an assignment
 abbrev pub ComparisonsHold : ℕ → World → Assignment → List Node → List Lit → Type 0
-ComparisonsHold depth world assignment nodes literals = (l : Lit) → is_among literals l ≡ true → IsComparison nodes l → literal_truth (truth depth world assignment nodes) l ≡ true
+ComparisonsHold depth world assignment nodes literals = AreComparisonsTrue nodes (truth depth world assignment nodes) literals
 
 -- each free formula among the literals is true, or false where it is negated
 abbrev pub FreeFormulasHold : ℕ → World → Assignment → List Node → List Lit → Type 0

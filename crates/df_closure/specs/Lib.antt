@@ -5,4 +5,5 @@ pub mod Full
 pub mod Lines
 pub mod Comparisons
 pub mod Atoms
+pub mod Reading
 pub mod Filled

@@ -1,12 +1,9 @@
 //! What closed lists are worth.
 
-ghost use Rattle.std.specs.Prelude.{◌≡◌, ◌↔◌, ℕ, ℤ, true, List, [], ◌∷◌, ◌++◌, map, length, slice_get, Some};
-ghost use Rattle.df_form.specs.World.{World};
+ghost use Rattle.std.specs.Prelude.{◌≡◌, ◌↔◌, ℕ, ℤ, Bool, true, List, [], ◌∷◌, ◌++◌, map, length, slice_get, Some};
 ghost use Rattle.df_form.specs.declared.log.Lit.{Lit};
 ghost use Rattle.df_form.specs.Node.{Node};
 ghost use Rattle.df_form.specs.Sorting.{IsTable};
-ghost use Rattle.df_form.specs.Arithmetic.{IsOfNumbers};
-ghost use Rattle.df_form.specs.Truth.{Assignment, truth};
 ghost use Rattle.df_form.specs.Clause.{Clause, negation, is_among, are_literals, literal_truth};
 ghost use Rattle.df_row.specs.Row.{Row};
 ghost use Rattle.df_row.specs.Linear.{rows_of};
@@ -14,31 +11,27 @@ ghost use Rattle.df_row.specs.Value.{rows_hold};
 ghost use Rattle.df_kern.specs.Propagation.{left, is_empty, propagation_line};
 ghost use Rattle.df_closure.specs.Closure.{GroundClause, IsClosed, IsRefuted, after};
 ghost use Rattle.df_closure.specs.Lines.{AreIn};
-ghost use Rattle.df_closure.specs.Full.{IsFull, IsConsistent, Agrees};
-ghost use Rattle.df_closure.specs.Atoms.{AreAlike};
-ghost use Rattle.df_closure.specs.Comparisons.{numbers_of, ComparisonsHold, FreeFormulasHold};
+ghost use Rattle.df_closure.specs.Full.{AreConnectivesMet, ArePrimitivesTrue, IsConsistent};
+ghost use Rattle.df_closure.specs.Atoms.{AreAlikeNumbers};
+ghost use Rattle.df_closure.specs.Comparisons.{AreComparisonsTrue};
+ghost use Rattle.df_closure.specs.Reading.{IsReading};
 
-/// Where nothing is open beside a consistent list, an assignment that makes its free terms and comparisons
-/// true makes all its literals true.
+/// Where nothing is open beside a consistent list, a reading that makes its free formulas, its tests of types,
+/// its comparisons and its equalities of other than numbers true makes all its literals true.
 pub fn full_lists_hold()
-    ensures { (depth : ℕ) (world : World) (assignment : Assignment) (nodes : List Node) (known : List Lit) → IsTable nodes → IsOfNumbers world nodes → are_literals nodes known ≡ true → IsFull world nodes known → IsConsistent known → Agrees depth world assignment nodes known → (l : Lit) → is_among known l ≡ true → literal_truth (truth depth world assignment nodes) l ≡ true }
+    ensures { (nodes : List Node) (known : List Lit) (v : ℕ → ℤ) (t : ℕ → Bool) → IsTable nodes → are_literals nodes known ≡ true → AreConnectivesMet nodes known → IsConsistent known → IsReading nodes v t → ArePrimitivesTrue nodes t known → (l : Lit) → is_among known l ≡ true → literal_truth t l ≡ true }
 {}
 
-/// The rows of literals hold at the numbers of the nodes exactly where each comparison and each equality of
-/// numbers among the literals is true.
+/// The rows of literals hold at the numbers of a reading exactly where it makes each comparison and each
+/// equality of numbers among the literals true.
 pub fn rows_hold_where_comparisons_do()
-    ensures { (depth : ℕ) (world : World) (assignment : Assignment) (nodes : List Node) (literals : List Lit) (rows : List Row) → IsTable nodes → rows_of nodes literals ≡ Some rows → (rows_hold (length nodes) (numbers_of depth world assignment nodes) rows ≡ true) ↔ ComparisonsHold depth world assignment nodes literals }
+    ensures { (nodes : List Node) (literals : List Lit) (rows : List Row) (v : ℕ → ℤ) (t : ℕ → Bool) → IsTable nodes → IsReading nodes v t → rows_of nodes literals ≡ Some rows → (rows_hold (length nodes) v rows ≡ true) ↔ AreComparisonsTrue nodes t literals }
 {}
 
-/// So an assignment agrees with a list where the rows of the list hold and its free formulas are true.
-pub fn rows_make_lists_agree()
-    ensures { (depth : ℕ) (world : World) (assignment : Assignment) (nodes : List Node) (known : List Lit) (rows : List Row) → IsTable nodes → rows_of nodes known ≡ Some rows → rows_hold (length nodes) (numbers_of depth world assignment nodes) rows ≡ true → FreeFormulasHold depth world assignment nodes known → Agrees depth world assignment nodes known }
-{}
-
-/// Rows of literals hold by the numbers of the atoms alone: the nodes that are no literal, no sum, and no
-/// literal times a node.
+/// Rows of literals hold by the numbers of the atoms that are numbers alone: the nodes that are no literal,
+/// no sum, and no literal times a node.
 pub fn rows_hold_by_atoms()
-    ensures { (nodes : List Node) (literals : List Lit) (rows : List Row) (x y : ℕ → ℤ) → IsTable nodes → rows_of nodes literals ≡ Some rows → AreAlike nodes x y → rows_hold (length nodes) x rows ≡ rows_hold (length nodes) y rows }
+    ensures { (nodes : List Node) (literals : List Lit) (rows : List Row) (x y : ℕ → ℤ) → IsTable nodes → rows_of nodes literals ≡ Some rows → AreAlikeNumbers nodes x y → rows_hold (length nodes) x rows ≡ rows_hold (length nodes) y rows }
 {}
 
 /// Where a clause is false beside a list, a log that holds the clauses may add the negation of the list by

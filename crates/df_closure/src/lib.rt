@@ -14,5 +14,5 @@ pub use filling::{
 };
 pub use law::{
     closed_lists_are_lines, full_lists_hold, refuted_lists_are_lines, rows_hold_by_atoms,
-    rows_hold_where_comparisons_do, rows_make_lists_agree,
+    rows_hold_where_comparisons_do,
 };

@@ -14,9 +14,9 @@ use Rattle.df_form.specs.declared.node.Sort.TheVariants as sorts
 use Rattle.df_form.specs.declared.node.Op.{Op}
 use Rattle.df_form.specs.declared.node.Op.TheVariants as ops
 use Rattle.df_form.specs.Node.{same_sort}
-use Rattle.df_form.specs.Sorting.{takes}
+use Rattle.df_form.specs.Sorting.{are_two_values, takes}
 use Rattle.df_form.specs.Truth.{Assignment, has_sort, quotient, remainder, code_in, apply}
-use Rattle.df_form.proofs.Same.{same_sort_equal}
+use Rattle.df_form.proofs.Same.{same_sort_equal, values_alike}
 use Rattle.df_model.specs.Valuation.{number_of_truth, number_of_value}
 use Rattle.df_model.specs.Numbers.{counts_as_true, is_of_type, number_by}
 
@@ -156,11 +156,11 @@ module _ (worth : ℕ → Value) (sort : ℕ → Sort) (test : ℕ → Bool) (so
       let s = and_parts (same_sort (sort a) sorts.Truth) (same_sort (sort b) sorts.Truth) same in
       (a_truth a h.0 s.0, a_truth b k.0 s.1)
 
-  two_alike : (a b : ℕ) → (test a && (test b && true)) ≡ true → same_sort (sort a) (sort b) ≡ true → same_value (worth a) (worth b) ≡ int_eq (num a) (num b)
+  two_alike : (a b : ℕ) → (test a && (test b && true)) ≡ true → are_two_values (sort a ∷ sort b ∷ []) ≡ true → same_value (worth a) (worth b) ≡ int_eq (num a) (num b)
   two_alike a b passes same =
       let h = and_parts (test a) (test b && true) passes in
       let k = and_parts (test b) true h.1 in
-      same_is (sort b) (worth a) (worth b) (has a (sort b) h.0 same) (sorted b k.0)
+      same_is (sort b) (worth a) (worth b) (subst (λ (z : Sort). has_sort z (worth a) ≡ true) (values_alike (sort a) (sort b) same) (sorted a h.0)) (sorted b k.0)
 
   module _ (depth : ℕ) (world : World) (assignment : Assignment) where
     pub applied : (op : Op) (parts : List ℕ) → list_all test parts ≡ true → takes op (map sort parts) ≡ true

@@ -1,3 +1,13 @@
+pub mod Tests
+pub mod KnownLabels
+pub mod FrontTables
+pub mod TableReadings
+pub mod SolvedTables
+pub mod EqualityClauses
+pub mod TableModels
+pub mod ApartTerms
+pub mod UndecidedTerms
+pub mod UnlikeParts
 pub mod Applying
 pub mod NodeNumbers
 pub mod Atoms

@@ -1,2 +1,5 @@
+pub mod TableNumbers
+pub mod Tabulation
+pub mod Solution
 pub mod Valuation
 pub mod Numbers

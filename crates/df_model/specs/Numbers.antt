@@ -15,10 +15,8 @@ use Rattle.df_form.specs.Truth.{quotient, remainder, code_in}
 use Rattle.df_meaning.specs.Value.{same_truth}
 use Rattle.df_row.specs.RowView.{narrow}
 use Rattle.df_table.specs.TableModel.{number_at, is_true}
-use Rattle.df_model.specs.Valuation.{number_of_truth}
-
-abbrev pub counts_as_true : ℤ → Bool
-counts_as_true z = int_le (pos 1) z
+use Rattle.df_model.specs.TableNumbers.{number_of_truth}
+pub use Rattle.df_model.specs.TableNumbers.{counts_as_true}
 
 -- whether a value of the type's sort with this number is of the type
 abbrev pub is_of_type : World → Ty → ℤ → Bool

@@ -14,13 +14,9 @@ use Rattle.df_kern.specs.declared.known.Known.{Known}
 use Rattle.df_kern.specs.Known.{knows}
 use Rattle.df_row.specs.Row.{fits}
 use Rattle.df_table.specs.TableModel.{number_at}
+pub use Rattle.df_model.specs.TableNumbers.{number_of_truth}
 use Rattle.df_model.specs.declared.outcome.Valuation.{Valuation}
 use Rattle.df_model.specs.declared.outcome.Valuation.TheVariants as answers
-
--- a truth counts as 1 or 0
-abbrev pub number_of_truth : Bool → ℤ
-number_of_truth true = pos 1
-number_of_truth false = pos 0
 
 abbrev pub number_of_value : Value → ℤ
 number_of_value (Number z) = z

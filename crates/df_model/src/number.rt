@@ -2,72 +2,22 @@
 
 ghost use Rattle.std.specs.Prelude.{◌≡◌, ◌≢◌, pos, length, map};
 ghost use Rattle.std.specs.Int.{int_div_euclid};
-ghost use Rattle.std.specs.List.{list_all, list_any};
 ghost use Rattle.df_lang.specs.declared.ty.Ty.TheVariants as types;
 ghost use Rattle.df_form.specs.World.{world_of};
 ghost use Rattle.df_form.specs.Types.{has_number};
 ghost use Rattle.df_form.specs.Clause.{yes};
 ghost use Rattle.df_form.specs.Truth.{quotient, remainder, code_in};
-ghost use Rattle.df_meaning.specs.Value.{same_truth};
 ghost use Rattle.df_kern.specs.Known.{knows};
 ghost use Rattle.df_row.specs.RowView.{narrow};
-ghost use Rattle.df_table.specs.TableModel.{number_at, is_true};
-ghost use Rattle.df_model.specs.Valuation.{number_of_truth};
+ghost use Rattle.df_table.specs.TableModel.{number_at};
 ghost use Rattle.df_model.specs.Numbers.{is_of_type, truth_by, narrow_by, free_by};
 
+use crate::parts::{
+    are_all_true, is_any_true, is_part_true, is_same_truth, number_at, number_of_truth, part,
+};
 use df_form::{Free, Lit, Node, Op, Sort, World};
 use df_kern::Known;
 use df_lang::Ty;
-
-/// The number at a place; 0 past the end.
-fn number_at(numbers: &[i128], place: usize) -> i128
-    ensures { result ≡ number_at numbers.now place }
-{
-    match numbers.get(place) {
-        Some(number) => *number,
-        None => 0,
-    }
-}
-
-fn number_of_truth(truth: bool) -> i128
-    ensures { result ≡ number_of_truth truth }
-{
-    if truth { 1 } else { 0 }
-}
-
-fn is_same_truth(a: bool, b: bool) -> bool
-    ensures { result ≡ same_truth a b }
-{
-    a == b
-}
-
-/// The number of a part by its place among the parts.
-fn part(table: &[i128], parts: &[usize], place: usize) -> i128
-    ensures { result ≡ number_at (map (number_at table.now) parts.now) place }
-{
-    match parts.get(place) {
-        Some(part) => number_at(table, *part),
-        None => 0,
-    }
-}
-
-fn is_part_true(table: &[i128], parts: &[usize], place: usize) -> bool
-    ensures { result ≡ is_true (map (number_at table.now) parts.now) place }
-{
-    1 <= part(table, parts, place)
-}
-
-fn are_all_true(table: &[i128], parts: &[usize]) -> bool
-    ensures { result ≡ list_all (λ part. is_true table.now part) parts.now }
-{
-    parts.iter().all(|part| 1 <= number_at(table, *part))
-}
-
-fn is_any_true(table: &[i128], parts: &[usize]) -> bool
-    ensures { result ≡ list_any (λ part. is_true table.now part) parts.now }
-{
-    parts.iter().any(|part| 1 <= number_at(table, *part))
-}
 
 /// Whether a number is of the newtype of this number.
 fn is_of_newtype(world: World, newtype: usize, number: i128) -> bool

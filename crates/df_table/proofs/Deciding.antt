@@ -44,7 +44,7 @@ same_images f (x ∷ xs) (y ∷ ys) e =
     by first others zero less = first
     by first others (suc k) less = others k (omega (arith, less))
 
-same_numbers-Decides : (table : List ℤ) (xs ys : List ℕ) → Decides (same_numbers table xs ys) (map (number_at table) xs ≡ map (number_at table) ys)
+pub same_numbers-Decides : (table : List ℤ) (xs ys : List ℕ) → Decides (same_numbers table xs ys) (map (number_at table) xs ≡ map (number_at table) ys)
 same_numbers-Decides table xs ys =
     let f = number_at table in
     let each = below-Decides (same_at table xs ys) (λ k. f (slice_index_or xs k 0) ≡ f (slice_index_or ys k 0)) (length xs) (λ k. Decides-int_eq (f (slice_index_or xs k 0)) (f (slice_index_or ys k 0))) in
@@ -87,7 +87,7 @@ exact-Decides nodes table n = by (slice_get nodes n) refl
     by None e = (λ t node at. let wrong = sym e ∙ at in absurd cc, λ h. refl)
     by (Some x) e = (λ t node at. subst (λ (node : Node). is_exact nodes table n node.op node.parts ≡ true) (same_Some x node (sym e ∙ at)) t, λ h. h x e)
 
-congruent-Decides : (nodes : List Node) (table : List ℤ) → Decides (is_congruent nodes table) ((m : ℕ) → m < length nodes → (n : ℕ) → n < length nodes → Agree nodes table m n)
+pub congruent-Decides : (nodes : List Node) (table : List ℤ) → Decides (is_congruent nodes table) ((m : ℕ) → m < length nodes → (n : ℕ) → n < length nodes → Agree nodes table m n)
 congruent-Decides nodes table =
     below-Decides (agrees_with_all nodes table) (λ m. (n : ℕ) → n < length nodes → Agree nodes table m n) (length nodes) (λ m. below-Decides (agree nodes table m) (Agree nodes table m) (length nodes) (agree-Decides nodes table m))
 

@@ -1,3 +1,4 @@
 pub mod Below
 pub mod Deciding
+pub mod Disagreements
 pub mod Falsifying

@@ -1,2 +1,3 @@
 pub mod TableModel
+pub mod Disagreement
 pub mod Testing

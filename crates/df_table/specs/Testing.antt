@@ -1,8 +1,9 @@
 -- The tests of table models as the code makes them.
-use Rattle.std.specs.Prelude.{ℕ, zero, suc, ℤ, Bool, true, not, ◌&&◌, ◌||◌, ◌==◌, List, length, slice_get, slice_index_or, Option, None, Some}
+use Rattle.std.specs.Prelude.{◌≡◌, ℕ, zero, suc, ℤ, Bool, true, false, not, ◌&&◌, ◌||◌, ◌==◌, List, length, slice_get, slice_index_or, Option, None, Some}
 use Rattle.std.specs.List.{list_all}
 use Rattle.std.specs.Option.{option_map_or}
 use Rattle.std.specs.Ordering.{int_eq}
+use Rattle.df_form.specs.declared.log.Pair.{Pair}
 use Rattle.df_form.specs.Node.{Node, same_op}
 use Rattle.df_form.specs.Clause.{clause_truth}
 use Rattle.df_kern.specs.Derivation.{State}
@@ -48,3 +49,12 @@ are_exact nodes table = all_below (exact_at nodes table) (length nodes)
 
 abbrev pub meets : State → List ℤ → Bool
 meets state table = length table == length state.nodes && (is_congruent state.nodes table && (are_exact state.nodes table && list_all (clause_truth (is_true table)) state.clauses))
+
+-- a node that disagrees with this one, or that none does
+abbrev pub FindsOther : List Node → List ℤ → ℕ → Option ℕ → Type 0
+FindsOther nodes table m (Some n) = agree nodes table m n ≡ false
+FindsOther nodes table m None = agrees_with_all nodes table m ≡ true
+
+abbrev pub FindsTwo : List Node → List ℤ → Option Pair → Type 0
+FindsTwo nodes table (Some pair) = agree nodes table pair.left pair.right ≡ false
+FindsTwo nodes table None = is_congruent nodes table ≡ true

@@ -45,7 +45,7 @@ fn agree_at(table: &Table, m: usize, n: usize, a: &Node, b: &Node) -> bool
         || !same_numbers(table, a.parts.as_slice(), b.parts.as_slice())
 }
 
-fn agree(nodes: &Nodes, table: &Table, m: usize, n: usize) -> bool
+pub(crate) fn agree(nodes: &Nodes, table: &Table, m: usize, n: usize) -> bool
     ensures { result ≡ agree nodes.now table.now m n }
 {
     match (nodes.get(m), nodes.get(n)) {

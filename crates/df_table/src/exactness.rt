@@ -23,8 +23,8 @@ fn is_product(a: i128, b: i128, total: i128) -> bool
     a.checked_mul(b) == Some(total)
 }
 
-/// The number of a literal.
-fn literal(nodes: &Nodes, node: usize) -> Option<i128>
+/// The number of a literal; `None` where the node is none.
+pub fn literal(nodes: &Nodes, node: usize) -> Option<i128>
     ensures { result ≡ literal_number (slice_get nodes.now node) }
 {
     match nodes.get(node)?.op {
