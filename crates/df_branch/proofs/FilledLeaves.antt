@@ -1,40 +1,31 @@
 -- What the search ends with where no clause is open.
-use Rattle.std.proofs.Common.{◌≡◌, ℕ, zero, suc, ℤ, pos, true, false, List, [], ◌∷◌, map, length, refl, sym, ap, ◌∙◌, subst, ◌⊎◌, inl, inr, ◌+ℤ◌, nat_lt, Some, slice_get, arith}
+use Rattle.std.proofs.Common.{◌≡◌, ℕ, ℤ, pos, true, false, List, map, length, refl, sym, ap, ◌∙◌, subst, ◌⊎◌, inl, inr, ◌+ℤ◌, nat_lt, Some, slice_get, arith}
 use Rattle.std.proofs.lemmas.Bool.Decides.{nat_tests}
+use Rattle.std.proofs.lemmas.Bool.{and_from, cases_Bool}
+use Rattle.std.proofs.lemmas.Option.{slice_get_within}
+use Rattle.df_form.specs.declared.log.Lit.{Lit}
 use Rattle.df_form.specs.declared.node.Sort.{Sort}
 use Rattle.df_form.specs.declared.node.Sort.TheVariants as sorts
+use Rattle.df_form.specs.Node.{Node, same_sort}
 use Rattle.df_form.specs.Sorting.{sort_at}
+use Rattle.df_form.specs.Clause.{yes, no, is_among}
+use Rattle.df_row.specs.Row.{Row}
+use Rattle.df_row.specs.RowView.{IsWithin}
 use Rattle.df_kern.specs.Bound.{number, at_most}
 use Rattle.df_kern.specs.Derivation.{is_number}
 use Rattle.df_closure.specs.Atoms.{is_atom}
-use Rattle.df_level.specs.Elimination.{Eliminates}
-use Rattle.std.specs.List.{slice_index_or}
-use Rattle.std.proofs.lemmas.Bool.{and_from, cases_Bool}
-use Rattle.std.proofs.lemmas.Option.{slice_get_within}
-use Rattle.df_form.specs.World.{World}
-use Rattle.df_meaning.specs.Value.{Value, Truth, Character, Number, Text, number_of}
-use Rattle.df_form.specs.declared.log.Lit.{Lit}
-use Rattle.df_form.specs.Node.{Node, same_sort}
-use Rattle.df_form.specs.Clause.{yes, no, is_among}
-use Rattle.df_form.specs.Truth.{values}
-use Rattle.df_row.specs.Row.{Row, fits}
-use Rattle.df_row.specs.RowView.{IsWithin}
-use Rattle.df_kern.specs.declared.known.Known.{Known}
-use Rattle.df_kern.specs.Known.{knows}
 use Rattle.df_closure.specs.Closure.{GroundClause, after}
 use Rattle.df_level.specs.declared.level.Level.{Level}
 use Rattle.df_level.specs.Levels.{Stands, level_rows}
+use Rattle.df_level.specs.Elimination.{Eliminates}
 use Rattle.df_elim.specs.declared.elimination.Levels.{Levels}
 use Rattle.df_back.specs.declared.answer.Back.{Back}
 use Rattle.df_back.specs.BackSubstitution.{IsPastWidth}
-use Rattle.df_back.specs.BackView.{TellsBack, IsPoint, IsGap, numbers_of}
-use Rattle.df_model.specs.Valuation.{number_of_value, assignment_by, numbers_of_nodes, IsWide}
-use Rattle.df_table.specs.TableModel.{IsTableModel}
-use Rattle.df_ground.specs.GroundView.{state_of}
-use Rattle.df_branch.specs.Overflow.{at_value, at_node}
-use Rattle.df_branch.specs.Leaf.{IsWideLeaf, IsBetweenLeaf, IsModelOf}
+use Rattle.df_back.specs.BackView.{TellsBack, IsGap}
+use Rattle.df_branch.specs.Overflow.{at_value}
+use Rattle.df_branch.specs.Leaf.{IsWideLeaf, IsBetweenLeaf}
 use Rattle.df_branch.specs.FilledPlace.{IsFilledPlace}
-use Rattle.df_branch.proofs.Modelling.{is_model}
+use Rattle.df_branch.proofs.Solutions.{formulas, labels_are}
 use Rattle.df_branch.proofs.Gaps.{known_at_most, known_at_least, first_at_most, first_at_least}
 use Rattle.df_branch.proofs.Points.{between_zero, others_zero, truth_is_no_number, character_is_no_number, atoms_zero}
 use Rattle.df_branch.proofs.Zeros.{AllZero, first_zero}
@@ -46,39 +37,22 @@ told count less first variables others_variables levels others answer other a b 
     (subst (λ (vs : List ℕ). TellsBack count first vs (map level_rows others) other) b
     (subst (λ (ls : List Level). TellsBack count first variables (map level_rows ls) other) c (subst (TellsBack count first variables (map level_rows levels)) d tells)))
 
--- a truth has 128 bits
-wide_number : (values : List Value) (node : ℕ) → fits (slice_index_or (map number_of_value values) node (pos 0)) ≡ false → fits (number_of (slice_index_or values node (Number (pos 0)))) ≡ false
-wide_number [] node e = absurd cc
-wide_number (Number z ∷ values) zero e = e
-wide_number (Truth true ∷ values) zero e = absurd cc
-wide_number (Truth false ∷ values) zero e = absurd cc
-wide_number (Text t ∷ values) zero e = absurd cc
-wide_number (Character c ∷ values) zero e = e
-wide_number (v ∷ values) (suc node) e = wide_number values node e
-
-module _ (world : World) (set : List Node) (clauses : List GroundClause) (nodes : List Node) (branch : List Lit) (levels : Levels) (known : Known)
-    (p : IsFilledPlace set clauses nodes branch levels known) (within : (row : Row) → Stands row (level_rows levels.first) → IsWithin (length nodes) row) where
+module _ (set : List Node) (clauses : List GroundClause) (nodes : List Node) (branch : List Lit) (levels : Levels) (labels : List ℕ) (facts : List Lit)
+    (p : IsFilledPlace set clauses nodes branch levels labels facts) (within : (row : Row) → Stands row (level_rows levels.first) → IsWithin (length nodes) row) where
   abbrev first : List Row
   first = level_rows levels.first
 
   abbrev others : List (List Row)
   others = map level_rows levels.others.items
 
-  pub wide_value : IsPastWidth (length nodes) first levels.variables.items others → IsWideLeaf world set clauses nodes branch
+  pub wide_value : IsPastWidth (length nodes) first levels.variables.items others → IsWideLeaf set clauses nodes branch
   wide_value past = record {
     reasons = p.reasons;
     learned = p.learned;
     closed = p.closed;
+    formulas = formulas set clauses nodes branch levels labels facts p;
+    quiet = (labels_are set clauses nodes branch levels labels facts p).quiet;
     overflows = at_value p.rows first levels.variables.items others (length nodes) p.rows_are p.whole.elimination within past;
-  }
-
-  pub wide_node : (numbers : List ℤ) → IsPoint (length nodes) first levels.variables.items others numbers → IsWide world (assignment_by set numbers known) set → IsWideLeaf world set clauses nodes branch
-  wide_node numbers point wide = record {
-    reasons = p.reasons;
-    learned = p.learned;
-    closed = p.closed;
-    overflows = at_node p.rows first levels.variables.items others (length nodes) (numbers_of numbers) (λ n. knows known (yes n)) wide.node p.rows_are p.whole.elimination within point.is
-        (λ depth. wide_number (values depth world (assignment_by set numbers known) set) wide.node (wide.wide depth));
   }
 
   eliminates : Eliminates 0 first levels.variables.items others
@@ -131,7 +105,8 @@ module _ (world : World) (set : List Node) (clauses : List GroundClause) (nodes 
     unshut = record {
       reasons = p.reasons;
       closed = p.closed;
-      formulas = p.formulas;
+      formulas = formulas set clauses nodes branch levels labels facts p;
+      quiet = (labels_are set clauses nodes branch levels labels facts p).quiet;
       rows = p.rows;
       rows_are = p.rows_are;
       first = first;
@@ -151,9 +126,3 @@ module _ (world : World) (set : List Node) (clauses : List GroundClause) (nodes 
 
   pub between_at : (term : ℕ) (bound same : ℤ) → IsGap (length nodes) first levels.variables.items others term bound → same ≡ bound → IsBetweenLeaf clauses nodes branch term same
   between_at term bound same gap e = subst (IsBetweenLeaf clauses nodes branch term) (sym e) (between term bound gap)
-
-  pub modelled : (numbers table : List ℤ) → IsPoint (length nodes) first levels.variables.items others numbers → ((depth : ℕ) → table ≡ map number_of_value (values depth world (assignment_by set numbers known) set)) → IsModelOf world set clauses table
-  modelled numbers table point tabulates s g valid is arithmetic same_world same_set same_clauses =
-      let model = is_model s g valid is arithmetic nodes branch levels known
-      (subst (λ (cs : List GroundClause). IsFilledPlace g.nodes cs nodes branch levels known) (sym same_clauses) (subst (λ (ns : List Node). IsFilledPlace ns clauses nodes branch levels known) (sym same_set) p)) numbers point in
-      subst (IsTableModel (state_of g)) ((λ i. numbers_of_nodes 0 (same_world i) (assignment_by (same_set i) numbers known) (same_set i)) ∙ sym (tabulates 0)) model

@@ -1,12 +1,8 @@
 -- What comes next at a branch.
-use Rattle.std.specs.Prelude.{◌≡◌, ℕ, ℤ, ◌+ℤ◌, pos, true, false, List, map, take, length, slice_get, Some}
-use Rattle.std.specs.List.{list_all}
-use Rattle.df_form.specs.World.{World}
+use Rattle.std.specs.Prelude.{◌≡◌, ℕ, ℤ, ◌+ℤ◌, pos, true, false, List, ◌++◌, map, slice_get, Some}
 use Rattle.df_form.specs.declared.log.Lit.{Lit}
 use Rattle.df_form.specs.Node.{Node}
-use Rattle.df_form.specs.Sorting.{IsTable}
-use Rattle.df_form.specs.Arithmetic.{IsArithmeticSequent}
-use Rattle.df_form.specs.Clause.{yes, no, is_among, are_literals}
+use Rattle.df_form.specs.Clause.{yes, no, negation, is_among, are_literals}
 use Rattle.df_form.specs.Log.{combination_of}
 use Rattle.df_form.specs.Sequent.{Sequent, IsSequent}
 use Rattle.df_row.specs.Row.{Row, fits}
@@ -17,27 +13,20 @@ use Rattle.df_kern.specs.Derivation.{is_number}
 use Rattle.df_ground.specs.declared.set.Ground.{Ground}
 use Rattle.df_ground.specs.GroundView.{IsGroundOf, state_of}
 use Rattle.df_table.specs.TableModel.{IsTableModel}
+use Rattle.df_cong.specs.declared.answer.Reason.{Reason}
+use Rattle.df_cong.specs.Equal.{IsContradicted}
+use Rattle.df_cong.specs.Theory.{IsReason}
 use Rattle.df_closure.specs.Closure.{GroundClause, ground_of, after, IsClosed, IsRefuted}
-use Rattle.df_closure.specs.Full.{IsConsistent}
-use Rattle.df_closure.specs.Filled.{IsFilled, AreComparing}
+use Rattle.df_closure.specs.Filled.{IsFilled}
 use Rattle.df_level.specs.Levels.{Stands, row_limit}
 use Rattle.df_level.specs.Elimination.{AreRefuted, AreMany}
 use Rattle.df_back.specs.BackSubstitution.{IsBetween}
 use Rattle.df_branch.specs.declared.leaf.Leaf.{Leaf}
 use Rattle.df_branch.specs.declared.leaf.Leaf.TheVariants as leaves
+use Rattle.df_branch.specs.TermPair.{IsTermPair, equal}
 use Rattle.df_branch.specs.Evidence.{IsUnshut}
 use Rattle.df_branch.specs.Filling.{IsOpenMember}
 use Rattle.df_branch.specs.Overflow.{Overflows}
-
--- A search stands at a place: nodes that begin with those of the ground set, and only numbers and comparisons after the
--- sequent's; the literals of clauses and of the branch are of formulas, and no two of the branch contradict each other.
-pub record IsPlace (set : List Node) (clauses : List GroundClause) (nodes : List Node) (branch : List Lit) : Type 0 where
-  pub table : IsTable nodes
-  pub begins : take (length set) nodes ≡ set
-  pub made : AreComparing (length set) nodes
-  pub formulas : are_literals nodes branch ≡ true
-  pub consistent : IsConsistent branch
-  pub clause_formulas : list_all (λ (clause : GroundClause). are_literals set clause.literals) clauses ≡ true
 
 -- combinations refute the rows of the closed list
 pub record IsUnsolvable (clauses : List GroundClause) (nodes : List Node) (branch : List Lit) (leaf_reasons : List ℕ) (facts : List Lit) (rows : List Row) : Type 0 where
@@ -47,6 +36,14 @@ pub record IsUnsolvable (clauses : List GroundClause) (nodes : List Node) (branc
   pub formulas : are_literals nodes facts ≡ true
   pub rows_are : rows_of nodes facts ≡ Some rows
   pub refuted : AreRefuted rows
+
+-- congruence contradicts the closed list, with such a line as its reason
+pub record IsIncongruent (clauses : List GroundClause) (nodes : List Node) (branch : List Lit) (leaf_reasons : List ℕ) (facts : List Lit) (reason : Reason) : Type 0 where
+  pub learned : List Lit
+  pub closed : IsClosed clauses branch leaf_reasons learned
+  pub facts_are : facts ≡ after branch learned
+  pub formulas : are_literals nodes facts ≡ true
+  pub is_reason : IsReason nodes facts reason
 
 -- an undecided literal of an open clause, beside a list that is not shut
 pub record IsOpenLeaf (clauses : List GroundClause) (nodes : List Node) (branch : List Lit) (literal : Lit) : Type 0 where
@@ -67,12 +64,26 @@ pub record IsBetweenLeaf (clauses : List GroundClause) (nodes : List Node) (bran
   pub not_true : (place m : ℕ) → slice_get nodes place ≡ Some (number bound) → slice_get nodes m ≡ Some (at_most term place) → is_among (after branch learned) (yes m) ≡ false
   pub not_false : (place m : ℕ) → slice_get nodes place ≡ Some (number bound) → slice_get nodes m ≡ Some (at_most term place) → is_among (after branch learned) (no m) ≡ false
 
+-- No clause is open, and the equality of two different terms of the ground set, which are numbers, is undecided.
+pub record IsApartLeaf (set : List Node) (clauses : List GroundClause) (nodes : List Node) (branch : List Lit) (left right : ℕ) : Type 0 where
+  pub learned : List Lit
+  pub unshut : IsUnshut nodes clauses branch learned
+  pub filled : IsFilled clauses (after branch learned)
+  pub different : left ≡ right → ⊥
+  pub pair : IsTermPair set left right
+  pub left_number : is_number nodes left ≡ true
+  pub right_number : is_number nodes right ≡ true
+  pub not_true : (n : ℕ) → slice_get nodes n ≡ Some (equal left right) → is_among (after branch learned) (yes n) ≡ false
+  pub not_false : (n : ℕ) → slice_get nodes n ≡ Some (equal left right) → is_among (after branch learned) (no n) ≡ false
+
 -- a number on the way is past 128 bits, beside a list whose closed list stands
-pub record IsWideLeaf (world : World) (set : List Node) (clauses : List GroundClause) (nodes : List Node) (branch : List Lit) : Type 0 where
+pub record IsWideLeaf (set : List Node) (clauses : List GroundClause) (nodes : List Node) (branch : List Lit) : Type 0 where
   pub reasons : List ℕ
   pub learned : List Lit
   pub closed : IsClosed clauses branch reasons learned
-  pub overflows : Overflows world set nodes (after branch learned)
+  pub formulas : are_literals nodes (after branch learned) ≡ true
+  pub quiet : IsContradicted nodes (map negation (after branch learned)) → ⊥
+  pub overflows : Overflows set nodes (after branch learned)
 
 -- a level of the rows comes to so many rows
 pub record IsManyLeaf (clauses : List GroundClause) (nodes : List Node) (branch : List Lit) (count : ℕ) : Type 0 where
@@ -80,19 +91,23 @@ pub record IsManyLeaf (clauses : List GroundClause) (nodes : List Node) (branch 
   pub reasons : List ℕ
   pub learned : List Lit
   pub closed : IsClosed clauses branch reasons learned
+  pub formulas : are_literals nodes (after branch learned) ≡ true
+  pub quiet : IsContradicted nodes (map negation (after branch learned)) → ⊥
   pub rows : List Row
   pub rows_are : rows_of nodes (after branch learned) ≡ Some rows
   pub many : AreMany rows
 
--- the table is a model of the ground set of each arithmetic sequent that has these clauses
-abbrev pub IsModelOf : World → List Node → List GroundClause → List ℤ → Type 0
-IsModelOf world set clauses table = (s : Sequent) (g : Ground) → IsSequent s → IsGroundOf s g → IsArithmeticSequent s → s.world ≡ world → g.nodes ≡ set → map ground_of g.clauses.items ≡ clauses → IsTableModel (state_of g) table
+-- the table is a model of the ground set of each sequent whose ground clauses stand first among these
+abbrev pub IsModelOf : List Node → List GroundClause → List ℤ → Type 0
+IsModelOf set clauses table = (s : Sequent) (g : Ground) (more : List GroundClause) → IsSequent s → IsGroundOf s g → g.nodes ≡ set → map ground_of g.clauses.items ++ more ≡ clauses → IsTableModel (state_of g) table
 
-abbrev pub TellsLeaf : World → List Node → List GroundClause → List Node → List Lit → Leaf → Type 0
-TellsLeaf world set clauses nodes branch (leaves.Refuted numbers) = IsRefuted clauses branch numbers.items
-TellsLeaf world set clauses nodes branch (leaves.Unsolvable reasons facts combinations) = (rows : List Row) × IsUnsolvable clauses nodes branch reasons.items facts.items rows × ((count : ℕ) → refutes count rows (map combination_of combinations.items) ≡ true)
-TellsLeaf world set clauses nodes branch (leaves.Open literal) = IsOpenLeaf clauses nodes branch literal
-TellsLeaf world set clauses nodes branch (leaves.Between term bound) = IsBetweenLeaf clauses nodes branch term bound
-TellsLeaf world set clauses nodes branch (leaves.Modelled table) = IsModelOf world set clauses table
-TellsLeaf world set clauses nodes branch leaves.Wide = IsWideLeaf world set clauses nodes branch
-TellsLeaf world set clauses nodes branch (leaves.Many count) = IsManyLeaf clauses nodes branch count
+abbrev pub TellsLeaf : List Node → List GroundClause → List Node → List Lit → Leaf → Type 0
+TellsLeaf set clauses nodes branch (leaves.Refuted numbers) = IsRefuted clauses branch numbers.items
+TellsLeaf set clauses nodes branch (leaves.Unsolvable reasons facts combinations) = (rows : List Row) × IsUnsolvable clauses nodes branch reasons.items facts.items rows × ((count : ℕ) → refutes count rows (map combination_of combinations.items) ≡ true)
+TellsLeaf set clauses nodes branch (leaves.Incongruent reasons facts reason) = IsIncongruent clauses nodes branch reasons.items facts.items reason
+TellsLeaf set clauses nodes branch (leaves.Open literal) = IsOpenLeaf clauses nodes branch literal
+TellsLeaf set clauses nodes branch (leaves.Between term bound) = IsBetweenLeaf clauses nodes branch term bound
+TellsLeaf set clauses nodes branch (leaves.Apart left right) = IsApartLeaf set clauses nodes branch left right
+TellsLeaf set clauses nodes branch (leaves.Modelled table) = IsModelOf set clauses table
+TellsLeaf set clauses nodes branch leaves.Wide = IsWideLeaf set clauses nodes branch
+TellsLeaf set clauses nodes branch (leaves.Many count) = IsManyLeaf clauses nodes branch count

@@ -1,7 +1,11 @@
 pub mod Splits
+pub mod TermPair
 pub mod Evidence
 pub mod Overflow
 pub mod Facts
 pub mod Filling
+pub mod Place
 pub mod Leaf
+pub mod ClosedPlace
 pub mod FilledPlace
+pub mod Laws

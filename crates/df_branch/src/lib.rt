@@ -4,6 +4,8 @@
 
 mod facts;
 mod filling;
+mod law;
 mod leaf;
 
+pub use law::ground_sets_are_places;
 pub use leaf::{Leaf, leaf_at};

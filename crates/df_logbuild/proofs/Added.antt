@@ -3,14 +3,17 @@ use Rattle.std.proofs.Common.{◌≡◌, ℕ, ◌+◌, ◌<◌, ◌≤◌, Bool,
 use Rattle.std.specs.Option.{option_and_then, option_map}
 use Rattle.df_kern.proofs.Checks.{after_all-append}
 use Rattle.df_form.specs.declared.log.Step as declared
+use Rattle.df_form.specs.declared.log.Pair.{Pair}
 use Rattle.df_form.specs.Sequent.{Sequent}
 use Rattle.df_form.specs.Clause.{Clause}
-use Rattle.df_form.specs.Log.{Combination, Propagation, Linear, Make, step_of}
+use Rattle.df_form.specs.Log.{Combination, Connective, Propagation, Congruence, Linear, Make, step_of}
 use Rattle.df_form.specs.Node.{Node, number_of}
 use Rattle.df_form.specs.Made.{Made, made, made_where}
 use Rattle.df_form.specs.Sorting.{is_well_sorted}
 use Rattle.df_kern.specs.Propagation.{propagation_line}
 use Rattle.df_row.specs.Linear.{linear_line}
+use Rattle.df_kern.specs.CongruenceLine.{congruence_line}
+use Rattle.df_kern.specs.Connective.{connective_line}
 use Rattle.df_kern.specs.Derivation.{State, begin, only_clause, adds, is_free, is_new, made_line, after, after_all, ends_empty, Derives}
 use Rattle.df_logbuild.specs.declared.derivation.Derivation.{Derivation}
 use Rattle.df_logbuild.specs.Runs.{Runs, state_of}
@@ -48,6 +51,15 @@ propagated s nodes all numbers conclusion e = ap (λ (o : Option Clause). adds (
 pub refuted : (s : Sequent) (nodes : List Node) (all : List Clause) (conclusion : Clause) (combinations : List Combination) → linear_line nodes conclusion combinations ≡ Some conclusion
     → after s (record { nodes = nodes; clauses = all }) (Linear conclusion combinations) ≡ Some (record { nodes = nodes; clauses = all ++ conclusion ∷ [] })
 refuted s nodes all conclusion combinations e = ap (λ (o : Option Clause). adds (record { nodes = nodes; clauses = all }) (only_clause nodes o)) e
+
+-- one of congruence, and what a connective means
+pub incongruent : (s : Sequent) (nodes : List Node) (all : List Clause) (conclusion : Clause) (pairs : List Pair) → congruence_line nodes conclusion pairs ≡ Some conclusion
+    → after s (record { nodes = nodes; clauses = all }) (Congruence conclusion pairs) ≡ Some (record { nodes = nodes; clauses = all ++ conclusion ∷ [] })
+incongruent s nodes all conclusion pairs e = ap (λ (o : Option Clause). adds (record { nodes = nodes; clauses = all }) (only_clause nodes o)) e
+
+pub defined : (s : Sequent) (nodes : List Node) (all : List Clause) (node clause : ℕ) (literals : Clause) → connective_line nodes node clause ≡ Some (record { nodes = nodes; clause = literals })
+    → after s (record { nodes = nodes; clauses = all }) (Connective node clause) ≡ Some (record { nodes = nodes; clauses = all ++ literals ∷ [] })
+defined s nodes all node clause literals e = ap (adds (record { nodes = nodes; clauses = all })) e
 
 pub ok_weaker : {X E : Type 0} (r : Result X E) (P Q : Type 0) → (P → Q) → OnOk r P → OnOk r Q
 ok_weaker (Ok x) P Q f p = f p

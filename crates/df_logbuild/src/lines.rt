@@ -7,6 +7,8 @@ ghost use Rattle.df_form.specs.Node.{node_of};
 ghost use Rattle.df_form.specs.Made.{made};
 ghost use Rattle.df_form.specs.Sorting.{is_well_sorted};
 ghost use Rattle.df_form.specs.Log.{step_of, combination_of};
+ghost use Rattle.df_kern.specs.CongruenceLine.{congruence_line};
+ghost use Rattle.df_kern.specs.Connective.{connective_line};
 ghost use Rattle.df_kern.specs.Derivation.{after, is_free};
 ghost use Rattle.df_kern.specs.Propagation.{propagation_line};
 ghost use Rattle.df_row.specs.Linear.{linear_line};
@@ -14,7 +16,7 @@ ghost use Rattle.df_logbuild.specs.Front.{IsFront};
 ghost use Rattle.df_logbuild.specs.Runs.{Runs, state_of};
 
 use crate::derivation::Derivation;
-use df_form::{Combination, Lit, Node, Step};
+use df_form::{Combination, Lit, Node, Pair, Step};
 use std::alloc::{AllocError, Global};
 
 impl Derivation {
@@ -72,6 +74,36 @@ impl Derivation {
             conclusion,
             combinations,
         })
+    }
+
+    /// Adds a clause whose negation congruence refutes by these pairs, where it does.
+    pub fn congruence(
+        &mut self,
+        conclusion: Vec<Lit>,
+        pairs: Vec<Pair>,
+    ) -> Result<usize, AllocError>
+        ensures number { IfOk result (λ number. number ≡ self.old.clauses) }
+        ensures added { OnOk result ((s : Sequent) (all : List Clause) → Runs s self.old all → congruence_line self.old.nodes conclusion.items pairs.items ≡ Some conclusion.items → Runs s self.new (all ++ conclusion.items ∷ [])) }
+        ensures nodes { self.new.nodes ≡ self.old.nodes }
+        ensures longer { OnOk result (length self.new.lines.items ≡ suc (length self.old.lines.items)) }
+        ensures unchanged { OnErr result (self.new.lines.items ≡ self.old.lines.items) }
+        ensures uncounted { OnErr result (self.new.clauses ≡ self.old.clauses) }
+        ensures grows { IsFront self.old.lines.items self.new.lines.items }
+    {
+        self.add(Step::Congruence { conclusion, pairs })
+    }
+
+    /// Adds the defining clause of this number of a connective, where it has one whose nodes all stand.
+    pub fn define(&mut self, node: usize, clause: usize) -> Result<usize, AllocError>
+        ensures number { IfOk result (λ number. number ≡ self.old.clauses) }
+        ensures added { OnOk result ((s : Sequent) (all : List Clause) (literals : Clause) → Runs s self.old all → connective_line self.old.nodes node clause ≡ Some (record { nodes = self.old.nodes; clause = literals }) → Runs s self.new (all ++ literals ∷ [])) }
+        ensures nodes { self.new.nodes ≡ self.old.nodes }
+        ensures longer { OnOk result (length self.new.lines.items ≡ suc (length self.old.lines.items)) }
+        ensures unchanged { OnErr result (self.new.lines.items ≡ self.old.lines.items) }
+        ensures uncounted { OnErr result (self.new.clauses ≡ self.old.clauses) }
+        ensures grows { IsFront self.old.lines.items self.new.lines.items }
+    {
+        self.add(Step::Connective { node, clause })
     }
 
     /// The number of a node, which a line makes where it does not stand yet. It is no free term, and is well

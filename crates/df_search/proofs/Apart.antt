@@ -12,7 +12,8 @@ use Rattle.df_closure.specs.Closure.{GroundClause, counts_for, Teaches, Refutes,
 use Rattle.df_closure.specs.Closing.{IsSettled}
 use Rattle.df_level.specs.Levels.{Stands}
 use Rattle.df_elim.specs.Elimination.{AreAmong}
-use Rattle.df_branch.specs.Evidence.{IsShut, by_clauses, by_rows, IsUnshut, MayFollow, IsBranchAfter, IsBranch, ShareNothingShut}
+use Rattle.df_cong.proofs.Growing.{contradicted_more_literals}
+use Rattle.df_branch.specs.Evidence.{IsShut, by_clauses, by_congruence, by_rows, IsUnshut, MayFollow, IsBranchAfter, IsBranch, ShareNothingShut}
 use Rattle.std.specs.declared.alloc.Global.{Global}
 use Rattle.std.proofs.lemmas.Option.{same_Some}
 use Rattle.std.proofs.lemmas.Bool.{or_cases, or_left, or_right, and_parts}
@@ -23,6 +24,7 @@ use Rattle.df_search.specs.Searching.{Lacks, AreApart, AllApart}
 use Rattle.df_kern.proofs.SoundClauses.{same_literal_is}
 use Rattle.df_level.proofs.Sets.{stands_left, stands_right}
 use Rattle.df_elim.proofs.Keeping.{stay_refuted}
+use Rattle.df_search.proofs.Members.{contained_among, among_contained}
 
 -- the one list holds all that the other does
 pub record Covers (wide known : List Lit) : Type 0 where
@@ -168,14 +170,17 @@ module _ (nodes : List Node) (clauses : List GroundClause) where
 
       by : IsShut nodes clauses list → ⊥
       by (by_clauses numbers is) = none_refuted clauses (after before learned) settled (after list is.learned) is.last (covers_taught clauses (after before learned) settled list is.reasons is.learned whole is.taught) is.refutes
+      by (by_congruence reasons taught closed formulas contradicted) =
+          let covered = covers_taught clauses (after before learned) settled list reasons taught whole closed.taught in
+          unshut.quiet (contradicted_more_literals nodes (after list taught) (after before learned) (λ l there. among_contained (after before learned) l (covered.has l (contained_among (after list taught) l there))) contradicted)
       by (by_rows reasons taught rows closed formulas rows_are refuted) =
           stay_refuted rows unshut.rows (rows_among nodes (after before learned) (after list taught) rows unshut.rows (covers_taught clauses (after before learned) settled list reasons taught whole closed.taught) rows_are unshut.rows_are) refuted
           unshut.first unshut.variables unshut.levels unshut.elimination
 
   -- the last literal may follow those before it
-  pub last_follows : (before first : List Lit) (last : Lit) → IsBranchAfter nodes clauses before (first ++ last ∷ []) → MayFollow nodes clauses (before ++ first) last
-  last_follows before [] last is = subst (λ (ls : List Lit). MayFollow nodes clauses ls last) (sym (append-nil before)) is.0
-  last_follows before (l ∷ first) last is = subst (λ (ls : List Lit). MayFollow nodes clauses ls last) (append_assoc before (l ∷ []) first) (last_follows (before ++ l ∷ []) first last is.1)
+  pub last_follows : (set : List Node) (before first : List Lit) (last : Lit) → IsBranchAfter set nodes clauses before (first ++ last ∷ []) → MayFollow set nodes clauses (before ++ first) last
+  last_follows set before [] last is = subst (λ (ls : List Lit). MayFollow set nodes clauses ls last) (sym (append-nil before)) is.0
+  last_follows set before (l ∷ first) last is = subst (λ (ls : List Lit). MayFollow set nodes clauses ls last) (append_assoc before (l ∷ []) first) (last_follows set (before ++ l ∷ []) first last is.1)
 
 among_first : (first : List Lit) (last l : Lit) → is_among (first ++ last ∷ []) l ≡ true → (is_among first l ≡ true) ⊎ (same_literal l last ≡ true)
 among_first [] last l e = inr (by (same_literal l last) e)
@@ -187,9 +192,9 @@ among_first (m ∷ first) last l e =
     ⊎_elim (λ here. inl (or_left (same_literal l m) (is_among first l) here)) (λ rest. ⊎_elim (λ k. inl (or_right (same_literal l m) (is_among first l) k)) (λ k. inr k) (among_first first last l rest))
     (or_cases (same_literal l m) (is_among (first ++ last ∷ []) l) e)
 
-lacks_shares : (nodes : List Node) (clauses : List GroundClause) (branch other : List Lit) → Lacks branch other → IsBranch nodes clauses branch → ShareNothingShut nodes clauses branch other
-lacks_shares nodes clauses branch other lacks is_branch list shared shut =
-    let follows = last_follows nodes clauses [] lacks.first lacks.last (subst (IsBranchAfter nodes clauses []) lacks.is is_branch) in
+lacks_shares : (set nodes : List Node) (clauses : List GroundClause) (branch other : List Lit) → Lacks branch other → IsBranch set nodes clauses branch → ShareNothingShut nodes clauses branch other
+lacks_shares set nodes clauses branch other lacks is_branch list shared shut =
+    let follows = last_follows nodes clauses set [] lacks.first lacks.last (subst (IsBranchAfter set nodes clauses []) lacks.is is_branch) in
     covered_unshut nodes clauses lacks.first follows.learned list follows.unshut (record { has = λ l e. in_first l (shared l e) }) shut
   where
     in_first : (l : Lit) → (is_among branch l ≡ true) × (is_among other l ≡ true) → is_among lacks.first l ≡ true
@@ -198,10 +203,10 @@ lacks_shares nodes clauses branch other lacks is_branch list shared shut =
         (among_first lacks.first lacks.last l (subst (λ (ls : List Lit). is_among ls l ≡ true) lacks.is e.0))
 
 pub first_apart : (branch other : List Lit) → Lacks branch other → AreApart branch other
-first_apart branch other lacks nodes clauses one two = lacks_shares nodes clauses branch other lacks one
+first_apart branch other lacks set nodes clauses one two = lacks_shares set nodes clauses branch other lacks one
 
 pub second_apart : (branch other : List Lit) → Lacks other branch → AreApart branch other
-second_apart branch other lacks nodes clauses one two = λ list shared shut. lacks_shares nodes clauses other branch lacks two list (λ l e. let parts = shared l e in (parts.1, parts.0)) shut
+second_apart branch other lacks set nodes clauses one two = λ list shared shut. lacks_shares set nodes clauses other branch lacks two list (λ l e. let parts = shared l e in (parts.1, parts.0)) shut
 
 -- those that are left are all that is to be looked at
 pub record RestApart (branch : List Lit) (rest all : List (Vec Lit Global)) : Type 0 where

@@ -4,13 +4,10 @@ use Rattle.std.specs.List.{list_all, list_any}
 use Rattle.std.proofs.lemmas.Option.{same_Some}
 use Rattle.std.proofs.lemmas.Bool.{and_from, or_cases, or_parts, cases_Bool, and_parts}
 use Rattle.df_lemmas.proofs.Truths.{true_is_not_false}
-use Rattle.df_form.specs.World.{World, world_of}
-use Rattle.df_form.specs.World.{world_of}
 use Rattle.df_table.specs.declared.table.Table.{Table}
 use Rattle.df_form.specs.declared.log.Lit.{Lit}
 use Rattle.df_form.specs.Node.{Node}
 use Rattle.df_form.specs.Sorting.{is_formula}
-use Rattle.df_form.specs.Arithmetic.{IsArithmeticSequent}
 use Rattle.df_form.specs.Clause.{Clause, negation, same_literal, is_among, are_literals}
 use Rattle.df_form.specs.Sequent.{Sequent, IsSequent}
 use Rattle.df_closure.specs.Closure.{GroundClause, after}
@@ -18,14 +15,12 @@ use Rattle.df_closure.specs.Full.{IsConsistent}
 use Rattle.df_trail.specs.declared.decision.Decision.{Decision}
 use Rattle.df_trail.specs.declared.trail.Trail.{Trail}
 use Rattle.df_trail.specs.Trail.{literals_of, branch_of, decided, IsUndecided, AreDecided}
-use Rattle.df_branch.specs.Evidence.{of_clause, MayFollow, IsBranchAfter, IsBranch}
+use Rattle.df_branch.specs.Evidence.{of_clause, MayFollow, IsBranchAfter, IsBranch, AreClosedBranches}
 use Rattle.df_branch.specs.Leaf.{IsOpenLeaf, IsWideLeaf, IsManyLeaf, IsModelOf}
 use Rattle.df_search.specs.declared.searching.State.{State}
 use Rattle.df_search.specs.Found.{HasModel, AllExclude, IsStop, IsTooWide, HasManyRows}
 use Rattle.df_search.specs.Searching.{clauses_of, branches_of, AllLeave, IsSearching}
 use Rattle.df_kern.proofs.SoundClauses.{same_literal_is}
-use Rattle.df_ground.proofs.Running.{grown_from}
-use Rattle.df_ground.proofs.Literals.{literals_grown}
 use Rattle.df_trail.proofs.Retreated.{put_last}
 use Rattle.df_search.proofs.Apart.{Covers, covers_after}
 use Rattle.df_search.proofs.Consistent.{consistent_more}
@@ -36,9 +31,9 @@ use Rattle.df_search.proofs.Turning.{place_for, ground_in}
 uncovered : (wide known : List Lit) (l : Lit) → Covers wide known → is_among wide l ≡ false → is_among known l ≡ false
 uncovered wide known l covers e = ⊎_elim (λ there. absurd (true_is_not_false (is_among wide l) (covers.has l there) e)) (λ not_there. not_there) (cases_Bool (is_among known l))
 
-branch_more : (nodes : List Node) (clauses : List GroundClause) (earlier first : List Lit) (l : Lit) → IsBranchAfter nodes clauses earlier first → MayFollow nodes clauses (earlier ++ first) l → IsBranchAfter nodes clauses earlier (first ++ l ∷ [])
-branch_more nodes clauses earlier [] l is follows = (subst (λ (ls : List Lit). MayFollow nodes clauses ls l) (append-nil earlier) follows, tt)
-branch_more nodes clauses earlier (m ∷ first) l is follows = (is.0, branch_more nodes clauses (earlier ++ m ∷ []) first l is.1 (subst (λ (ls : List Lit). MayFollow nodes clauses ls l) (sym (append_assoc earlier (m ∷ []) first)) follows))
+branch_more : (set nodes : List Node) (clauses : List GroundClause) (earlier first : List Lit) (l : Lit) → IsBranchAfter set nodes clauses earlier first → MayFollow set nodes clauses (earlier ++ first) l → IsBranchAfter set nodes clauses earlier (first ++ l ∷ [])
+branch_more set nodes clauses earlier [] l is follows = (subst (λ (ls : List Lit). MayFollow set nodes clauses ls l) (append-nil earlier) follows, tt)
+branch_more set nodes clauses earlier (m ∷ first) l is follows = (is.0, branch_more set nodes clauses (earlier ++ m ∷ []) first l is.1 (subst (λ (ls : List Lit). MayFollow set nodes clauses ls l) (sym (append_assoc earlier (m ∷ []) first)) follows))
 
 formulas_more : (nodes : List Node) (literals : List Lit) (l : Lit) → are_literals nodes literals ≡ true → is_formula nodes l.node ≡ true → are_literals nodes (literals ++ l ∷ []) ≡ true
 formulas_more nodes [] l e f = and_from (is_formula nodes l.node) true f refl
@@ -47,21 +42,22 @@ formulas_more nodes (m ∷ literals) l e f =
     and_from (is_formula nodes m.node) (are_literals nodes (literals ++ l ∷ [])) parts.0 (formulas_more nodes literals l parts.1 f)
 
 -- a further decision
-pub decides : (s : Sequent) (all : List Clause) (old : State) → IsSearching s all old → (l : Lit) → MayFollow old.derivation.nodes (clauses_of old) (branch_of old.trail) l → is_formula old.derivation.nodes l.node ≡ true
+pub decides : (s : Sequent) (all : List Clause) (old : State) → IsSearching s all old → (l : Lit) → MayFollow old.set old.derivation.nodes (clauses_of old) (branch_of old.trail) l → is_formula old.derivation.nodes l.node ≡ true
     → (trail : Trail) → trail.decisions.items ≡ old.trail.decisions.items ++ decided l ∷ [] → IsSearching s all (record old { trail = trail })
 decides s all old is l follows formula trail trail_is = record {
   standing = record {
     ground_set = is.standing.ground_set;
     is_of = is.standing.is_of;
     set_is = is.standing.set_is;
+    more = is.standing.more;
     clauses_are = is.standing.clauses_are;
-    world_is = is.standing.world_is;
+    of_equalities = is.standing.of_equalities;
     lines = is.standing.lines;
     place = place_for old.set (clauses_of old) old.derivation.nodes branch (branch_of trail) is.standing.place
         (ap (are_literals old.derivation.nodes) branch_is ∙ formulas_more old.derivation.nodes branch l is.standing.place.formulas formula)
         (subst IsConsistent (sym branch_is) (consistent_more branch l undecided is.standing.place.consistent));
     trail = subst (AreDecided all []) (sym trail_is) (put_last all [] old.trail.decisions.items (decided l) (record { others = is.standing.trail; undecided = undecided; closed = tt }));
-    branch = subst (IsBranch old.derivation.nodes (clauses_of old)) (sym branch_is) (branch_more old.derivation.nodes (clauses_of old) [] branch l is.standing.branch follows);
+    branch = subst (IsBranch old.set old.derivation.nodes (clauses_of old)) (sym branch_is) (branch_more old.set old.derivation.nodes (clauses_of old) [] branch l is.standing.branch follows);
     counted = is.standing.counted;
   };
   runs = is.runs;
@@ -99,8 +95,8 @@ clause_formulas nodes (c ∷ others) zero clause e there =
     subst (λ (g : GroundClause). are_literals nodes g.literals ≡ true) (same_Some c clause there) (and_parts (are_literals nodes c.literals) (list_all (λ (c : GroundClause). are_literals nodes c.literals) others) e).0
 clause_formulas nodes (c ∷ others) (suc n) clause e there = clause_formulas nodes others n clause (and_parts (are_literals nodes c.literals) (list_all (λ (c : GroundClause). are_literals nodes c.literals) others) e).1 there
 
-pub open_follows : (clauses : List GroundClause) (nodes : List Node) (branch : List Lit) (l : Lit) → IsOpenLeaf clauses nodes branch l → MayFollow nodes clauses branch l
-open_follows clauses nodes branch l leaf = record {
+pub open_follows : (clauses : List GroundClause) (set nodes : List Node) (branch : List Lit) (l : Lit) → IsOpenLeaf clauses nodes branch l → MayFollow set nodes clauses branch l
+open_follows clauses set nodes branch l leaf = record {
   learned = leaf.learned;
   unshut = leaf.unshut;
   not_true = none_among (after branch leaf.learned) leaf.member.clause.literals l leaf.member.is_open.none leaf.member.in_clause;
@@ -117,34 +113,31 @@ module _ (s : Sequent) (all : List Clause) (state : State) (is : IsSearching s a
   pub open_formula : (l : Lit) → IsOpenLeaf (clauses_of state) state.derivation.nodes (branch_of state.trail) l → is_formula state.derivation.nodes l.node ≡ true
   open_formula l leaf =
       literal_formula state.derivation.nodes leaf.member.clause.literals l
-      (literals_grown state.set state.derivation.nodes (grown_from state.set state.derivation.nodes is.standing.place.begins) leaf.member.clause.literals
-      (clause_formulas state.set (clauses_of state) leaf.member.is_open.number leaf.member.clause is.standing.place.clause_formulas leaf.member.is_open.there))
+      (clause_formulas state.derivation.nodes (clauses_of state) leaf.member.is_open.number leaf.member.clause is.standing.place.clause_formulas leaf.member.is_open.there)
       leaf.member.in_clause
 
   pub open_decides : (l : Lit) → IsOpenLeaf (clauses_of state) state.derivation.nodes (branch_of state.trail) l → (trail : Trail) → trail.decisions.items ≡ state.trail.decisions.items ++ decided l ∷ [] → IsSearching s all (record state { trail = trail })
-  open_decides l leaf trail trail_is = decides s all state is l (open_follows (clauses_of state) state.derivation.nodes (branch_of state.trail) l leaf) (open_formula l leaf) trail trail_is
+  open_decides l leaf trail trail_is = decides s all state is l (open_follows (clauses_of state) state.set state.derivation.nodes (branch_of state.trail) l leaf) (open_formula l leaf) trail trail_is
 
-  pub modelled : (table : Table) → IsModelOf (world_of state.world) state.set (clauses_of state) table → IsSequent s → IsArithmeticSequent s → HasModel s table
-  modelled table model sequent arithmetic = record {
+  pub modelled : (table : Table) → IsModelOf state.set (clauses_of state) table → IsSequent s → HasModel s table
+  modelled table model sequent = record {
     set = is.standing.ground_set;
     is_of = is.standing.is_of;
-    model = model s is.standing.ground_set sequent is.standing.is_of arithmetic (sym is.standing.world_is) (sym is.standing.set_is) (sym is.standing.clauses_are);
+    model = model s is.standing.ground_set is.standing.more sequent is.standing.is_of (sym is.standing.set_is) (sym is.standing.clauses_are);
   }
 
   abbrev pub stop : IsStop s state.derivation.nodes (clauses_of state) (branches_of state) (branch_of state.trail)
   stop = record {
     of_sequent = ground_in s all state is.standing;
-    are_closed = closed_of s state.derivation.nodes (clauses_of state) (branches_of state) is.standing.counted;
+    are_closed = subst (λ (set : List Node). AreClosedBranches s set state.derivation.nodes (clauses_of state) (branches_of state)) is.standing.set_is (closed_of s state.set state.derivation.nodes (clauses_of state) (branches_of state) is.standing.counted);
     excluded = all_exclude state.trail.decisions.items (branches_of state) is.leave;
-    is_branch = is.standing.branch;
+    is_branch = subst (λ (set : List Node). IsBranch set state.derivation.nodes (clauses_of state) (branch_of state.trail)) is.standing.set_is is.standing.branch;
   }
 
-  pub too_wide : IsWideLeaf (world_of state.world) state.set (clauses_of state) state.derivation.nodes (branch_of state.trail) → IsTooWide s (branches_of state) (branch_of state.trail)
-  too_wide wide = there
-      (subst (λ (world : World). IsWideLeaf world is.standing.ground_set.nodes (clauses_of state) state.derivation.nodes (branch_of state.trail)) is.standing.world_is
-      (subst (λ (ns : List Node). IsWideLeaf (world_of state.world) ns (clauses_of state) state.derivation.nodes (branch_of state.trail)) is.standing.set_is wide))
+  pub too_wide : IsWideLeaf state.set (clauses_of state) state.derivation.nodes (branch_of state.trail) → IsTooWide s (branches_of state) (branch_of state.trail)
+  too_wide wide = there (subst (λ (ns : List Node). IsWideLeaf ns (clauses_of state) state.derivation.nodes (branch_of state.trail)) is.standing.set_is wide)
     where
-      there : IsWideLeaf s.world is.standing.ground_set.nodes (clauses_of state) state.derivation.nodes (branch_of state.trail) → IsTooWide s (branches_of state) (branch_of state.trail)
+      there : IsWideLeaf is.standing.ground_set.nodes (clauses_of state) state.derivation.nodes (branch_of state.trail) → IsTooWide s (branches_of state) (branch_of state.trail)
       there here = record {
         nodes = state.derivation.nodes;
         clauses = clauses_of state;

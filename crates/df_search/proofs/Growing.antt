@@ -1,9 +1,11 @@
 -- More nodes leave a search as it is.
-use Rattle.std.proofs.Common.{◌≡◌, inl, inr, ⊎_elim, ℕ, Bool, true, false, not, ◌&&◌, if◌then◌else◌, List, [], ◌∷◌, ◌++◌, take, length, Option, Some, None, slice_get, refl, sym, ap, ◌∙◌, subst, arith}
+use Rattle.std.proofs.Common.{◌≡◌, ⊎_elim, ℕ, append-nil, Bool, true, false, not, ◌&&◌, if◌then◌else◌, List, [], ◌∷◌, ◌++◌, take, length, Option, Some, None, slice_get, refl, sym, ap, ◌∙◌, subst, arith}
 use Rattle.std.proofs.lemmas.List.{take-append-le, take_at, take_all}
 use Rattle.std.specs.Option.{option_and_then, option_map}
 use Rattle.df_kern.proofs.Checks.{after_all-append}
-use Rattle.df_lemmas.proofs.Lists.{get_pushed}
+use Rattle.std.proofs.lemmas.Option.{slice_get_within}
+use Rattle.std.specs.List.{list_all}
+use Rattle.df_lemmas.proofs.Lists.{get_pushed, all_weaker}
 use Rattle.df_form.specs.declared.log.Lit.{Lit}
 use Rattle.df_form.specs.Node.{Node, number_of}
 use Rattle.df_form.specs.Made.{Made, made, made_where}
@@ -12,20 +14,22 @@ use Rattle.df_form.specs.Clause.{Clause, are_literals}
 use Rattle.df_form.specs.Log.{Make}
 use Rattle.df_form.specs.Sequent.{Sequent}
 use Rattle.df_kern.specs.Derivation.{begin, after_all, made_line, is_free, is_new}
-use Rattle.df_closure.specs.Closure.{GroundClause, after}
+use Rattle.df_closure.specs.Closure.{GroundClause}
 use Rattle.df_closure.specs.Filled.{is_comparing, AreComparing}
 use Rattle.df_logbuild.specs.declared.derivation.Derivation.{Derivation}
 use Rattle.df_logbuild.specs.Runs.{Runs}
 use Rattle.df_trail.specs.Trail.{branch_of}
-use Rattle.df_branch.specs.Evidence.{IsShut, by_clauses, by_rows, IsUnshut, IsDecision, of_clause, of_split, MayFollow, IsBranchAfter, HasLog}
-use Rattle.df_branch.specs.Splits.{IsSplit}
+use Rattle.df_branch.specs.Evidence.{IsBranch, HasLog}
+use Rattle.df_branch.proofs.LaterClauses.{AreLater}
+use Rattle.df_branch.proofs.LaterMeanings.{meanings_stay}
+use Rattle.df_branch.proofs.Equalities.{of_equality_later}
+use Rattle.df_branch.proofs.Growing.{shut_later, branch_later}
 use Rattle.df_search.specs.declared.searching.State as declared
 use Rattle.df_search.specs.Searching.{clauses_of, branches_of, AreCounted, IsSearching}
 use Rattle.df_form.proofs.Tables.{table_next}
-use Rattle.df_form.proofs.Values.{Grows, grown_get, grown_length}
+use Rattle.df_form.proofs.Values.{grown_length}
 use Rattle.df_ground.proofs.Running.{grown_from}
 use Rattle.df_ground.proofs.Literals.{literals_grown}
-use Rattle.df_closure.proofs.LaterRows.{rows_later}
 
 -- a node that is made: it stands there, or is the one that is added
 pub data Makes (nodes more : List Node) (node : Node) : Type 0 where
@@ -46,7 +50,7 @@ made_line_is nodes node sorted bound new =
     ∙ ap (λ (b : Bool). if b && is_new (number_of nodes node) then Some (nodes ++ node ∷ []) else None) sorted
     ∙ ap (λ (o : Option ℕ). if is_new o then Some (nodes ++ node ∷ []) else None) new
 
-log_more : (s : Sequent) (nodes more : List Node) (node : Node) (branch : List Lit) → Makes nodes more node → is_well_sorted nodes node ≡ true → is_free node.op ≡ false → HasLog s nodes branch → HasLog s more branch
+pub log_more : (s : Sequent) (nodes more : List Node) (node : Node) (branch : List Lit) → Makes nodes more node → is_well_sorted nodes node ≡ true → is_free node.op ≡ false → HasLog s nodes branch → HasLog s more branch
 log_more s nodes more node branch (stood same) sorted bound has = subst (λ (ns : List Node). HasLog s ns branch) (sym same) has
 log_more s nodes more node branch (added same new) sorted bound has = record {
   log = has.log ++ Make node ∷ [];
@@ -60,88 +64,44 @@ log_more s nodes more node branch (added same new) sorted bound has = record {
   there = has.there;
 }
 
--- what is said of literals of the nodes there were
-module _ (clauses : List GroundClause) (nodes more : List Node) (table : IsTable more) (begins : take (length nodes) more ≡ nodes) where
-  grows : Grows nodes more
-  grows = grown_from nodes more begins
+-- counted branches stay so, where clauses of later equalities are added too
+module _ (clauses extra : List GroundClause) (nodes more : List Node) (table : IsTable more) (begins : take (length nodes) more ≡ nodes) (later : AreLater (length nodes) extra) where
+  pub counted_later : (set : List Node) (s : Sequent) → ((branch : List Lit) → HasLog s nodes branch → HasLog s more branch) → (branches : List (List Lit)) → AreCounted s set nodes clauses branches → AreCounted s set more (clauses ++ extra) branches
+  counted_later set s logs [] all = tt
+  counted_later set s logs (branch ∷ others) all = (
+    record {
+      branch_is = branch_later clauses extra nodes more table begins later set [] branch all.0.branch_is;
+      shut = shut_later clauses extra nodes more table begins later branch all.0.shut;
+      has_log = logs branch all.0.has_log;
+    },
+    all.1,
+    counted_later set s logs others all.2,
+  )
 
-  pub formulas_later : (literals : List Lit) → are_literals nodes literals ≡ true → are_literals more literals ≡ true
-  formulas_later literals e = literals_grown nodes more grows literals e
-
-  shut_later : (list : List Lit) → IsShut nodes clauses list → IsShut more clauses list
-  shut_later list (by_clauses numbers is) = by_clauses numbers is
-  shut_later list (by_rows reasons learned rows closed formulas rows_are refuted) =
-      by_rows reasons learned rows closed (formulas_later (after list learned) formulas) (rows_later nodes more table begins (after list learned) formulas ∙ rows_are) refuted
-
-  pub unshut_later : (list learned : List Lit) → IsUnshut nodes clauses list learned → IsUnshut more clauses list learned
-  unshut_later list learned is = record {
-    reasons = is.reasons;
-    closed = is.closed;
-    formulas = formulas_later (after list learned) is.formulas;
-    rows = is.rows;
-    rows_are = rows_later nodes more table begins (after list learned) is.formulas ∙ is.rows_are;
-    first = is.first;
-    variables = is.variables;
-    levels = is.levels;
-    elimination = is.elimination;
-  }
-
-  split_later : (known : List Lit) (l : Lit) → are_literals nodes known ≡ true → IsSplit nodes known l → IsSplit more known l
-  split_later known l formulas is = record {
-    rows = is.rows;
-    rows_are = rows_later nodes more table begins known formulas ∙ is.rows_are;
-    first = is.first;
-    variables = is.variables;
-    levels = is.levels;
-    elimination = is.elimination;
-    count = is.count;
-    within = is.within;
-    term = is.term;
-    bound = is.bound;
-    between = is.between;
-    place = is.place;
-    is_bound = grown_get nodes more grows is.place _ is.is_bound;
-    is_comparison = grown_get nodes more grows l.node _ is.is_comparison;
-  }
-
-  decision_later : (list learned : List Lit) (l : Lit) → are_literals nodes (after list learned) ≡ true → IsDecision nodes clauses list learned l → IsDecision more clauses list learned l
-  decision_later list learned l formulas (of_clause clause is_open there) = of_clause clause is_open there
-  decision_later list learned l formulas (of_split filled split) = of_split filled (split_later (after list learned) l formulas split)
-
-  follows_later : (list : List Lit) (l : Lit) → MayFollow nodes clauses list l → MayFollow more clauses list l
-  follows_later list l is = record {
-    learned = is.learned;
-    unshut = unshut_later list is.learned is.unshut;
-    not_true = is.not_true;
-    not_false = is.not_false;
-    decision = ⊎_elim (λ d. inl (decision_later list is.learned l is.unshut.formulas d)) (λ d. inr (decision_later list is.learned _ is.unshut.formulas d)) is.decision;
-  }
-
-  branch_later : (earlier branch : List Lit) → IsBranchAfter nodes clauses earlier branch → IsBranchAfter more clauses earlier branch
-  branch_later earlier [] is = tt
-  branch_later earlier (l ∷ others) is = (follows_later earlier l is.0, branch_later (earlier ++ l ∷ []) others is.1)
-
-  counted_later : (s : Sequent) → ((branch : List Lit) → HasLog s nodes branch → HasLog s more branch) → (branches : List (List Lit)) → AreCounted s nodes clauses branches → AreCounted s more clauses branches
-  counted_later s logs [] all = tt
-  counted_later s logs (branch ∷ others) all =
-      (record { branch_is = branch_later [] branch all.0.branch_is; shut = shut_later branch all.0.shut; has_log = logs branch all.0.has_log }, all.1, counted_later s logs others all.2)
-
-begins_more : (nodes more : List Node) (node : Node) → Makes nodes more node → take (length nodes) more ≡ nodes
+pub begins_more : (nodes more : List Node) (node : Node) → Makes nodes more node → take (length nodes) more ≡ nodes
 begins_more nodes more node (stood same) = ap (take (length nodes)) same ∙ take_all (length nodes) nodes (omega arith)
 begins_more nodes more node (added same new) = ap (take (length nodes)) same ∙ take_at nodes (node ∷ []) (length nodes) refl
 
-table_more : (nodes more : List Node) (node : Node) → Makes nodes more node → IsTable nodes → is_well_sorted nodes node ≡ true → IsTable more
+pub table_more : (nodes more : List Node) (node : Node) → Makes nodes more node → IsTable nodes → is_well_sorted nodes node ≡ true → IsTable more
 table_more nodes more node (stood same) table sorted = subst IsTable (sym same) table
 table_more nodes more node (added same new) table sorted = subst IsTable (sym same) (table_next nodes node table sorted new)
 
-set_begins : (set nodes more : List Node) (node : Node) → Makes nodes more node → take (length set) nodes ≡ set → take (length set) more ≡ set
+pub set_begins : (set nodes more : List Node) (node : Node) → Makes nodes more node → take (length set) nodes ≡ set → take (length set) more ≡ set
 set_begins set nodes more node (stood same) begins = ap (take (length set)) same ∙ begins
 set_begins set nodes more node (added same new) begins = ap (take (length set)) same ∙ take-append-le (length set) nodes (node ∷ []) (grown_length set nodes (grown_from set nodes begins)) ∙ begins
 
-comparing_more : (set nodes more : List Node) (node : Node) → Makes nodes more node → is_comparing node.op ≡ true → AreComparing (length set) nodes → AreComparing (length set) more
-comparing_more set nodes more node (stood same) is all n other past e = all n other past (ap (λ (ns : List Node). slice_get ns n) (sym same) ∙ e)
-comparing_more set nodes more node (added same new) is all n other past e =
-    ⊎_elim (λ there. all n other past there) (λ last. subst (λ (m : Node). is_comparing m.op ≡ true) last.1 is) (get_pushed nodes node n other (ap (λ (ns : List Node). slice_get ns n) (sym same) ∙ e))
+comparing_more : (nodes more : List Node) (node : Node) → Makes nodes more node → is_comparing node.op ≡ true → AreComparing (length nodes) more
+comparing_more nodes more node (stood same) is n other past e = let within = slice_get_within nodes n other (ap (λ (ns : List Node). slice_get ns n) (sym same) ∙ e) in absurd (omega (arith, within, past))
+comparing_more nodes more node (added same new) is n other past e =
+    ⊎_elim (λ there. let within = slice_get_within nodes n other there in absurd (omega (arith, within, past))) (λ last. subst (λ (m : Node). is_comparing m.op ≡ true) last.1 is) (get_pushed nodes node n other (ap (λ (ns : List Node). slice_get ns n) (sym same) ∙ e))
+
+-- the formulas of clauses stay
+pub clause_formulas_later : (nodes more : List Node) → take (length nodes) more ≡ nodes → (clauses : List GroundClause) → list_all (λ (clause : GroundClause). are_literals nodes clause.literals) clauses ≡ true → list_all (λ (clause : GroundClause). are_literals more clause.literals) clauses ≡ true
+clause_formulas_later nodes more begins clauses all =
+    all_weaker (λ (clause : GroundClause). are_literals nodes clause.literals) (λ (clause : GroundClause). are_literals more clause.literals) clauses (λ clause e. literals_grown nodes more (grown_from nodes more begins) clause.literals e) all
+
+pub none_later : (count : ℕ) → AreLater count []
+none_later count clause (n, at) = absurd cc
 
 -- a search whose log makes a number or a comparison
 pub makes_node : (s : Sequent) (all : List Clause) (old : declared.State) → IsSearching s all old → (node : Node) → is_well_sorted old.derivation.nodes node ≡ true → is_free node.op ≡ false → is_comparing node.op ≡ true → (derivation : Derivation) → Makes old.derivation.nodes derivation.nodes node → Runs s derivation all
@@ -151,25 +111,30 @@ makes_node s all old is node sorted bound compares derivation makes_it runs =
     let more = derivation.nodes in
     let table = table_more nodes more node makes_it is.standing.place.table sorted in
     let begins = begins_more nodes more node makes_it in
+    let none = none_later (length nodes) in
+    let same : clauses_of old ++ [] ≡ clauses_of old = append-nil (clauses_of old) in
     record {
       standing = record {
         ground_set = is.standing.ground_set;
         is_of = is.standing.is_of;
         set_is = is.standing.set_is;
+        more = is.standing.more;
         clauses_are = is.standing.clauses_are;
-        world_is = is.standing.world_is;
+        of_equalities = λ clause there. of_equality_later nodes more table begins clause (is.standing.of_equalities clause there);
         lines = is.standing.lines;
         place = record {
           table = table;
           begins = set_begins old.set nodes more node makes_it is.standing.place.begins;
-          made = comparing_more old.set nodes more node makes_it compares is.standing.place.made;
-          formulas = formulas_later (clauses_of old) nodes more table begins (branch_of old.trail) is.standing.place.formulas;
+          formulas = literals_grown nodes more (grown_from nodes more begins) (branch_of old.trail) is.standing.place.formulas;
           consistent = is.standing.place.consistent;
-          clause_formulas = is.standing.place.clause_formulas;
+          clause_formulas = clause_formulas_later nodes more begins (clauses_of old) is.standing.place.clause_formulas;
+          meanings = meanings_stay nodes more table begins (clauses_of old) is.standing.place.meanings (comparing_more nodes more node makes_it compares);
         };
         trail = is.standing.trail;
-        branch = branch_later (clauses_of old) nodes more table begins [] (branch_of old.trail) is.standing.branch;
-        counted = counted_later (clauses_of old) nodes more table begins s (λ branch has. log_more s nodes more node branch makes_it sorted bound has) (branches_of old) is.standing.counted;
+        branch = subst (λ (cs : List GroundClause). IsBranch old.set more cs (branch_of old.trail)) same (branch_later (clauses_of old) [] nodes more table begins none old.set [] (branch_of old.trail) is.standing.branch);
+        counted =
+            subst (λ (cs : List GroundClause). AreCounted s old.set more cs (branches_of old)) same
+            (counted_later (clauses_of old) [] nodes more table begins none old.set s (λ branch has. log_more s nodes more node branch makes_it sorted bound has) (branches_of old) is.standing.counted);
       };
       runs = runs;
       leave = is.leave;

@@ -119,15 +119,15 @@ incompatible decisions branch leaves = record {
 }
 
 -- one more closed branch, apart from the others
-module _ (s : Sequent) (nodes : List Node) (clauses : List GroundClause) (decisions : List Decision) (branch : List Lit) (branch_is : branch ≡ literals_of decisions) (closed : IsClosedBranch s nodes clauses branch) where
+module _ (s : Sequent) (set nodes : List Node) (clauses : List GroundClause) (decisions : List Decision) (branch : List Lit) (branch_is : branch ≡ literals_of decisions) (closed : IsClosedBranch s set nodes clauses branch) where
   apart_back : (other : List Lit) → AreApart branch other → AreApart other branch
-  apart_back other apart ns cs first second list shared shut = apart ns cs second first list (λ l e. let parts = shared l e in (parts.1, parts.0)) shut
+  apart_back other apart st ns cs first second list shared shut = apart st ns cs second first list (λ l e. let parts = shared l e in (parts.1, parts.0)) shut
 
   differs_last : (one : List Lit) (others : List (List Lit)) → AreIncompatible one branch → AreApart one branch → AllDiffer one others → AllDiffer one (others ++ branch ∷ [])
   differs_last one [] not_both apart all = (not_both, apart, tt)
   differs_last one (other ∷ others) not_both apart all = (all.0, all.1, differs_last one others not_both apart all.2)
 
-  pub counted_last : (branches : List (List Lit)) → AllLeave decisions branches → AllApart branch branches → AreCounted s nodes clauses branches → AreCounted s nodes clauses (branches ++ branch ∷ [])
+  pub counted_last : (branches : List (List Lit)) → AllLeave decisions branches → AllApart branch branches → AreCounted s set nodes clauses branches → AreCounted s set nodes clauses (branches ++ branch ∷ [])
   counted_last [] leave apart all = (closed, tt, tt)
   counted_last (one ∷ others) leave apart all = (
     all.0,
@@ -136,12 +136,12 @@ module _ (s : Sequent) (nodes : List Node) (clauses : List GroundClause) (decisi
   )
 
 -- counted branches are closed ones, each apart from those after it
-module _ (s : Sequent) (nodes : List Node) (clauses : List GroundClause) where
-  apart_of : (branch : List Lit) → IsBranch nodes clauses branch → (others : List (List Lit)) → AllDiffer branch others → AreCounted s nodes clauses others → IsApart nodes clauses branch others
+module _ (s : Sequent) (set nodes : List Node) (clauses : List GroundClause) where
+  apart_of : (branch : List Lit) → IsBranch set nodes clauses branch → (others : List (List Lit)) → AllDiffer branch others → AreCounted s set nodes clauses others → IsApart nodes clauses branch others
   apart_of branch is [] differ all = tt
-  apart_of branch is (other ∷ others) differ all = (differ.0, differ.1 nodes clauses is all.0.branch_is, apart_of branch is others differ.2 all.2)
+  apart_of branch is (other ∷ others) differ all = (differ.0, differ.1 set nodes clauses is all.0.branch_is, apart_of branch is others differ.2 all.2)
 
-  pub closed_of : (branches : List (List Lit)) → AreCounted s nodes clauses branches → AreClosedBranches s nodes clauses branches
+  pub closed_of : (branches : List (List Lit)) → AreCounted s set nodes clauses branches → AreClosedBranches s set nodes clauses branches
   closed_of [] all = tt
   closed_of (branch ∷ others) all = (all.0, apart_of branch all.0.branch_is others all.1 all.2, closed_of others all.2)
 
@@ -150,22 +150,22 @@ side_turned : (decides : Lit → Type 0) (l : Lit) → IsSideOf decides l → Is
 side_turned decides l (inl d) = inr (subst decides (sym (negated_twice l)) d)
 side_turned decides l (inr d) = inl d
 
-module _ (nodes : List Node) (clauses : List GroundClause) where
-  follows_turned : (list : List Lit) (l : Lit) → MayFollow nodes clauses list l → MayFollow nodes clauses list (negation l)
+module _ (set nodes : List Node) (clauses : List GroundClause) where
+  follows_turned : (list : List Lit) (l : Lit) → MayFollow set nodes clauses list l → MayFollow set nodes clauses list (negation l)
   follows_turned list l is = record {
     learned = is.learned;
     unshut = is.unshut;
     not_true = is.not_false;
     not_false = ap (is_among (after list is.learned)) (negated_twice l) ∙ is.not_true;
-    decision = side_turned (IsDecision nodes clauses list is.learned) l is.decision;
+    decision = side_turned (IsDecision set nodes clauses list is.learned) l is.decision;
   }
 
-  turned_after : (earlier first : List Lit) (l : Lit) (rest : List Lit) → IsBranchAfter nodes clauses earlier (first ++ l ∷ rest) → IsBranchAfter nodes clauses earlier (first ++ negation l ∷ [])
+  turned_after : (earlier first : List Lit) (l : Lit) (rest : List Lit) → IsBranchAfter set nodes clauses earlier (first ++ l ∷ rest) → IsBranchAfter set nodes clauses earlier (first ++ negation l ∷ [])
   turned_after earlier [] l rest is = (follows_turned earlier l is.0, tt)
   turned_after earlier (m ∷ first) l rest is = (is.0, turned_after (earlier ++ m ∷ []) first l rest is.1)
 
-  pub branch_turned : (old new : Trail) → IsTurned old new → IsBranch nodes clauses (branch_of old) → IsBranch nodes clauses (branch_of new)
+  pub branch_turned : (old new : Trail) → IsTurned old new → IsBranch set nodes clauses (branch_of old) → IsBranch set nodes clauses (branch_of new)
   branch_turned old new turned_it is =
-      subst (IsBranchAfter nodes clauses []) (sym (ap literals_of turned_it.new_is ∙ literals_split turned_it.kept (turned turned_it.decision.literal turned_it.number ∷ [])))
+      subst (IsBranchAfter set nodes clauses []) (sym (ap literals_of turned_it.new_is ∙ literals_split turned_it.kept (turned turned_it.decision.literal turned_it.number ∷ [])))
       (turned_after [] (literals_of turned_it.kept) turned_it.decision.literal (literals_of turned_it.taken)
-      (subst (IsBranchAfter nodes clauses []) (ap literals_of turned_it.old_is ∙ literals_split turned_it.kept (turned_it.decision ∷ turned_it.taken)) is))
+      (subst (IsBranchAfter set nodes clauses []) (ap literals_of turned_it.old_is ∙ literals_split turned_it.kept (turned_it.decision ∷ turned_it.taken)) is))

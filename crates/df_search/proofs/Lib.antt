@@ -1,9 +1,14 @@
 pub mod Consistent
+pub mod Members
 pub mod Apart
 pub mod Leaving
 pub mod Turning
+pub mod Lines
 pub mod Refuting
 pub mod Beginning
 pub mod Coming
 pub mod Growing
 pub mod Splitting
+pub mod Binding
+pub mod Equating
+pub mod Compared

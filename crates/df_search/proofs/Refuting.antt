@@ -1,11 +1,10 @@
 -- Lines that say that a branch is not.
-use Rattle.std.proofs.Common.{◌≡◌, ℕ, Bool, true, false, not, cond, if◌then◌else◌, Result, Ok, Err, OnOk, IfOk, List, [], ◌∷◌, ◌++◌, map, length, Some, None, slice_get, refl, sym, ap, ◌∙◌, subst}
+use Rattle.std.proofs.Common.{◌≡◌, ℕ, Bool, true, false, not, cond, if◌then◌else◌, Result, Ok, Err, OnOk, IfOk, List, [], ◌∷◌, ◌++◌, map, length, Contains, Some, None, slice_get, refl, sym, ap, ◌∙◌, subst}
 use Rattle.std.specs.Option.{option_and_then}
 use Rattle.std.proofs.lemmas.Bool.{or_left, or_right}
 use Rattle.df_trail.proofs.Retreated.{decided_grown}
 use Rattle.df_trail.proofs.Joined.{negations_are_literals}
 use Rattle.df_form.proofs.Literals.{negated_twice, all_negated_twice, same_self}
-use Rattle.df_lemmas.proofs.Lists.{get_last}
 use Rattle.df_form.specs.declared.log.Lit.{Lit}
 use Rattle.df_form.specs.Node.{Node}
 use Rattle.df_form.specs.Clause.{Clause, negation, same_literal, is_among, are_literals}
@@ -14,16 +13,22 @@ use Rattle.df_form.specs.Sequent.{Sequent}
 use Rattle.df_row.specs.Row.{Row}
 use Rattle.df_row.specs.Linear.{rows_of, refutes, linear_of, linear_line}
 use Rattle.df_kern.specs.Propagation.{left, is_empty, propagation_line}
-use Rattle.df_closure.specs.Closure.{GroundClause, after, IsRefuted}
-use Rattle.df_closure.specs.Lines.{AreIn}
+use Rattle.df_closure.specs.Closure.{GroundClause, after, IsClosed, IsRefuted}
 use Rattle.df_logbuild.specs.declared.derivation.Derivation.{Derivation}
 use Rattle.df_logbuild.specs.Runs.{Runs}
 use Rattle.df_trail.specs.Trail.{branch_of}
-use Rattle.df_branch.specs.Evidence.{IsShut, by_rows, IsBranch}
-use Rattle.df_branch.specs.Leaf.{IsPlace, IsUnsolvable}
+use Rattle.df_ground.specs.Among.{Among}
+use Rattle.df_cong.specs.declared.answer.Reason.{Reason}
+use Rattle.df_cong.specs.Equal.{IsContradicted}
+use Rattle.df_cong.proofs.Growing.{reason_contradicts}
+use Rattle.df_branch.specs.Evidence.{IsOfEquality, IsShut, by_congruence, by_rows, IsBranch}
+use Rattle.df_branch.specs.Place.{IsPlace}
+use Rattle.df_branch.specs.Leaf.{IsUnsolvable, IsIncongruent}
 use Rattle.df_search.specs.declared.searching.State.{State}
 use Rattle.df_search.specs.Searching.{clauses_of, branches_of, AreCounted, IsSearching, IsFinished}
-use Rattle.df_closure.proofs.Lines.{refuted_is_line, closed_is_line}
+use Rattle.df_search.specs.Places.{place_in, AreIn}
+use Rattle.df_search.proofs.Lines.{refuted_is_line, closed_is_line}
+use Rattle.df_search.proofs.Members.{contained_among, among_contained}
 use Rattle.df_search.proofs.Apart.{Covers}
 use Rattle.df_search.proofs.Turning.{in_longer}
 
@@ -35,6 +40,29 @@ module _ (s : Sequent) (all : List Clause) (old : State) (is : IsSearching s all
   place_there : IsPlace old.set (clauses_of old) derivation.nodes (branch_of old.trail)
   place_there = subst (λ (ns : List Node). IsPlace old.set (clauses_of old) ns (branch_of old.trail)) (sym nodes) is.standing.place
 
+  equalities_there : (clause : GroundClause) → Among is.standing.more clause → IsOfEquality derivation.nodes clause
+  equalities_there clause there = subst (λ (ns : List Node). IsOfEquality ns clause) (sym nodes) (is.standing.of_equalities clause there)
+
+  -- a log of the same nodes that adds these clauses
+  pub with_log : Runs s derivation all → IsSearching s all (record old { derivation = derivation })
+  with_log runs = record {
+    standing = record {
+      ground_set = is.standing.ground_set;
+      is_of = is.standing.is_of;
+      set_is = is.standing.set_is;
+      more = is.standing.more;
+      clauses_are = is.standing.clauses_are;
+      of_equalities = equalities_there;
+      lines = is.standing.lines;
+      place = place_there;
+      trail = is.standing.trail;
+      branch = subst (λ (ns : List Node). IsBranch old.set ns (clauses_of old) (branch_of old.trail)) (sym nodes) is.standing.branch;
+      counted = subst (λ (ns : List Node). AreCounted s old.set ns (clauses_of old) (branches_of old)) (sym nodes) is.standing.counted;
+    };
+    runs = runs;
+    leave = is.leave;
+  }
+
   -- a further clause of the log
   pub one_more_clause : (clause : Clause) → Runs s derivation (all ++ clause ∷ []) → IsSearching s (all ++ clause ∷ []) (record old { derivation = derivation })
   one_more_clause clause runs = record {
@@ -42,13 +70,14 @@ module _ (s : Sequent) (all : List Clause) (old : State) (is : IsSearching s all
       ground_set = is.standing.ground_set;
       is_of = is.standing.is_of;
       set_is = is.standing.set_is;
+      more = is.standing.more;
       clauses_are = is.standing.clauses_are;
-      world_is = is.standing.world_is;
-      lines = in_longer (clauses_of old) all (clause ∷ []) is.standing.lines;
+      of_equalities = equalities_there;
+      lines = in_longer (clauses_of old) old.places.items all (clause ∷ []) is.standing.lines;
       place = place_there;
       trail = decided_grown all (clause ∷ []) [] old.trail.decisions.items is.standing.trail;
-      branch = subst (λ (ns : List Node). IsBranch ns (clauses_of old) (branch_of old.trail)) (sym nodes) is.standing.branch;
-      counted = subst (λ (ns : List Node). AreCounted s ns (clauses_of old) (branches_of old)) (sym nodes) is.standing.counted;
+      branch = subst (λ (ns : List Node). IsBranch old.set ns (clauses_of old) (branch_of old.trail)) (sym nodes) is.standing.branch;
+      counted = subst (λ (ns : List Node). AreCounted s old.set ns (clauses_of old) (branches_of old)) (sym nodes) is.standing.counted;
     };
     runs = runs;
     leave = is.leave;
@@ -61,13 +90,14 @@ module _ (s : Sequent) (all : List Clause) (old : State) (is : IsSearching s all
       ground_set = is.standing.ground_set;
       is_of = is.standing.is_of;
       set_is = is.standing.set_is;
+      more = is.standing.more;
       clauses_are = is.standing.clauses_are;
-      world_is = is.standing.world_is;
+      of_equalities = equalities_there;
       lines = is.standing.lines;
       place = place_there;
       trail = is.standing.trail;
-      branch = subst (λ (ns : List Node). IsBranch ns (clauses_of old) (branch_of old.trail)) (sym nodes) is.standing.branch;
-      counted = subst (λ (ns : List Node). AreCounted s ns (clauses_of old) (branches_of old)) (sym nodes) is.standing.counted;
+      branch = subst (λ (ns : List Node). IsBranch old.set ns (clauses_of old) (branch_of old.trail)) (sym nodes) is.standing.branch;
+      counted = subst (λ (ns : List Node). AreCounted s old.set ns (clauses_of old) (branches_of old)) (sym nodes) is.standing.counted;
     };
     closed = record { runs = runs; number_is = number_is ∙ sym is.runs.count; trail = is.standing.trail; formulas = place_there.formulas };
     shut = subst (λ (ns : List Node). IsShut ns (clauses_of old) (branch_of old.trail)) (sym nodes) shut;
@@ -95,13 +125,27 @@ pub unsolvable_shut : (clauses : List GroundClause) (nodes : List Node) (branch 
 unsolvable_shut clauses nodes branch facts reasons rows is =
     by_rows reasons is.learned rows is.closed (subst (λ (ls : List Lit). are_literals nodes ls ≡ true) is.facts_are is.formulas) (subst (λ (ls : List Lit). rows_of nodes ls ≡ Some rows) is.facts_are is.rows_are) is.refuted
 
--- the line that the branch is not, after the one that the facts are not all true
-pub solved_line : (nodes : List Node) (clauses : List GroundClause) (all : List Clause) (branch facts : List Lit) (reasons : List ℕ) (rows : List Row) (number : ℕ) → AreIn clauses all → are_literals nodes branch ≡ true → number ≡ length all → IsUnsolvable clauses nodes branch reasons facts rows
-    → propagation_line nodes (all ++ map negation facts ∷ []) (reasons ++ number ∷ []) (map negation branch) ≡ Some (map negation branch)
-solved_line nodes clauses all branch facts reasons rows number are formulas number_is is =
-    closed_is_line nodes clauses (all ++ map negation facts ∷ []) (in_longer clauses all (map negation facts ∷ []) are) branch (negations_are_literals nodes branch formulas) reasons is.learned number (map negation facts) is.closed
-    (ap (slice_get (all ++ map negation facts ∷ [])) number_is ∙ get_last all (map negation facts))
-    (none_left (after branch is.learned) facts (record { has = λ l e. subst (λ (ls : List Lit). is_among ls l ≡ true) is.facts_are e }))
+-- nothing is left of the clause that literals of the closed list are not all true
+pub none_left_of : (known literals : List Lit) → ((l : Lit) → Contains literals l → is_among known l ≡ true) → is_empty (left known (map negation literals)) ≡ true
+none_left_of known literals has = none_left known literals (record { has = λ l e. has l (among_contained literals l e) })
 
-pub refuted_line : (nodes : List Node) (clauses : List GroundClause) (all : List Clause) (branch : List Lit) (numbers : List ℕ) → AreIn clauses all → are_literals nodes branch ≡ true → IsRefuted clauses branch numbers → propagation_line nodes all numbers (map negation branch) ≡ Some (map negation branch)
-refuted_line nodes clauses all branch numbers are formulas is = refuted_is_line nodes clauses all are branch (negations_are_literals nodes branch formulas) numbers is
+pub unsolvable_left : (clauses : List GroundClause) (nodes : List Node) (branch facts : List Lit) (reasons : List ℕ) (rows : List Row) → (is : IsUnsolvable clauses nodes branch reasons facts rows) → is_empty (left (after branch is.learned) (map negation facts)) ≡ true
+unsolvable_left clauses nodes branch facts reasons rows is = none_left (after branch is.learned) facts (record { has = λ l e. subst (λ (ls : List Lit). is_among ls l ≡ true) is.facts_are e })
+
+-- congruence contradicts the closed list
+module _ (clauses : List GroundClause) (nodes : List Node) (branch facts : List Lit) (reasons : List ℕ) (reason : Reason) (is : IsIncongruent clauses nodes branch reasons facts reason) where
+  pub incongruent_shut : IsShut nodes clauses branch
+  incongruent_shut =
+      by_congruence reasons is.learned is.closed (subst (λ (ls : List Lit). are_literals nodes ls ≡ true) is.facts_are is.formulas)
+      (subst (λ (ls : List Lit). IsContradicted nodes (map negation ls)) is.facts_are (reason_contradicts nodes facts reason is.is_reason))
+
+  pub incongruent_left : is_empty (left (after branch is.learned) (map negation reason.literals.items)) ≡ true
+  incongruent_left = none_left_of (after branch is.learned) reason.literals.items (λ l there. subst (λ (ls : List Lit). is_among ls l ≡ true) is.facts_are (contained_among facts l (is.is_reason.from_held l there)))
+
+pub refuted_line : (nodes : List Node) (clauses : List GroundClause) (places : List ℕ) (all : List Clause) (branch : List Lit) (numbers : List ℕ) → AreIn clauses places all → are_literals nodes branch ≡ true → IsRefuted clauses branch numbers
+    → propagation_line nodes all (map (place_in places) numbers) (map negation branch) ≡ Some (map negation branch)
+refuted_line nodes clauses places all branch numbers are formulas is = refuted_is_line nodes clauses places all are branch (negations_are_literals nodes branch formulas) numbers is
+
+pub closed_line : (nodes : List Node) (clauses : List GroundClause) (places : List ℕ) (all : List Clause) (branch : List Lit) (reasons : List ℕ) (learned : List Lit) (last : ℕ) (clause : Clause) → AreIn clauses places all → are_literals nodes branch ≡ true
+    → IsClosed clauses branch reasons learned → slice_get all last ≡ Some clause → is_empty (left (after branch learned) clause) ≡ true → propagation_line nodes all (map (place_in places) reasons ++ last ∷ []) (map negation branch) ≡ Some (map negation branch)
+closed_line nodes clauses places all branch reasons learned last clause are formulas closed there empty = closed_is_line nodes clauses places all are branch (negations_are_literals nodes branch formulas) reasons learned last clause closed.taught there empty

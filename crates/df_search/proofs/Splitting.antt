@@ -5,6 +5,7 @@ use Rattle.std.proofs.lemmas.Bool.{and_from, cases_Bool, and_parts}
 use Rattle.std.proofs.lemmas.Option.{slice_get_within}
 use Rattle.df_closure.proofs.Atoms.{two_below}
 use Rattle.df_form.specs.declared.log.Lit.{Lit}
+use Rattle.df_form.specs.declared.node.Sort.{Sort}
 use Rattle.df_form.specs.declared.node.Sort.TheVariants as sorts
 use Rattle.df_form.specs.Node.{Node, same_sort}
 use Rattle.df_form.specs.Made.{made}
@@ -28,7 +29,8 @@ use Rattle.df_form.proofs.Values.{parts_below}
 use Rattle.df_kern.proofs.Growth.{get-grows, number-grows, made-grows, made-at, number-made, sorted-comparison, grows-trans}
 use Rattle.df_closure.proofs.LaterRows.{rows_later}
 use Rattle.df_search.proofs.Coming.{decides, literal_formula}
-use Rattle.df_search.proofs.Growing.{makes, makes_node, unshut_later}
+use Rattle.df_branch.proofs.LaterNodes.{unshut_later}
+use Rattle.df_search.proofs.Growing.{makes, makes_node}
 
 pub is_of_number : (nodes : List Node) (n : ℕ) → is_number nodes n ≡ true → IsNumber nodes n
 is_of_number nodes n e =
@@ -56,16 +58,16 @@ module _ (nodes more : List Node) (table : IsTable nodes) (grows : Grows nodes m
           none (sym (get-grows nodes more place grows lower) ∙ place_is) old_m
 
 -- the decision at the bound
-module _ (clauses : List GroundClause) (nodes middle more : List Node) (branch : List Lit) (term place m : ℕ) (bound : ℤ) (leaf : IsBetweenLeaf clauses nodes branch term bound) (table : IsTable nodes) (more_table : IsTable more)
+module _ (set : List Node) (clauses : List GroundClause) (nodes middle more : List Node) (branch : List Lit) (term place m : ℕ) (bound : ℤ) (leaf : IsBetweenLeaf clauses nodes branch term bound) (table : IsTable nodes) (more_table : IsTable more)
     (grows : Grows nodes more) (place_is : slice_get more place ≡ Some (number bound)) (m_is : slice_get more m ≡ Some (at_most term place)) where
   facts : List Lit
   facts = after branch leaf.learned
 
-  pub bound_follows : MayFollow more clauses branch (yes m)
+  pub bound_follows : MayFollow set more clauses branch (yes m)
   unfolding facts
   bound_follows = record {
     learned = leaf.learned;
-    unshut = unshut_later clauses nodes more more_table grows branch leaf.learned leaf.unshut;
+    unshut = unshut_later nodes more more_table grows clauses branch leaf.learned leaf.unshut;
     not_true = unknown nodes more table grows facts leaf.unshut.formulas term place m bound place_is m_is (yes m) refl (λ p q. leaf.not_true place m p q);
     not_false = unknown nodes more table grows facts leaf.unshut.formulas term place m bound place_is m_is (no m) refl (λ p q. leaf.not_false place m p q);
     decision = inl (of_split leaf.filled (record {
@@ -86,10 +88,11 @@ module _ (clauses : List GroundClause) (nodes middle more : List Node) (branch :
     }));
   }
 
-comparison_formula : (nodes : List Node) (m a b : ℕ) → slice_get nodes m ≡ Some (at_most a b) → is_formula nodes m ≡ true
-comparison_formula nodes m a b e =
-    and_from (nat_lt m (length nodes)) (same_sort (sort_at nodes m) sorts.Truth) (lt-ltb m (length nodes) (slice_get_within nodes m (at_most a b) e))
-    (ap (λ (o : Option Node). same_sort (option_map_or (λ (node : Node). sort_of node.op) o sorts.Number) sorts.Truth) e)
+-- a node whose value is a truth
+pub truth_formula : (nodes : List Node) (m : ℕ) (node : Node) → slice_get nodes m ≡ Some node → sort_of node.op ≡ sorts.Truth → is_formula nodes m ≡ true
+truth_formula nodes m node e is =
+    and_from (nat_lt m (length nodes)) (same_sort (sort_at nodes m) sorts.Truth) (lt-ltb m (length nodes) (slice_get_within nodes m node e))
+    (ap (λ (o : Option Node). same_sort (option_map_or (λ (node : Node). sort_of node.op) o sorts.Number) sorts.Truth) e ∙ ap (λ (sort : Sort). same_sort sort sorts.Truth) is)
 
 pub splits : (s : Sequent) (old : State) → Searches s old → (term place m : ℕ) (bound : ℤ) (first second : Derivation) (trail : Trail) → IsBetweenLeaf (clauses_of old) old.derivation.nodes (branch_of old.trail) term bound
     → made old.derivation.nodes (number bound) ≡ record { nodes = first.nodes; number = place } → ((s : Sequent) (all : List Clause) → Runs s old.derivation all → Runs s first all)
@@ -106,6 +109,6 @@ splits s old searches term place m bound first second trail leaf made_first runs
     let at_place = made-at nodes (number bound) (record { nodes = first.nodes; number = place }) made_first in
     let at_m = made-at first.nodes (at_most term place) (record { nodes = second.nodes; number = m }) made_second in
     let is_number_there = number-made nodes bound (record { nodes = first.nodes; number = place }) made_first in
-    let follows = bound_follows (clauses_of old) nodes first.nodes second.nodes (branch_of old.trail) term place m bound leaf searches.is.standing.place.table two.standing.place.table (grows-trans nodes first.nodes second.nodes grows_one grows_two)
+    let follows = bound_follows old.set (clauses_of old) nodes first.nodes second.nodes (branch_of old.trail) term place m bound leaf searches.is.standing.place.table two.standing.place.table (grows-trans nodes first.nodes second.nodes grows_one grows_two)
     (get-grows first.nodes second.nodes place grows_two is_number_there.0 ∙ at_place) at_m in
-    record { all = all; is = decides s all (record old { derivation = second }) two (yes m) follows (comparison_formula second.nodes m term place at_m) trail trail_is }
+    record { all = all; is = decides s all (record old { derivation = second }) two (yes m) follows (truth_formula second.nodes m (at_most term place) at_m refl) trail trail_is }

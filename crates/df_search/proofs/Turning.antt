@@ -11,12 +11,13 @@ use Rattle.df_form.specs.Log.{step_of}
 use Rattle.df_kern.specs.Derivation.{Derives}
 use Rattle.df_closure.specs.Closure.{GroundClause}
 use Rattle.df_closure.specs.Full.{IsConsistent}
-use Rattle.df_closure.specs.Lines.{AreIn}
 use Rattle.df_logbuild.specs.declared.derivation.Derivation.{Derivation}
 use Rattle.df_trail.specs.declared.trail.Trail.{Trail}
 use Rattle.df_trail.specs.Trail.{branch_of, IsTurned, HasTurned, HasEnded}
-use Rattle.df_branch.specs.Evidence.{IsGroundIn, HasLog, IsClosedBranch, IsBranch}
-use Rattle.df_branch.specs.Leaf.{IsPlace}
+use Rattle.df_branch.specs.Evidence.{IsOfEquality, IsGroundIn, HasLog, IsClosedBranch, IsBranch, AreClosedBranches}
+use Rattle.df_branch.specs.Place.{IsPlace}
+use Rattle.df_branch.proofs.Equalities.{equalities_of}
+use Rattle.df_search.specs.Places.{place_in, AreIn}
 use Rattle.df_search.specs.declared.searching.State.{State}
 use Rattle.df_search.specs.Found.{AreSpent}
 use Rattle.df_search.specs.Searching.{clauses_of, branches_of, AreCounted, AllApart, AllLeaveOr, IsStanding, IsSearching, IsFinished, IsCounted}
@@ -25,12 +26,12 @@ use Rattle.df_logbuild.proofs.Added.{finished}
 use Rattle.df_search.proofs.Consistent.{trail_consistent}
 use Rattle.df_search.proofs.Leaving.{counted_last, closed_of, leave_or, leave_or_last, all_leave, branch_turned}
 
-pub in_longer : (clauses : List GroundClause) (log more : List Clause) → AreIn clauses log → AreIn clauses (log ++ more)
-in_longer clauses log more are = record { at = λ n clause there. get_grown log more n clause.literals (are.at n clause there) }
+pub in_longer : (clauses : List GroundClause) (places : List ℕ) (log more : List Clause) → AreIn clauses places log → AreIn clauses places (log ++ more)
+in_longer clauses places log more are = record { long = are.long; at = λ n clause there. get_grown log more (place_in places n) clause.literals (are.at n clause there) }
 
 -- a place is one for another branch, where its literals are of formulas
 pub place_for : (set : List Node) (clauses : List GroundClause) (nodes : List Node) (branch other : List Lit) → IsPlace set clauses nodes branch → are_literals nodes other ≡ true → IsConsistent other → IsPlace set clauses nodes other
-place_for set clauses nodes branch other place formulas consistent = record { table = place.table; begins = place.begins; made = place.made; formulas = formulas; consistent = consistent; clause_formulas = place.clause_formulas }
+place_for set clauses nodes branch other place formulas consistent = record { table = place.table; begins = place.begins; formulas = formulas; consistent = consistent; clause_formulas = place.clause_formulas; meanings = place.meanings }
 
 module _ (s : Sequent) (front : List Clause) (number : ℕ) (old : State) (is : IsFinished s front old number) where
   pub counts_not : IsCounted s front old number
@@ -45,7 +46,7 @@ module _ (s : Sequent) (front : List Clause) (number : ℕ) (old : State) (is : 
     there = get_last front (map negation (branch_of old.trail));
   }
 
-  closed_branch : IsClosedBranch s old.derivation.nodes (clauses_of old) (branch_of old.trail)
+  closed_branch : IsClosedBranch s old.set old.derivation.nodes (clauses_of old) (branch_of old.trail)
   closed_branch = record { branch_is = is.standing.branch; shut = is.shut; has_log = has_log }
 
   pub counts_it : (branch : Vec Lit Global) (closed : Vec (Vec Lit Global) Global) → branch.items ≡ branch_of old.trail → AllApart branch.items (branches_of old) → closed.items ≡ old.closed.items ++ branch ∷ [] → IsCounted s front (record old { closed = closed }) number
@@ -56,14 +57,15 @@ module _ (s : Sequent) (front : List Clause) (number : ℕ) (old : State) (is : 
           ground_set = is.standing.ground_set;
           is_of = is.standing.is_of;
           set_is = is.standing.set_is;
+          more = is.standing.more;
           clauses_are = is.standing.clauses_are;
-          world_is = is.standing.world_is;
+          of_equalities = is.standing.of_equalities;
           lines = is.standing.lines;
           place = is.standing.place;
           trail = is.standing.trail;
           branch = is.standing.branch;
-          counted = subst (AreCounted s old.derivation.nodes (clauses_of old)) (sym same)
-              (counted_last s old.derivation.nodes (clauses_of old) old.trail.decisions.items branch.items branch_is (subst (IsClosedBranch s old.derivation.nodes (clauses_of old)) (sym branch_is) closed_branch) (branches_of old) is.leave apart is.standing.counted);
+          counted = subst (AreCounted s old.set old.derivation.nodes (clauses_of old)) (sym same)
+              (counted_last s old.set old.derivation.nodes (clauses_of old) old.trail.decisions.items branch.items branch_is (subst (IsClosedBranch s old.set old.derivation.nodes (clauses_of old)) (sym branch_is) closed_branch) (branches_of old) is.leave apart is.standing.counted);
         };
         closed = is.closed;
         leave = subst (AllLeaveOr old.trail.decisions.items) (sym same) (leave_or_last old.trail.decisions.items (branches_of old) branch.items branch_is is.leave);
@@ -76,13 +78,14 @@ module _ (s : Sequent) (front : List Clause) (number : ℕ) (mid : State) (is : 
       ground_set = is.standing.ground_set;
       is_of = is.standing.is_of;
       set_is = is.standing.set_is;
+      more = is.standing.more;
       clauses_are = is.standing.clauses_are;
-      world_is = is.standing.world_is;
-      lines = in_longer (clauses_of mid) front has.more is.standing.lines;
+      of_equalities = λ clause there. subst (λ (ns : List Node). IsOfEquality ns clause) (sym nodes) (is.standing.of_equalities clause there);
+      lines = in_longer (clauses_of mid) mid.places.items front has.more is.standing.lines;
       place = place_for mid.set (clauses_of mid) derivation.nodes (branch_of mid.trail) (branch_of trail) (subst (λ (ns : List Node). IsPlace mid.set (clauses_of mid) ns (branch_of mid.trail)) (sym nodes) is.standing.place) has.formulas (trail_consistent (front ++ has.more) trail has.trail);
       trail = has.trail;
-      branch = subst (λ (ns : List Node). IsBranch ns (clauses_of mid) (branch_of trail)) (sym nodes) (branch_turned mid.derivation.nodes (clauses_of mid) mid.trail trail turned_it is.standing.branch);
-      counted = subst (λ (ns : List Node). AreCounted s ns (clauses_of mid) (branches_of mid)) (sym nodes) is.standing.counted;
+      branch = subst (λ (ns : List Node). IsBranch mid.set ns (clauses_of mid) (branch_of trail)) (sym nodes) (branch_turned mid.set mid.derivation.nodes (clauses_of mid) mid.trail trail turned_it is.standing.branch);
+      counted = subst (λ (ns : List Node). AreCounted s mid.set ns (clauses_of mid) (branches_of mid)) (sym nodes) is.standing.counted;
     };
     runs = has.runs;
     leave = all_leave mid.trail.decisions.items trail.decisions.items turned_it.kept turned_it.decision turned_it.taken turned_it.number turned_it.old_is turned_it.side_open turned_it.new_is (branches_of mid) is.leave;
@@ -95,7 +98,10 @@ abbrev pub ground_in : (s : Sequent) (all : List Clause) (state : State) → IsS
 ground_in s all state is = record {
   set = is.ground_set;
   is_of = is.is_of;
+  more = is.more;
   clauses_are = is.clauses_are;
+  of_equalities = is.of_equalities;
+  equalities = equalities_of state.derivation.nodes (clauses_of state) is.place.meanings;
   table = is.place.table;
   begins = subst (λ (ns : List Node). take (length ns) state.derivation.nodes ≡ ns) is.set_is is.place.begins;
 }
@@ -105,6 +111,6 @@ spent s all state steps is count = record {
   nodes = state.derivation.nodes;
   clauses = clauses_of state;
   of_sequent = ground_in s all state is.standing;
-  closed = closed_of s state.derivation.nodes (clauses_of state) (branches_of state) is.standing.counted;
+  closed = subst (λ (set : List Node). AreClosedBranches s set state.derivation.nodes (clauses_of state) (branches_of state)) is.standing.set_is (closed_of s state.set state.derivation.nodes (clauses_of state) (branches_of state) is.standing.counted);
   count = length_mapped (λ (b : Vec Lit Global). b.items) state.closed.items ∙ count;
 }

@@ -28,7 +28,7 @@ pub record AreSpent (s : Sequent) (steps : ℕ) (branches : List (List Lit)) : T
   pub nodes : List Node
   pub clauses : List GroundClause
   pub of_sequent : IsGroundIn s nodes clauses
-  pub closed : AreClosedBranches s nodes clauses branches
+  pub closed : AreClosedBranches s of_sequent.set.nodes nodes clauses branches
   pub count : length branches ≡ steps
 
 -- each closed branch is incompatible with the one that is left
@@ -39,16 +39,16 @@ AllExclude (closed ∷ others) branch = AreIncompatible closed branch × AllExcl
 -- A branch at which a search stops, and the branches that it has closed, each apart from the others and incompatible with it.
 pub record IsStop (s : Sequent) (nodes : List Node) (clauses : List GroundClause) (closed : List (List Lit)) (branch : List Lit) : Type 0 where
   pub of_sequent : IsGroundIn s nodes clauses
-  pub are_closed : AreClosedBranches s nodes clauses closed
+  pub are_closed : AreClosedBranches s of_sequent.set.nodes nodes clauses closed
   pub excluded : AllExclude closed branch
-  pub is_branch : IsBranch nodes clauses branch
+  pub is_branch : IsBranch of_sequent.set.nodes nodes clauses branch
 
 -- There a number is past 128 bits, and the closed list holds no literal with its negation.
 pub record IsTooWide (s : Sequent) (closed : List (List Lit)) (branch : List Lit) : Type 0 where
   pub nodes : List Node
   pub clauses : List GroundClause
   pub stop : IsStop s nodes clauses closed branch
-  pub wide : IsWideLeaf s.world stop.of_sequent.set.nodes clauses nodes branch
+  pub wide : IsWideLeaf stop.of_sequent.set.nodes clauses nodes branch
   pub consistent : IsConsistent (after branch wide.learned)
 
 -- There a level has so many rows, and the closed list holds no literal with its negation.

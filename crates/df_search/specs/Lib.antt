@@ -1,2 +1,4 @@
 pub mod Found
+pub mod Places
 pub mod Searching
+pub mod Moves

@@ -1,28 +1,24 @@
 -- A search so far.
-use Rattle.std.specs.Prelude.{◌≡◌, ◌⊎◌, ℕ, suc, ℤ, ◌≤◌, ◌<◌, true, false, List, [], ◌∷◌, ◌++◌, map, length, None, Some, Vec}
+use Rattle.std.specs.Prelude.{◌≡◌, ◌⊎◌, ℕ, suc, ◌≤◌, ◌<◌, false, List, [], ◌∷◌, ◌++◌, map, length, None, Vec}
 use Rattle.std.specs.declared.alloc.Global.{Global}
-use Rattle.df_form.specs.World.{world_of}
 use Rattle.df_form.specs.declared.log.Lit.{Lit}
-use Rattle.df_form.specs.declared.log.Combination.{Combination}
 use Rattle.df_form.specs.Node.{Node}
 use Rattle.df_form.specs.Clause.{Clause, negation, is_among}
-use Rattle.df_form.specs.Arithmetic.{IsArithmeticSequent}
 use Rattle.df_form.specs.Sequent.{Sequent, IsSequent}
-use Rattle.df_form.specs.Log.{step_of, combination_of}
-use Rattle.df_row.specs.Row.{Row}
-use Rattle.df_row.specs.Linear.{refutes}
-use Rattle.df_kern.specs.Propagation.{propagation_line}
+use Rattle.df_form.specs.Log.{step_of}
 use Rattle.df_kern.specs.Derivation.{Derives}
 use Rattle.df_ground.specs.declared.set.Ground.{Ground}
 use Rattle.df_ground.specs.GroundView.{IsGroundOf}
+use Rattle.df_ground.specs.Among.{Among}
 use Rattle.df_closure.specs.Closure.{GroundClause, ground_of}
-use Rattle.df_closure.specs.Lines.{AreIn}
 use Rattle.df_logbuild.specs.Runs.{Runs}
 use Rattle.df_trail.specs.declared.decision.Decision.{Decision}
 use Rattle.df_trail.specs.Trail.{branch_of, literals_of, IsTrail, IsClosed}
 use Rattle.df_branch.specs.declared.leaf.Leaf.{Leaf}
-use Rattle.df_branch.specs.Evidence.{IsBranch, IsShut, IsClosedBranch, AreIncompatible, ShareNothingShut}
-use Rattle.df_branch.specs.Leaf.{IsPlace, IsUnsolvable, IsBetweenLeaf, TellsLeaf}
+use Rattle.df_branch.specs.Evidence.{IsOfEquality, IsBranch, IsShut, IsClosedBranch, AreIncompatible, ShareNothingShut}
+use Rattle.df_branch.specs.Place.{IsPlace}
+use Rattle.df_branch.specs.Leaf.{TellsLeaf}
+use Rattle.df_search.specs.Places.{AreIn}
 use Rattle.df_search.specs.declared.searching.State.{State}
 use Rattle.df_search.specs.declared.searching.Turn.{Turn}
 use Rattle.df_search.specs.declared.searching.Turn.TheVariants as turns
@@ -55,7 +51,7 @@ AllLeaveOr decisions (branch ∷ others) = (Leaves decisions branch ⊎ (branch 
 
 -- what both branches hold is not shut
 abbrev pub AreApart : List Lit → List Lit → Type 0
-AreApart branch other = (nodes : List Node) (clauses : List GroundClause) → IsBranch nodes clauses branch → IsBranch nodes clauses other → ShareNothingShut nodes clauses branch other
+AreApart branch other = (set nodes : List Node) (clauses : List GroundClause) → IsBranch set nodes clauses branch → IsBranch set nodes clauses other → ShareNothingShut nodes clauses branch other
 
 -- the one branch has a last literal that the other lacks
 pub record Lacks (branch other : List Lit) : Type 0 where
@@ -74,22 +70,24 @@ AllDiffer branch [] = Unit {0}
 AllDiffer branch (other ∷ others) = AreIncompatible branch other × AreApart branch other × AllDiffer branch others
 
 -- closed branches of which each differs from those after it
-abbrev pub AreCounted : Sequent → List Node → List GroundClause → List (List Lit) → Type 0
-AreCounted s nodes clauses [] = Unit {0}
-AreCounted s nodes clauses (branch ∷ others) = IsClosedBranch s nodes clauses branch × AllDiffer branch others × AreCounted s nodes clauses others
+abbrev pub AreCounted : Sequent → List Node → List Node → List GroundClause → List (List Lit) → Type 0
+AreCounted s set nodes clauses [] = Unit {0}
+AreCounted s set nodes clauses (branch ∷ others) = IsClosedBranch s set nodes clauses branch × AllDiffer branch others × AreCounted s set nodes clauses others
 
--- The nodes and clauses are those of the ground set of the sequent, and the trail's branch is one.
+-- The nodes and clauses are those of the ground set of the sequent and of equalities that were decided, and the trail's branch
+-- is one.
 pub record IsStanding (s : Sequent) (all : List Clause) (state : State) : Type 0 where
   pub ground_set : Ground
   pub is_of : IsGroundOf s ground_set
   pub set_is : state.set ≡ ground_set.nodes
-  pub clauses_are : clauses_of state ≡ map ground_of ground_set.clauses.items
-  pub world_is : world_of state.world ≡ s.world
-  pub lines : AreIn (clauses_of state) all
+  pub more : List GroundClause
+  pub clauses_are : clauses_of state ≡ map ground_of ground_set.clauses.items ++ more
+  pub of_equalities : (clause : GroundClause) → Among more clause → IsOfEquality state.derivation.nodes clause
+  pub lines : AreIn (clauses_of state) state.places.items all
   pub place : IsPlace state.set (clauses_of state) state.derivation.nodes (branch_of state.trail)
   pub trail : IsTrail all state.trail
-  pub branch : IsBranch state.derivation.nodes (clauses_of state) (branch_of state.trail)
-  pub counted : AreCounted s state.derivation.nodes (clauses_of state) (branches_of state)
+  pub branch : IsBranch state.set state.derivation.nodes (clauses_of state) (branch_of state.trail)
+  pub counted : AreCounted s state.set state.derivation.nodes (clauses_of state) (branches_of state)
 
 -- what the lines of the log so far add, and the closed branches leave the trail
 pub record IsSearching (s : Sequent) (all : List Clause) (state : State) : Type 0 where
@@ -118,17 +116,6 @@ pub record Finishes (s : Sequent) (state : State) (number : ℕ) : Type 0 where
   pub front : List Clause
   pub is : IsFinished s front state number
 
--- whatever sequent the search is for
-abbrev pub Refutes : State → List ℕ → State → ℕ → Type 0
-Refutes old numbers new number =
-    (s : Sequent) (all : List Clause) → IsSearching s all old → IsShut old.derivation.nodes (clauses_of old) (branch_of old.trail)
-    → propagation_line old.derivation.nodes all numbers (map negation (branch_of old.trail)) ≡ Some (map negation (branch_of old.trail)) → IsFinished s all new number
-
-abbrev pub Solves : State → List ℕ → List Lit → List Combination → State → ℕ → Type 0
-Solves old reasons facts combinations new number =
-    (s : Sequent) (rows : List Row) → Searches s old → IsUnsolvable (clauses_of old) old.derivation.nodes (branch_of old.trail) reasons facts rows
-    → ((count : ℕ) → refutes count rows (map combination_of combinations) ≡ true) → Finishes s new number
-
 abbrev pub Counts : State → State → Type 0
 Counts old new = (s : Sequent) (front : List Clause) (number : ℕ) → IsFinished s front old number → IsCounted s front new number
 
@@ -137,7 +124,7 @@ abbrev pub Comes : Sequent → ℕ → State → Turn → Type 0
 Comes s steps state turns.On = Searches s state × (length state.closed.items < steps)
 Comes s steps state turns.Proved = Derives s (map step_of state.derivation.lines.items)
 Comes s steps state turns.Spent = AreSpent s steps (branches_of state)
-Comes s steps state (turns.Modelled table) = IsSequent s → IsArithmeticSequent s → HasModel s table
+Comes s steps state (turns.Modelled table) = IsSequent s → HasModel s table
 Comes s steps state turns.Wide = IsTooWide s (branches_of state) (branch_of state.trail)
 Comes s steps state (turns.Many count) = HasManyRows s (branches_of state) (branch_of state.trail) count
 
@@ -148,11 +135,7 @@ abbrev pub TurnsTo : State → ℕ → State → Turn → Type 0
 TurnsTo old steps new turn = (s : Sequent) → Searches s old → length old.closed.items < steps → Comes s steps new turn
 
 abbrev pub Tells : State → Leaf → Type 0
-Tells state leaf = TellsLeaf (world_of state.world) state.set (clauses_of state) state.derivation.nodes (branch_of state.trail) leaf
-
--- a further decision, at a bound
-abbrev pub SplitsAt : State → ℕ → ℤ → State → Type 0
-SplitsAt old node bound new = (s : Sequent) → Searches s old → IsBetweenLeaf (clauses_of old) old.derivation.nodes (branch_of old.trail) node bound → Searches s new
+Tells state leaf = TellsLeaf state.set (clauses_of state) state.derivation.nodes (branch_of state.trail) leaf
 
 -- the log is longer; or it is as long, or longer, and so is the trail
 abbrev pub Grows : State → State → Type 0

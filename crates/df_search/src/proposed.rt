@@ -2,7 +2,6 @@
 //! a check.
 
 ghost use Rattle.std.specs.Prelude.{◌≤◌, ℕ, IfOk, IfSome};
-ghost use Rattle.df_form.specs.Arithmetic.{IsArithmeticSequent};
 ghost use Rattle.df_form.specs.SequentView.{sequent_of};
 ghost use Rattle.df_search.specs.Found.{Finds};
 
@@ -53,11 +52,10 @@ fn proposed(alloc: Global, sequent: &Sequent, steps: u64) -> Result<Option<Found
     }
 }
 
-/// Searches for a log that derives the sequent, which is arithmetic. Where it stops without one, it
-/// gives evidence: a table model of the ground set, as many closed branches as it may close, a number past
-/// 128 bits, or too many ground clauses or rows.
+/// Searches for a log that derives the sequent. Where it stops without one, it gives evidence: a table
+/// model of the ground set, as many closed branches as it may close, a number past 128 bits, or too many
+/// ground clauses or rows.
 pub fn search(alloc: Global, sequent: &Sequent, budget: Budget) -> Result<Found, AllocError>
-    requires arithmetic { IsArithmeticSequent (sequent_of sequent.now) }
     requires steps { 1 ≤ budget.steps }
     ensures { IfOk result (Finds (sequent_of sequent.now) budget.steps) }
 {

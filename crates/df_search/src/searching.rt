@@ -1,21 +1,27 @@
 //! The search.
 
-ghost use Rattle.std.specs.Prelude.{◌≡◌, ◌<◌, ◌≤◌, ◌++◌, ◌∷◌, [], suc, ℕ, Err, map, length, true, IfOk, OnOk, IsTrue, List};
-ghost use Rattle.df_form.specs.World.{world_of};
-ghost use Rattle.df_form.specs.Arithmetic.{IsArithmeticSequent};
-ghost use Rattle.df_form.specs.Clause.{negation, is_among};
-ghost use Rattle.df_form.specs.Sequent.{Sequent as Claim};
+ghost use Rattle.std.specs.Prelude.{◌≡◌, ◌<◌, ◌≤◌, ◌++◌, ◌∷◌, [], suc, ℕ, Err, map, length, true, false, IfOk, OnOk, IsTrue, List};
+ghost use Rattle.std.specs.List.{range_with_len};
+ghost use Rattle.df_form.specs.Clause as clauses;
+ghost use Rattle.df_form.specs.Clause.{Clause, negation, is_among};
+ghost use Rattle.df_form.specs.Made.{made};
+ghost use Rattle.df_form.specs.Sequent.{Sequent as Claim, IsSequent};
 ghost use Rattle.df_form.specs.SequentView.{sequent_of};
+ghost use Rattle.df_form.specs.Sorting.{is_well_sorted};
 ghost use Rattle.df_ground.specs.GroundView.{IsGroundOf, Grounds};
-ghost use Rattle.df_kern.specs.Derivation.{is_number};
+ghost use Rattle.df_kern.specs.Derivation.{is_free, is_number};
+ghost use Rattle.df_logbuild.specs.Runs.{Runs};
 ghost use Rattle.df_trail.specs.Trail.{branch_of};
-ghost use Rattle.df_branch.specs.Leaf.{IsPlace};
+ghost use Rattle.df_branch.specs.Place.{IsPlace};
 ghost use Rattle.df_search.specs.Found.{Finds};
-ghost use Rattle.df_search.specs.Searching.{clauses_of, branches_of, Searches, Refutes, Solves, Counts, SplitsAt, Closes, TurnsTo, Tells, GoesOn, Lacks, AreApart, AllApart};
+ghost use Rattle.df_search.specs.Searching.{clauses_of, branches_of, Searches, Counts, Closes, TurnsTo, Tells, GoesOn, Lacks, AreApart, AllApart};
+ghost use Rattle.df_search.specs.Moves.{Propagates, Refutes, RefutesBy, Solves, Contradicts, SplitsAt, IsBound, IsDefined, MakesEquality, Equates};
+ghost use Rattle.df_search.specs.Places.{AreWithin, place_in};
 
 use crate::found::{Budget, Found, What};
 use df_branch::{Leaf, leaf_at};
-use df_form::{Combination, Lit, Node, Nodes, Op, Sequent, World};
+use df_cong::Reason;
+use df_form::{Combination, Lit, Node, Nodes, Op, Sequent};
 use df_ground::{Ground, GroundClause, GroundFault};
 use df_logbuild::Derivation;
 use df_table::Table;
@@ -24,12 +30,14 @@ use std::alloc::{AllocError, Global};
 
 /// A search so far.
 #[derive(Drop)]
-struct State<'a> {
+struct State {
     alloc: Global,
-    world: World<'a>,
-    /// The nodes of the ground set, and its clauses.
+    /// The nodes of the ground set.
     set: Nodes,
+    /// Its clauses, and after them those of equalities that were decided.
     clauses: Vec<GroundClause>,
+    /// The number of each of these clauses in the log.
+    places: Vec<usize>,
     /// A log of lines, of which the first ones add the ground clauses.
     derivation: Derivation,
     trail: Trail,
@@ -46,6 +54,24 @@ fn negations(alloc: Global, literals: &[Lit]) -> Result<Vec<Lit>, AllocError>
         negations.push(literal.negation())?;
     }
     Ok(negations)
+}
+
+fn yes(node: usize) -> Lit
+    ensures { result ≡ clauses.yes node }
+{
+    Lit {
+        positive: true,
+        node,
+    }
+}
+
+fn no(node: usize) -> Lit
+    ensures { result ≡ clauses.no node }
+{
+    Lit {
+        positive: false,
+        node,
+    }
 }
 
 /// Whether the literal is one of the list.
@@ -90,29 +116,67 @@ fn is_apart_from(branch: &[Lit], others: &[Vec<Lit>]) -> bool
     true
 }
 
-impl<'a> State<'a> {
+/// The number of an operation on two nodes, which a line makes where it does not stand yet.
+fn operation(
+    alloc: Global,
+    derivation: &mut Derivation,
+    op: Op,
+    left: usize,
+    right: usize,
+) -> Result<usize, AllocError>
+    requires sorted { is_well_sorted derivation.old.nodes (record { op = op; parts = left ∷ right ∷ [] }) ≡ true }
+    requires bound { is_free op ≡ false }
+    ensures made { IfOk result (λ number. made derivation.old.nodes (record { op = op; parts = left ∷ right ∷ [] }) ≡ record { nodes = derivation.new.nodes; number = number }) }
+    ensures runs { OnOk result ((s : Claim) (all : List Clause) → Runs s derivation.old all → Runs s derivation.new all) }
+    ensures longer { length derivation.old.lines.items ≤ length derivation.new.lines.items }
+{
+    let parts = vec![in alloc; left, right]?;
+    derivation.make(alloc, Node { op, parts })
+}
+
+/// The first numbers, so many.
+fn first_numbers(alloc: Global, count: usize) -> Result<Vec<usize>, AllocError>
+    ensures { IfOk result (λ numbers. numbers.items ≡ range_with_len 0 count) }
+{
+    (0..count).collect(alloc)
+}
+
+impl State {
     /// No decisions yet.
-    fn new(alloc: Global, world: World<'a>, ground: Ground) -> Result<State<'a>, AllocError>
+    fn new(alloc: Global, ground: Ground) -> Result<State, AllocError>
         requires { length ground.clauses.items ≤ length ground.lines.items }
-        ensures begins { IfOk result (λ state. (s : Claim) → IsGroundOf s ground → world_of world.entry ≡ s.world → Searches s state) }
+        ensures begins { IfOk result (λ state. (s : Claim) → IsSequent s → IsGroundOf s ground → Searches s state) }
         ensures none { IfOk result (λ state. state.closed.items ≡ []) }
     {
         let nodes = ground.nodes.copy(alloc)?;
         let count = ground.clauses.len();
+        let places = first_numbers(alloc, count)?;
         Ok(State {
             alloc,
-            world,
             set: ground.nodes,
             clauses: ground.clauses,
+            places,
             derivation: Derivation::new(nodes, ground.lines, count),
             trail: Trail::new(alloc),
             closed: Vec::new(alloc),
         })
     }
 
-    /// Adds a line that the branch is not, by propagation through clauses.
-    fn refute(&mut self, numbers: Vec<usize>) -> Result<usize, AllocError>
-        ensures refutes { IfOk result (Refutes self.old numbers.items self.new) }
+    /// The numbers in the log of clauses that have these numbers here.
+    fn placed(&self, numbers: &[usize]) -> Result<Vec<usize>, AllocError>
+        requires { AreWithin (length self.now.places.items) numbers.now }
+        ensures { IfOk result (λ placed. placed.items ≡ map (place_in self.now.places.items) numbers.now) }
+    {
+        let mut placed = Vec::new(self.alloc);
+        for number in numbers {
+            placed.push(self.places[*number])?;
+        }
+        Ok(placed)
+    }
+
+    /// Adds a line that the branch is not, by propagation through clauses of the log.
+    fn propagate(&mut self, numbers: Vec<usize>) -> Result<usize, AllocError>
+        ensures propagates { IfOk result (Propagates self.old numbers.items self.new) }
         ensures longer { OnOk result (length self.old.derivation.lines.items < length self.new.derivation.lines.items) }
         ensures closed { self.new.closed.items ≡ self.old.closed.items }
     {
@@ -120,22 +184,58 @@ impl<'a> State<'a> {
         self.derivation.propagate(numbers, conclusion)
     }
 
+    /// Adds a line that the branch is not: propagation through clauses leaves nothing of the last one.
+    fn refute(&mut self, numbers: &[usize]) -> Result<usize, AllocError>
+        requires { AreWithin (length self.old.places.items) numbers.now }
+        ensures refutes { IfOk result (Refutes self.old numbers.now self.new) }
+        ensures longer { OnOk result (length self.old.derivation.lines.items < length self.new.derivation.lines.items) }
+        ensures closed { self.new.closed.items ≡ self.old.closed.items }
+    {
+        let placed = self.placed(numbers)?;
+        self.propagate(placed)
+    }
+
+    /// Adds a line that the branch is not: nothing is left of the clause of the log of this number, beside
+    /// what the clauses give.
+    fn refute_by(&mut self, reasons: &[usize], last: usize) -> Result<usize, AllocError>
+        requires { AreWithin (length self.old.places.items) reasons.now }
+        ensures refutes { IfOk result (RefutesBy self.old reasons.now last self.new) }
+        ensures longer { OnOk result (length self.old.derivation.lines.items < length self.new.derivation.lines.items) }
+        ensures closed { self.new.closed.items ≡ self.old.closed.items }
+    {
+        let mut numbers = self.placed(reasons)?;
+        numbers.push(last)?;
+        self.propagate(numbers)
+    }
+
     /// Adds lines that the branch is not: the facts are not all true, and the clauses give them.
     fn solve(
         &mut self,
-        reasons: Vec<usize>,
+        reasons: &[usize],
         facts: &[Lit],
         combinations: Vec<Combination>,
     ) -> Result<usize, AllocError>
-        ensures solves { IfOk result (Solves self.old reasons.items facts.now combinations.items self.new) }
+        requires { AreWithin (length self.old.places.items) reasons.now }
+        ensures solves { IfOk result (Solves self.old reasons.now facts.now combinations.items self.new) }
         ensures longer { OnOk result (length self.old.derivation.lines.items < length self.new.derivation.lines.items) }
         ensures closed { self.new.closed.items ≡ self.old.closed.items }
     {
         let conclusion = negations(self.alloc, facts)?;
         let number = self.derivation.refute(conclusion, combinations)?;
-        let mut numbers = reasons;
-        numbers.push(number)?;
-        self.refute(numbers)
+        self.refute_by(reasons, number)
+    }
+
+    /// Adds lines that the branch is not: congruence has it that some literals are not all true, and the
+    /// clauses give them.
+    fn contradict(&mut self, reasons: &[usize], reason: Reason) -> Result<usize, AllocError>
+        requires { AreWithin (length self.old.places.items) reasons.now }
+        ensures contradicts { IfOk result (Contradicts self.old reasons.now reason self.new) }
+        ensures longer { OnOk result (length self.old.derivation.lines.items < length self.new.derivation.lines.items) }
+        ensures closed { self.new.closed.items ≡ self.old.closed.items }
+    {
+        let conclusion = negations(self.alloc, &reason.literals)?;
+        let number = self.derivation.congruence(conclusion, reason.pairs)?;
+        self.refute_by(reasons, number)
     }
 
     /// Decides that the number is at most the bound.
@@ -153,17 +253,71 @@ impl<'a> State<'a> {
                 parts: Vec::new(self.alloc),
             },
         )?;
-        let comparison = self.derivation.make(
-            self.alloc,
-            Node {
-                op: Op::AtMost,
-                parts: vec![in self.alloc; node, place]?,
-            },
-        )?;
-        self.trail.decide(Lit {
-            positive: true,
-            node: comparison,
-        })
+        let comparison = operation(self.alloc, &mut self.derivation, Op::AtMost, node, place)?;
+        self.trail.decide(yes(comparison))
+    }
+
+    /// Adds a clause that an equality means, bound to it.
+    fn bind(&mut self, equality: usize, clause: usize, literals: Vec<Lit>) -> Result<(), AllocError>
+        ensures binds { OnOk result (IsBound self.old equality clause literals.items self.new) }
+        ensures trail { self.new.trail ≡ self.old.trail }
+        ensures log { length self.old.derivation.lines.items ≤ length self.new.derivation.lines.items }
+        ensures closed { self.new.closed.items ≡ self.old.closed.items }
+    {
+        let number = self.derivation.define(equality, clause)?;
+        self.places.push(number)?;
+        self.clauses.push(GroundClause {
+            literals,
+            bound: Some(equality),
+        })?;
+        Ok(())
+    }
+
+    /// Adds what an equality means: that it is the `and` of two comparisons.
+    fn define(&mut self, equality: usize, up: usize, down: usize) -> Result<(), AllocError>
+        ensures defines { OnOk result (IsDefined self.old equality up down self.new) }
+        ensures trail { self.new.trail ≡ self.old.trail }
+        ensures log { length self.old.derivation.lines.items ≤ length self.new.derivation.lines.items }
+        ensures closed { self.new.closed.items ≡ self.old.closed.items }
+    {
+        let first = vec![in self.alloc; no(equality), yes(up)]?;
+        self.bind(equality, 0, first)?;
+        let second = vec![in self.alloc; no(equality), yes(down)]?;
+        self.bind(equality, 1, second)?;
+        let third = vec![in self.alloc; yes(equality), no(up), no(down)]?;
+        self.bind(equality, 2, third)
+    }
+
+    /// The number of the equality, which is made with what it means where it does not stand yet.
+    fn equality(&mut self, left: usize, right: usize) -> Result<usize, AllocError>
+        requires left { is_number self.old.derivation.nodes left ≡ true }
+        requires right { is_number self.old.derivation.nodes right ≡ true }
+        ensures makes { IfOk result (MakesEquality self.old left right self.new) }
+        ensures log { length self.old.derivation.lines.items ≤ length self.new.derivation.lines.items }
+        ensures closed { self.new.closed.items ≡ self.old.closed.items }
+        ensures trail { self.new.trail ≡ self.old.trail }
+    {
+        let up = operation(self.alloc, &mut self.derivation, Op::AtMost, left, right)?;
+        let down = operation(self.alloc, &mut self.derivation, Op::AtMost, right, left)?;
+        let before = self.derivation.nodes.len();
+        let equality = operation(self.alloc, &mut self.derivation, Op::Equal, left, right)?;
+        if self.derivation.nodes.len() > before {
+            self.define(equality, up, down)?;
+        }
+        Ok(equality)
+    }
+
+    /// Decides that two numbers are equal.
+    fn equate(&mut self, left: usize, right: usize) -> Result<(), AllocError>
+        requires left { is_number self.old.derivation.nodes left ≡ true }
+        requires right { is_number self.old.derivation.nodes right ≡ true }
+        ensures equates { OnOk result (Equates self.old left right self.new) }
+        ensures log { length self.old.derivation.lines.items ≤ length self.new.derivation.lines.items }
+        ensures trail { OnOk result (length self.new.trail.decisions.items ≡ suc (length self.old.trail.decisions.items)) }
+        ensures closed { self.new.closed.items ≡ self.old.closed.items }
+    {
+        let equality = self.equality(left, right)?;
+        self.trail.decide(yes(equality))
     }
 
     /// Counts the branch among the closed ones, where it is apart from each.
@@ -193,7 +347,7 @@ enum Turn {
     Many(u64),
 }
 
-impl<'a> State<'a> {
+impl State {
     /// Closes the branch by the clause of the log of this number, which says that it is not.
     fn close(&mut self, number: usize, steps: u64) -> Result<Turn, AllocError>
         ensures closes { IfOk result (Closes self.old number steps self.new) }
@@ -223,7 +377,6 @@ impl<'a> State<'a> {
         let branch = self.trail.branch(self.alloc)?;
         leaf_at(
             self.alloc,
-            self.world,
             &self.set,
             &self.clauses,
             &self.derivation.nodes,
@@ -233,13 +386,14 @@ impl<'a> State<'a> {
 
     /// One step: a decision, a closed branch, or an end.
     fn turn(&mut self, steps: u64) -> Result<Turn, AllocError>
-        requires { IsPlace self.old.set (clauses_of self.old) self.old.derivation.nodes (branch_of self.old.trail) }
+        requires place { IsPlace self.old.set (clauses_of self.old) self.old.derivation.nodes (branch_of self.old.trail) }
+        requires places { length self.old.places.items ≡ length self.old.clauses.items }
         ensures turns { IfOk result (TurnsTo self.old steps self.new) }
         ensures grows { IfOk result (GoesOn self.old self.new) }
     {
         match self.leaf()? {
             Leaf::Refuted(numbers) => {
-                let number = self.refute(numbers)?;
+                let number = self.refute(&numbers)?;
                 self.close(number, steps)
             }
             Leaf::Unsolvable {
@@ -247,7 +401,15 @@ impl<'a> State<'a> {
                 facts,
                 combinations,
             } => {
-                let number = self.solve(reasons, &facts, combinations)?;
+                let number = self.solve(&reasons, &facts, combinations)?;
+                self.close(number, steps)
+            }
+            Leaf::Incongruent {
+                reasons,
+                reason,
+                ..
+            } => {
+                let number = self.contradict(&reasons, reason)?;
                 self.close(number, steps)
             }
             Leaf::Open(literal) => {
@@ -256,6 +418,10 @@ impl<'a> State<'a> {
             }
             Leaf::Between { node, bound } => {
                 self.split(node, bound)?;
+                Ok(Turn::On)
+            }
+            Leaf::Apart { left, right } => {
+                self.equate(left, right)?;
                 Ok(Turn::On)
             }
             Leaf::Modelled(table) => Ok(Turn::Modelled(table)),
@@ -277,7 +443,6 @@ fn without_ground(fault: GroundFault) -> Result<Found, AllocError>
 
 /// Closes branch after branch, until all are closed or one gives evidence.
 pub(crate) fn exhaust(alloc: Global, sequent: &Sequent, budget: Budget) -> Result<Found, AllocError>
-    requires arithmetic { IsArithmeticSequent (sequent_of sequent.now) }
     requires steps { 1 ≤ budget.steps }
     ensures { IfOk result (Finds (sequent_of sequent.now) budget.steps) }
 {
@@ -285,7 +450,7 @@ pub(crate) fn exhaust(alloc: Global, sequent: &Sequent, budget: Budget) -> Resul
         Ok(set) => set,
         Err(fault) => return without_ground(fault),
     };
-    let mut search = State::new(alloc, sequent.world, set)?;
+    let mut search = State::new(alloc, set)?;
     loop {
         match search.turn(budget.steps)? {
             Turn::On => {}

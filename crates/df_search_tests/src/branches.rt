@@ -1,93 +1,110 @@
 //! What comes next at the empty branch of a search.
 
-ghost use Rattle.std.specs.Prelude.{◌≡◌, map};
-ghost use Rattle.std.specs.List.{list_all};
-ghost use Rattle.df_form.specs.Clause.{are_literals};
-ghost use Rattle.df_closure.specs.Closure.{GroundClause as Clause, ground_of};
-
-use df_branch::{Leaf, leaf_at};
-use df_cases::{P, Signed, literals, newtypes, nodes};
-use df_form::{Nodes, World};
-use df_ground::GroundClause;
-use df_types::Newtype;
+use df_branch::{Leaf, ground_sets_are_places, leaf_at};
+use df_cases::{P, Q, Terms, X, Y, newtypes, sequent};
+use df_form::{Op, Sequent};
+use df_ground::Ground;
 use std::alloc::Global;
 use std::test::Fail;
 
-/// Clauses of literals of the free formula 0.
-type Clauses<'a> = &'a [&'a [Signed]];
+/// A sequent's hypotheses and goal, and what comes next.
+type Case<'a> = (&'a [Terms<'a>], Terms<'a>, &'a str);
 
-fn clauses(alloc: Global, plain: Clauses) -> Result<Vec<GroundClause>, Fail> {
-    let mut clauses = Vec::new(alloc);
-    for signed in plain {
-        clauses.push(GroundClause {
-            literals: literals(alloc, *signed)?,
-            bound: None,
-        })?;
-    }
-    Ok(clauses)
-}
-
-fn are_of(nodes: &Nodes, clauses: &[GroundClause]) -> bool
-    ensures { result ≡ list_all (λ clause. are_literals nodes.now clause.literals.items) clauses.now }
-{
-    clauses
-        .iter()
-        .all(|clause| nodes.are_literals(&clause.literals))
-}
+const CASES: [Case; 8] = [
+    (&[], &[(P, 0)], "modelled"),
+    (&[&[(P, 0)]], &[(Q, 0)], "modelled"),
+    (&[&[(P, 0)]], &[(P, 0)], "refuted"),
+    (
+        &[&[(P, 0), (Q, 0), (Op::Or, 2)]],
+        &[(P, 0), (Q, 0), (Op::And, 2)],
+        "open",
+    ),
+    (
+        &[&[(X, 0), (Op::Number(0), 0), (Op::AtMost, 2)]],
+        &[(X, 0), (Op::Number(1), 0), (Op::AtMost, 2)],
+        "unsolvable",
+    ),
+    // x = y, so x * x = y * y
+    (
+        &[&[(X, 0), (Y, 0), (Op::Equal, 2)]],
+        &[
+            (X, 0),
+            (X, 0),
+            (Op::Times, 2),
+            (Y, 0),
+            (Y, 0),
+            (Op::Times, 2),
+            (Op::Equal, 2),
+        ],
+        "incongruent",
+    ),
+    // x <= y, y <= x, and x * x <= 3, so y * y <= 4: nothing says that x = y
+    (
+        &[
+            &[(X, 0), (Y, 0), (Op::AtMost, 2)],
+            &[(Y, 0), (X, 0), (Op::AtMost, 2)],
+            &[
+                (X, 0),
+                (X, 0),
+                (Op::Times, 2),
+                (Op::Number(3), 0),
+                (Op::AtMost, 2),
+            ],
+        ],
+        &[
+            (Y, 0),
+            (Y, 0),
+            (Op::Times, 2),
+            (Op::Number(4), 0),
+            (Op::AtMost, 2),
+        ],
+        "apart",
+    ),
+    // -2 minus the greatest number is no number of 128 bits
+    (
+        &[&[
+            (X, 0),
+            (Op::Number(i128::MAX), 0),
+            (Op::Plus, 2),
+            (Op::Number(-2), 0),
+            (Op::AtMost, 2),
+        ]],
+        &[(P, 0)],
+        "wide",
+    ),
+];
 
 /// What comes next at the empty branch.
-fn end(
-    alloc: Global,
-    newtypes: &[Newtype],
-    nodes: &Nodes,
-    clauses: &[GroundClause],
-) -> Result<Leaf, Fail> {
-    let count = nodes.len();
-    if count == 0 || !are_of(nodes, clauses) {
-        return Err(Fail::new("no formula"));
-    }
-    Ok(leaf_at(alloc, World::Newtypes(newtypes), nodes, clauses, nodes, &[])?)
+fn end(alloc: Global, sequent: &Sequent) -> Result<Leaf, Fail> {
+    ground_sets_are_places();
+    let Ok(ground) = Ground::new(alloc, sequent) else {
+        return Err(Fail::new("no ground set"));
+    };
+    Ok(leaf_at(alloc, &ground.nodes, &ground.clauses, &ground.nodes, &[])?)
 }
 
-/// Clauses, and the number of the formula in their model.
-const MODELLED: [(Clauses, i128); 3] = [
-    (&[], 0),
-    (&[&[(true, 0)]], 1),
-    (&[&[(false, 0)], &[(true, 0), (false, 0)]], 0),
-];
-
-/// Clauses, and by which of them the last of these is false.
-const REFUTED: [(Clauses, &[usize]); 2] = [
-    (&[&[]], &[0]),
-    (&[&[(true, 0)], &[(false, 0)]], &[0, 1]),
-];
-
-#[test]
-fn ends_with_models(rt: HostRuntime) -> Result<(), Fail> {
-    let alloc = rt.alloc();
-    let newtypes = newtypes(alloc)?;
-    let nodes = nodes(alloc, &[(P, &[])])?;
-    for (case, (plain, wanted)) in MODELLED.iter().enumerate() {
-        let clauses = clauses(alloc, *plain)?;
-        let Leaf::Modelled(table) = end(alloc, newtypes.as_slice(), &nodes, &clauses)? else {
-            return Err(Fail::new("no model"));
-        };
-        assert_eq!(rt; table.number(0), *wanted, "at {case}");
+fn word(leaf: &Leaf) -> &'static str {
+    match leaf {
+        Leaf::Refuted(_) => "refuted",
+        Leaf::Unsolvable { .. } => "unsolvable",
+        Leaf::Incongruent { .. } => "incongruent",
+        Leaf::Open(_) => "open",
+        Leaf::Between { .. } => "between",
+        Leaf::Apart { .. } => "apart",
+        Leaf::Modelled(_) => "modelled",
+        Leaf::Wide => "wide",
+        Leaf::Many(_) => "many",
     }
-    Ok(())
 }
 
 #[test]
-fn ends_with_false_clauses(rt: HostRuntime) -> Result<(), Fail> {
+fn ends_as_told(rt: HostRuntime) -> Result<(), Fail> {
     let alloc = rt.alloc();
     let newtypes = newtypes(alloc)?;
-    let nodes = nodes(alloc, &[(P, &[])])?;
-    for (case, (plain, wanted)) in REFUTED.iter().enumerate() {
-        let clauses = clauses(alloc, *plain)?;
-        let Leaf::Refuted(numbers) = end(alloc, newtypes.as_slice(), &nodes, &clauses)? else {
-            return Err(Fail::new("no clause is false"));
-        };
-        assert_eq!(rt; numbers.as_slice(), *wanted, "at {case}");
+    for (case, (hypotheses, goal, wanted)) in CASES.iter().enumerate() {
+        let sequent = sequent(alloc, newtypes.as_slice(), *hypotheses, *goal)?;
+        let leaf = end(alloc, &sequent)?;
+        assert_eq!(rt; word(&leaf), *wanted, "at {case}");
     }
     Ok(())
 }

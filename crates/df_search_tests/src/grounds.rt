@@ -97,13 +97,13 @@ const SHEETS: [Sheet; 7] = [
         4,
         &[(1, 65)],
     ),
-    // x is 0, y 1, x = y 2, and x <= y 3; y <= x becomes 7; an equality of truths, 6, has no clauses
+    // x is 0, y 1, x = y 2, and x <= y 3; y <= x becomes 7; an equality of characters, 6, has no clauses
     (
         &[
             &[(X, 0), (Y, 0), (Op::Equal, 2)],
             &[(X, 0), (Y, 0), (Op::AtMost, 2)],
         ],
-        &[(P, 0), (Q, 0), (Op::Equal, 2)],
+        &[(X, 0), (Op::Chr, 1), (Y, 0), (Op::Chr, 1), (Op::Equal, 2)],
         &[
             (&[(true, 2)], None),
             (&[(true, 3)], None),

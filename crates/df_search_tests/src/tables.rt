@@ -139,8 +139,8 @@ const TABLE: [(Plain, i128); 42] = [
     ((UNDECLARED, &[7]), 0),
     ((Op::Equal, &[5, 6]), 1),
     ((Op::Equal, &[0, 1]), 0),
-    // an equality of truths
-    ((Op::Equal, &[3, 13]), 1),
+    // truths are compared by `iff`
+    ((Op::Iff, &[3, 13]), 1),
     ((Op::AtMost, &[5, 6]), 1),
     ((Op::AtMost, &[0, 1]), 0),
     ((Op::Not, &[2]), 0),

@@ -1,10 +1,10 @@
 //! Tables: the numbers of all nodes where the free terms are what the engine has found.
 
 use crate::engine::Engine;
-use df_form::{Lit, Sequent};
+use df_cong::{Congruence, congruence};
+use df_form::{Lit, Nodes, Sequent};
 use df_ground::{Ground, GroundFault};
-use df_kern::Known;
-use df_model::{Valuation, valuation};
+use df_model::{Tabulation, tabulate};
 use df_simplex::Fraction;
 use df_table::Table;
 use df_theory::Column;
@@ -35,21 +35,35 @@ fn numbers(alloc: Global, engine: &Engine, nodes: usize) -> Result<Vec<i128>, Al
     Ok(numbers)
 }
 
-/// The formulas that are true.
-fn truths(alloc: Global, engine: &Engine) -> Result<Known, AllocError> {
-    let mut known = Known::new(alloc);
+/// The literals of formulas among the nodes that are true.
+fn truths(alloc: Global, engine: &Engine, nodes: &Nodes) -> Result<Vec<Lit>, AllocError> {
+    let mut known = Vec::new(alloc);
     for variable in 0..engine.variables.len() {
         if let (Some(node), Some(assignment)) = (
             engine.variables.node(variable),
             engine.solver.trail.assignment(variable),
         ) {
-            known.insert(Lit {
-                positive: assignment.positive,
-                node,
-            })?;
+            if nodes.is_formula(node) {
+                known.push(Lit {
+                    positive: assignment.positive,
+                    node,
+                })?;
+            }
         }
     }
     Ok(known)
+}
+
+/// A label for each node, the same for those that the literals make equal, unless congruence contradicts
+/// them.
+fn labels(alloc: Global, nodes: &Nodes, known: &[Lit]) -> Result<Option<Vec<usize>>, AllocError> {
+    if !nodes.are_literals(known) {
+        return Ok(None);
+    }
+    match congruence(alloc, nodes, known)? {
+        Congruence::Labels(labels) => Ok(Some(labels)),
+        Congruence::Contradicted(_) => Ok(None),
+    }
 }
 
 /// Whether the hypotheses are true and the goal is false.
@@ -74,9 +88,12 @@ pub(crate) fn counterexample(
         Err(GroundFault::Memory) => return Err(AllocError),
     };
     let numbers = numbers(alloc, engine, sequent.nodes.len())?;
-    let known = truths(alloc, engine)?;
-    match valuation(alloc, sequent.world, &ground.nodes, &numbers, &known)? {
-        Valuation::Table(table) if is_counterexample(sequent, &table) => Ok(Some(table)),
-        Valuation::Table(_) | Valuation::Wide => Ok(None),
+    let known = truths(alloc, engine, &sequent.nodes)?;
+    let Some(labels) = labels(alloc, &ground.nodes, &known)? else {
+        return Ok(None);
+    };
+    match tabulate(alloc, &ground.nodes, &numbers, &labels, &known)? {
+        Tabulation::Table(table) if is_counterexample(sequent, &table) => Ok(Some(table)),
+        Tabulation::Table(_) | Tabulation::Wide | Tabulation::Apart { .. } => Ok(None),
     }
 }

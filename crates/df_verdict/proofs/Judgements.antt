@@ -1,5 +1,5 @@
 -- What is judged one by one is judged in all, and what is judged with no failure is safe.
-use Rattle.std.proofs.Common.{◌≡◌, ⊎_elim, inr, ◌↔◌, ℕ, zero, suc, ◌+◌, ◌<◌, ◌≤◌, List, [], ◌∷◌, ◌++◌, map, length, take, get_or, Vec, string_bytes, Option, None, Some, Err, sym, ap, subst, ◌∙◌, arith}
+use Rattle.std.proofs.Common.{◌≡◌, ⊎_elim, inr, ◌↔◌, ℕ, ◌+◌, ◌<◌, ◌≤◌, List, [], ◌∷◌, ◌++◌, map, length, take, get_or, Vec, string_bytes, Option, None, Some, Err, sym, ap, subst, ◌∙◌}
 use Rattle.std.specs.List.{AllByRecursion}
 use Rattle.std.proofs.lemmas.List.{take_more, take_all, map-append}
 use Rattle.df_program.specs.Program.{Place}
@@ -33,12 +33,6 @@ nothing_is_refused refused at broken fault is answers derived =
 -- the kernel refuses no log that derives
 pub takes_what_derives : (s : Sequent) (log : List Step) (at broken : ℕ) (fault : KernFault) → ((t : Sequent) (l : List Step) → (refusal t l ≡ None) ↔ Derives t l) → Derives s log → fault ≡ Refused at broken → Answers (refusal s log) (Err fault) → ⊥
 takes_what_derives s log at broken fault law derives is answers = nothing_is_refused (refusal s log) at broken fault is answers ((law s log).1 derives)
-
--- what holds of all holds of one
-pub all_holds : {A B : Type 0} (P : B → Type 0) (f : A → B) (xs : List A) (i : ℕ) (x : A) → AllByRecursion P (map f xs) → i < length xs → x ≡ get_or xs i x → P (f x)
-all_holds P f [] i x all less is = absurd (omega arith)
-all_holds P f (y ∷ ys) zero x all less is = subst (λ z. P (f z)) (sym is) all.0
-all_holds P f (y ∷ ys) (suc i) x all less is = all_holds P f ys i x all.1 (omega arith) is
 
 -- what is found of an obligation without a proof is its failure, once it is pushed
 pub failure_added : (params : List Place) (frees : List ℕ) (steps : ℕ) (o : declared.Obligation) (finding : Finding) (f : declared_failure.Failure) (before now : List Accepted) (old new : List declared_failure.Failure)

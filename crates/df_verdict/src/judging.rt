@@ -1,8 +1,6 @@
 //! An obligation, judged.
 
 ghost use Rattle.std.specs.Prelude.{◌≡◌, ◌≤◌, [], map, string_bytes, OnOk, IfOk};
-ghost use Rattle.std.specs.List.{AllByRecursion};
-ghost use Rattle.df_form.specs.Arithmetic.{IsArithmeticSequent};
 ghost use Rattle.df_form.specs.Log.{step_of};
 ghost use Rattle.df_form.specs.SequentView.{sequent_of};
 ghost use Rattle.df_kern.specs.Accepted.{IsTaken};
@@ -69,7 +67,6 @@ fn judge(
     accepted: &mut Vec<Accepted>,
     budget: Budget,
 ) -> Result<Option<Finding>, AllocError>
-    requires arithmetic { IsArithmeticSequent (sequent_of sequent.now) }
     requires steps { 1 ≤ budget.steps }
     ensures { IfOk result (Finds (map place_of entry.now.params.now) entry.now.frees.now (sequent_of sequent.now) budget.steps accepted.old.items accepted.new.items) }
 {
@@ -112,7 +109,6 @@ fn add(
     obligation: &Obligation,
     budget: Budget,
 ) -> Result<(), AllocError>
-    requires arithmetic { IsArithmeticSequent (sequent_of obligation.now.sequent) }
     requires steps { 1 ≤ budget.steps }
     ensures { OnOk result (Adds (map place_of entry.now.params.now) entry.now.frees.now budget.steps (obligation_of obligation.now) (map failure_of failures.old.items) (map failure_of failures.new.items) accepted.old.items accepted.new.items) }
 {
@@ -131,7 +127,6 @@ pub(crate) fn failures(
     accepted: &mut Vec<Accepted>,
     budget: Budget,
 ) -> Result<Vec<Failure>, AllocError>
-    requires arithmetic { AllByRecursion (λ obligation. IsArithmeticSequent obligation.sequent) (map obligation_of obligations.now) }
     requires steps { 1 ≤ budget.steps }
     requires none { accepted.old.items ≡ [] }
     ensures { IfOk result (λ failures. Judges (map place_of entry.now.params.now) entry.now.frees.now budget.steps (map obligation_of obligations.now) (map failure_of failures.items) accepted.new.items) }

@@ -1,4 +1,6 @@
-use Rattle.std.proofs.Common.{List, sym, subst}
+use Rattle.std.proofs.Common.{List, sym, ◌∙◌, subst}
+use Rattle.df_closure.specs.Closure.{ground_of}
+use Rattle.df_closure.proofs.Rounds.{length_mapped}
 use Rattle.df_form.specs.declared.log.Lit.{Lit}
 use Rattle.df_form.specs.SequentView.{sequent_of}
 use Rattle.df_search.specs.Found.{IsTooWide, HasManyRows}
@@ -11,6 +13,9 @@ returns-in-Err c = c.without_ground.ensures (sequent_of c.args.sequent.now) c.ar
 
 pub new-requires-2 : goal.new-requires-2
 new-requires-2 c = as_many_lines (sequent_of c.args.sequent.now) c.in-Ok.set c.in-Ok.ensures.ground_set
+
+pub turn-requires-clause-places : goal.turn-requires-clause-places
+turn-requires-clause-places c = c.loop-search.invariant.searches.is.standing.lines.long ∙ length_mapped ground_of _
 
 pub loop-search-preserved : goal.loop-search-preserved
 loop-search-preserved c =
@@ -31,7 +36,7 @@ returns-in-Spent c =
 pub returns-in-Modelled : goal.returns-in-Modelled
 returns-in-Modelled c =
     let s = sequent_of c.args.sequent.now in
-    subst (Comes s c.args.budget.steps c.turn.new.self) c.in-Modelled.is (c.in_ok-turn.ensures.turns s c.loop-search.invariant.searches c.loop-search.invariant.few) c.args.sequent.now.is_sequent c.requires.arithmetic
+    subst (Comes s c.args.budget.steps c.turn.new.self) c.in-Modelled.is (c.in_ok-turn.ensures.turns s c.loop-search.invariant.searches c.loop-search.invariant.few) c.args.sequent.now.is_sequent
 
 pub returns-in-Wide : goal.returns-in-Wide
 returns-in-Wide c =

@@ -1,11 +1,5 @@
-use Rattle.df_form.specs.Arithmetic.{IsArithmeticSequent}
-use Rattle.df_enc.specs.Obligation.{Obligation, obligation_of}
-use Rattle.df_verdict.proofs.Judgements.{all_holds, judges_none, judges_more, judges_all}
+use Rattle.df_verdict.proofs.Judgements.{judges_none, judges_more, judges_all}
 use Rattle.df_verdict.proofs.judging.failures.Goals as goal
-
-pub add-requires-clause-arithmetic : goal.add-requires-clause-arithmetic
-add-requires-clause-arithmetic c =
-    all_holds (λ (o : Obligation). IsArithmeticSequent o.sequent) obligation_of c.args.obligations.now c.loop-obligation.obligation-index c.obligation-item.result c.requires.arithmetic c.loop-obligation-test.true c.obligation-item.is
 
 pub loop-obligation-preserved : goal.loop-obligation-preserved
 loop-obligation-preserved c =

@@ -1,30 +1,29 @@
-use Rattle.std.proofs.Common.{rules, to_z, of_z, ◌≡◌, ℕ, List, sym, ap, ◌∙◌}
+use Rattle.std.proofs.Common.{rules, to_z, of_z, ◌≡◌, ◌++◌, ◌∷◌, [], sym, ap, ◌∙◌}
 use Rattle.std.specs.Int.{w128}
 use Rattle.std.proofs.lemmas.Int.{to_z-of_z}
+use Rattle.df_form.specs.declared.log.Lit.{Lit}
 use Rattle.df_form.specs.declared.node.Op.TheVariants as ops
 use Rattle.df_form.specs.Made.{made}
-use Rattle.df_form.specs.Sorting.{is_well_sorted}
-use Rattle.df_kern.specs.Bound.{number, at_most}
+use Rattle.df_kern.specs.Bound.{number}
 use Rattle.df_logbuild.proofs.Added.{ok_weaker}
+use Rattle.df_trail.specs.Trail.{decided}
 use Rattle.df_search.proofs.Splitting.{comparison_sorted, splits}
 use Rattle.df_search.proofs.searching.State.split.Goals as goal
 
-pub make-requires-2-clause-sorted : goal.make-requires-2-clause-sorted
-make-requires-2-clause-sorted c =
+pub operation-requires-clause-sorted : goal.operation-requires-clause-sorted
+operation-requires-clause-sorted c =
     let old = c.args.self.now.derivation.nodes in
     let first = c.make.new.self.nodes in
     let passed : to_z w128 (of_z w128 c.args.bound) ≡ c.args.bound = search (rules, to_z-of_z) in
     let e : made old (number c.args.bound) ≡ record { nodes = first; number = c.in_ok-place.place } = (λ i. made old (record { op = ops.Number (sym passed i); parts = sym c.new.ensures.items i })) ∙ c.in_ok-place.ensures.made in
-    ap (λ (parts : List ℕ). is_well_sorted first (record { op = ops.AtMost; parts = parts })) c.in_ok-vec.ensures.items ∙ comparison_sorted old first c.args.node c.in_ok-place.place c.args.bound c.requires e
+    comparison_sorted old first c.args.node c.in_ok-place.place c.args.bound c.requires e
 
 pub returns-clause-splits : goal.returns-clause-splits
 returns-clause-splits c =
     let old = c.args.self.now.derivation.nodes in
     let first = c.make.new.self.nodes in
-    let second = c.make-2.new.self.nodes in
     let passed : to_z w128 (of_z w128 c.args.bound) ≡ c.args.bound = search (rules, to_z-of_z) in
     let e : made old (number c.args.bound) ≡ record { nodes = first; number = c.in_ok-place.place } = (λ i. made old (record { op = ops.Number (sym passed i); parts = sym c.new.ensures.items i })) ∙ c.in_ok-place.ensures.made in
-    let f : made first (at_most c.args.node c.in_ok-place.place) ≡ record { nodes = second; number = c.in_ok-comparison.comparison } = (λ i. made first (record { op = ops.AtMost; parts = sym c.in_ok-vec.ensures.items i })) ∙ c.in_ok-comparison.ensures.made in
     ok_weaker c.decide.result _ _
-    (λ trail_is s searches leaf. splits s c.args.self.now searches c.args.node c.in_ok-place.place c.in_ok-comparison.comparison c.args.bound c.make.new.self c.make-2.new.self c.decide.new.self leaf e c.in_ok-place.ensures.runs f c.in_ok-comparison.ensures.runs trail_is)
+    (λ trail_is s searches leaf. splits s c.args.self.now searches c.args.node c.in_ok-place.place c.in_ok-comparison.comparison c.args.bound c.make.new.self c.operation.new.derivation c.decide.new.self leaf e c.in_ok-place.ensures.runs c.in_ok-comparison.ensures.made c.in_ok-comparison.ensures.runs (trail_is ∙ ap (λ (l : Lit). c.args.self.now.trail.decisions.items ++ decided l ∷ []) c.yes.ensures))
     c.decide.ensures.decides

@@ -1,0 +1,19 @@
+use Rattle.std.proofs.Common.{ℕ, List, [], ◌∷◌, ◌++◌, map, ap, ◌∙◌}
+use Rattle.df_form.specs.Clause.{negation}
+use Rattle.df_kern.specs.Propagation.{propagation_line}
+use Rattle.df_kern.proofs.Growth.{if_ok}
+use Rattle.df_trail.specs.Trail.{branch_of}
+use Rattle.df_search.specs.Searching.{clauses_of}
+use Rattle.df_search.proofs.Refuting.{closed_line}
+use Rattle.df_search.proofs.searching.State.refute_by.Goals as goal
+
+pub returns-clause-refutes : goal.returns-clause-refutes
+returns-clause-refutes c =
+    let old = c.args.self.now in
+    let nodes = old.derivation.nodes in
+    let branch = branch_of old.trail in
+    if_ok c.propagate.result _ _ c.propagate.ensures.propagates
+    (λ number propagates s all learned clause is shut closed there empty.
+    let numbers = c.in_ok-push.ensures.items ∙ ap (λ (ns : List ℕ). ns ++ c.args.last ∷ []) c.in_ok-numbers.ensures in
+    let line = closed_line nodes (clauses_of old) old.places.items all branch c.args.reasons.now learned c.args.last clause is.standing.lines is.standing.place.formulas closed there empty in
+    propagates s all is shut (ap (λ (ns : List ℕ). propagation_line nodes all ns (map negation branch)) numbers ∙ line))
