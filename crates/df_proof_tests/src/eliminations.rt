@@ -10,6 +10,7 @@ use df_back::{Back, back};
 use df_cases::{Sparse, Sum, combinations, row, rows};
 use df_elim::{Elimination, eliminate};
 use df_level::Row;
+use df_lin::{Verdict, refute};
 use df_refutation::{needed, refuting};
 use std::alloc::Global;
 use std::test::Fail;
@@ -157,8 +158,10 @@ fn tells_of_many_rows(rt: HostRuntime) -> Result<(), Fail> {
     let alloc = rt.alloc();
     let fewer = bounds(alloc, 47)?;
     assert!(rt; matches!(eliminate(alloc, &fewer)?, Elimination::Open(_)));
+    assert!(rt; matches!(refute(alloc, &fewer)?, Verdict::Point(_)));
     let more = bounds(alloc, 48)?;
     assert!(rt; matches!(eliminate(alloc, &more)?, Elimination::Many(50_000)));
+    assert!(rt; matches!(refute(alloc, &more)?, Verdict::Many(50_000)));
     Ok(())
 }
 

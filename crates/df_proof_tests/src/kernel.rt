@@ -1,8 +1,8 @@
 //! The kernel: which logs it accepts, and where it refuses the others.
 
 use df_cases::{
-    BOOL, CHAR, I8, INT, Line, NAT, P, Q, Signed, Terms, UNDECLARED, X, Y, Z, literals, newtypes,
-    sequent, step, steps,
+    BOOL, BYTE, CHAR, I8, INT, Line, NAT, P, Q, Signed, Terms, UNDECLARED, X, Y, Z, literals,
+    newtypes, sequent, step, steps,
 };
 use df_form::{Op, Sequent, World};
 use df_kern::{AxiomFault, Checker, KernFault, check, connective, instance};
@@ -36,9 +36,9 @@ const PLACES: [Case; 13] = [
     (&[], Some((1, 0))),
 ];
 
-/// The terms of the `and` of not p, p and q, p or q, p implies q, p iff q, x = y, x is i8, and p = q.
+/// The terms of the `and` of not p, p and q, p or q, p implies q, p iff q, x = y, x is i8, and y is i8.
 /// Their nodes: p 0, not p 1, q 2, then 3 to 6, x 7, y 8, then 9 to 12.
-const EACH: [(Op, usize); 23] = [
+const EACH: [(Op, usize); 22] = [
     (P, 0),
     (Op::Not, 1),
     (P, 0),
@@ -58,9 +58,8 @@ const EACH: [(Op, usize); 23] = [
     (Op::Equal, 2),
     (X, 0),
     (I8, 1),
-    (P, 0),
-    (Q, 0),
-    (Op::Equal, 2),
+    (Y, 0),
+    (I8, 1),
     (Op::And, 8),
 ];
 
@@ -112,7 +111,7 @@ const ADDED: [(Line, &[Signed]); 27] = [
 ];
 
 /// Lines over the same terms, beside the hypotheses p and not p.
-const KINDS: [Case; 47] = [
+const KINDS: [Case; 48] = [
     (&[Line::H(0)], Some((2, 0))),
     (&[Line::H(1)], Some((2, 0))),
     (&[Line::H(2)], Some((1, 1))),
@@ -122,8 +121,16 @@ const KINDS: [Case; 47] = [
     (&[Line::X(5, 3)], Some((1, 2))),
     (&[Line::X(6, 4)], Some((1, 2))),
     (&[Line::X(9, 3)], Some((1, 2))),
-    // an equality of truths, a free term, a type, a number that no node has
-    (&[Line::X(11, 0)], Some((1, 2))),
+    // an equality of characters, a free term, a type, a number that no node has
+    (
+        &[
+            Line::N(Op::Chr, &[7]),
+            Line::N(Op::Chr, &[8]),
+            Line::N(Op::Equal, &[13, 14]),
+            Line::X(15, 0),
+        ],
+        Some((4, 2)),
+    ),
     (&[Line::X(0, 0)], Some((1, 2))),
     (&[Line::X(10, 0)], Some((1, 2))),
     (&[Line::X(13, 0)], Some((1, 2))),
@@ -138,7 +145,7 @@ const KINDS: [Case; 47] = [
         &[Line::N(UNDECLARED, &[7]), Line::A(74, 0, &[13])],
         Some((2, 5)),
     ),
-    (&[Line::N(I8, &[8]), Line::A(74, 0, &[13])], Some((3, 0))),
+    (&[Line::N(BYTE, &[8]), Line::A(74, 0, &[13])], Some((3, 0))),
     // x - 5 and x - 4, by a factor below 0
     (
         &[
@@ -163,6 +170,7 @@ const KINDS: [Case; 47] = [
     (&[Line::N(I8, &[0])], Some((1, 10))),
     (&[Line::N(I8, &[7])], Some((1, 10))),
     (&[Line::N(Op::Equal, &[0, 7])], Some((1, 10))),
+    (&[Line::N(Op::Equal, &[0, 2])], Some((1, 10))),
     (&[Line::N(Op::Equal, &[7, 8])], Some((1, 10))),
     (&[Line::N(Op::Equal, &[8, 7])], Some((2, 0))),
     (&[Line::N(Op::AtMost, &[0, 2])], Some((1, 10))),
@@ -197,13 +205,13 @@ const DOUBLES: &[Line] = &[
 const CONGRUENCES: [Case; 19] = [
     (&[Line::E(&[(false, 9), (true, 9)], &[])], Some((12, 0))),
     (&[Line::E(&[(false, 2), (true, 2)], &[])], Some((12, 0))),
-    // p = q, and p gives q, and q gives p
+    // x = y, and what holds of x holds of y, and of x what holds of y
     (
-        &[Line::E(&[(false, 11), (false, 0), (true, 2)], &[])],
+        &[Line::E(&[(false, 9), (false, 10), (true, 11)], &[(10, 11)])],
         Some((12, 0)),
     ),
     (
-        &[Line::E(&[(true, 0), (false, 2), (false, 11)], &[])],
+        &[Line::E(&[(true, 10), (false, 11), (false, 9)], &[(11, 10)])],
         Some((12, 0)),
     ),
     // x = y makes their doubles equal, and then the doubles of these

@@ -1,0 +1,5 @@
+pub mod Bounding
+pub mod Counts
+pub mod Whole
+pub mod Backwards
+pub mod Holding

@@ -1,0 +1,3 @@
+pub mod Point
+pub mod Bounds
+pub mod Verdict
