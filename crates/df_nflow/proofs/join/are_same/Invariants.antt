@@ -1,0 +1,8 @@
+use Rattle.std.proofs.Common.{◌≡◌, ◌==◌, false, drop, slice_get}
+use Rattle.std.specs.List.{list_all}
+use Rattle.std.specs.Option.{option_map_or}
+use Rattle.df_nflow.proofs.join.are_same.Given as goal
+
+-- those that are left decide
+abbrev pub invariant-loop-way : goal.invariant-loop-way
+invariant-loop-way l = list_all (λ way. option_map_or (λ n. n == l.term) (slice_get way.terms.items l.place) false) (drop l.way-index l.arrived) ≡ list_all (λ way. option_map_or (λ n. n == l.term) (slice_get way.terms.items l.place) false) l.arrived

@@ -1,0 +1,9 @@
+use Rattle.std.proofs.Common.{◌≡◌, ◌++◌, map, drop, length}
+use Rattle.df_lang.specs.DeclView.{param_of}
+use Rattle.df_npass.specs.Methods.{locals_from}
+use Rattle.df_nflow.specs.Views.{changed_in}
+use Rattle.df_nflow.proofs.locals.add_params.Given as goal
+
+-- the locals so far, in front of those of what is left, are those of all
+abbrev pub invariant-loop-param : goal.invariant-loop-param
+invariant-loop-param l = changed_in l.exits.items ++ locals_from (length l.exits.items) (map param_of (drop l.param-index l.params)) ≡ changed_in l.fn.exits.items ++ locals_from (length l.fn.exits.items) (map param_of l.params)

@@ -1,0 +1,25 @@
+use Rattle.std.proofs.Common.{Some, ◌∙◌}
+use Rattle.df_nenc.proofs.Growing.{term_stays, tree_stays, stays}
+use Rattle.df_npass.specs.Rules.{narrowed_path}
+use Rattle.df_nterm.specs.Term.{Truths, negation}
+use Rattle.df_nflow.specs.Standing.{at_path}
+use Rattle.df_nflow.proofs.passed.Passed.enter_branch.Goals as goal
+
+pub enter-requires : goal.enter-requires
+enter-requires c = term_stays Truths c.guard.new.self.ledger.nodes c.past.new.self.ledger.nodes c.in_ok-formula.formula c.past.ensures.grows c.in_ok-formula.ensures.formula
+
+pub returns-clause-standing : goal.returns-clause-standing
+returns-clause-standing c =
+    let asked = c.in_ok-past.ensures.standing ∙ c.in_ok-formula.ensures.said in
+    let tree = tree_stays Truths c.guard.new.self.ledger.nodes c.past.new.self.ledger.nodes c.in_ok-formula.formula c.past.ensures.grows c.in_ok-formula.ensures.formula ∙ c.in_ok-formula.ensures.stands.tree_is in
+    c.in_ok-enter.ensures.standing ∙ (λ i. at_path (Some (narrowed_path (asked i).way.path (tree i))) (asked i))
+
+pub returns-clause-stands : goal.returns-clause-stands
+returns-clause-stands c =
+    let is = c.in_ok-past.ensures.stands in
+    let said = c.in_ok-formula.ensures.said in
+    let tree = c.in_ok-formula.ensures.stands.tree_is in
+    stays c.past.new.self.ledger.nodes c.enter.new.self.ledger.nodes _ c.in_ok-past.past c.enter.ensures.grows (record { below = is.below; tree_is = is.tree_is ∙ (λ i. narrowed_path (said i).way.path (negation (tree i))) })
+
+pub returns-clause-formula : goal.returns-clause-formula
+returns-clause-formula c = term_stays Truths c.past.new.self.ledger.nodes c.enter.new.self.ledger.nodes c.in_ok-past.past c.enter.ensures.grows c.in_ok-past.ensures.formula

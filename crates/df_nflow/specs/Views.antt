@@ -1,0 +1,90 @@
+-- The code's records, as trees.
+use Rattle.std.specs.Prelude.{◌≡◌, ◌<◌, ℕ, List, length, map, slice_get, Option, Some}
+use Rattle.std.specs.List.{AllByRecursion}
+use Rattle.df_lang.specs.declared.ty.Ty.{Ty}
+use Rattle.df_lang.specs.View.{program_of}
+use Rattle.df_mean.specs.Modular.{Changed}
+use Rattle.df_form.specs.Node.{Node}
+use Rattle.df_nterm.specs.Term.{sort_of_type}
+use Rattle.df_nterm.specs.Measuring.{Measured}
+use Rattle.df_nenc.specs.Tree.{sort_of_term, tree_at, trees_at, trees_in, path_in}
+use Rattle.df_nmeas.specs.Measuring.{AreMembers}
+use Rattle.df_nmeas.specs.declared.measured.Measured as members
+use Rattle.df_npass.specs.Rules.{Way}
+use Rattle.df_npass.specs.Statements.{Setting}
+use Rattle.df_nflow.specs.Said.{HasPath}
+use Rattle.df_nflow.specs.Ways.{Kept, Arrival}
+use Rattle.df_nflow.specs.Branches.{Ended}
+use Rattle.df_nflow.specs.declared.setting.Setting as declared_setting
+use Rattle.df_nflow.specs.declared.way.Changed as declared_changed
+use Rattle.df_nflow.specs.declared.way.Kept as declared_kept
+use Rattle.df_nflow.specs.declared.way.Arrived as declared_arrived
+
+-- what is passed over, by the measure on entry
+abbrev pub setting_of : declared_setting.Setting → List Measured → Setting
+setting_of s entry = record { program = program_of s.program.now; groups = s.groups.now; number = s.number; entry = entry }
+
+abbrev pub changed_of : declared_changed.Changed → Changed
+changed_of c = record { local = c.local; ty = c.ty }
+
+abbrev pub changed_in : List declared_changed.Changed → List Changed
+changed_in all = map changed_of all
+
+-- a way over terms of locals
+abbrev pub way_over : List Node → Option ℕ → List ℕ → Way
+way_over nodes path terms = record { env = trees_in nodes terms; path = path_in nodes path }
+
+abbrev pub kept_in : List Node → declared_kept.Kept → Kept
+kept_in nodes k = record { local = k.local; term = tree_at nodes k.term }
+
+abbrev pub all_kept_in : List Node → List declared_kept.Kept → List Kept
+all_kept_in nodes all = map (kept_in nodes) all
+
+-- the local is one of these, and the term of its sort
+pub record IsKept (nodes : List Node) (types : List Ty) (local term : ℕ) : Type 0 where
+  pub within : local < length types
+  pub below : term < length nodes
+  pub sorted : (ty : Ty) → slice_get types local ≡ Some ty → sort_of_term (tree_at nodes term) ≡ sort_of_type ty
+
+abbrev pub AreKept : List Node → List Ty → List declared_kept.Kept → Type 0
+AreKept nodes types all = AllByRecursion (λ (k : declared_kept.Kept). IsKept nodes types k.local k.term) all
+
+abbrev pub arrival_in : List Node → declared_arrived.Arrived → Arrival
+arrival_in nodes a = record { path = path_in nodes a.path; terms = trees_at nodes a.terms.items }
+
+abbrev pub arrivals_in : List Node → List declared_arrived.Arrived → List Arrival
+arrivals_in nodes all = map (arrival_in nodes) all
+
+-- its path is a formula, and its terms are there
+pub record IsArrived (nodes : List Node) (types : List Ty) (a : declared_arrived.Arrived) : Type 0 where
+  pub path : HasPath nodes a.path
+  pub below : AllByRecursion (λ n. n < length nodes) a.terms.items
+  pub ahead : AreKept nodes types a.ahead.items
+
+abbrev pub AreArrived : List Node → List Ty → List declared_arrived.Arrived → Type 0
+AreArrived nodes types all = AllByRecursion (IsArrived nodes types) all
+
+-- the paths are formulas
+abbrev pub ArePaths : List Node → List declared_arrived.Arrived → Type 0
+ArePaths nodes all = AllByRecursion (λ (a : declared_arrived.Arrived). HasPath nodes a.path) all
+
+-- a way at the end of a branch
+abbrev pub ended_in : List Node → declared_arrived.Arrived → Ended
+ended_in nodes a = record { arrival = arrival_in nodes a; ahead = all_kept_in nodes a.ahead.items }
+
+abbrev pub all_ended_in : List Node → List declared_arrived.Arrived → List Ended
+all_ended_in nodes all = map (ended_in nodes) all
+
+-- each local has a term of the sort of its type
+pub record HaveTerms (nodes : List Node) (types : List Ty) (terms : List ℕ) : Type 0 where
+  pub many : length terms ≡ length types
+  pub below : AllByRecursion (λ n. n < length nodes) terms
+  pub sorted : (local n : ℕ) (ty : Ty) → slice_get types local ≡ Some ty → slice_get terms local ≡ Some n → sort_of_term (tree_at nodes n) ≡ sort_of_type ty
+
+-- and all that is kept is there
+pub record IsPassed (nodes : List Node) (types : List Ty) (terms : List ℕ) (entry : List members.Measured) (trail : List declared_kept.Kept) (breaks returns : List declared_arrived.Arrived) : Type 0 where
+  pub have_terms : HaveTerms nodes types terms
+  pub are_measured : AreMembers nodes entry
+  pub are_kept : AreKept nodes types trail
+  pub are_breaks : AreArrived nodes types breaks
+  pub are_returns : AreArrived nodes types returns

@@ -1,0 +1,9 @@
+mod Same
+mod Knowing
+mod Flags
+mod Values
+mod Meaning
+mod Visits
+mod Stacks
+mod Assuming
+mod Parameters

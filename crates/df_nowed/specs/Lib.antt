@@ -1,0 +1,4 @@
+pub mod Obligation
+pub mod Laws
+pub mod Listing
+pub mod Renumbering
