@@ -1,0 +1,77 @@
+//! Makes the obligations of the sources of a folder, and tells where they are not those that stand beside a source.
+//! With the word `count` before the folder it tells how many there are, and compares nothing.
+#![tactic(auto)]
+
+mod assignment;
+mod count;
+mod evaluation;
+mod folder;
+mod listing;
+mod made;
+mod row;
+mod sequents;
+mod term;
+mod verdict;
+
+use crate::count::print_counts;
+use crate::folder::sources;
+use crate::row::play;
+use anyhow::{Context, Result, ensure};
+use std::{env, io};
+
+/// How many rows there were, and how many of them differ from what is written.
+#[derive(Clone, Copy, Default)]
+struct Tally {
+    rows: u64,
+    differ: u64,
+}
+
+impl Tally {
+    /// Counts a row.
+    fn add(&mut self, is_same: bool) {
+        self.rows = self.rows.saturating_add(1);
+        if !is_same {
+            self.differ = self.differ.saturating_add(1);
+        }
+    }
+}
+
+/// A word of the command line by its place, else the folder that this runs in.
+fn word(rt: &HostRuntime, place: usize) -> io::Result<String> {
+    match env::args(rt)?.nth(place) {
+        Some(word) => Ok(word),
+        None => Ok(String::from_str(rt.alloc(), ".")?),
+    }
+}
+
+/// Plays the rows of a folder.
+fn play_all(rt: &HostRuntime, folder: &str) -> Result<()> {
+    let mut tally = Tally::default();
+    for name in &sources(rt, folder)? {
+        let name = name.as_str();
+        tally.add(play(rt, name).context(format_args!("{name}"))?);
+    }
+    let Tally { rows, differ } = tally;
+    println!(rt; "{rows} rows, {differ} differ")?;
+    ensure!(differ == 0, "what is printed above differs");
+    Ok(())
+}
+
+/// Counts the obligations of each source of a folder.
+fn count_all(rt: &HostRuntime, folder: &str) -> Result<()> {
+    for name in &sources(rt, folder)? {
+        let name = name.as_str();
+        print_counts(rt, name).context(format_args!("{name}"))?;
+    }
+    Ok(())
+}
+
+fn main(rt: HostRuntime) -> Result<()> {
+    let first = word(&rt, 1)?;
+    if first.as_str() == "count" {
+        let folder = word(&rt, 2)?;
+        count_all(&rt, folder.as_str())
+    } else {
+        play_all(&rt, first.as_str())
+    }
+}

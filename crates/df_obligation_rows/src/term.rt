@@ -1,0 +1,115 @@
+//! Terms and formulas in words.
+
+use crate::made::name_of;
+use df_form::{Node, Nodes, Op, Term};
+use df_lang::{Program, Ty};
+use std::alloc::{AllocError, Global};
+
+fn type_name(program: &Program, ty: Ty) -> &str {
+    match ty {
+        Ty::Newtype(number) => name_of(program, number),
+        Ty::Int => "int",
+        Ty::Nat => "nat",
+        Ty::Bool => "bool",
+        Ty::Char => "char",
+    }
+}
+
+/// The word of an operation, as logs have it; a number by its digits, a free term by `t` and its number.
+fn word(alloc: Global, program: &Program, op: Op) -> Result<String, AllocError> {
+    let word = match op {
+        Op::Number(number) => return format!(in alloc; "{number}"),
+        Op::Free(free) => return free_word(alloc, free.number),
+        Op::Is(ty) => return is_word(alloc, type_name(program, ty)),
+        Op::Plus => "plus",
+        Op::Times => "times",
+        Op::Div => "div",
+        Op::Mod => "mod",
+        Op::Code => "code",
+        Op::Chr => "chr",
+        Op::Equal => "eq",
+        Op::AtMost => "le",
+        Op::Not => "not",
+        Op::And => "and",
+        Op::Or => "or",
+        Op::Implies => "imp",
+        Op::Iff => "iff",
+    };
+    String::from_str(alloc, word)
+}
+
+fn free_word(alloc: Global, number: usize) -> Result<String, AllocError> {
+    format!(in alloc; "t{number}")
+}
+
+fn is_word(alloc: Global, name: &str) -> Result<String, AllocError> {
+    format!(in alloc; "is:{name}")
+}
+
+/// Whether the operation stands without its parts, since it never has any.
+fn is_alone(op: Op) -> bool {
+    match op {
+        Op::Number(_) | Op::Free(_) => true,
+        Op::Is(_)
+        | Op::Plus
+        | Op::Times
+        | Op::Div
+        | Op::Mod
+        | Op::Code
+        | Op::Chr
+        | Op::Equal
+        | Op::AtMost
+        | Op::Not
+        | Op::And
+        | Op::Or
+        | Op::Implies
+        | Op::Iff => false,
+    }
+}
+
+/// Adds the texts of parts, with commas between them.
+fn push_parts(text: &mut String, texts: &[String], parts: &[Term]) -> Result<(), AllocError> {
+    let mut separator = "";
+    for part in parts {
+        text.push_str(separator)?;
+        text.push_str(text_of(texts, *part))?;
+        separator = ", ";
+    }
+    Ok(())
+}
+
+/// The text of a node whose parts have these texts.
+fn node_text(
+    alloc: Global,
+    program: &Program,
+    texts: &[String],
+    node: &Node,
+) -> Result<String, AllocError> {
+    let mut text = word(alloc, program, node.op)?;
+    if !is_alone(node.op) {
+        text.push_str("(")?;
+        push_parts(&mut text, texts, &node.parts)?;
+        text.push_str(")")?;
+    }
+    Ok(text)
+}
+
+/// The text of a term among those of all nodes.
+pub fn text_of(texts: &[String], term: Term) -> &str {
+    match texts.get(term) {
+        Some(text) => text.as_str(),
+        None => "",
+    }
+}
+
+/// The text of each node, by its number.
+pub fn texts(alloc: Global, program: &Program, nodes: &Nodes) -> Result<Vec<String>, AllocError> {
+    let mut texts = Vec::new(alloc);
+    for number in 0..nodes.len() {
+        if let Some(node) = nodes.get(number) {
+            let text = node_text(alloc, program, &texts, node)?;
+            texts.push(text)?;
+        }
+    }
+    Ok(texts)
+}
