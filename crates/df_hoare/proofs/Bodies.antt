@@ -7,24 +7,24 @@ use Rattle.df_lang.specs.Program.{Method, Program, method_at, types_of}
 use Rattle.df_lang.specs.Typing.{is_well_typed}
 use Rattle.df_lang.specs.Groups.{callees_of_all, AreGroups}
 use Rattle.df_meaning.specs.declared.kind.Kind.TheVariants as kinds
-use Rattle.df_mean.specs.Value.{Value}
-use Rattle.df_mean.specs.Types.{have_types}
-use Rattle.df_mean.specs.Outcome.{Outcome, Gives, Wrong, TooDeep, NoChoice, Dismissed, after}
-use Rattle.df_mean.specs.State.{Store, State, begin, value_at}
-use Rattle.df_mean.specs.Meaning.{Meaning, Flow, Returned}
-use Rattle.df_mean.specs.Meaning as flows
-use Rattle.df_mean.specs.Execution.{check_all, evaluate_all, execute_all}
-use Rattle.df_mean.specs.Whole.{check_call, values_from, results_of, end_of, run_body, run_method}
-use Rattle.df_mean.specs.Modular.{Running, plain_meaning, modular, IsModularlySafe}
-use Rattle.df_mean.specs.Growing.{◌⊑◌, Below}
-use Rattle.df_mean.proofs.Outcomes.{after_grows, same_grows}
-use Rattle.df_mean.proofs.Executing.{checks_grow}
-use Rattle.df_mean.proofs.Counting.{not_dismissed, has_choice}
-use Rattle.df_mean.proofs.Definite.{AreResults}
-use Rattle.df_mean.proofs.Shallow.{not_deep, all_shallow}
-use Rattle.df_mean.proofs.Stating.{within_front}
-use Rattle.df_mean.proofs.Wholes.{all_types, both_within, begin_typed, body_typed, method_typed}
-use Rattle.df_mean.proofs.Modulars.{modulars_grow}
+use Rattle.df_meaning.specs.Value.{Value}
+use Rattle.df_meaning.specs.Types.{have_types}
+use Rattle.df_meaning.specs.Outcome.{Outcome, Gives, Wrong, TooDeep, NoChoice, Dismissed, after}
+use Rattle.df_meaning.specs.State.{Store, State, begin, value_at}
+use Rattle.df_meaning.specs.Meaning.{Meaning, Flow, Returned}
+use Rattle.df_meaning.specs.Meaning as flows
+use Rattle.df_meaning.specs.Execution.{check_all, evaluate_all, execute_all}
+use Rattle.df_meaning.specs.Whole.{check_call, values_from, results_of, end_of, run_body, run_method}
+use Rattle.df_meaning.specs.Modular.{Running, plain_meaning, modular, IsModularlySafe}
+use Rattle.df_meaning.specs.Growing.{◌⊑◌, Below}
+use Rattle.df_meaning.proofs.Outcomes.{after_grows, same_grows}
+use Rattle.df_meaning.proofs.Executing.{checks_grow}
+use Rattle.df_meaning.proofs.Counting.{not_dismissed, has_choice}
+use Rattle.df_meaning.proofs.Definite.{AreResults}
+use Rattle.df_meaning.proofs.Shallow.{not_deep, all_shallow}
+use Rattle.df_meaning.proofs.Stating.{within_front}
+use Rattle.df_meaning.proofs.Wholes.{all_types, both_within, begin_typed, body_typed, method_typed}
+use Rattle.df_meaning.proofs.Modulars.{modulars_grow}
 use Rattle.df_hoare.proofs.Measured.{measured_method, measured}
 use Rattle.df_hoare.proofs.Running.{Runs}
 use Rattle.df_hoare.proofs.Simulating.{IsSafe, Follows, Simulates, simulates_dismissed, simulates_after}

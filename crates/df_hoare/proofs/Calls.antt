@@ -9,22 +9,22 @@ use Rattle.df_lang.specs.Measures.{method_measure}
 use Rattle.df_lang.specs.Typing.{is_method, is_well_typed}
 use Rattle.df_lang.specs.Groups.{group_at}
 use Rattle.df_meaning.specs.declared.kind.Kind.TheVariants as kinds
-use Rattle.df_mean.specs.Value.{Value}
-use Rattle.df_mean.specs.Types.{have_types}
-use Rattle.df_mean.specs.Outcome.{Outcome, Gives, Wrong, TooDeep, Dismissed, after}
-use Rattle.df_mean.specs.State.{Handed, Given, Store, State, begin}
-use Rattle.df_mean.specs.Meaning.{Meaning, Returned}
-use Rattle.df_mean.specs.Execution.{evaluate_all}
-use Rattle.df_mean.specs.Whole.{check_call, results_of, run_body, run_method}
-use Rattle.df_mean.specs.Order.{are_below}
-use Rattle.df_mean.specs.Modular.{or_dismissed, check_below, handed_results, Running, plain_meaning, check_decrease, assume_returned, modular}
-use Rattle.df_mean.specs.Growing.{◌⊑◌}
-use Rattle.df_mean.proofs.Outcomes.{same_grows, after_grows}
-use Rattle.df_mean.proofs.Executing.{values_grow, method_grows}
-use Rattle.df_mean.proofs.Cases.{given}
-use Rattle.df_mean.proofs.Stating.{IsMeaningTyped}
-use Rattle.df_mean.proofs.Wholes.{method_typed, owed_same}
-use Rattle.df_mean.proofs.Kept.{KeepsTurns}
+use Rattle.df_meaning.specs.Value.{Value}
+use Rattle.df_meaning.specs.Types.{have_types}
+use Rattle.df_meaning.specs.Outcome.{Outcome, Gives, Wrong, TooDeep, Dismissed, after}
+use Rattle.df_meaning.specs.State.{Handed, Given, Store, State, begin}
+use Rattle.df_meaning.specs.Meaning.{Meaning, Returned}
+use Rattle.df_meaning.specs.Execution.{evaluate_all}
+use Rattle.df_meaning.specs.Whole.{check_call, results_of, run_body, run_method}
+use Rattle.df_meaning.specs.Order.{are_below}
+use Rattle.df_meaning.specs.Modular.{or_dismissed, check_below, handed_results, Running, plain_meaning, check_decrease, assume_returned, modular}
+use Rattle.df_meaning.specs.Growing.{◌⊑◌}
+use Rattle.df_meaning.proofs.Outcomes.{same_grows, after_grows}
+use Rattle.df_meaning.proofs.Executing.{values_grow, method_grows}
+use Rattle.df_meaning.proofs.Cases.{given}
+use Rattle.df_meaning.proofs.Stating.{IsMeaningTyped}
+use Rattle.df_meaning.proofs.Wholes.{method_typed, owed_same}
+use Rattle.df_meaning.proofs.Kept.{KeepsTurns}
 use Rattle.df_hoare.proofs.Measured.{measured_method, measured}
 use Rattle.df_hoare.proofs.Running.{Runs, stays, stays_wrong, given_is, one_answer, later, runs_later, runs_after}
 use Rattle.df_hoare.proofs.Simulating.{IsSafe, Follows, Simulates, keep, simulates_same, read_safe, behind_safe}

@@ -8,17 +8,17 @@ use Rattle.df_lang.specs.Program.{Program}
 use Rattle.df_lang.specs.Typing.{is_expr, are_clauses}
 use Rattle.df_meaning.specs.declared.kind.Kind.{Kind}
 use Rattle.df_meaning.specs.declared.kind.Kind.TheVariants as kinds
-use Rattle.df_mean.specs.Value.{Value, truth_of}
-use Rattle.df_mean.specs.Outcome.{Outcome, Gives, Wrong, TooDeep, NoChoice, Dismissed, after}
-use Rattle.df_mean.specs.State.{State}
-use Rattle.df_mean.specs.Meaning.{Meaning}
-use Rattle.df_mean.specs.Evaluation.{evaluate}
-use Rattle.df_mean.specs.Execution.{check_all}
-use Rattle.df_mean.specs.Whole.{check_call}
-use Rattle.df_mean.specs.Modular.{assume_all, plain_meaning}
-use Rattle.df_mean.proofs.Cases.{both}
-use Rattle.df_mean.proofs.Same.{SeesSame, evaluate_same}
-use Rattle.df_mean.proofs.Reading.{ReadsSame, evaluate_reads}
+use Rattle.df_meaning.specs.Value.{Value, truth_of}
+use Rattle.df_meaning.specs.Outcome.{Outcome, Gives, Wrong, TooDeep, NoChoice, Dismissed, after}
+use Rattle.df_meaning.specs.State.{State}
+use Rattle.df_meaning.specs.Meaning.{Meaning}
+use Rattle.df_meaning.specs.Evaluation.{evaluate}
+use Rattle.df_meaning.specs.Execution.{check_all}
+use Rattle.df_meaning.specs.Whole.{check_call}
+use Rattle.df_meaning.specs.Modular.{assume_all, plain_meaning}
+use Rattle.df_meaning.proofs.Cases.{both}
+use Rattle.df_meaning.proofs.Same.{SeesSame, evaluate_same}
+use Rattle.df_meaning.proofs.Reading.{ReadsSame, evaluate_reads}
 
 -- the clauses are true of the state
 abbrev pub IsMet : Program → State → List Clause → Type 0

@@ -11,14 +11,14 @@ use Rattle.df_lang.specs.Groups.{callees_at, Reaches, by_none, by_call, group_at
 use Rattle.df_lang.proofs.Samples.{at, N, small, param_of, num, loc, compared, target_at, called, keep, method_with, alone, owing}
 use Rattle.df_meaning.specs.declared.kind.Kind.{Kind}
 use Rattle.df_meaning.specs.declared.kind.Kind.TheVariants as kinds
-use Rattle.df_mean.specs.Value.{Value, Truth, Character, Number, Text}
-use Rattle.df_mean.specs.Types.{has_type, have_types}
-use Rattle.df_mean.specs.Outcome.{Outcome, Gives, Wrong, TooDeep, NoChoice, Dismissed, after}
-use Rattle.df_mean.specs.State.{Handed, Given, Turned, Store, State, store_with, begin}
-use Rattle.df_mean.specs.Meaning.{Returned}
-use Rattle.df_mean.specs.Whole.{run_body}
-use Rattle.df_mean.specs.Modular.{handed_results, assume_returned, modular_run, IsModularlyWrong, AreModularlySafe}
-use Rattle.df_mean.specs.Correct.{AreCorrect}
+use Rattle.df_meaning.specs.Value.{Value, Truth, Character, Number, Text}
+use Rattle.df_meaning.specs.Types.{has_type, have_types}
+use Rattle.df_meaning.specs.Outcome.{Outcome, Gives, Wrong, TooDeep, NoChoice, Dismissed, after}
+use Rattle.df_meaning.specs.State.{Handed, Given, Turned, Store, State, store_with, begin}
+use Rattle.df_meaning.specs.Meaning.{Returned}
+use Rattle.df_meaning.specs.Whole.{run_body}
+use Rattle.df_meaning.specs.Modular.{handed_results, assume_returned, modular_run, IsModularlyWrong, AreModularlySafe}
+use Rattle.df_meaning.specs.Correct.{AreCorrect}
 use Rattle.df_hoare.proofs.Methods.{safe_is_correct}
 
 abbrev method_owing : Method

@@ -6,19 +6,19 @@ use Rattle.df_lang.specs.Program.{Method, Program, method_at, types_of}
 use Rattle.df_lang.specs.Measures.{loop_measure, method_measure}
 use Rattle.df_lang.specs.Typing.{is_method, is_well_typed}
 use Rattle.df_lang.specs.Assignment.{Assigned, unassigned_in, IsDefinitelyAssigned}
-use Rattle.df_mean.specs.Value.{Value}
-use Rattle.df_mean.specs.Types.{have_types}
-use Rattle.df_mean.specs.Outcome.{Dismissed}
-use Rattle.df_mean.specs.State.{Store, State, begin}
-use Rattle.df_mean.specs.Meaning.{Meaning, Loop}
-use Rattle.df_mean.specs.Whole.{check_call}
-use Rattle.df_mean.specs.Modular.{measure_values}
-use Rattle.df_mean.specs.Definite.{Counts, AreAssigned}
-use Rattle.df_mean.proofs.Wholes.{method_typed, types_length}
-use Rattle.df_mean.proofs.Kept.{KeepsTurns}
-use Rattle.df_mean.proofs.Counting.{AreValues, after_counts, owed_counts, measures_count, loop_measure_counts}
-use Rattle.df_mean.proofs.Definite.{AreLeft, AreResults, IsLoopAssigned, MeaningCounts, types_have, turn_counts}
-use Rattle.df_mean.proofs.DefiniteRuns.{first_locals, begun_assigned, preconditions_read, measure_reads, method_counts, by_depth_counts}
+use Rattle.df_meaning.specs.Value.{Value}
+use Rattle.df_meaning.specs.Types.{have_types}
+use Rattle.df_meaning.specs.Outcome.{Dismissed}
+use Rattle.df_meaning.specs.State.{Store, State, begin}
+use Rattle.df_meaning.specs.Meaning.{Meaning, Loop}
+use Rattle.df_meaning.specs.Whole.{check_call}
+use Rattle.df_meaning.specs.Modular.{measure_values}
+use Rattle.df_meaning.specs.Definite.{Counts, AreAssigned}
+use Rattle.df_meaning.proofs.Wholes.{method_typed, types_length}
+use Rattle.df_meaning.proofs.Kept.{KeepsTurns}
+use Rattle.df_meaning.proofs.Counting.{AreValues, after_counts, owed_counts, measures_count, loop_measure_counts}
+use Rattle.df_meaning.proofs.Definite.{AreLeft, AreResults, IsLoopAssigned, MeaningCounts, types_have, turn_counts}
+use Rattle.df_meaning.proofs.DefiniteRuns.{first_locals, begun_assigned, preconditions_read, measure_reads, method_counts, by_depth_counts}
 use Rattle.df_hoare.proofs.Measured.{measured_method, measured_call, measured_turn, measured}
 use Rattle.df_hoare.proofs.Measuring.{measureds_keep}
 

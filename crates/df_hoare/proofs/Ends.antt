@@ -3,21 +3,21 @@ use Rattle.std.proofs.Common.{◌≡◌, ◌⊎◌, inl, inr, ℕ, zero, suc, Bo
 use Rattle.df_lang.specs.Program.{Program, types_of}
 use Rattle.df_lang.specs.Typing.{is_method}
 use Rattle.df_meaning.specs.declared.kind.Kind.TheVariants as kinds
-use Rattle.df_mean.specs.Value.{Value, truth_of}
-use Rattle.df_mean.specs.Types.{have_types}
-use Rattle.df_mean.specs.Outcome.{Outcome, Gives, Wrong, TooDeep, NoChoice, Dismissed, after}
-use Rattle.df_mean.specs.State.{State, begin}
-use Rattle.df_mean.specs.Meaning.{Meaning, Flow, state_of, Returned, Loop}
-use Rattle.df_mean.specs.Meaning as flows
-use Rattle.df_mean.specs.Evaluation.{evaluate}
-use Rattle.df_mean.specs.Execution.{check_all, execute_all}
-use Rattle.df_mean.specs.Whole.{check_call, results_of, run_body, behind_turn, turn_by, turns_with, whole}
-use Rattle.df_mean.specs.Modular.{plain_meaning}
-use Rattle.df_mean.proofs.Cases.{given}
-use Rattle.df_mean.proofs.Same.{evaluate_same}
-use Rattle.df_mean.proofs.Stating.{checked_same}
-use Rattle.df_mean.proofs.Wholes.{method_typed, owed_same, program_of_whole}
-use Rattle.df_mean.proofs.Kept.{wholes_keep}
+use Rattle.df_meaning.specs.Value.{Value, truth_of}
+use Rattle.df_meaning.specs.Types.{have_types}
+use Rattle.df_meaning.specs.Outcome.{Outcome, Gives, Wrong, TooDeep, NoChoice, Dismissed, after}
+use Rattle.df_meaning.specs.State.{State, begin}
+use Rattle.df_meaning.specs.Meaning.{Meaning, Flow, state_of, Returned, Loop}
+use Rattle.df_meaning.specs.Meaning as flows
+use Rattle.df_meaning.specs.Evaluation.{evaluate}
+use Rattle.df_meaning.specs.Execution.{check_all, execute_all}
+use Rattle.df_meaning.specs.Whole.{check_call, results_of, run_body, behind_turn, turn_by, turns_with, whole}
+use Rattle.df_meaning.specs.Modular.{plain_meaning}
+use Rattle.df_meaning.proofs.Cases.{given}
+use Rattle.df_meaning.proofs.Same.{evaluate_same}
+use Rattle.df_meaning.proofs.Stating.{checked_same}
+use Rattle.df_meaning.proofs.Wholes.{method_typed, owed_same, program_of_whole}
+use Rattle.df_meaning.proofs.Kept.{wholes_keep}
 use Rattle.df_hoare.specs.Ends.{AreTrue, MethodsMeetPostconditions, EndsByGuard, EndsByBreak, LoopsEnd}
 use Rattle.df_hoare.proofs.Running.{given_is}
 use Rattle.df_hoare.proofs.Clauses.{IsMet, seen_alike, met_by_check}

@@ -5,21 +5,21 @@ use Rattle.std.specs.List.{list_all}
 use Rattle.df_lang.specs.declared.ty.Ty.{Ty}
 use Rattle.df_lang.specs.Program.{Program}
 use Rattle.df_lang.specs.Typing.{same_type}
-use Rattle.df_mean.specs.Value.{Value}
-use Rattle.df_mean.specs.Outcome.{Outcome, Gives, Dismissed, after}
-use Rattle.df_mean.specs.State.{Handed, Turned, Locals, State, set_local, with_locals}
-use Rattle.df_mean.specs.Meaning.{Meaning, Flow, Loop}
-use Rattle.df_mean.specs.Evaluation.{evaluate}
-use Rattle.df_mean.specs.Whole.{turns_with}
-use Rattle.df_mean.specs.Modular.{assume_all, or_dismissed, Changed, changed_by_all, may_have, turned, Running, plain_meaning, modular_turn, modular}
-use Rattle.df_mean.specs.Typed.{AreTyped}
-use Rattle.df_mean.proofs.Cases.{both, joined}
-use Rattle.df_mean.proofs.Types.{same_type_equal}
-use Rattle.df_mean.proofs.Stating.{set_same, set_other, is_or_not}
-use Rattle.df_mean.proofs.Kept.{AgreesBut}
-use Rattle.df_mean.specs.Agreement.{is_changed}
-use Rattle.df_mean.proofs.Changing.{are_there}
-use Rattle.df_mean.proofs.Modulars.{program_of_modular}
+use Rattle.df_meaning.specs.Value.{Value}
+use Rattle.df_meaning.specs.Outcome.{Outcome, Gives, Dismissed, after}
+use Rattle.df_meaning.specs.State.{Handed, Turned, Locals, State, set_local, with_locals}
+use Rattle.df_meaning.specs.Meaning.{Meaning, Flow, Loop}
+use Rattle.df_meaning.specs.Evaluation.{evaluate}
+use Rattle.df_meaning.specs.Whole.{turns_with}
+use Rattle.df_meaning.specs.Modular.{assume_all, or_dismissed, Changed, changed_by_all, may_have, turned, Running, plain_meaning, modular_turn, modular}
+use Rattle.df_meaning.specs.Typed.{AreTyped}
+use Rattle.df_meaning.proofs.Cases.{both, joined}
+use Rattle.df_meaning.proofs.Types.{same_type_equal}
+use Rattle.df_meaning.proofs.Stating.{set_same, set_other, is_or_not}
+use Rattle.df_meaning.proofs.Kept.{AgreesBut}
+use Rattle.df_meaning.specs.Agreement.{is_changed}
+use Rattle.df_meaning.proofs.Changing.{are_there}
+use Rattle.df_meaning.proofs.Modulars.{program_of_modular}
 use Rattle.df_hoare.proofs.Simulating.{IsSafe, Follows}
 use Rattle.df_hoare.proofs.Sides.{hand_state, hand_flow}
 use Rattle.df_hoare.proofs.Clauses.{IsMet, seen_alike, met_by_met}

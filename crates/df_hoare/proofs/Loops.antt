@@ -9,27 +9,27 @@ use Rattle.df_lang.specs.Program.{Method, Program}
 use Rattle.df_lang.specs.Measures.{loop_measure}
 use Rattle.df_lang.specs.Typing.{locals_after_all, are_stmts}
 use Rattle.df_meaning.specs.declared.kind.Kind.TheVariants as kinds
-use Rattle.df_mean.specs.Value.{Value, truth_of}
-use Rattle.df_mean.specs.Outcome.{Outcome, Gives, Wrong, TooDeep, Dismissed, after}
-use Rattle.df_mean.specs.State.{Handed, State}
-use Rattle.df_mean.specs.Meaning.{Meaning, Flow, Loop, state_of}
-use Rattle.df_mean.specs.Meaning as flows
-use Rattle.df_mean.specs.Evaluation.{evaluate}
-use Rattle.df_mean.specs.Execution.{evaluate_all, check_all, execute_all}
-use Rattle.df_mean.specs.Whole.{behind_turn, turn_by, turns_with}
-use Rattle.df_mean.specs.Order.{are_below}
-use Rattle.df_mean.specs.Modular.{check_below, changed_by_all, Running, plain_meaning, behind_once, modular_turn, modular}
-use Rattle.df_mean.specs.Growing.{◌⊑◌}
-use Rattle.df_mean.specs.Typed.{AreTyped}
-use Rattle.df_mean.proofs.Outcomes.{same_grows, after_grows, choice_grows}
-use Rattle.df_mean.proofs.Executing.{values_grow, all_grow}
-use Rattle.df_mean.proofs.Modulars.{program_of_modular, behind_grows, once_grows, modulars_grow}
-use Rattle.df_mean.proofs.Cases.{IfGives, after_gives, after_any, given}
-use Rattle.df_mean.proofs.Same.{evaluate_same}
-use Rattle.df_mean.proofs.Stating.{Within, FlowTyped, IsMeaningTyped, checked_same, stmts_typed}
-use Rattle.df_mean.proofs.Kept.{AgreesBut, FlowAgrees, Covers, KeepsTurns, all_kept, then_agrees}
-use Rattle.df_mean.specs.Agreement.{is_changed}
-use Rattle.df_mean.proofs.Changing.{are_there, anything, body_included, all_there}
+use Rattle.df_meaning.specs.Value.{Value, truth_of}
+use Rattle.df_meaning.specs.Outcome.{Outcome, Gives, Wrong, TooDeep, Dismissed, after}
+use Rattle.df_meaning.specs.State.{Handed, State}
+use Rattle.df_meaning.specs.Meaning.{Meaning, Flow, Loop, state_of}
+use Rattle.df_meaning.specs.Meaning as flows
+use Rattle.df_meaning.specs.Evaluation.{evaluate}
+use Rattle.df_meaning.specs.Execution.{evaluate_all, check_all, execute_all}
+use Rattle.df_meaning.specs.Whole.{behind_turn, turn_by, turns_with}
+use Rattle.df_meaning.specs.Order.{are_below}
+use Rattle.df_meaning.specs.Modular.{check_below, changed_by_all, Running, plain_meaning, behind_once, modular_turn, modular}
+use Rattle.df_meaning.specs.Growing.{◌⊑◌}
+use Rattle.df_meaning.specs.Typed.{AreTyped}
+use Rattle.df_meaning.proofs.Outcomes.{same_grows, after_grows, choice_grows}
+use Rattle.df_meaning.proofs.Executing.{values_grow, all_grow}
+use Rattle.df_meaning.proofs.Modulars.{program_of_modular, behind_grows, once_grows, modulars_grow}
+use Rattle.df_meaning.proofs.Cases.{IfGives, after_gives, after_any, given}
+use Rattle.df_meaning.proofs.Same.{evaluate_same}
+use Rattle.df_meaning.proofs.Stating.{Within, FlowTyped, IsMeaningTyped, checked_same, stmts_typed}
+use Rattle.df_meaning.proofs.Kept.{AgreesBut, FlowAgrees, Covers, KeepsTurns, all_kept, then_agrees}
+use Rattle.df_meaning.specs.Agreement.{is_changed}
+use Rattle.df_meaning.proofs.Changing.{are_there, anything, body_included, all_there}
 use Rattle.df_hoare.proofs.Measured.{measured_turn, measured}
 use Rattle.df_hoare.proofs.Running.{Reaches, Runs, given_is, runs_steady, runs_same, later, runs_later, runs_after}
 use Rattle.df_hoare.proofs.Simulating.{IsSafe, Follows, Simulates, keep, first_safe, then_safe, then_follows, read_safe, behind_safe, read_follows}

@@ -4,12 +4,12 @@ use Rattle.std.specs.Option.{option_map_or}
 use Rattle.df_base.specs.declared.pos.Pos.{Pos}
 use Rattle.df_lang.specs.Program.{Method, Program, method_at}
 use Rattle.df_lang.specs.Measures.{loop_measure, method_measure}
-use Rattle.df_mean.specs.Value.{Value}
-use Rattle.df_mean.specs.Outcome.{Outcome, Dismissed, after}
-use Rattle.df_mean.specs.State.{Store, State, begin}
-use Rattle.df_mean.specs.Meaning.{Meaning, Flow, Returned, Loop}
-use Rattle.df_mean.specs.Whole.{check_call, run_method, turn_by, by_depth}
-use Rattle.df_mean.specs.Modular.{measure_values}
+use Rattle.df_meaning.specs.Value.{Value}
+use Rattle.df_meaning.specs.Outcome.{Outcome, Dismissed, after}
+use Rattle.df_meaning.specs.State.{Store, State, begin}
+use Rattle.df_meaning.specs.Meaning.{Meaning, Flow, Returned, Loop}
+use Rattle.df_meaning.specs.Whole.{check_call, run_method, turn_by, by_depth}
+use Rattle.df_meaning.specs.Modular.{measure_values}
 
 abbrev pub measured_method : Meaning → Pos → Method → List Value → Store → Outcome Returned
 measured_method m pos method arguments store =

@@ -7,25 +7,25 @@ use Rattle.df_lang.specs.declared.ty.Ty.{Ty}
 use Rattle.df_lang.specs.Program.{Method, Program, method_at, types_of}
 use Rattle.df_lang.specs.Measures.{loop_measure, method_measure}
 use Rattle.df_lang.specs.Typing.{is_method, is_well_typed}
-use Rattle.df_mean.specs.Value.{Value}
-use Rattle.df_mean.specs.Types.{have_types}
-use Rattle.df_mean.specs.Outcome.{Outcome, Gives, Wrong, TooDeep, NoChoice, Dismissed, after}
-use Rattle.df_mean.specs.State.{Store, State, begin}
-use Rattle.df_mean.specs.Meaning.{Meaning, Flow, Returned, Loop}
-use Rattle.df_mean.specs.Whole.{check_call, run_method, turn_by, meaning_of, whole}
-use Rattle.df_mean.specs.Modular.{measure_values}
-use Rattle.df_mean.specs.Growing.{◌⊑◌, Below}
-use Rattle.df_mean.specs.Typed.{AreTyped}
-use Rattle.df_mean.proofs.Outcomes.{after_grows}
-use Rattle.df_mean.proofs.Executing.{Grown, same_grown, bound_grown, owed_grows, method_grows, turn_grows, by_depth_grows}
-use Rattle.df_mean.proofs.Modulars.{measured_grow}
-use Rattle.df_mean.proofs.Lifting.{AreRelated}
-use Rattle.df_mean.proofs.Lifting as lifted
-use Rattle.df_mean.proofs.Cases.{IfGives, after_any, given}
-use Rattle.df_mean.proofs.Same.{evaluate_same}
-use Rattle.df_mean.proofs.Stating.{FlowTyped, IsLoopTyped, IsMeaningTyped}
-use Rattle.df_mean.proofs.Wholes.{method_typed, returned_typed, turn_typed, program_of_depth, by_depth_typed}
-use Rattle.df_mean.proofs.Kept.{FlowAgrees, Covers, KeepsTurns, all_within, turn_kept, by_depth_keeps}
+use Rattle.df_meaning.specs.Value.{Value}
+use Rattle.df_meaning.specs.Types.{have_types}
+use Rattle.df_meaning.specs.Outcome.{Outcome, Gives, Wrong, TooDeep, NoChoice, Dismissed, after}
+use Rattle.df_meaning.specs.State.{Store, State, begin}
+use Rattle.df_meaning.specs.Meaning.{Meaning, Flow, Returned, Loop}
+use Rattle.df_meaning.specs.Whole.{check_call, run_method, turn_by, meaning_of, whole}
+use Rattle.df_meaning.specs.Modular.{measure_values}
+use Rattle.df_meaning.specs.Growing.{◌⊑◌, Below}
+use Rattle.df_meaning.specs.Typed.{AreTyped}
+use Rattle.df_meaning.proofs.Outcomes.{after_grows}
+use Rattle.df_meaning.proofs.Executing.{Grown, same_grown, bound_grown, owed_grows, method_grows, turn_grows, by_depth_grows}
+use Rattle.df_meaning.proofs.Modulars.{measured_grow}
+use Rattle.df_meaning.proofs.Lifting.{AreRelated}
+use Rattle.df_meaning.proofs.Lifting as lifted
+use Rattle.df_meaning.proofs.Cases.{IfGives, after_any, given}
+use Rattle.df_meaning.proofs.Same.{evaluate_same}
+use Rattle.df_meaning.proofs.Stating.{FlowTyped, IsLoopTyped, IsMeaningTyped}
+use Rattle.df_meaning.proofs.Wholes.{method_typed, returned_typed, turn_typed, program_of_depth, by_depth_typed}
+use Rattle.df_meaning.proofs.Kept.{FlowAgrees, Covers, KeepsTurns, all_within, turn_kept, by_depth_keeps}
 use Rattle.df_hoare.proofs.Measured.{measured_method, measured_call, measured_turn, measured}
 
 pub program_of_measured : (program : Program) (depth : ℕ) → (measured program depth).program ≡ program

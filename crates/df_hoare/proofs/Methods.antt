@@ -7,17 +7,17 @@ use Rattle.df_lang.specs.Program.{Method, Decl, NewtypeDecl, MethodDecl, Program
 use Rattle.df_lang.specs.Typing.{is_well_typed}
 use Rattle.df_lang.specs.Groups.{group_at, AreGroups}
 use Rattle.df_meaning.specs.declared.kind.Kind.{Kind}
-use Rattle.df_mean.specs.Value.{Value}
-use Rattle.df_mean.specs.Types.{have_types}
-use Rattle.df_mean.specs.Outcome.{Gives, Wrong}
-use Rattle.df_mean.specs.State.{Store, begin}
-use Rattle.df_mean.specs.Meaning.{Meaning}
-use Rattle.df_mean.specs.Execution.{evaluate_all}
-use Rattle.df_mean.specs.Whole.{run_method, whole}
-use Rattle.df_mean.specs.Modular.{Running, plain_meaning, AreModularlySafe}
-use Rattle.df_mean.specs.Correct.{MeetsPreconditions, Completes, AreCorrect}
-use Rattle.df_mean.proofs.Executing.{method_grows, wholes_grow}
-use Rattle.df_mean.proofs.Wholes.{program_of_whole}
+use Rattle.df_meaning.specs.Value.{Value}
+use Rattle.df_meaning.specs.Types.{have_types}
+use Rattle.df_meaning.specs.Outcome.{Gives, Wrong}
+use Rattle.df_meaning.specs.State.{Store, begin}
+use Rattle.df_meaning.specs.Meaning.{Meaning}
+use Rattle.df_meaning.specs.Execution.{evaluate_all}
+use Rattle.df_meaning.specs.Whole.{run_method, whole}
+use Rattle.df_meaning.specs.Modular.{Running, plain_meaning, AreModularlySafe}
+use Rattle.df_meaning.specs.Correct.{MeetsPreconditions, Completes, AreCorrect}
+use Rattle.df_meaning.proofs.Executing.{method_grows, wholes_grow}
+use Rattle.df_meaning.proofs.Wholes.{program_of_whole}
 use Rattle.df_hoare.specs.Total.{SafeIsCorrect}
 use Rattle.df_hoare.proofs.Running.{stays, stays_wrong}
 use Rattle.df_hoare.proofs.Clauses.{IsMet, seen_alike, met_by_call}

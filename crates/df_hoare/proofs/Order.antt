@@ -3,9 +3,9 @@ use Rattle.std.proofs.Common.{◌≡◌, ◌≤◌, ◌<◌, ℕ, zero, suc, pos
 use Rattle.std.proofs.lemmas.Bool.{ltb-true}
 use Rattle.std.proofs.lemmas.Bool.Decides.{Decides-int_eq}
 use mathlib.Core.WellFounded.{Acc}
-use Rattle.df_mean.specs.Value.{Value, Truth, Character, Number, Text, same_truth, same_value}
-use Rattle.df_mean.specs.Order.{is_below, are_below}
-use Rattle.df_mean.proofs.Cases.{both}
+use Rattle.df_meaning.specs.Value.{Value, Truth, Character, Number, Text, same_truth, same_value}
+use Rattle.df_meaning.specs.Order.{is_below, are_below}
+use Rattle.df_meaning.proofs.Cases.{both}
 
 -- ---- values
 

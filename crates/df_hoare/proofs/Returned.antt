@@ -7,20 +7,20 @@ use Rattle.df_lang.specs.declared.ty.Ty.{Ty}
 use Rattle.df_lang.specs.Program.{Method, Program, types_of}
 use Rattle.df_lang.specs.Typing.{is_type, are_clauses, are_measures, is_method, are_stmts}
 use Rattle.df_meaning.specs.declared.kind.Kind.TheVariants as kinds
-use Rattle.df_mean.specs.Value.{Value}
-use Rattle.df_mean.specs.Types.{has_type, have_types}
-use Rattle.df_mean.specs.Outcome.{Outcome, Gives, Wrong, TooDeep, NoChoice, Dismissed, after}
-use Rattle.df_mean.specs.State.{Store, State, begin, value_at}
-use Rattle.df_mean.specs.Meaning.{Meaning, Flow, Returned}
-use Rattle.df_mean.specs.Meaning as flows
-use Rattle.df_mean.specs.Execution.{check_all, execute_all}
-use Rattle.df_mean.specs.Whole.{values_from, results_of, end_of, run_body}
-use Rattle.df_mean.specs.Modular.{plain_meaning}
-use Rattle.df_mean.proofs.Cases.{given, both}
-use Rattle.df_mean.proofs.Stating.{checked_same}
-use Rattle.df_mean.proofs.Wholes.{types_length, body_typed}
-use Rattle.df_mean.proofs.Kept.{AgreesBut, FlowAgrees, KeepsTurns, all_kept}
-use Rattle.df_mean.proofs.Changing.{from_on, all_past}
+use Rattle.df_meaning.specs.Value.{Value}
+use Rattle.df_meaning.specs.Types.{has_type, have_types}
+use Rattle.df_meaning.specs.Outcome.{Outcome, Gives, Wrong, TooDeep, NoChoice, Dismissed, after}
+use Rattle.df_meaning.specs.State.{Store, State, begin, value_at}
+use Rattle.df_meaning.specs.Meaning.{Meaning, Flow, Returned}
+use Rattle.df_meaning.specs.Meaning as flows
+use Rattle.df_meaning.specs.Execution.{check_all, execute_all}
+use Rattle.df_meaning.specs.Whole.{values_from, results_of, end_of, run_body}
+use Rattle.df_meaning.specs.Modular.{plain_meaning}
+use Rattle.df_meaning.proofs.Cases.{given, both}
+use Rattle.df_meaning.proofs.Stating.{checked_same}
+use Rattle.df_meaning.proofs.Wholes.{types_length, body_typed}
+use Rattle.df_meaning.proofs.Kept.{AgreesBut, FlowAgrees, KeepsTurns, all_kept}
+use Rattle.df_meaning.proofs.Changing.{from_on, all_past}
 use Rattle.df_hoare.proofs.Running.{given_is}
 use Rattle.df_hoare.proofs.Clauses.{IsMet, read_alike, met_by_check}
 

@@ -2,9 +2,9 @@
 use Rattle.std.proofs.Common.{◌≡◌, ◌≤◌, ℕ, zero, suc, max, refl, sym, ap, subst, ◌∙◌, arith}
 use Rattle.df_base.specs.declared.pos.Pos.{Pos}
 use Rattle.df_meaning.specs.declared.kind.Kind.{Kind}
-use Rattle.df_mean.specs.Outcome.{Outcome, Gives, Wrong, TooDeep, NoChoice, Dismissed, after}
-use Rattle.df_mean.specs.Growing.{◌⊑◌}
-use Rattle.df_mean.proofs.Outcomes.{same_grows}
+use Rattle.df_meaning.specs.Outcome.{Outcome, Gives, Wrong, TooDeep, NoChoice, Dismissed, after}
+use Rattle.df_meaning.specs.Growing.{◌⊑◌}
+use Rattle.df_meaning.proofs.Outcomes.{same_grows}
 
 -- at some depth it gives this
 pub record Reaches {X : Type 0} (whole : ℕ → Outcome X) (x : X) : Type 0 where

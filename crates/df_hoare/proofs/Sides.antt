@@ -6,20 +6,20 @@ use Rattle.df_lang.specs.Stmt.{Operand, Text, Value, Conversion, Clause}
 use Rattle.df_lang.specs.Program.{Program}
 use Rattle.df_meaning.specs.declared.kind.Kind.{Kind}
 use Rattle.df_meaning.specs.declared.kind.Kind.TheVariants as kinds
-use Rattle.df_mean.specs.Value.{truth_of}
-use Rattle.df_mean.specs.Value as values
-use Rattle.df_mean.specs.Outcome.{Wrong}
-use Rattle.df_mean.specs.State.{Handed, Store, State, with_store, printed}
-use Rattle.df_mean.specs.Meaning.{Meaning, Flow, Returned}
-use Rattle.df_mean.specs.Meaning as flows
-use Rattle.df_mean.specs.Evaluation.{evaluate, converted}
-use Rattle.df_mean.specs.Execution.{Values, evaluate_all, check_all, convert_all, evaluate_operand, print_all}
-use Rattle.df_mean.specs.Whole.{check_call}
-use Rattle.df_mean.specs.Growing.{Below}
-use Rattle.df_mean.proofs.Outcomes.{choice_grows}
-use Rattle.df_mean.proofs.Executing.{checks_grow, owed_grows, prints_grow}
-use Rattle.df_mean.proofs.Same.{after_same, SeesSame, evaluate_same}
-use Rattle.df_mean.proofs.Shallow.{IsShallow, evaluate_shallow, all_shallow, conversions_shallow}
+use Rattle.df_meaning.specs.Value.{truth_of}
+use Rattle.df_meaning.specs.Value as values
+use Rattle.df_meaning.specs.Outcome.{Wrong}
+use Rattle.df_meaning.specs.State.{Handed, Store, State, with_store, printed}
+use Rattle.df_meaning.specs.Meaning.{Meaning, Flow, Returned}
+use Rattle.df_meaning.specs.Meaning as flows
+use Rattle.df_meaning.specs.Evaluation.{evaluate, converted}
+use Rattle.df_meaning.specs.Execution.{Values, evaluate_all, check_all, convert_all, evaluate_operand, print_all}
+use Rattle.df_meaning.specs.Whole.{check_call}
+use Rattle.df_meaning.specs.Growing.{Below}
+use Rattle.df_meaning.proofs.Outcomes.{choice_grows}
+use Rattle.df_meaning.proofs.Executing.{checks_grow, owed_grows, prints_grow}
+use Rattle.df_meaning.proofs.Same.{after_same, SeesSame, evaluate_same}
+use Rattle.df_meaning.proofs.Shallow.{IsShallow, evaluate_shallow, all_shallow, conversions_shallow}
 use Rattle.df_hoare.proofs.Simulating.{Simulates, keep, simulates_gives, simulates_wrong, simulates_constant, simulates_choice, simulates_read}
 
 -- ---- what is still to be handed in, put into stores, states and what runs give

@@ -3,10 +3,10 @@
 use Rattle.std.proofs.Common.{◌≡◌, ◌≤◌, ℕ, max, Bool, true, false, if◌then◌else◌, List, [], ◌++◌, sym, ap, subst, ◌∙◌, append_assoc, arith}
 use Rattle.df_base.specs.declared.pos.Pos.{Pos}
 use Rattle.df_meaning.specs.declared.kind.Kind.{Kind}
-use Rattle.df_mean.specs.Outcome.{Outcome, Gives, Wrong, TooDeep, Dismissed, after}
-use Rattle.df_mean.specs.State.{Handed}
-use Rattle.df_mean.specs.Growing.{◌⊑◌}
-use Rattle.df_mean.proofs.Shallow.{IsShallow, not_deep}
+use Rattle.df_meaning.specs.Outcome.{Outcome, Gives, Wrong, TooDeep, Dismissed, after}
+use Rattle.df_meaning.specs.State.{Handed}
+use Rattle.df_meaning.specs.Growing.{◌⊑◌}
+use Rattle.df_meaning.proofs.Shallow.{IsShallow, not_deep}
 use Rattle.df_hoare.proofs.Running.{Reaches, Runs, stays_wrong, given_is, runs_weaken, runs_steady, runs_after}
 
 -- it is never wrong

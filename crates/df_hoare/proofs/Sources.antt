@@ -11,19 +11,19 @@ use Rattle.df_lang.specs.Program.{Method, Program, method_at, types_of}
 use Rattle.df_lang.specs.Typing.{are_same_types, are_exprs, Setting, is_call, are_results, is_source, source_types, is_target, is_update, may_update}
 use Rattle.df_lang.specs.Groups.{callees_of_source, callees_of_update}
 use Rattle.df_meaning.specs.declared.kind.Kind.TheVariants as kinds
-use Rattle.df_mean.specs.Value as values
-use Rattle.df_mean.specs.Types.{have_types}
-use Rattle.df_mean.specs.Outcome.{Gives, after}
-use Rattle.df_mean.specs.State.{Store, State, value_at, with_local, with_store}
-use Rattle.df_mean.specs.Meaning.{Meaning}
-use Rattle.df_mean.specs.Evaluation.{evaluate}
-use Rattle.df_mean.specs.Execution.{Values, Taken, evaluate_all, convert_all, execute_call, execute_source, execute_sources, is_distinct, give_all, execute_update, execute_optional}
-use Rattle.df_mean.specs.Typed.{AreTyped}
-use Rattle.df_mean.proofs.Outcomes.{same_grows, after_grows}
-use Rattle.df_mean.proofs.Executing.{conversions_grow, sources_grow}
-use Rattle.df_mean.proofs.Cases.{given, both, three}
-use Rattle.df_mean.proofs.Stating.{all_typed}
-use Rattle.df_mean.proofs.Kept.{StaysAt, source_stays}
+use Rattle.df_meaning.specs.Value as values
+use Rattle.df_meaning.specs.Types.{have_types}
+use Rattle.df_meaning.specs.Outcome.{Gives, after}
+use Rattle.df_meaning.specs.State.{Store, State, value_at, with_local, with_store}
+use Rattle.df_meaning.specs.Meaning.{Meaning}
+use Rattle.df_meaning.specs.Evaluation.{evaluate}
+use Rattle.df_meaning.specs.Execution.{Values, Taken, evaluate_all, convert_all, execute_call, execute_source, execute_sources, is_distinct, give_all, execute_update, execute_optional}
+use Rattle.df_meaning.specs.Typed.{AreTyped}
+use Rattle.df_meaning.proofs.Outcomes.{same_grows, after_grows}
+use Rattle.df_meaning.proofs.Executing.{conversions_grow, sources_grow}
+use Rattle.df_meaning.proofs.Cases.{given, both, three}
+use Rattle.df_meaning.proofs.Stating.{all_typed}
+use Rattle.df_meaning.proofs.Kept.{StaysAt, source_stays}
 use Rattle.df_hoare.proofs.Running.{Reaches}
 use Rattle.df_hoare.proofs.Simulating.{Simulates, simulates_gives, simulates_wrong, simulates_choice, simulates_after, simulates_read}
 use Rattle.df_hoare.proofs.Sides.{hand_store, hand_state, hand_returned, hand_values, AreSides, value_simulates, value_free, values_simulate, values_free, conversions_simulate}

@@ -8,20 +8,20 @@ use Rattle.df_lang.specs.Program.{Method, Program}
 use Rattle.df_lang.specs.Typing.{is_type, is_expr, are_clauses, is_update, may_update, are_numbered, variable_numbers, variable_types, locals_after, locals_after_all, locals_after_branches, gives_results, is_return, is_measured, is_stmt, are_stmts, are_branches}
 use Rattle.df_lang.specs.Groups.{callees, callees_of_all, callees_of_branches}
 use Rattle.df_meaning.specs.declared.kind.Kind.TheVariants as kinds
-use Rattle.df_mean.specs.Value.{truth_of}
-use Rattle.df_mean.specs.Outcome.{Outcome, Gives, Wrong, after}
-use Rattle.df_mean.specs.State.{Handed, State, without_local}
-use Rattle.df_mean.specs.Meaning.{Meaning, Flow, Loop, state_of}
-use Rattle.df_mean.specs.Meaning as flows
-use Rattle.df_mean.specs.Evaluation.{evaluate}
-use Rattle.df_mean.specs.Execution.{goes, check_all, execute_call, execute_optional, declare_all, go_on, execute, execute_all, execute_branches}
-use Rattle.df_mean.specs.Modular.{plain_meaning}
-use Rattle.df_mean.specs.Growing.{◌⊑◌}
-use Rattle.df_mean.specs.Typed.{AreTyped}
-use Rattle.df_mean.proofs.Outcomes.{same_grows, choice_grows}
-use Rattle.df_mean.proofs.Executing.{all_grow, branches_grow}
-use Rattle.df_mean.proofs.Cases.{given, both, three, four}
-use Rattle.df_mean.proofs.Stating.{Within, FlowTyped, IsMeaningTyped, within_typed, checked_same, declared_typed, before_all, before_branches, execute_typed}
+use Rattle.df_meaning.specs.Value.{truth_of}
+use Rattle.df_meaning.specs.Outcome.{Outcome, Gives, Wrong, after}
+use Rattle.df_meaning.specs.State.{Handed, State, without_local}
+use Rattle.df_meaning.specs.Meaning.{Meaning, Flow, Loop, state_of}
+use Rattle.df_meaning.specs.Meaning as flows
+use Rattle.df_meaning.specs.Evaluation.{evaluate}
+use Rattle.df_meaning.specs.Execution.{goes, check_all, execute_call, execute_optional, declare_all, go_on, execute, execute_all, execute_branches}
+use Rattle.df_meaning.specs.Modular.{plain_meaning}
+use Rattle.df_meaning.specs.Growing.{◌⊑◌}
+use Rattle.df_meaning.specs.Typed.{AreTyped}
+use Rattle.df_meaning.proofs.Outcomes.{same_grows, choice_grows}
+use Rattle.df_meaning.proofs.Executing.{all_grow, branches_grow}
+use Rattle.df_meaning.proofs.Cases.{given, both, three, four}
+use Rattle.df_meaning.proofs.Stating.{Within, FlowTyped, IsMeaningTyped, within_typed, checked_same, declared_typed, before_all, before_branches, execute_typed}
 use Rattle.df_hoare.proofs.Running.{Reaches}
 use Rattle.df_hoare.proofs.Simulating.{Simulates, simulates_same, simulates_gives, simulates_wrong, simulates_choice, simulates_after, simulates_read}
 use Rattle.df_hoare.proofs.Sides.{hand_state, hand_flow, hand_values, AreSides, value_simulates, value_free, checks_simulate, prints_simulate}

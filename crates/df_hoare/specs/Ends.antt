@@ -4,16 +4,16 @@ use Rattle.df_base.specs.declared.pos.Pos.{Pos}
 use Rattle.df_lang.specs.Stmt.{Clause}
 use Rattle.df_lang.specs.Program.{Method, Program, method_at, types_of}
 use Rattle.df_lang.specs.Typing.{is_well_typed}
-use Rattle.df_mean.specs.Value.{Value, truth_of}
-use Rattle.df_mean.specs.Types.{have_types}
-use Rattle.df_mean.specs.Outcome.{Gives}
-use Rattle.df_mean.specs.State.{Store, State, begin}
-use Rattle.df_mean.specs.Meaning.{Returned, Loop}
-use Rattle.df_mean.specs.Meaning as flows
-use Rattle.df_mean.specs.Evaluation.{evaluate}
-use Rattle.df_mean.specs.Execution.{execute_all}
-use Rattle.df_mean.specs.Whole.{run_method, whole}
-use Rattle.df_mean.specs.Modular.{assume_all, plain_meaning}
+use Rattle.df_meaning.specs.Value.{Value, truth_of}
+use Rattle.df_meaning.specs.Types.{have_types}
+use Rattle.df_meaning.specs.Outcome.{Gives}
+use Rattle.df_meaning.specs.State.{Store, State, begin}
+use Rattle.df_meaning.specs.Meaning.{Returned, Loop}
+use Rattle.df_meaning.specs.Meaning as flows
+use Rattle.df_meaning.specs.Evaluation.{evaluate}
+use Rattle.df_meaning.specs.Execution.{execute_all}
+use Rattle.df_meaning.specs.Whole.{run_method, whole}
+use Rattle.df_meaning.specs.Modular.{assume_all, plain_meaning}
 
 -- the clauses are true of the state
 abbrev pub AreTrue : Program → State → List Clause → Type 0

@@ -2,16 +2,16 @@
 use Rattle.std.proofs.Common.{◌≡◌, ℕ, true, List, [], ◌∷◌, Some, refl, sym, subst}
 use Rattle.df_lang.specs.Stmt.{Clause}
 use Rattle.df_lang.specs.Program.{Param, Method, Program, types_of}
-use Rattle.df_mean.specs.Value.{Value}
-use Rattle.df_mean.specs.Types.{have_types}
-use Rattle.df_mean.specs.Outcome.{Gives}
-use Rattle.df_mean.specs.State.{begin}
-use Rattle.df_mean.specs.Whole.{whole, check_call}
-use Rattle.df_mean.specs.Correct.{IsCorrect, IsEntry}
+use Rattle.df_meaning.specs.Value.{Value}
+use Rattle.df_meaning.specs.Types.{have_types}
+use Rattle.df_meaning.specs.Outcome.{Gives}
+use Rattle.df_meaning.specs.State.{begin}
+use Rattle.df_meaning.specs.Whole.{whole, check_call}
+use Rattle.df_meaning.specs.Correct.{IsCorrect, IsEntry}
 use Rattle.df_nerase.specs.Erasing.{method_number}
 use Rattle.df_nmach.specs.Value as machine
 use Rattle.df_nmach.specs.State.{Code}
-use Rattle.df_nemit.specs.Correct.{EndsWith}
+use Rattle.df_nemit.specs.Ending.{EndsWith}
 use Rattle.df_nback.specs.Lowering.{lower}
 use Rattle.df_nback.specs.Run.{nothing_yet, IsCompiled, RunsAsEntry}
 

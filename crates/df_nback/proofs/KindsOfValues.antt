@@ -1,9 +1,9 @@
 -- Values of kinds are simple, one for each.
 use Rattle.std.proofs.Common.{◌≡◌, suc, true, List, [], ◌∷◌, length, refl, ap}
 use Rattle.std.specs.List.{list_all}
-use Rattle.df_mean.specs.Value.{Value}
-use Rattle.df_mean.specs.Value as values
-use Rattle.df_mean.proofs.Cases.{both, joined}
+use Rattle.df_meaning.specs.Value.{Value}
+use Rattle.df_meaning.specs.Value as values
+use Rattle.df_meaning.proofs.Cases.{both, joined}
 use Rattle.df_nplain.specs.Kind.{Kind}
 use Rattle.df_nplain.specs.Kind as kinds
 use Rattle.df_nplain.specs.Values.{has_kind, have_kinds}

@@ -3,7 +3,7 @@ use Rattle.std.proofs.Common.{◌≡◌, ℕ, suc, true, List, [], ◌∷◌, ma
 use Rattle.std.specs.Option.{option_and_then}
 use Rattle.std.specs.List.{list_all}
 use Rattle.df_lang.specs.Program.{Method, Decl, NewtypeDecl, MethodDecl, Program, as_method}
-use Rattle.df_mean.proofs.Cases.{both, joined}
+use Rattle.df_meaning.proofs.Cases.{both, joined}
 use Rattle.df_nplain.specs.Plain as plain
 use Rattle.df_nerase.specs.Erasing.{methods_among, erase_method}
 use Rattle.df_nmach.specs.Name.{is_name}

@@ -4,14 +4,15 @@ use Rattle.std.specs.Option.{option_map}
 use Rattle.df_lang.specs.Program.{Program}
 use Rattle.df_lang.specs.Typing.{is_well_typed}
 use Rattle.df_lang.specs.Native.{IsNative}
-use Rattle.df_mean.specs.Value.{Value}
+use Rattle.df_meaning.specs.Value.{Value}
 use Rattle.df_nplain.specs.Values.{have_kinds}
 use Rattle.df_nerase.specs.Erasing.{method_number, kinds_of, erase_method, erased}
 use Rattle.df_nerase.specs.Running.{ArgumentsAreLowered, MethodsAreFound, CorrectMethodsRunAlike}
 use Rattle.df_nmach.specs.Value as machine
 use Rattle.df_nmach.specs.State.{Code}
 use Rattle.df_nmach.specs.Run.{start_of, NeverFaults}
-use Rattle.df_nemit.specs.Correct.{machine_value, DoesWhat}
+use Rattle.df_nemit.specs.Correct.{DoesWhat}
+use Rattle.df_nemit.specs.Ending.{machine_value}
 use Rattle.df_nback.specs.Compiled.{code_for}
 use Rattle.df_nback.specs.Run.{nothing_yet, IsCompiled, NeverFaultsWhereCorrect}
 use Rattle.df_nback.proofs.KindsOfValues.{kinds_simple, kinds_long}

@@ -1,18 +1,18 @@
 -- Runs of methods with their ghosts, and on the machine.
 use Rattle.std.specs.Prelude.{◌≡◌, ℕ, true, List, [], Some}
 use Rattle.df_lang.specs.Program.{Method, Program, method_at, types_of}
-use Rattle.df_mean.specs.Value.{Value}
-use Rattle.df_mean.specs.Types.{have_types}
-use Rattle.df_mean.specs.Outcome.{Gives}
-use Rattle.df_mean.specs.State.{Store, store_with}
-use Rattle.df_mean.specs.Meaning.{Returned}
-use Rattle.df_mean.specs.Whole.{run_method, whole}
-use Rattle.df_mean.specs.Correct.{MeetsPreconditions, IsCorrect}
+use Rattle.df_meaning.specs.Value.{Value}
+use Rattle.df_meaning.specs.Types.{have_types}
+use Rattle.df_meaning.specs.Outcome.{Gives}
+use Rattle.df_meaning.specs.State.{Store, store_with}
+use Rattle.df_meaning.specs.Meaning.{Returned}
+use Rattle.df_meaning.specs.Whole.{run_method, whole}
+use Rattle.df_meaning.specs.Correct.{MeetsPreconditions, IsCorrect}
 use Rattle.df_nerase.specs.Erasing.{method_number}
 use Rattle.df_nmach.specs.Value as machine
 use Rattle.df_nmach.specs.State.{Code, Heap}
 use Rattle.df_nmach.specs.Run.{start_of, NeverFaults}
-use Rattle.df_nemit.specs.Correct.{EndsWith}
+use Rattle.df_nemit.specs.Ending.{EndsWith}
 use Rattle.df_nback.specs.Lowering.{lower}
 use Rattle.df_nback.specs.Compiled.{code_for}
 

@@ -2,7 +2,7 @@
 
 ghost use Rattle.std.specs.Prelude.{◌≡◌, ℕ, true, Some};
 ghost use Rattle.df_lang.specs.Program.{Method, Program, method_at};
-ghost use Rattle.df_mean.specs.Correct.{IsCorrect, IsEntry};
+ghost use Rattle.df_meaning.specs.Correct.{IsCorrect, IsEntry};
 ghost use Rattle.df_nmach.specs.Name.{is_name};
 ghost use Rattle.df_nmach.specs.State.{Code};
 ghost use Rattle.df_nback.specs.Compiled.{has_names};

@@ -6,9 +6,9 @@ use Rattle.std.proofs.lemmas.List.{length-set}
 use Rattle.df_lang.specs.declared.expr.Junction.{Junction as JunctionKind}
 use Rattle.df_lang.specs.declared.expr.Junction.TheVariants as junctions
 use Rattle.df_lang.specs.declared.expr.Comparison.{Comparison}
-use Rattle.df_mean.specs.Value.{Value}
-use Rattle.df_mean.specs.Value as values
-use Rattle.df_mean.specs.Evaluation.{decides}
+use Rattle.df_meaning.specs.Value.{Value}
+use Rattle.df_meaning.specs.Value as values
+use Rattle.df_meaning.specs.Evaluation.{decides}
 use Rattle.df_nplain.specs.Kind.{Range}
 use Rattle.df_nplain.specs.Expr.{Expr, Number, Truth, Character, Local, Negate, Not, Sum, Product, Junction, Implies, Iff, Chain, As, Addends, no_addend, addend, Factors, no_factor, factor, Members, no_member, member, Links, no_link, link}
 use Rattle.df_nplain.specs.Bounded.{is_bounded, are_bounded_addends, are_bounded_factors, are_bounded_members, are_bounded_links}
@@ -23,7 +23,8 @@ use Rattle.df_nmach.specs.declared.instruction.Instruction.TheVariants as i
 use Rattle.df_nmach.specs.Value as mach
 use Rattle.df_nmach.specs.Step.{Goes, given, demand, leaves}
 use Rattle.df_nemit.specs.Code.{Exits, Fixed, unknown, with_behind, fixed, slot, range_of, adds, multiplies, decide, decide_unless, between, compare, keep, opening, from_kind, to_kind, run_code, expr_code, addends_code, factors_code, junction_marks, implication_marks, equivalences_code, links_marks}
-use Rattle.df_nemit.specs.Correct.{machine_value, is_simple}
+use Rattle.df_nemit.specs.Correct.{is_simple}
+use Rattle.df_nemit.specs.Ending.{machine_value}
 use Rattle.df_nemit.proofs.Fills.{instructions_of, instructions_long, fixed_long}
 use Rattle.df_nemit.proofs.Reach.{HasAt, has_front, has_back, has_moved, HasMarks, marks_front, marks_back, marks_fixed, World, instructions, point, frame, Leads, leads_on, leads_silent, Still, still_none, still_on, still_one, Covers, Simple, Carries, still_carries, Gives, gives_after, gives_bind, gives_to, gives_from, Tells}
 use Rattle.df_nemit.proofs.OperatorRuns.{below, unary_gives, negate_same, not_same, added_same, multiplied_same, equivalent_same, from_kind_runs, to_kind_runs, turns, compare_tells}

@@ -1,7 +1,7 @@
 -- What code reaches, by how a statement goes on.
 use Rattle.std.proofs.Common.{◌≡◌, ℕ, true, List, [], ◌∷◌, length, map, Some, subst}
 use Rattle.std.specs.List.{list_all}
-use Rattle.df_mean.specs.Value.{Value}
+use Rattle.df_meaning.specs.Value.{Value}
 use Rattle.df_nplain.specs.Plain as plain
 use Rattle.df_nplain.specs.Outcome.{Outcome, Wrong, TooDeep, Stuck, after}
 use Rattle.df_nplain.specs.Outcome as outcomes
@@ -12,7 +12,8 @@ use Rattle.df_nmach.specs.Value as mach
 use Rattle.df_nmach.specs.State.{Code, Heap, Frame}
 use Rattle.df_nmach.specs.State as machine
 use Rattle.df_nemit.specs.Code.{Exits, method_code, plain_code}
-use Rattle.df_nemit.specs.Correct.{machine_value, is_simple, called, returned, Reaches}
+use Rattle.df_nemit.specs.Correct.{is_simple, called, returned, Reaches}
+use Rattle.df_nemit.specs.Ending.{machine_value}
 use Rattle.df_nemit.proofs.Reach.{World, Simple, Carries, carries_on, Gives}
 use Rattle.df_nemit.proofs.Places.{pushed}
 

@@ -5,7 +5,7 @@ use Rattle.std.specs.List.{list_all}
 use Rattle.std.specs.Option.{option_map_or}
 use Rattle.std.proofs.lemmas.Bool.Decides.{nat_tests}
 use Rattle.std.proofs.lemmas.List.{length-map, length-reverse, length-replicate, reverse-reverse, take_at}
-use Rattle.df_mean.specs.Value.{Value}
+use Rattle.df_meaning.specs.Value.{Value}
 use Rattle.df_nplain.specs.Expr.{Expr}
 use Rattle.df_nplain.specs.Stmt.{Stmts, While}
 use Rattle.df_nplain.specs.Plain as plain
@@ -30,7 +30,8 @@ use Rattle.df_nmach.specs.Step as step
 use Rattle.df_nmach.specs.Run.{and_then, machine_run, begun, start_of, NeverFaults}
 use Rattle.df_nmach.proofs.Runs.{run_add, ends_for_good}
 use Rattle.df_nemit.specs.Code.{Exits, Fixed, unknown, with_outside, with_ending, leaving_at, fixed, slot, expr_code, stmt_marks, stmts_marks, gets, scratch_of, body_code, highest, method_code, plain_code}
-use Rattle.df_nemit.specs.Correct.{machine_value, is_simple, called, returned, Reaches, DoesWhat}
+use Rattle.df_nemit.specs.Correct.{is_simple, called, returned, Reaches, DoesWhat}
+use Rattle.df_nemit.specs.Ending.{machine_value}
 use Rattle.df_nemit.proofs.Fills.{instructions_of, instructions_long, fixed_long, leaving_long, leaving_filled}
 use Rattle.df_nemit.proofs.StatementsEmitted.{highest_least}
 use Rattle.df_nemit.proofs.Reach.{HasAt, has_front, has_back, has_moved, HasMarks, marks_front, marks_back, marks_fixed, World, instructions, Point, point, frame, at, Leads, leads_silent, leads_none, next_is, Covers, Simple, Carries, still_carries, carries_on}

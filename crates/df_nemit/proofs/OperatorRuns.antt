@@ -11,8 +11,8 @@ use Rattle.df_lang.specs.declared.expr.FactorOperator.{FactorOperator}
 use Rattle.df_lang.specs.declared.expr.FactorOperator.TheVariants as factors
 use Rattle.df_lang.specs.declared.expr.Comparison.{Comparison}
 use Rattle.df_lang.specs.declared.expr.Comparison.TheVariants as comparisons
-use Rattle.df_mean.specs.Value.{Value, same_truth, same_value}
-use Rattle.df_mean.specs.Value as values
+use Rattle.df_meaning.specs.Value.{Value, same_truth, same_value}
+use Rattle.df_meaning.specs.Value as values
 use Rattle.df_nplain.specs.Kind.{Range, Between, Unbounded, Kind}
 use Rattle.df_nplain.specs.Kind as kinds
 use Rattle.df_nplain.specs.Bounded.{is_interval}
@@ -29,7 +29,8 @@ use Rattle.df_nmach.specs.declared.instruction.Instruction.TheVariants as i
 use Rattle.df_nmach.specs.Value as mach
 use Rattle.df_nmach.specs.Step.{given, within, divisor, unary, binary, leaves, effect}
 use Rattle.df_nemit.specs.Code.{range_of, adds, multiplies, compare, from_kind, to_kind}
-use Rattle.df_nemit.specs.Correct.{machine_value, is_simple}
+use Rattle.df_nemit.specs.Correct.{is_simple}
+use Rattle.df_nemit.specs.Ending.{machine_value}
 use Rattle.df_nemit.proofs.Reach.{HasAt, World, instructions, frame, Still, still_none, still_on, still_one, still_carries, Gives, gives_after, gives_to, Tells}
 
 pub below : (m n : ℕ) → m < n → nat_lt m n ≡ true

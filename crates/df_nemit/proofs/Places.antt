@@ -6,9 +6,9 @@ use Rattle.std.proofs.lemmas.Bool.{cases_eq}
 use Rattle.std.proofs.lemmas.Bool.Decides.{nat_tests}
 use Rattle.std.proofs.lemmas.Int.{ints}
 use Rattle.std.proofs.lemmas.List.{length-set}
-use Rattle.df_mean.specs.Value.{Value, same_truth, same_value}
-use Rattle.df_mean.specs.Value as values
-use Rattle.df_mean.specs.Execution.{Taken, is_distinct}
+use Rattle.df_meaning.specs.Value.{Value, same_truth, same_value}
+use Rattle.df_meaning.specs.Value as values
+use Rattle.df_meaning.specs.Execution.{Taken, is_distinct}
 use Rattle.df_nplain.specs.Outcome.{Outcome, Wrong, TooDeep, Stuck}
 use Rattle.df_nplain.specs.Outcome as outcomes
 use Rattle.df_nplain.specs.State.{State, with_local}
@@ -17,7 +17,8 @@ use Rattle.df_nmach.specs.declared.instruction.Instruction.TheVariants as i
 use Rattle.df_nmach.specs.Value as mach
 use Rattle.df_nmach.specs.Step.{Goes, demand}
 use Rattle.df_nemit.specs.Code.{slot, sets_code}
-use Rattle.df_nemit.specs.Correct.{machine_value, is_simple}
+use Rattle.df_nemit.specs.Correct.{is_simple}
+use Rattle.df_nemit.specs.Ending.{machine_value}
 use Rattle.df_nemit.proofs.Reach.{HasAt, has_front, has_back, World, instructions, point, frame, Leads, leads_none, leads_on, leads_silent, Covers, Simple}
 use Rattle.df_nemit.proofs.OperatorRuns.{below}
 use Rattle.df_nemit.proofs.ExpressionRuns.{both, get_set_same, get_set_other, slot_same}

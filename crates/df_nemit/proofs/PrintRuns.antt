@@ -4,8 +4,8 @@ use Rattle.std.specs.Prelude.{slice_get, nat_lt, option_map}
 use Rattle.std.specs.List.{list_all}
 use Rattle.std.proofs.lemmas.Bool.Decides.{nat_tests}
 use Rattle.std.proofs.lemmas.List.{append-nil, length-map, length-reverse, take_at, drop_at, reverse-append, reverse-reverse}
-use Rattle.df_mean.specs.Value.{Value, text_of}
-use Rattle.df_mean.specs.Value as values
+use Rattle.df_meaning.specs.Value.{Value, text_of}
+use Rattle.df_meaning.specs.Value as values
 use Rattle.df_nplain.specs.Kind.{Kind}
 use Rattle.df_nplain.specs.Kind as kinds
 use Rattle.df_nplain.specs.Stmt.{Operand, Text}
@@ -26,7 +26,7 @@ use Rattle.df_nmach.specs.Printing as printing
 use Rattle.df_nmach.specs.Step.{Effect, Goes, TooLong, given, demand, leaves, characters, sequence, effect}
 use Rattle.df_nmach.specs.Step as step
 use Rattle.df_nemit.specs.Code.{expr_code, shape_of, text_code, operands_code}
-use Rattle.df_nemit.specs.Correct.{machine_value}
+use Rattle.df_nemit.specs.Ending.{machine_value}
 use Rattle.df_nemit.proofs.Reach.{HasAt, has_front, has_back, has_moved, World, instructions, point, frame, Leads, leads_one, Still, still_none, still_on, still_one, Simple, Carries, still_carries, carries_on, carries_to, Gives}
 use Rattle.df_nemit.proofs.OperatorRuns.{below}
 use Rattle.df_nemit.proofs.ExpressionRuns.{both, expr_runs}

@@ -2,7 +2,7 @@
 use Rattle.std.proofs.Common.{◌≡◌, ℕ, ◌+◌, ◌<◌, Bool, true, List, [], ◌∷◌, ◌++◌, length, Option, Some, refl, ap, ◌∙◌, subst, arith}
 use Rattle.std.specs.Prelude.{slice_get}
 use Rattle.std.proofs.lemmas.List.{append-nil, map-append}
-use Rattle.df_mean.specs.Value.{Value}
+use Rattle.df_meaning.specs.Value.{Value}
 use Rattle.df_nplain.specs.Outcome.{Outcome, Wrong, TooDeep, Stuck, after}
 use Rattle.df_nplain.specs.Outcome as outcomes
 use Rattle.df_nplain.specs.State.{State}
@@ -16,7 +16,8 @@ use Rattle.df_nmach.specs.Step.{Effect, Goes, given, effect, next_effect, steppe
 use Rattle.df_nmach.specs.Run.{and_then, machine_run}
 use Rattle.df_nmach.proofs.Runs.{run_add}
 use Rattle.df_nemit.specs.Code.{Exits, Mark, instruction_of, fixed, slot}
-use Rattle.df_nemit.specs.Correct.{machine_value, is_simple}
+use Rattle.df_nemit.specs.Correct.{is_simple}
+use Rattle.df_nemit.specs.Ending.{machine_value}
 use Rattle.df_nemit.proofs.Fills.{instructions_of, instructions_fixed, instructions_long}
 
 -- ---- instructions at places

@@ -5,7 +5,7 @@ use Rattle.std.specs.List.{list_all}
 use Rattle.std.specs.Option.{option_map_or}
 use Rattle.std.proofs.lemmas.Bool.Decides.{nat_tests}
 use Rattle.std.proofs.lemmas.List.{length-map, length-reverse, take_at, drop_at, reverse-append, reverse-reverse}
-use Rattle.df_mean.specs.Value.{Value}
+use Rattle.df_meaning.specs.Value.{Value}
 use Rattle.df_nplain.specs.Expr.{Expr}
 use Rattle.df_nplain.specs.Stmt.{Call, Source, Single, Results, Update}
 use Rattle.df_nplain.specs.Plain as plain
@@ -24,7 +24,8 @@ use Rattle.df_nmach.specs.Step.{Effect, Calls as EffectCalls, given, demand, nex
 use Rattle.df_nmach.specs.Run.{and_then, machine_run}
 use Rattle.df_nmach.proofs.Runs.{run_add}
 use Rattle.df_nemit.specs.Code.{exprs_code, expr_code, call_code, source_code, sources_code, sets_code, update_code, optional_code, method_code, plain_code}
-use Rattle.df_nemit.specs.Correct.{machine_value, is_simple, called, returned}
+use Rattle.df_nemit.specs.Correct.{is_simple, called, returned}
+use Rattle.df_nemit.specs.Ending.{machine_value}
 use Rattle.df_nemit.proofs.Reach.{HasAt, has_front, has_back, World, instructions, point, frame, at, Leads, next_is, Still, still_none, still_on, still_one, Simple, Carries, still_carries, carries_on, carries_to, Gives}
 use Rattle.df_nemit.proofs.ExpressionRuns.{both, expr_runs}
 use Rattle.df_nemit.proofs.Places.{pushed, placed, sets_run, sets_fit, gives_covers, gives_simple, gives_text}

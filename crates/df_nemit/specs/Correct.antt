@@ -1,7 +1,7 @@
 -- The code does what the program does.
 use Rattle.std.specs.Prelude.{◌≡◌, ℕ, true, false, Bool, List, [], ◌∷◌, ◌++◌, map, length, reverse, Some, slice_get}
 use Rattle.std.specs.List.{list_all}
-use Rattle.df_mean.specs.Value.{Value, Truth, Character, Number, Text}
+use Rattle.df_meaning.specs.Value.{Value, Truth, Character, Number, Text}
 use Rattle.df_nplain.specs.Plain.{Method, Plain, method_at}
 use Rattle.df_nplain.specs.Outcome.{Gives}
 use Rattle.df_nplain.specs.Meaning.{Returned}
@@ -11,13 +11,8 @@ use Rattle.df_nmach.specs.State.{Code, Heap, Frame, State}
 use Rattle.df_nmach.specs.State as machine
 use Rattle.df_nmach.specs.Step as step
 use Rattle.df_nmach.specs.Step.{Stepped, beginning, at}
-use Rattle.df_nmach.specs.Run.{machine_run, start_of, NeverFaults}
-
-abbrev pub machine_value : Value → mach.Value
-machine_value (Truth b) = mach.Truth b
-machine_value (Character c) = mach.Char c
-machine_value (Number n) = mach.Number n
-machine_value (Text characters) = mach.Text characters
+use Rattle.df_nmach.specs.Run.{machine_run}
+use Rattle.df_nemit.specs.Ending.{machine_value, EndsWith}
 
 -- a value of a local: no text
 abbrev pub is_simple : Value → Bool
@@ -46,15 +41,6 @@ pub record ComesTo (code : Code) (number : ℕ) (arguments : List mach.Value) (h
   pub method : machine.Method
   pub there : slice_get code.methods number ≡ Some method
   pub reaches : Reaches code (called number method arguments heap waiting text) (returned results heap waiting printed)
-
--- The machine begins with the method of the number on these arguments, no number of steps from there faults, and after
--- some number it has ended with these results and this text, and the heap is as it was.
-pub record EndsWith (code : Code) (number : ℕ) (heap : Heap) (arguments results : List mach.Value) (text : List ℕ) : Type 0 where
-  pub start : State
-  pub begins : start_of code number heap arguments ≡ step.On start
-  pub never_faults : NeverFaults code (start_of code number heap arguments)
-  pub steps : ℕ
-  pub ends : machine_run code steps start ≡ step.Ended (record { results = results; heap = heap; text = text })
 
 -- Where a method comes to results, at any depth, its code comes to them: in a call, whatever waits, and from the beginning.
 pub record DoesWhat (plain : Plain) (code : Code) : Type 0 where

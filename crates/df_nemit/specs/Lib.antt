@@ -1,4 +1,5 @@
 pub mod Code
 pub mod Correct
+pub mod Ending
 pub mod Named
 pub mod mirror

@@ -14,9 +14,9 @@ use Rattle.df_lang.specs.Program.{Param, Method, Decl, NewtypeDecl, MethodDecl, 
 use Rattle.df_lang.specs.Typing.{same_type, are_same_types, is_type, is_arithmetic, casts, converts, compares, is_expr, are_addends, are_factors, are_members, are_links, are_exprs, are_clauses, are_measures, Setting, over_locals, inside_loop, is_operand, is_call, are_results, is_source, source_types, is_target, is_update, may_update, are_numbered, variable_numbers, variable_types, locals_after, locals_after_all, locals_after_branches, gives_results, is_measured, is_stmt, are_stmts, are_branches, is_decl, is_method}
 use Rattle.df_lang.specs.Marks.{are_unmarked_variables, are_unmarked_params, is_unmarked, are_unmarked, are_unmarked_branches, has_no_ghost}
 use Rattle.df_lang.specs.Native.{Breach, is_unbounded, if_int, if_int_elsewhere, if_nat, breaches, breaches_of_addends, breaches_of_factors, breaches_of_members, breaches_of_turned, breaches_of_links, breaches_of_printed, breaches_of_source, breaches_of_update, breaches_of_place, breaches_of_variables, breaches_of_params, breaches_in, breaches_in_all, breaches_in_branches, breaches_in_method}
-use Rattle.df_mean.proofs.Cases.{both, three, four, joined}
-use Rattle.df_mean.proofs.Types.{same_type_equal}
-use Rattle.df_mean.proofs.Wholes.{body_typed}
+use Rattle.df_meaning.proofs.Cases.{both, three, four, joined}
+use Rattle.df_meaning.proofs.Types.{same_type_equal}
+use Rattle.df_meaning.proofs.Wholes.{body_typed}
 use Rattle.df_nplain.specs.Kind.{Between, Unbounded}
 use Rattle.df_nplain.specs.Stmt as plain_stmt
 use Rattle.df_nplain.specs.Bounded.{is_interval, is_bounded_kind, is_bounded_variable, is_bounded, are_bounded_addends, are_bounded_factors, are_bounded_members, are_bounded_links, is_bounded_operand, is_bounded_source, is_bounded_call, is_bounded_update, is_bounded_stmt, are_bounded_stmts, are_bounded_branches, is_bounded_method}

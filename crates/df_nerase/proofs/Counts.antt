@@ -11,8 +11,8 @@ use Rattle.df_lang.specs.Stmt.{Target, Call, Conversion, Source, Single, Results
 use Rattle.df_lang.specs.Program.{Param, Method, Decl, NewtypeDecl, MethodDecl, Program, method_at, types_of}
 use Rattle.df_lang.specs.Typing.{same_type, are_same_types, is_type, converts, is_expr, are_exprs, are_clauses, Setting, over_locals, inside_loop, is_call, are_results, is_source, source_types, is_target, may_update, are_numbered, variable_numbers, variable_types, locals_after, locals_after_all, locals_after_branches, is_measured, is_stmt, are_stmts, are_branches, is_decl, is_method}
 use Rattle.df_lang.specs.Marks.{has_no_ghost}
-use Rattle.df_mean.proofs.Cases.{both, three, four, joined}
-use Rattle.df_mean.proofs.Wholes.{body_typed}
+use Rattle.df_meaning.proofs.Cases.{both, three, four, joined}
+use Rattle.df_meaning.proofs.Wholes.{body_typed}
 use Rattle.df_nplain.specs.Stmt as plain_stmt
 use Rattle.df_nplain.specs.Plain as plain
 use Rattle.df_nplain.specs.Counts as counts

@@ -15,17 +15,17 @@ use Rattle.df_lang.specs.Expr.{Expr, Number, Truth, Character, Local, Negate, No
 use Rattle.df_lang.specs.Program.{Program, newtype_at}
 use Rattle.df_lang.specs.Typing.{same_type, is_integer, is_arithmetic, casts, converts, is_expr, are_addends, are_factors, are_members, are_links, compares}
 use Rattle.df_meaning.specs.declared.kind.Kind.TheVariants as kinds
-use Rattle.df_mean.specs.Value.{Value, number_of, truth_of, same_truth}
-use Rattle.df_mean.specs.Value as values
-use Rattle.df_mean.specs.Types.{is_in, holds, has_type}
-use Rattle.df_mean.specs.Outcome.{Outcome, Gives, Wrong, after}
-use Rattle.df_mean.specs.State.{State, value_at}
-use Rattle.df_mean.specs.Meaning.{Meaning}
-use Rattle.df_mean.specs.Evaluation.{in_range, as_type, converted, summed, multiplied, compare, decides, value_of_local, evaluate, evaluate_addends, evaluate_factors, evaluate_junction, evaluate_implications, evaluate_equivalences, evaluate_links}
-use Rattle.df_mean.specs.Typed.{AreTyped}
-use Rattle.df_mean.proofs.Cases.{IfGives, choice, both, three, four}
-use Rattle.df_mean.proofs.Types.{arithmetic_is_integer}
-use Rattle.df_mean.proofs.Typing.{Is, evaluate_typed}
+use Rattle.df_meaning.specs.Value.{Value, number_of, truth_of, same_truth}
+use Rattle.df_meaning.specs.Value as values
+use Rattle.df_meaning.specs.Types.{is_in, holds, has_type}
+use Rattle.df_meaning.specs.Outcome.{Outcome, Gives, Wrong, after}
+use Rattle.df_meaning.specs.State.{State, value_at}
+use Rattle.df_meaning.specs.Meaning.{Meaning}
+use Rattle.df_meaning.specs.Evaluation.{in_range, as_type, converted, summed, multiplied, compare, decides, value_of_local, evaluate, evaluate_addends, evaluate_factors, evaluate_junction, evaluate_implications, evaluate_equivalences, evaluate_links}
+use Rattle.df_meaning.specs.Typed.{AreTyped}
+use Rattle.df_meaning.proofs.Cases.{IfGives, choice, both, three, four}
+use Rattle.df_meaning.proofs.Types.{arithmetic_is_integer}
+use Rattle.df_meaning.proofs.Typing.{Is, evaluate_typed}
 use Rattle.df_nplain.specs.Kind.{Between, Unbounded}
 use Rattle.df_nplain.specs.Outcome as outcomes
 use Rattle.df_nplain.specs.Meaning as plain_meaning

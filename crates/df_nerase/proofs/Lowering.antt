@@ -9,10 +9,10 @@ use Rattle.df_lang.specs.Program.{Param, Method, Decl, NewtypeDecl, MethodDecl, 
 use Rattle.df_lang.specs.Marks.{are_unmarked_params, are_unmarked, has_no_ghost}
 use Rattle.df_lang.specs.Typing.{is_method, is_decl, is_well_typed}
 use Rattle.df_lang.specs.Native.{is_unbounded, breaches_of_place, breaches_of_params, breaches_in_all, IsNative}
-use Rattle.df_mean.specs.Value.{Value}
-use Rattle.df_mean.specs.Value as values
-use Rattle.df_mean.specs.Types.{holds, has_type, have_types}
-use Rattle.df_mean.proofs.Cases.{both, three, joined}
+use Rattle.df_meaning.specs.Value.{Value}
+use Rattle.df_meaning.specs.Value as values
+use Rattle.df_meaning.specs.Types.{holds, has_type, have_types}
+use Rattle.df_meaning.proofs.Cases.{both, three, joined}
 use Rattle.df_nplain.specs.Kind.{Between, Unbounded}
 use Rattle.df_nplain.specs.Kind as kinds
 use Rattle.df_nplain.specs.Values.{has_kind, have_kinds}

@@ -1,7 +1,7 @@
 -- Laws of simulation between outcomes.
 use Rattle.std.proofs.Common.{◌≡◌, Bool, true, false, if◌then◌else◌, refl, sym, subst}
-use Rattle.df_mean.specs.Outcome as source
-use Rattle.df_mean.proofs.Cases.{IfGives}
+use Rattle.df_meaning.specs.Outcome as source
+use Rattle.df_meaning.proofs.Cases.{IfGives}
 use Rattle.df_nplain.specs.Outcome as plain
 use Rattle.df_nerase.specs.Simulation.{Simulates}
 

@@ -10,19 +10,19 @@ use Rattle.df_lang.specs.Stmt.{Operand, Text, Value, Target, Call, Conversion, S
 use Rattle.df_lang.specs.Program.{Method, Program, method_at, types_of}
 use Rattle.df_lang.specs.Typing.{same_type, are_same_types, is_type, converts, is_expr, are_exprs, are_clauses, is_operand, is_call, are_results, is_source, source_types, is_target, is_update, may_update, are_numbered, variable_numbers, variable_types, locals_after, locals_after_all, locals_after_branches, is_measured, is_stmt, are_stmts, are_branches}
 use Rattle.df_meaning.specs.declared.kind.Kind.TheVariants as kinds
-use Rattle.df_mean.specs.Value.{truth_of}
-use Rattle.df_mean.specs.Value as values
-use Rattle.df_mean.specs.Types.{has_type, have_types}
-use Rattle.df_mean.specs.Outcome.{Outcome, Gives, Wrong}
-use Rattle.df_mean.specs.State.{Store, State, with_local, without_local, printed}
-use Rattle.df_mean.specs.Meaning.{Meaning, Flow, Returned, Loop}
-use Rattle.df_mean.specs.Meaning as flows
-use Rattle.df_mean.specs.Evaluation.{converted, evaluate}
-use Rattle.df_mean.specs.Execution.{Values, Taken, goes, then_next, evaluate_all, check_all, convert_all, execute_call, execute_source, execute_sources, is_distinct, give_all, execute_update, execute_optional, declare_all, evaluate_operand, print_all, go_on, execute, execute_all, execute_branches}
-use Rattle.df_mean.specs.Typed.{AreTyped}
-use Rattle.df_mean.proofs.Cases.{IfGives, after_gives, after_any, choice, both, three, four}
-use Rattle.df_mean.proofs.Types.{same_type_equal}
-use Rattle.df_mean.proofs.Stating.{Within, FlowTyped, IsMeaningTyped, ValuesTyped, here, within_typed, all_typed, checked_same, call_typed, source_typed, declared_typed, store_typed, before_all, before_branches, return_updates, execute_typed}
+use Rattle.df_meaning.specs.Value.{truth_of}
+use Rattle.df_meaning.specs.Value as values
+use Rattle.df_meaning.specs.Types.{has_type, have_types}
+use Rattle.df_meaning.specs.Outcome.{Outcome, Gives, Wrong}
+use Rattle.df_meaning.specs.State.{Store, State, with_local, without_local, printed}
+use Rattle.df_meaning.specs.Meaning.{Meaning, Flow, Returned, Loop}
+use Rattle.df_meaning.specs.Meaning as flows
+use Rattle.df_meaning.specs.Evaluation.{converted, evaluate}
+use Rattle.df_meaning.specs.Execution.{Values, Taken, goes, then_next, evaluate_all, check_all, convert_all, execute_call, execute_source, execute_sources, is_distinct, give_all, execute_update, execute_optional, declare_all, evaluate_operand, print_all, go_on, execute, execute_all, execute_branches}
+use Rattle.df_meaning.specs.Typed.{AreTyped}
+use Rattle.df_meaning.proofs.Cases.{IfGives, after_gives, after_any, choice, both, three, four}
+use Rattle.df_meaning.proofs.Types.{same_type_equal}
+use Rattle.df_meaning.proofs.Stating.{Within, FlowTyped, IsMeaningTyped, ValuesTyped, here, within_typed, all_typed, checked_same, call_typed, source_typed, declared_typed, store_typed, before_all, before_branches, return_updates, execute_typed}
 use Rattle.df_nplain.specs.Stmt as plain_stmt
 use Rattle.df_nplain.specs.Outcome as outcomes
 use Rattle.df_nplain.specs.State as plain_state

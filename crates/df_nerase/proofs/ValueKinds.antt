@@ -6,10 +6,10 @@ use Rattle.df_lang.specs.declared.expr.Comparison.{Comparison}
 use Rattle.df_lang.specs.declared.expr.Comparison.TheVariants as comparisons
 use Rattle.df_lang.specs.Program.{Program}
 use Rattle.df_lang.specs.Typing.{is_integer, casts, compares}
-use Rattle.df_mean.specs.Value.{Value, number_of, truth_of, same_truth}
-use Rattle.df_mean.specs.Value as values
-use Rattle.df_mean.specs.Types.{has_type}
-use Rattle.df_mean.specs.Evaluation.{compare}
+use Rattle.df_meaning.specs.Value.{Value, number_of, truth_of, same_truth}
+use Rattle.df_meaning.specs.Value as values
+use Rattle.df_meaning.specs.Types.{has_type}
+use Rattle.df_meaning.specs.Evaluation.{compare}
 use Rattle.df_nplain.specs.Outcome.{Gives}
 use Rattle.df_nplain.specs.Evaluation.{number_in, truth_in, number_from, of_kind, equivalent, ordered, compared}
 use Rattle.df_nerase.specs.Erasing.{kind_of}

@@ -6,21 +6,21 @@ use Rattle.df_lang.specs.declared.ty.Ty.{Ty}
 use Rattle.df_lang.specs.Program.{Param, Method, Program, method_at, types_of}
 use Rattle.df_lang.specs.Typing.{is_method, is_well_typed}
 use Rattle.df_meaning.specs.declared.kind.Kind.TheVariants as kinds
-use Rattle.df_mean.specs.Value.{truth_of}
-use Rattle.df_mean.specs.Value as values
-use Rattle.df_mean.specs.Types.{have_types}
-use Rattle.df_mean.specs.Outcome.{Outcome, Gives, Wrong, TooDeep, NoChoice, Dismissed, after}
-use Rattle.df_mean.specs.State.{Store, State, begin, value_at}
-use Rattle.df_mean.specs.Meaning.{Meaning, Flow, Returned, Loop}
-use Rattle.df_mean.specs.Meaning as flows
-use Rattle.df_mean.specs.Evaluation.{evaluate}
-use Rattle.df_mean.specs.Execution.{check_all, execute_all}
-use Rattle.df_mean.specs.Whole.{check_call, values_from, results_of, end_of, run_body, run_method, behind_turn, turn_by, turns_with, call_by, whole}
-use Rattle.df_mean.specs.Typed.{AreTyped}
-use Rattle.df_mean.proofs.Cases.{IfGives}
-use Rattle.df_mean.proofs.Stating.{within_front, FlowTyped, within_typed, before_all, checked_same, stmts_typed}
-use Rattle.df_mean.proofs.Laws.{results_are_typed}
-use Rattle.df_mean.proofs.Wholes.{method_typed, begin_typed, owed_same, all_types, body_typed, both_within, program_of_whole, wholes_typed}
+use Rattle.df_meaning.specs.Value.{truth_of}
+use Rattle.df_meaning.specs.Value as values
+use Rattle.df_meaning.specs.Types.{have_types}
+use Rattle.df_meaning.specs.Outcome.{Outcome, Gives, Wrong, TooDeep, NoChoice, Dismissed, after}
+use Rattle.df_meaning.specs.State.{Store, State, begin, value_at}
+use Rattle.df_meaning.specs.Meaning.{Meaning, Flow, Returned, Loop}
+use Rattle.df_meaning.specs.Meaning as flows
+use Rattle.df_meaning.specs.Evaluation.{evaluate}
+use Rattle.df_meaning.specs.Execution.{check_all, execute_all}
+use Rattle.df_meaning.specs.Whole.{check_call, values_from, results_of, end_of, run_body, run_method, behind_turn, turn_by, turns_with, call_by, whole}
+use Rattle.df_meaning.specs.Typed.{AreTyped}
+use Rattle.df_meaning.proofs.Cases.{IfGives}
+use Rattle.df_meaning.proofs.Stating.{within_front, FlowTyped, within_typed, before_all, checked_same, stmts_typed}
+use Rattle.df_meaning.proofs.Laws.{results_are_typed}
+use Rattle.df_meaning.proofs.Wholes.{method_typed, begin_typed, owed_same, all_types, body_typed, both_within, program_of_whole, wholes_typed}
 use Rattle.df_nplain.specs.Plain as plain_program
 use Rattle.df_nplain.specs.Outcome as outcomes
 use Rattle.df_nplain.specs.Meaning as plain_meaning

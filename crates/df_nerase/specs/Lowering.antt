@@ -3,7 +3,7 @@ use Rattle.std.specs.Prelude.{if◌then◌else◌, List, [], ◌∷◌, Option, 
 use Rattle.std.specs.Option.{option_map}
 use Rattle.df_lang.specs.Program.{Param}
 use Rattle.df_lang.specs.Native.{is_unbounded}
-use Rattle.df_mean.specs.Value.{Value}
+use Rattle.df_meaning.specs.Value.{Value}
 
 -- The values of places, one for each. Those of ghosts are dropped, and the others stay what they are: truths, characters
 -- and numbers. There are such values where the compiled places keep the rule on their types.

@@ -4,13 +4,13 @@ use Rattle.df_base.specs.declared.pos.Pos.{Pos}
 use Rattle.df_lang.specs.Program.{Param, Method, Program, method_at, types_of}
 use Rattle.df_lang.specs.Typing.{is_well_typed}
 use Rattle.df_lang.specs.Native.{IsNative}
-use Rattle.df_mean.specs.Value.{Value}
-use Rattle.df_mean.specs.Types.{have_types}
-use Rattle.df_mean.specs.Outcome.{Gives}
-use Rattle.df_mean.specs.State.{Store}
-use Rattle.df_mean.specs.Meaning.{Returned}
-use Rattle.df_mean.specs.Whole.{run_method, whole}
-use Rattle.df_mean.specs.Correct.{MeetsPreconditions, IsCorrect}
+use Rattle.df_meaning.specs.Value.{Value}
+use Rattle.df_meaning.specs.Types.{have_types}
+use Rattle.df_meaning.specs.Outcome.{Gives}
+use Rattle.df_meaning.specs.State.{Store}
+use Rattle.df_meaning.specs.Meaning.{Returned}
+use Rattle.df_meaning.specs.Whole.{run_method, whole}
+use Rattle.df_meaning.specs.Correct.{MeetsPreconditions, IsCorrect}
 use Rattle.df_nplain.specs.Plain as plain
 use Rattle.df_nplain.specs.Bounded.{is_bounded_program}
 use Rattle.df_nplain.specs.Counts.{has_counts}

@@ -1,10 +1,10 @@
 -- What a program and the program without its ghosts have in common, step by step.
 use Rattle.std.specs.Prelude.{◌≡◌}
 use Rattle.df_lang.specs.Program.{Program}
-use Rattle.df_mean.specs.Outcome as source
-use Rattle.df_mean.specs.State as source_state
-use Rattle.df_mean.specs.Meaning as source_meaning
-use Rattle.df_mean.specs.Execution as source_execution
+use Rattle.df_meaning.specs.Outcome as source
+use Rattle.df_meaning.specs.State as source_state
+use Rattle.df_meaning.specs.Meaning as source_meaning
+use Rattle.df_meaning.specs.Execution as source_execution
 use Rattle.df_nplain.specs.Outcome as plain
 use Rattle.df_nplain.specs.State as plain_state
 use Rattle.df_nplain.specs.Meaning as plain_meaning

@@ -7,10 +7,10 @@ use Rattle.df_lang.specs.Stmt.{Stmts, Branches, no_branch, branch}
 use Rattle.df_lang.specs.Program.{Program}
 use Rattle.df_lang.specs.Typing.{same_type, is_type}
 use Rattle.df_lang.specs.Assignment.{Assigned, Unreached, Reached, has_value}
-use Rattle.df_mean.specs.Definite.{AreDeclared}
-use Rattle.df_mean.specs.Modular.{Changed, changed_by_all, changed_by_branches}
-use Rattle.df_mean.proofs.Cases.{both, joined}
-use Rattle.df_mean.proofs.Changing.{are_there}
+use Rattle.df_meaning.specs.Definite.{AreDeclared}
+use Rattle.df_meaning.specs.Modular.{Changed, changed_by_all, changed_by_branches}
+use Rattle.df_meaning.proofs.Cases.{both, joined}
+use Rattle.df_meaning.proofs.Changing.{are_there}
 use Rattle.df_npass.specs.Statements.{declared_by_all, changed_outside, changed_in_branches, changed_outside_if}
 use Rattle.df_npass.proofs.Coming.{IsReached}
 use Rattle.df_npass.proofs.Turning.{list_once}

@@ -4,12 +4,12 @@ use Rattle.std.proofs.lemmas.List.{length-map}
 use Rattle.df_lang.specs.declared.ty.Ty.{Ty}
 use Rattle.df_lang.specs.Program.{Param, types_of}
 use Rattle.df_lang.specs.Typing.{same_type, are_same_types}
-use Rattle.df_mean.specs.Value.{Value}
-use Rattle.df_mean.specs.State.{Store, begin}
-use Rattle.df_mean.proofs.Cases.{both}
-use Rattle.df_mean.proofs.Types.{same_type_equal}
-use Rattle.df_mean.proofs.Stating.{Within}
-use Rattle.df_mean.proofs.DefiniteRuns.{first_locals, begun_assigned}
+use Rattle.df_meaning.specs.Value.{Value}
+use Rattle.df_meaning.specs.State.{Store, begin}
+use Rattle.df_meaning.proofs.Cases.{both}
+use Rattle.df_meaning.proofs.Types.{same_type_equal}
+use Rattle.df_meaning.proofs.Stating.{Within}
+use Rattle.df_meaning.proofs.DefiniteRuns.{first_locals, begun_assigned}
 use Rattle.df_nterm.specs.Term.{Term}
 use Rattle.df_nterm.specs.Meaning.{Interpretation}
 use Rattle.df_nterm.specs.Meaning as meanings

@@ -9,19 +9,19 @@ use Rattle.df_lang.specs.Program.{Param, Method, Program, types_of}
 use Rattle.df_lang.specs.Measures.{method_measure}
 use Rattle.df_lang.specs.Typing.{is_method, is_well_typed}
 use Rattle.df_lang.specs.Assignment.{at_entry, results_at, unassigned, unassigned_in, reads_of_clauses, reads_of_measures, Flowing, flow_all}
-use Rattle.df_mean.specs.Value.{Value}
-use Rattle.df_mean.specs.Outcome.{Outcome, after}
-use Rattle.df_mean.specs.State.{State, store_with, begin}
-use Rattle.df_mean.specs.Definite.{AreDeclared}
-use Rattle.df_mean.specs.Execution.{check_all}
-use Rattle.df_mean.specs.Whole.{end_of, run_body}
-use Rattle.df_mean.specs.Modular.{measure_values, modular, modular_run, plain_meaning, Running}
+use Rattle.df_meaning.specs.Value.{Value}
+use Rattle.df_meaning.specs.Outcome.{Outcome, after}
+use Rattle.df_meaning.specs.State.{State, store_with, begin}
+use Rattle.df_meaning.specs.Definite.{AreDeclared}
+use Rattle.df_meaning.specs.Execution.{check_all}
+use Rattle.df_meaning.specs.Whole.{end_of, run_body}
+use Rattle.df_meaning.specs.Modular.{measure_values, modular, modular_run, plain_meaning, Running}
 use Rattle.df_meaning.specs.declared.kind.Kind.TheVariants as kinds
-use Rattle.df_mean.proofs.Counting.{nothing_missing}
-use Rattle.df_mean.proofs.Assigning.{all_carry}
-use Rattle.df_mean.proofs.Stating.{Within, before_all, within_front}
-use Rattle.df_mean.proofs.DefiniteRuns.{first_locals, begun_assigned}
-use Rattle.df_mean.proofs.Modulars.{program_of_modular}
+use Rattle.df_meaning.proofs.Counting.{nothing_missing}
+use Rattle.df_meaning.proofs.Assigning.{all_carry}
+use Rattle.df_meaning.proofs.Stating.{Within, before_all, within_front}
+use Rattle.df_meaning.proofs.DefiniteRuns.{first_locals, begun_assigned}
+use Rattle.df_meaning.proofs.Modulars.{program_of_modular}
 use Rattle.df_nterm.specs.Term.{Sort, Numbers, Truths, Characters, Term, literal, sort_of_type}
 use Rattle.df_nterm.specs.Meaning.{Interpretation, has_sort}
 use Rattle.df_nterm.specs.Meaning as meanings

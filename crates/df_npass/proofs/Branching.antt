@@ -2,12 +2,12 @@
 use Rattle.std.proofs.Common.{◌≡◌, inl, ℕ, Bool, true, false, if◌then◌else◌, List, ◌++◌, Option, sym, ap, ◌∙◌, subst}
 use Rattle.df_lang.specs.declared.ty.Ty.{Ty}
 use Rattle.df_lang.specs.Assignment.{Assigned, has_value, join as meet, Flowing}
-use Rattle.df_mean.specs.Outcome.{Outcome}
-use Rattle.df_mean.specs.State.{Handed, State}
-use Rattle.df_mean.specs.Meaning as flows
-use Rattle.df_mean.specs.Modular.{Changed}
-use Rattle.df_mean.specs.Agreement.{is_changed}
-use Rattle.df_mean.proofs.Changing.{are_there}
+use Rattle.df_meaning.specs.Outcome.{Outcome}
+use Rattle.df_meaning.specs.State.{Handed, State}
+use Rattle.df_meaning.specs.Meaning as flows
+use Rattle.df_meaning.specs.Modular.{Changed}
+use Rattle.df_meaning.specs.Agreement.{is_changed}
+use Rattle.df_meaning.proofs.Changing.{are_there}
 use Rattle.df_nterm.specs.Term.{Term}
 use Rattle.df_nterm.specs.Meaning.{Interpretation}
 use Rattle.df_nterm.proofs.Below.{SameBelow}

@@ -13,18 +13,18 @@ use Rattle.df_lang.specs.Typing.{is_type, is_expr, are_clauses, are_measures, ar
 use Rattle.df_lang.specs.Assignment.{reads_of_clauses, reads_of_measures, unassigned}
 use Rattle.df_meaning.specs.declared.kind.Kind.{Kind}
 use Rattle.df_meaning.specs.declared.kind.Kind.TheVariants as kinds
-use Rattle.df_mean.specs.Value.{Value, truth_of}
-use Rattle.df_mean.specs.Outcome.{Outcome, Gives, Wrong, TooDeep, NoChoice, Dismissed, after}
-use Rattle.df_mean.specs.State.{Handed, State, store_with, begin}
-use Rattle.df_mean.specs.Meaning.{Returned}
-use Rattle.df_mean.specs.Order as order
-use Rattle.df_mean.specs.Whole.{check_call}
-use Rattle.df_mean.specs.Modular.{assume_all as assume_each, or_dismissed, measure_values, check_below, handed_results, Running, plain_meaning, check_decrease, assume_returned, modular_call}
-use Rattle.df_mean.proofs.Cases.{both, four}
-use Rattle.df_mean.proofs.Same.{after_same}
-use Rattle.df_mean.proofs.Assigning.{place, clauses_read, method_measure_reads}
-use Rattle.df_mean.proofs.DefiniteRuns.{first_locals, first_have}
-use Rattle.df_mean.proofs.Wholes.{method_typed}
+use Rattle.df_meaning.specs.Value.{Value, truth_of}
+use Rattle.df_meaning.specs.Outcome.{Outcome, Gives, Wrong, TooDeep, NoChoice, Dismissed, after}
+use Rattle.df_meaning.specs.State.{Handed, State, store_with, begin}
+use Rattle.df_meaning.specs.Meaning.{Returned}
+use Rattle.df_meaning.specs.Order as order
+use Rattle.df_meaning.specs.Whole.{check_call}
+use Rattle.df_meaning.specs.Modular.{assume_all as assume_each, or_dismissed, measure_values, check_below, handed_results, Running, plain_meaning, check_decrease, assume_returned, modular_call}
+use Rattle.df_meaning.proofs.Cases.{both, four}
+use Rattle.df_meaning.proofs.Same.{after_same}
+use Rattle.df_meaning.proofs.Assigning.{place, clauses_read, method_measure_reads}
+use Rattle.df_meaning.proofs.DefiniteRuns.{first_locals, first_have}
+use Rattle.df_meaning.proofs.Wholes.{method_typed}
 use Rattle.df_nterm.specs.Term.{Term}
 use Rattle.df_nterm.specs.Meaning.{Interpretation, truth}
 use Rattle.df_nterm.specs.Meaning as meanings

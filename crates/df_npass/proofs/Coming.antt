@@ -3,10 +3,10 @@ use Rattle.std.proofs.Common.{Bool, ◌≡◌, ◌⊎◌, inl, inr, ℕ, true, f
 use Rattle.std.specs.List.{AllByRecursion}
 use Rattle.df_lang.specs.declared.ty.Ty.{Ty}
 use Rattle.df_lang.specs.Assignment.{Assigned, Unreached, Reached, has_value, join, mark}
-use Rattle.df_mean.specs.Value.{Value}
-use Rattle.df_mean.specs.State.{State}
-use Rattle.df_mean.specs.Definite.{HasValue, AreAssigned}
-use Rattle.df_mean.proofs.Cases.{both}
+use Rattle.df_meaning.specs.Value.{Value}
+use Rattle.df_meaning.specs.State.{State}
+use Rattle.df_meaning.specs.Definite.{HasValue, AreAssigned}
+use Rattle.df_meaning.proofs.Cases.{both}
 use Rattle.df_nterm.specs.Term.{Term}
 use Rattle.df_nterm.specs.Meaning.{Interpretation}
 use Rattle.df_nterm.specs.Meaning as meanings

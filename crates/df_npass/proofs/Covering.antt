@@ -8,11 +8,11 @@ use Rattle.df_lang.specs.Stmt.{Target, Update, Variable, Stmt, Block, Var, Assig
 use Rattle.df_lang.specs.Program.{Method, Program}
 use Rattle.df_lang.specs.Typing.{is_expr, locals_after_all, locals_after_branches, are_stmts, are_branches}
 use Rattle.df_lang.specs.Assignment.{Assigned, Unreached, Reached, has_value, join as meet, mark, declare, assign, assign_all, flow, flow_all, flow_branches}
-use Rattle.df_mean.specs.Definite.{AreDeclared}
-use Rattle.df_mean.specs.Modular.{Changed, changed_by, changed_by_all, changed_by_branches, changed_by_update, changed_by_variables}
-use Rattle.df_mean.specs.Agreement.{is_changed}
-use Rattle.df_mean.proofs.Cases.{three}
-use Rattle.df_mean.proofs.Assigning.{place, all_grow, branches_grow}
+use Rattle.df_meaning.specs.Definite.{AreDeclared}
+use Rattle.df_meaning.specs.Modular.{Changed, changed_by, changed_by_all, changed_by_branches, changed_by_update, changed_by_variables}
+use Rattle.df_meaning.specs.Agreement.{is_changed}
+use Rattle.df_meaning.proofs.Cases.{three}
+use Rattle.df_meaning.proofs.Assigning.{place, all_grow, branches_grow}
 use Rattle.df_nterm.specs.Term.{Term, negation}
 use Rattle.df_nterm.specs.Expressions.{Environment, term_of}
 use Rattle.df_npass.specs.Rules.{Way, narrowed, join_branches}

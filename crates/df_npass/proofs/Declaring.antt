@@ -8,8 +8,8 @@ use Rattle.df_lang.specs.declared.ty.Ty.TheVariants as types
 use Rattle.df_lang.specs.Stmt.{Variable, Stmt, Block, Var, Assign, CallOf, If, While, Break, Return, Assert, Print, Stmts, done, next, Branches, no_branch, branch}
 use Rattle.df_lang.specs.Program.{Method, Program}
 use Rattle.df_lang.specs.Typing.{is_type, is_expr, are_clauses, is_measured, may_update, are_numbered, variable_numbers, variable_types, locals_after, locals_after_all, locals_after_branches, is_stmt, are_stmts, are_branches}
-use Rattle.df_mean.proofs.Cases.{both, three, four, joined}
-use Rattle.df_mean.proofs.Assigning.{place, grows, all_grow, branches_grow}
+use Rattle.df_meaning.proofs.Cases.{both, three, four, joined}
+use Rattle.df_meaning.proofs.Assigning.{place, grows, all_grow, branches_grow}
 use Rattle.df_npass.specs.Statements.{declared_by, declared_by_all, declared_by_branches}
 
 abbrev pub is_declared : List ℕ → ℕ → Bool

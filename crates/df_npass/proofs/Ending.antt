@@ -8,17 +8,17 @@ use Rattle.df_lang.specs.Program.{Param, Method, Program, types_of}
 use Rattle.df_lang.specs.Typing.{same_type, are_clauses}
 use Rattle.df_lang.specs.Assignment.{Assigned, has_value, results_at, unassigned}
 use Rattle.df_meaning.specs.declared.kind.Kind.TheVariants as kinds
-use Rattle.df_mean.specs.Outcome.{Outcome, Gives, Wrong, TooDeep, NoChoice, Dismissed, after}
-use Rattle.df_mean.specs.State.{Handed, State}
-use Rattle.df_mean.specs.Meaning.{Meaning}
-use Rattle.df_mean.specs.Meaning as flows
-use Rattle.df_mean.specs.Execution.{check_all}
-use Rattle.df_mean.specs.Whole.{end_of}
-use Rattle.df_mean.specs.Modular.{Changed}
-use Rattle.df_mean.specs.Agreement.{is_changed}
-use Rattle.df_mean.proofs.Cases.{joined}
-use Rattle.df_mean.proofs.Changing.{are_there}
-use Rattle.df_mean.proofs.Stating.{Within, same_self}
+use Rattle.df_meaning.specs.Outcome.{Outcome, Gives, Wrong, TooDeep, NoChoice, Dismissed, after}
+use Rattle.df_meaning.specs.State.{Handed, State}
+use Rattle.df_meaning.specs.Meaning.{Meaning}
+use Rattle.df_meaning.specs.Meaning as flows
+use Rattle.df_meaning.specs.Execution.{check_all}
+use Rattle.df_meaning.specs.Whole.{end_of}
+use Rattle.df_meaning.specs.Modular.{Changed}
+use Rattle.df_meaning.specs.Agreement.{is_changed}
+use Rattle.df_meaning.proofs.Cases.{joined}
+use Rattle.df_meaning.proofs.Changing.{are_there}
+use Rattle.df_meaning.proofs.Stating.{Within, same_self}
 use Rattle.df_nterm.specs.Term.{Term}
 use Rattle.df_nterm.specs.Meaning.{Interpretation}
 use Rattle.df_npass.specs.Rules.{Said, Way, paths_of, any_path, Joined, join}

@@ -5,7 +5,7 @@ use Rattle.df_base.specs.declared.pos.Pos.{Pos}
 use Rattle.df_lang.specs.Stmt.{Clause, Measure, Stmt, Block, Var, Assign, CallOf, If, While, Break, Return, Assert, Print, Stmts, done, next, Branches, no_branch, branch}
 use Rattle.df_lang.specs.Measures.{loop_measure}
 use Rattle.df_meaning.specs.declared.kind.Kind.TheVariants as kinds
-use Rattle.df_mean.specs.Modular.{Changed}
+use Rattle.df_meaning.specs.Modular.{Changed}
 use Rattle.df_nterm.specs.Term.{Term, negation}
 use Rattle.df_nterm.specs.Expressions.{term_of}
 use Rattle.df_nterm.specs.Measuring.{Measured, measured}

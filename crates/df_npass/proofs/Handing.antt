@@ -6,14 +6,14 @@ use Rattle.std.specs.Option.{option_map_or}
 use Rattle.df_lang.specs.declared.ty.Ty.{Ty}
 use Rattle.df_lang.specs.Program.{Program}
 use Rattle.df_lang.specs.Typing.{same_type, is_type, is_well_typed}
-use Rattle.df_mean.specs.Value.{Value}
-use Rattle.df_mean.specs.Types.{has_type}
-use Rattle.df_mean.specs.State.{Locals}
-use Rattle.df_mean.specs.Modular.{Changed, may_have}
-use Rattle.df_mean.specs.Agreement.{is_changed}
-use Rattle.df_mean.proofs.Cases.{both}
-use Rattle.df_mean.proofs.Types.{same_type_equal}
-use Rattle.df_mean.proofs.Changing.{are_there}
+use Rattle.df_meaning.specs.Value.{Value}
+use Rattle.df_meaning.specs.Types.{has_type}
+use Rattle.df_meaning.specs.State.{Locals}
+use Rattle.df_meaning.specs.Modular.{Changed, may_have}
+use Rattle.df_meaning.specs.Agreement.{is_changed}
+use Rattle.df_meaning.proofs.Cases.{both}
+use Rattle.df_meaning.proofs.Types.{same_type_equal}
+use Rattle.df_meaning.proofs.Changing.{are_there}
 use Rattle.df_nterm.specs.Term.{Term}
 use Rattle.df_nterm.specs.Meaning.{Interpretation}
 use Rattle.df_nterm.specs.Meaning as meanings

@@ -7,14 +7,14 @@ use Rattle.df_lang.specs.declared.ty.Ty.{Ty}
 use Rattle.df_lang.specs.declared.ty.Ty.TheVariants as types
 use Rattle.df_lang.specs.Typing.{same_type}
 use Rattle.df_lang.specs.Assignment.{Assigned, has_value}
-use Rattle.df_mean.specs.Value.{Value, truth_of, same_truth, same_value}
-use Rattle.df_mean.specs.Value as values
-use Rattle.df_mean.specs.State.{Handed, State}
-use Rattle.df_mean.specs.Outcome.{Outcome}
-use Rattle.df_mean.specs.Modular.{Changed}
-use Rattle.df_mean.specs.Agreement.{is_changed}
-use Rattle.df_mean.proofs.Cases.{both}
-use Rattle.df_mean.proofs.Changing.{are_there}
+use Rattle.df_meaning.specs.Value.{Value, truth_of, same_truth, same_value}
+use Rattle.df_meaning.specs.Value as values
+use Rattle.df_meaning.specs.State.{Handed, State}
+use Rattle.df_meaning.specs.Outcome.{Outcome}
+use Rattle.df_meaning.specs.Modular.{Changed}
+use Rattle.df_meaning.specs.Agreement.{is_changed}
+use Rattle.df_meaning.proofs.Cases.{both}
+use Rattle.df_meaning.proofs.Changing.{are_there}
 use Rattle.df_nterm.specs.Term.{Term, terms_of}
 use Rattle.df_nterm.specs.Same.{same_term}
 use Rattle.df_nterm.specs.Meaning.{Interpretation, truth, has_sort}

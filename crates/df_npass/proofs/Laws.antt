@@ -3,12 +3,12 @@ use Rattle.std.proofs.Common.{◌≡◌, ℕ, pos, true, false, [], ◌++◌, Co
 use Rattle.df_base.specs.declared.pos.Pos.{Pos}
 use Rattle.df_lang.specs.Program.{Program, method_at, types_of}
 use Rattle.df_meaning.specs.declared.kind.Kind.{Kind}
-use Rattle.df_mean.specs.Value.{Value, Truth, Character, Number}
-use Rattle.df_mean.specs.Types.{have_types}
-use Rattle.df_mean.specs.Outcome.{Wrong}
-use Rattle.df_mean.specs.State.{store_with}
-use Rattle.df_mean.specs.Modular.{modular_run, IsModularlyWrong}
-use Rattle.df_mean.proofs.Wholes.{method_typed}
+use Rattle.df_meaning.specs.Value.{Value, Truth, Character, Number}
+use Rattle.df_meaning.specs.Types.{have_types}
+use Rattle.df_meaning.specs.Outcome.{Wrong}
+use Rattle.df_meaning.specs.State.{store_with}
+use Rattle.df_meaning.specs.Modular.{modular_run, IsModularlyWrong}
+use Rattle.df_meaning.proofs.Wholes.{method_typed}
 use Rattle.df_nterm.specs.Term.{Sort, Numbers, Truths, Characters, Free}
 use Rattle.df_nterm.specs.Meaning.{Interpretation, has_sort, truth}
 use Rattle.df_npass.specs.Statements.{any_values}

@@ -11,9 +11,9 @@ use Rattle.df_lang.specs.Program.{Param, Method, method_at}
 use Rattle.df_lang.specs.Measures.{method_measure}
 use Rattle.df_lang.specs.Groups.{group_at}
 use Rattle.df_meaning.specs.declared.kind.Kind.TheVariants as kinds
-use Rattle.df_mean.specs.Value.{truth_of}
-use Rattle.df_mean.specs.Modular.{Changed}
-use Rattle.df_mean.proofs.Cases.{joined as and_joined}
+use Rattle.df_meaning.specs.Value.{truth_of}
+use Rattle.df_meaning.specs.Modular.{Changed}
+use Rattle.df_meaning.proofs.Cases.{joined as and_joined}
 use Rattle.df_nterm.specs.Term.{Term, Terms, no_term, term, terms_of, disjunction}
 use Rattle.df_nterm.specs.Meaning.{Interpretation, truth}
 use Rattle.df_nterm.specs.Meaning as meanings

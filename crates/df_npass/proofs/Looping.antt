@@ -8,17 +8,17 @@ use Rattle.df_lang.specs.Measures.{loop_measure}
 use Rattle.df_lang.specs.Typing.{are_clauses}
 use Rattle.df_lang.specs.Assignment.{Assigned, Unreached, has_value, join as meet, reads_of_clauses, reads_of_measures, unassigned}
 use Rattle.df_meaning.specs.declared.kind.Kind.TheVariants as kinds
-use Rattle.df_mean.specs.Value.{Value, truth_of}
-use Rattle.df_mean.specs.Outcome.{Outcome, Wrong, Dismissed, after}
-use Rattle.df_mean.specs.State.{Handed, State}
-use Rattle.df_mean.specs.Meaning.{Meaning, Loop}
-use Rattle.df_mean.specs.Meaning as flows
-use Rattle.df_mean.specs.Order as order
-use Rattle.df_mean.specs.Execution.{check_all}
-use Rattle.df_mean.specs.Modular.{Changed, measure_values, check_below, behind_once}
-use Rattle.df_mean.specs.Agreement.{is_changed}
-use Rattle.df_mean.proofs.Changing.{are_there}
-use Rattle.df_mean.proofs.Stating.{Within}
+use Rattle.df_meaning.specs.Value.{Value, truth_of}
+use Rattle.df_meaning.specs.Outcome.{Outcome, Wrong, Dismissed, after}
+use Rattle.df_meaning.specs.State.{Handed, State}
+use Rattle.df_meaning.specs.Meaning.{Meaning, Loop}
+use Rattle.df_meaning.specs.Meaning as flows
+use Rattle.df_meaning.specs.Order as order
+use Rattle.df_meaning.specs.Execution.{check_all}
+use Rattle.df_meaning.specs.Modular.{Changed, measure_values, check_below, behind_once}
+use Rattle.df_meaning.specs.Agreement.{is_changed}
+use Rattle.df_meaning.proofs.Changing.{are_there}
+use Rattle.df_meaning.proofs.Stating.{Within}
 use Rattle.df_nterm.specs.Term.{Term, negation}
 use Rattle.df_nterm.specs.Meaning.{Interpretation, truth}
 use Rattle.df_nterm.specs.Meaning as meanings

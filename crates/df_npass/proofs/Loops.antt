@@ -12,24 +12,24 @@ use Rattle.df_lang.specs.Measures.{loop_measure}
 use Rattle.df_lang.specs.Typing.{is_type, is_expr, are_clauses, are_measures, is_operand, locals_after_all, is_measured, is_stmt, are_stmts, is_well_typed}
 use Rattle.df_lang.specs.Assignment.{Assigned, Unreached, has_value, join as meet, reads, reads_of_operand, reads_of_clauses, reads_of_measures, unassigned, Flowing, flow, flow_all}
 use Rattle.df_meaning.specs.declared.kind.Kind.TheVariants as kinds
-use Rattle.df_mean.specs.Value.{Value, truth_of}
-use Rattle.df_mean.specs.Value as values
-use Rattle.df_mean.specs.Outcome.{Outcome, Gives, TooDeep, after}
-use Rattle.df_mean.specs.State.{State, printed}
-use Rattle.df_mean.specs.Meaning.{Meaning, Loop}
-use Rattle.df_mean.specs.Meaning as flows
-use Rattle.df_mean.specs.Definite.{AreDeclared}
-use Rattle.df_mean.specs.Evaluation.{evaluate}
-use Rattle.df_mean.specs.Execution.{check_all, print_all, execute, execute_all}
-use Rattle.df_mean.specs.Whole.{turns_with}
-use Rattle.df_mean.specs.Modular.{Running, changed_by_all, assume_all as assume_each, or_dismissed, measure_values, handed_turn, behind_once, modular_turn, modular_turns, modular, plain_meaning}
-use Rattle.df_mean.specs.Agreement.{is_changed}
-use Rattle.df_mean.proofs.Cases.{both, four}
-use Rattle.df_mean.proofs.Changing.{are_there, all_there}
-use Rattle.df_mean.proofs.Counting.{nothing_missing, parted}
-use Rattle.df_mean.proofs.Assigning.{place, all_carry}
-use Rattle.df_mean.proofs.Stating.{Within, before_all}
-use Rattle.df_mean.proofs.Modulars.{program_of_modular}
+use Rattle.df_meaning.specs.Value.{Value, truth_of}
+use Rattle.df_meaning.specs.Value as values
+use Rattle.df_meaning.specs.Outcome.{Outcome, Gives, TooDeep, after}
+use Rattle.df_meaning.specs.State.{State, printed}
+use Rattle.df_meaning.specs.Meaning.{Meaning, Loop}
+use Rattle.df_meaning.specs.Meaning as flows
+use Rattle.df_meaning.specs.Definite.{AreDeclared}
+use Rattle.df_meaning.specs.Evaluation.{evaluate}
+use Rattle.df_meaning.specs.Execution.{check_all, print_all, execute, execute_all}
+use Rattle.df_meaning.specs.Whole.{turns_with}
+use Rattle.df_meaning.specs.Modular.{Running, changed_by_all, assume_all as assume_each, or_dismissed, measure_values, handed_turn, behind_once, modular_turn, modular_turns, modular, plain_meaning}
+use Rattle.df_meaning.specs.Agreement.{is_changed}
+use Rattle.df_meaning.proofs.Cases.{both, four}
+use Rattle.df_meaning.proofs.Changing.{are_there, all_there}
+use Rattle.df_meaning.proofs.Counting.{nothing_missing, parted}
+use Rattle.df_meaning.proofs.Assigning.{place, all_carry}
+use Rattle.df_meaning.proofs.Stating.{Within, before_all}
+use Rattle.df_meaning.proofs.Modulars.{program_of_modular}
 use Rattle.df_nterm.specs.Term.{negation}
 use Rattle.df_nterm.specs.Meaning.{Interpretation, truth}
 use Rattle.df_nterm.specs.Meaning as meanings

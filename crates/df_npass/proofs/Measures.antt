@@ -14,9 +14,9 @@ use Rattle.df_lang.specs.Program.{Param, Method, Program, types_of}
 use Rattle.df_lang.specs.Measures.{distance, comparison_measure, guard_measure, measure_of_number, loop_measure, parameters_from, method_measure}
 use Rattle.df_lang.specs.Typing.{same_type, is_type, is_integer, compares, is_expr, are_members, are_links, are_measures}
 use Rattle.df_lang.specs.Assignment.{reads, reads_of_members, reads_of_measures, Assigned, unassigned}
-use Rattle.df_mean.proofs.Cases.{both, three, joined}
-use Rattle.df_mean.proofs.Counting.{parted, joined_uses}
-use Rattle.df_mean.proofs.Stating.{same_self}
+use Rattle.df_meaning.proofs.Cases.{both, three, joined}
+use Rattle.df_meaning.proofs.Counting.{parted, joined_uses}
+use Rattle.df_meaning.proofs.Stating.{same_self}
 
 abbrev pub AreTyped : Program → List Ty → List Measure → Type 0
 AreTyped p locals measures = list_all (λ (measure : Measure). is_expr p locals measure.ty measure.value) measures ≡ true

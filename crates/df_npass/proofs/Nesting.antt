@@ -1,9 +1,9 @@
 -- How deep runs of statements go.
 use Rattle.std.proofs.Common.{◌≡◌, ℕ, zero, suc, ◌+◌, Bool, true, false, if◌then◌else◌, List, refl}
 use Rattle.df_lang.specs.Stmt.{Stmt, Block, Var, Assign, CallOf, If, While, Break, Return, Assert, Print, Stmts, done, next, Branches, no_branch, branch}
-use Rattle.df_mean.specs.Outcome.{Outcome, TooDeep, after}
-use Rattle.df_mean.specs.State.{Handed}
-use Rattle.df_mean.specs.Modular.{Running, modular_call, modular}
+use Rattle.df_meaning.specs.Outcome.{Outcome, TooDeep, after}
+use Rattle.df_meaning.specs.State.{Handed}
+use Rattle.df_meaning.specs.Modular.{Running, modular_call, modular}
 use Rattle.df_nterm.specs.Meaning.{Interpretation}
 use Rattle.df_npass.specs.Rules.{Said}
 use Rattle.df_npass.proofs.Playing.{Mode, Following, Taking, is_taking, Play, play_silent, not_deep}

@@ -8,21 +8,21 @@ use Rattle.df_lang.specs.Program.{Method, Program}
 use Rattle.df_lang.specs.Typing.{is_type, is_expr, are_clauses, may_update, are_numbered, variable_numbers, variable_types, locals_after, locals_after_all, locals_after_branches, is_measured, is_stmt, are_stmts, are_branches, is_well_typed}
 use Rattle.df_lang.specs.Assignment.{Assigned, Unreached, declare, assign_all, reads, reads_of_clauses, reads_of_measures, reads_of_update, unassigned, Flowing, results_at, flow, flow_all, flow_branches}
 use Rattle.df_meaning.specs.declared.kind.Kind.TheVariants as kinds
-use Rattle.df_mean.specs.Value.{Value, truth_of}
-use Rattle.df_mean.specs.Outcome.{Outcome, Gives, Wrong, after}
-use Rattle.df_mean.specs.State.{State}
-use Rattle.df_mean.specs.Meaning.{Meaning, Loop}
-use Rattle.df_mean.specs.Meaning as flows
-use Rattle.df_mean.specs.Definite.{AreDeclared}
-use Rattle.df_mean.specs.Evaluation.{evaluate}
-use Rattle.df_mean.specs.Execution.{declare_all, execute_call, execute_optional, print_all, go_on, goes, execute, execute_all, execute_branches}
-use Rattle.df_mean.specs.Modular.{Running, modular, plain_meaning}
-use Rattle.df_mean.proofs.Cases.{both, three, four}
-use Rattle.df_mean.proofs.Changing.{stmt_there}
-use Rattle.df_mean.proofs.Counting.{nothing_missing, parted}
-use Rattle.df_mean.proofs.Assigning.{place, carries, declared_more, grows, all_grow, branches_grow}
-use Rattle.df_mean.proofs.Stating.{Within, before_all, before_branches, return_updates}
-use Rattle.df_mean.proofs.Modulars.{program_of_modular}
+use Rattle.df_meaning.specs.Value.{Value, truth_of}
+use Rattle.df_meaning.specs.Outcome.{Outcome, Gives, Wrong, after}
+use Rattle.df_meaning.specs.State.{State}
+use Rattle.df_meaning.specs.Meaning.{Meaning, Loop}
+use Rattle.df_meaning.specs.Meaning as flows
+use Rattle.df_meaning.specs.Definite.{AreDeclared}
+use Rattle.df_meaning.specs.Evaluation.{evaluate}
+use Rattle.df_meaning.specs.Execution.{declare_all, execute_call, execute_optional, print_all, go_on, goes, execute, execute_all, execute_branches}
+use Rattle.df_meaning.specs.Modular.{Running, modular, plain_meaning}
+use Rattle.df_meaning.proofs.Cases.{both, three, four}
+use Rattle.df_meaning.proofs.Changing.{stmt_there}
+use Rattle.df_meaning.proofs.Counting.{nothing_missing, parted}
+use Rattle.df_meaning.proofs.Assigning.{place, carries, declared_more, grows, all_grow, branches_grow}
+use Rattle.df_meaning.proofs.Stating.{Within, before_all, before_branches, return_updates}
+use Rattle.df_meaning.proofs.Modulars.{program_of_modular}
 use Rattle.df_nterm.specs.Term.{Term, negation}
 use Rattle.df_nterm.specs.Meaning.{Interpretation, truth}
 use Rattle.df_nterm.specs.Expressions.{term_of}

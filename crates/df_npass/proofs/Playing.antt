@@ -3,10 +3,10 @@
 use Rattle.std.proofs.Common.{if◌then◌else◌, Some, ◌≡◌, ◌⊎◌, inl, inr, ℕ, ◌≤◌, Bool, true, false, ◌&&◌, List, [], ◌∷◌, ◌++◌, refl, sym, ap, ◌∙◌, arith}
 use Rattle.df_base.specs.declared.pos.Pos.{Pos}
 use Rattle.df_meaning.specs.declared.kind.Kind.{Kind}
-use Rattle.df_mean.specs.Value.{truth_of}
-use Rattle.df_mean.specs.Outcome.{Outcome, Wrong, TooDeep, Dismissed}
-use Rattle.df_mean.specs.State.{Handed}
-use Rattle.df_mean.proofs.Cases.{both}
+use Rattle.df_meaning.specs.Value.{truth_of}
+use Rattle.df_meaning.specs.Outcome.{Outcome, Wrong, TooDeep, Dismissed}
+use Rattle.df_meaning.specs.State.{Handed}
+use Rattle.df_meaning.proofs.Cases.{both}
 use Rattle.df_nterm.specs.Term.{Term}
 use Rattle.df_nterm.specs.Meaning.{Interpretation, truth}
 use Rattle.df_nterm.proofs.Below.{IsBelow, SameBelow, value_same}

@@ -11,20 +11,20 @@ use Rattle.df_lang.specs.Typing.{is_expr, are_exprs, are_clauses}
 use Rattle.df_lang.specs.Assignment.{Use, Assigned, Unreached, Reached, reads, reads_of_clauses, reads_of_measures, unassigned}
 use Rattle.df_meaning.specs.declared.kind.Kind.{Kind}
 use Rattle.df_meaning.specs.declared.kind.Kind.TheVariants as kinds
-use Rattle.df_mean.specs.Value.{Value, truth_of}
-use Rattle.df_mean.specs.Outcome.{Outcome, Gives, Wrong, Dismissed, after}
-use Rattle.df_mean.specs.Outcome as outcomes
-use Rattle.df_mean.specs.State.{Handed, State, store_with, with_store}
-use Rattle.df_mean.specs.Definite.{AreAssigned}
-use Rattle.df_mean.specs.Meaning.{Meaning}
-use Rattle.df_mean.specs.Evaluation.{evaluate}
-use Rattle.df_mean.specs.Execution.{evaluate_all, check_all}
-use Rattle.df_mean.specs.Whole.{check_call}
-use Rattle.df_mean.specs.Modular.{assume_all as assume_each, or_dismissed, measure_values}
-use Rattle.df_mean.proofs.Cases.{both}
-use Rattle.df_mean.proofs.Same.{evaluate_same}
-use Rattle.df_mean.proofs.Stating.{Within}
-use Rattle.df_mean.proofs.Counting.{parted, use_has, evaluate_counts, not_dismissed}
+use Rattle.df_meaning.specs.Value.{Value, truth_of}
+use Rattle.df_meaning.specs.Outcome.{Outcome, Gives, Wrong, Dismissed, after}
+use Rattle.df_meaning.specs.Outcome as outcomes
+use Rattle.df_meaning.specs.State.{Handed, State, store_with, with_store}
+use Rattle.df_meaning.specs.Definite.{AreAssigned}
+use Rattle.df_meaning.specs.Meaning.{Meaning}
+use Rattle.df_meaning.specs.Evaluation.{evaluate}
+use Rattle.df_meaning.specs.Execution.{evaluate_all, check_all}
+use Rattle.df_meaning.specs.Whole.{check_call}
+use Rattle.df_meaning.specs.Modular.{assume_all as assume_each, or_dismissed, measure_values}
+use Rattle.df_meaning.proofs.Cases.{both}
+use Rattle.df_meaning.proofs.Same.{evaluate_same}
+use Rattle.df_meaning.proofs.Stating.{Within}
+use Rattle.df_meaning.proofs.Counting.{parted, use_has, evaluate_counts, not_dismissed}
 use Rattle.df_nterm.specs.Term.{Term, sort_of_type}
 use Rattle.df_nterm.specs.Meaning.{Interpretation, truth, has_sort}
 use Rattle.df_nterm.specs.Meaning as meanings

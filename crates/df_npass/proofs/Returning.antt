@@ -6,8 +6,8 @@ use Rattle.df_base.specs.declared.pos.Pos.{Pos}
 use Rattle.df_lang.specs.Stmt.{Target, Update}
 use Rattle.df_lang.specs.Program.{Param, Method, types_of}
 use Rattle.df_lang.specs.Assignment.{Use, Assigned, Unreached, Reached, has_value, mark, assign, assign_all, unassigned, results_from, results_at}
-use Rattle.df_mean.proofs.Counting.{parted, use_has}
-use Rattle.df_mean.proofs.DefiniteRuns.{first_locals}
+use Rattle.df_meaning.proofs.Counting.{parted, use_has}
+use Rattle.df_meaning.proofs.DefiniteRuns.{first_locals}
 
 mark_keeps : (a : Assigned) (local k : ℕ) → has_value a k ≡ true → has_value (mark true a local) k ≡ true
 mark_keeps Unreached local k h = refl

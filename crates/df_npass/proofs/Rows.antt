@@ -11,7 +11,7 @@ use Rattle.df_meaning.specs.declared.kind.Kind.{Kind}
 use Rattle.df_meaning.specs.declared.kind.Kind.TheVariants.{Assert as Asserted, Requires, Ensures, Entry, Turn, Decreases, Range, Distinct}
 use Rattle.df_nterm.specs.Term.{Term, Is, of_one, literal, equal, less, implies, both, truth_term}
 use Rattle.std.specs.Option.{option_map_or}
-use Rattle.df_mean.specs.Modular.{Changed}
+use Rattle.df_meaning.specs.Modular.{Changed}
 use Rattle.df_nterm.specs.Expressions.{Environment, Condition, conditions_of}
 use Rattle.df_npass.specs.Rules.{Way, Joined, join, join_branches}
 use Rattle.df_npass.specs.Methods.{Obligation, obligations_of_method}

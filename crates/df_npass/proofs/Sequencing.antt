@@ -3,10 +3,10 @@ use Rattle.std.proofs.Common.{◌≡◌, inl, inr, ℕ, Bool, true, false, ◌||
 use Rattle.std.specs.Option.{option_map_or}
 use Rattle.df_lang.specs.declared.ty.Ty.{Ty}
 use Rattle.df_lang.specs.Assignment.{Assigned, join as meet, Flowing}
-use Rattle.df_mean.specs.Outcome.{Outcome, Dismissed, after}
-use Rattle.df_mean.specs.State.{Handed, State}
-use Rattle.df_mean.specs.Meaning as flows
-use Rattle.df_mean.specs.Execution.{goes}
+use Rattle.df_meaning.specs.Outcome.{Outcome, Dismissed, after}
+use Rattle.df_meaning.specs.State.{Handed, State}
+use Rattle.df_meaning.specs.Meaning as flows
+use Rattle.df_meaning.specs.Execution.{goes}
 use Rattle.df_nterm.specs.Term.{Term}
 use Rattle.df_nterm.specs.Meaning.{Interpretation}
 use Rattle.df_nterm.proofs.Below.{SameBelow}

@@ -5,10 +5,10 @@ use Rattle.df_lang.specs.declared.ty.Ty.{Ty}
 use Rattle.df_lang.specs.Stmt.{Variable}
 use Rattle.df_lang.specs.Program.{Program}
 use Rattle.df_lang.specs.Assignment.{Assigned, Unreached, Reached, has_value, mark, declare}
-use Rattle.df_mean.specs.Value.{Value}
-use Rattle.df_mean.specs.State.{Handed, State, with_local, without_local}
-use Rattle.df_mean.specs.Execution.{declare_all}
-use Rattle.df_mean.proofs.Counting.{assigned_has}
+use Rattle.df_meaning.specs.Value.{Value}
+use Rattle.df_meaning.specs.State.{Handed, State, with_local, without_local}
+use Rattle.df_meaning.specs.Execution.{declare_all}
+use Rattle.df_meaning.proofs.Counting.{assigned_has}
 use Rattle.df_nterm.specs.Term.{Term}
 use Rattle.df_nterm.specs.Meaning.{Interpretation}
 use Rattle.df_nterm.specs.Meaning as meanings

@@ -4,14 +4,14 @@ use Rattle.std.proofs.lemmas.Bool.{eqb-true, eq-eqb}
 use Rattle.std.specs.List.{AllByRecursion, list_all, list_any}
 use Rattle.std.specs.Option.{option_map_or}
 use Rattle.df_lang.specs.Stmt.{Target, Update, Stmt, Block, Var, Assign, CallOf, If, While, Break, Return, Assert, Print, Stmts, done, next, Branches, no_branch, branch}
-use Rattle.df_mean.specs.Modular.{Changed}
-use Rattle.df_mean.specs.Agreement.{is_changed}
-use Rattle.df_mean.proofs.Cases.{both}
+use Rattle.df_meaning.specs.Modular.{Changed}
+use Rattle.df_meaning.specs.Agreement.{is_changed}
+use Rattle.df_meaning.proofs.Cases.{both}
 use Rattle.df_nterm.specs.Term.{Term, negation}
 use Rattle.df_nterm.specs.Expressions.{Environment, term_of}
 use Rattle.df_npass.specs.Rules.{Way, narrowed, over, with_term, free_of, Moved, havoc, join_locals, are_same, assume_joined, paths_of, any_path, changed_alone, join, join_branches}
 use Rattle.df_npass.specs.Statements.{Setting, Flow, followed_by, then_next, Taken, give_all, pass_sources, pass_optional, each_once, changed_outside, changed_in_branches, changed_outside_if, declared_by_all, Parted, ways_of, path_behind, pass_stmt, pass_all, pass_branches}
-use Rattle.df_mean.specs.Modular.{changed_by, changed_by_all, changed_by_branches, changed_by_update, changed_by_variables}
+use Rattle.df_meaning.specs.Modular.{changed_by, changed_by_all, changed_by_branches, changed_by_update, changed_by_variables}
 
 abbrev Stays : ℕ → Environment → Way → Type 0
 Stays n env way = way.env n ≡ env n

@@ -4,14 +4,14 @@ use Rattle.std.proofs.lemmas.Bool.{eqb-true, eq-eqb}
 use Rattle.df_lang.specs.declared.ty.Ty.{Ty}
 use Rattle.df_lang.specs.declared.ty.Ty.TheVariants as types
 use Rattle.df_lang.specs.Program.{Param, Method, Program, types_of}
-use Rattle.df_mean.specs.Value.{Value, truth_of}
-use Rattle.df_mean.specs.Value as values
-use Rattle.df_mean.specs.Types.{has_type, have_types}
-use Rattle.df_mean.specs.Outcome.{Outcome, Gives, Dismissed, after}
-use Rattle.df_mean.specs.State.{Handed, Given as HandedGiven, Turned, store_with}
-use Rattle.df_mean.specs.Meaning.{Returned}
-use Rattle.df_mean.specs.Modular.{handed_results}
-use Rattle.df_mean.proofs.Cases.{both, joined}
+use Rattle.df_meaning.specs.Value.{Value, truth_of}
+use Rattle.df_meaning.specs.Value as values
+use Rattle.df_meaning.specs.Types.{has_type, have_types}
+use Rattle.df_meaning.specs.Outcome.{Outcome, Gives, Dismissed, after}
+use Rattle.df_meaning.specs.State.{Handed, Given as HandedGiven, Turned, store_with}
+use Rattle.df_meaning.specs.Meaning.{Returned}
+use Rattle.df_meaning.specs.Modular.{handed_results}
+use Rattle.df_meaning.proofs.Cases.{both, joined}
 use Rattle.df_nterm.specs.Term.{Sort, Numbers, Truths, Characters, Free, Term, of_one, free, sort_of_type}
 use Rattle.df_nterm.specs.Term as ops
 use Rattle.df_nterm.specs.Same.{same_sort}

@@ -8,14 +8,14 @@ use Rattle.df_lang.specs.declared.ty.Ty.TheVariants as types
 use Rattle.df_lang.specs.Newtype.{Newtype}
 use Rattle.df_lang.specs.Program.{Decl, NewtypeDecl, MethodDecl, Program, as_newtype, newtype_at}
 use Rattle.df_lang.specs.Typing.{is_type, is_newtype, is_decl, is_well_typed}
-use Rattle.df_mean.specs.Value.{Value}
-use Rattle.df_mean.specs.Value as values
-use Rattle.df_mean.specs.Types.{has_type}
-use Rattle.df_mean.specs.Outcome.{Gives, Dismissed}
-use Rattle.df_mean.specs.State.{State, Store, Locals, set_local, with_locals, with_store}
-use Rattle.df_mean.specs.Modular.{Changed, may_have, turned}
-use Rattle.df_mean.specs.Agreement.{is_changed}
-use Rattle.df_mean.proofs.Cases.{both, joined}
+use Rattle.df_meaning.specs.Value.{Value}
+use Rattle.df_meaning.specs.Value as values
+use Rattle.df_meaning.specs.Types.{has_type}
+use Rattle.df_meaning.specs.Outcome.{Gives, Dismissed}
+use Rattle.df_meaning.specs.State.{State, Store, Locals, set_local, with_locals, with_store}
+use Rattle.df_meaning.specs.Modular.{Changed, may_have, turned}
+use Rattle.df_meaning.specs.Agreement.{is_changed}
+use Rattle.df_meaning.proofs.Cases.{both, joined}
 use Rattle.df_npass.specs.Statements.{each_once}
 
 -- ---- each type has a value

@@ -6,16 +6,16 @@ use Rattle.df_lang.specs.declared.ty.Ty.{Ty}
 use Rattle.df_lang.specs.Program.{Program}
 use Rattle.df_lang.specs.Typing.{same_type, is_type, is_well_typed}
 use Rattle.df_lang.specs.Assignment.{Assigned, has_value}
-use Rattle.df_mean.specs.Value.{Value}
-use Rattle.df_mean.specs.Types.{has_type}
-use Rattle.df_mean.specs.Outcome.{Outcome, Dismissed, after}
-use Rattle.df_mean.specs.State.{Handed, Given as HandedGiven, Turned, State, Locals, store_with, with_store}
-use Rattle.df_mean.specs.Modular.{Changed, may_have, handed_turn}
-use Rattle.df_mean.specs.Agreement.{is_changed}
-use Rattle.df_mean.proofs.Cases.{both, joined}
-use Rattle.df_mean.proofs.Types.{same_type_equal}
-use Rattle.df_mean.proofs.Changing.{are_there}
-use Rattle.df_mean.proofs.Counting.{assigned_has}
+use Rattle.df_meaning.specs.Value.{Value}
+use Rattle.df_meaning.specs.Types.{has_type}
+use Rattle.df_meaning.specs.Outcome.{Outcome, Dismissed, after}
+use Rattle.df_meaning.specs.State.{Handed, Given as HandedGiven, Turned, State, Locals, store_with, with_store}
+use Rattle.df_meaning.specs.Modular.{Changed, may_have, handed_turn}
+use Rattle.df_meaning.specs.Agreement.{is_changed}
+use Rattle.df_meaning.proofs.Cases.{both, joined}
+use Rattle.df_meaning.proofs.Types.{same_type_equal}
+use Rattle.df_meaning.proofs.Changing.{are_there}
+use Rattle.df_meaning.proofs.Counting.{assigned_has}
 use Rattle.df_nterm.specs.Meaning.{Interpretation}
 use Rattle.df_nterm.specs.Meaning as meanings
 use Rattle.df_nterm.proofs.Sorted.{IsSorted}

@@ -11,17 +11,17 @@ use Rattle.df_lang.specs.Typing.{are_same_types, is_type, converts, is_expr, are
 use Rattle.df_lang.specs.Assignment.{Assigned, mark, assign, assign_all, reads_of_call, reads_of_source, reads_of_update, unassigned}
 use Rattle.df_meaning.specs.declared.kind.Kind.{Kind}
 use Rattle.df_meaning.specs.declared.kind.Kind.TheVariants as kinds
-use Rattle.df_mean.specs.Value.{Value, truth_of, same_value}
-use Rattle.df_mean.specs.Outcome.{Outcome, Gives, Wrong, after}
-use Rattle.df_mean.specs.State.{Handed, State, store_with, with_store, with_local}
-use Rattle.df_mean.specs.Meaning.{Meaning, Returned}
-use Rattle.df_mean.specs.Evaluation.{evaluate, converted}
-use Rattle.df_mean.specs.Execution.{Values, Taken, evaluate_all, execute_call, convert_all, execute_source, execute_sources, is_distinct, give_all, execute_update, execute_optional}
-use Rattle.df_mean.specs.Modular.{modular_call}
-use Rattle.df_mean.proofs.Cases.{both, three}
-use Rattle.df_mean.proofs.Stating.{Within, target_there}
-use Rattle.df_mean.proofs.Assigning.{place}
-use Rattle.df_mean.proofs.Counting.{parted}
+use Rattle.df_meaning.specs.Value.{Value, truth_of, same_value}
+use Rattle.df_meaning.specs.Outcome.{Outcome, Gives, Wrong, after}
+use Rattle.df_meaning.specs.State.{Handed, State, store_with, with_store, with_local}
+use Rattle.df_meaning.specs.Meaning.{Meaning, Returned}
+use Rattle.df_meaning.specs.Evaluation.{evaluate, converted}
+use Rattle.df_meaning.specs.Execution.{Values, Taken, evaluate_all, execute_call, convert_all, execute_source, execute_sources, is_distinct, give_all, execute_update, execute_optional}
+use Rattle.df_meaning.specs.Modular.{modular_call}
+use Rattle.df_meaning.proofs.Cases.{both, three}
+use Rattle.df_meaning.proofs.Stating.{Within, target_there}
+use Rattle.df_meaning.proofs.Assigning.{place}
+use Rattle.df_meaning.proofs.Counting.{parted}
 use Rattle.df_nterm.specs.Term.{Term}
 use Rattle.df_nterm.specs.Meaning.{Interpretation, truth, has_sort}
 use Rattle.df_nterm.specs.Meaning as meanings

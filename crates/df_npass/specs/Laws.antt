@@ -7,7 +7,7 @@ use Rattle.df_lang.specs.Program.{Method, Program, method_at}
 use Rattle.df_lang.specs.Typing.{is_well_typed}
 use Rattle.df_lang.specs.Assignment.{IsDefinitelyAssigned}
 use Rattle.df_meaning.specs.declared.kind.Kind.{Kind}
-use Rattle.df_mean.specs.Modular.{IsModularlyWrong, IsModularlySafe, IsSafe}
+use Rattle.df_meaning.specs.Modular.{IsModularlyWrong, IsModularlySafe, IsSafe}
 use Rattle.df_nterm.specs.Term.{Term}
 use Rattle.df_nterm.specs.Meaning.{Interpretation, truth}
 use Rattle.df_npass.specs.Methods.{Obligation, obligations_of_method, obligations}

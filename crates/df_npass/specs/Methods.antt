@@ -10,7 +10,7 @@ use Rattle.df_lang.specs.Typing.{locals_after_all}
 use Rattle.df_lang.specs.Measures.{method_measure}
 use Rattle.df_meaning.specs.declared.kind.Kind.{Kind}
 use Rattle.df_meaning.specs.declared.kind.Kind.TheVariants as kinds
-use Rattle.df_mean.specs.Modular.{Changed}
+use Rattle.df_meaning.specs.Modular.{Changed}
 use Rattle.df_nterm.specs.Term.{Sort, Numbers, Truths, Characters, Term, literal, truth_term, of_one, sort_of_type}
 use Rattle.df_nterm.specs.Term as ops
 use Rattle.df_nterm.specs.Same.{same_term}

@@ -6,7 +6,7 @@ use Rattle.df_base.specs.declared.pos.Pos.{Pos}
 use Rattle.df_lang.specs.declared.ty.Ty.{Ty}
 use Rattle.df_lang.specs.declared.ty.Ty.TheVariants as types
 use Rattle.df_meaning.specs.declared.kind.Kind.{Kind}
-use Rattle.df_mean.specs.Modular.{Changed}
+use Rattle.df_meaning.specs.Modular.{Changed}
 use Rattle.df_nterm.specs.Term.{Term, terms_of, of_one, free, disjunction, sort_of_type}
 use Rattle.df_nterm.specs.Term as ops
 use Rattle.df_nterm.specs.Same.{same_term}

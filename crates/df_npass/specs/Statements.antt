@@ -11,7 +11,7 @@ use Rattle.df_lang.specs.Measures.{loop_measure, method_measure}
 use Rattle.df_lang.specs.Groups.{group_at}
 use Rattle.df_meaning.specs.declared.kind.Kind.{Kind}
 use Rattle.df_meaning.specs.declared.kind.Kind.TheVariants as kinds
-use Rattle.df_mean.specs.Modular.{Changed, changed_by_all}
+use Rattle.df_meaning.specs.Modular.{Changed, changed_by_all}
 use Rattle.df_nterm.specs.Term.{Term, literal, negation}
 use Rattle.df_nterm.specs.Expressions.{Environment, term_of, conditions_of, equal_in, narrowing}
 use Rattle.df_nterm.specs.Measuring.{Measured, measured, are_below}

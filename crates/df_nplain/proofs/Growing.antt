@@ -2,8 +2,8 @@
 use Rattle.std.proofs.Common.{ℕ, zero, suc, List, [], ◌∷◌, Option, None, Some, refl, subst, arith}
 use Rattle.std.specs.Option.{option_map_or}
 use Rattle.df_lang.specs.declared.expr.Junction.{Junction as JunctionKind}
-use Rattle.df_mean.specs.Value as values
-use Rattle.df_mean.specs.Evaluation.{decides}
+use Rattle.df_meaning.specs.Value as values
+use Rattle.df_meaning.specs.Evaluation.{decides}
 use Rattle.df_nplain.specs.Kind.{Range}
 use Rattle.df_nplain.specs.Expr.{Expr, Number, Truth, Character, Local, Negate, Not, Sum, Product, Junction, Implies, Iff, Chain, As, Addends, no_addend, addend, Factors, no_factor, factor, Members, no_member, member, Links, no_link, link}
 use Rattle.df_nplain.specs.Stmt.{Operand, Text, Value, Call, Source, Single, Results, Update, Stmt, Block, Var, Assign, CallOf, If, While, Break, Return, Print, Stmts, done, next, Branches, no_branch, branch}

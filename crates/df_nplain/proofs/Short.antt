@@ -3,7 +3,7 @@ use Rattle.std.proofs.Common.{◌≡◌, ◌<◌, ◌^◌, ℕ, true, List, [], 
 use Rattle.std.specs.List.{list_all}
 use Rattle.std.specs.declared.alloc.Global.{Global}
 use Rattle.std.proofs.lemmas.Bool.{lt-ltb}
-use Rattle.df_mean.proofs.Cases.{joined}
+use Rattle.df_meaning.proofs.Cases.{joined}
 use Rattle.df_nplain.specs.declared.stmt.Operand as declared_operand
 use Rattle.df_nplain.specs.declared.stmt.Operand.TheVariants as operands
 use Rattle.df_nplain.specs.declared.stmt.Stmt as declared

@@ -1,10 +1,10 @@
 -- Printed text stays in front.
 use Rattle.std.proofs.Common.{◌≡◌, ℕ, zero, suc, List, [], ◌∷◌, ◌++◌, Option, Some, None, refl, sym, ap, subst, ◌∙◌, append_assoc, append-nil}
 use Rattle.std.specs.Option.{option_map_or}
-use Rattle.df_mean.specs.Value.{text_of}
-use Rattle.df_mean.specs.Value as values
-use Rattle.df_mean.specs.Execution.{Taken, is_distinct}
-use Rattle.df_mean.specs.Texts.{Extends}
+use Rattle.df_meaning.specs.Value.{text_of}
+use Rattle.df_meaning.specs.Value as values
+use Rattle.df_meaning.specs.Execution.{Taken, is_distinct}
+use Rattle.df_meaning.specs.Texts.{Extends}
 use Rattle.df_nplain.specs.Stmt.{Operand, Call, Source, Single, Results, Update, Variable, Stmt, Block, Var, Assign, CallOf, If, While, Break, Return, Print, Stmts, done, next, Branches, no_branch, branch}
 use Rattle.df_nplain.specs.Plain.{Method, Plain, method_at}
 use Rattle.df_nplain.specs.Outcome.{Outcome, Gives, Wrong, TooDeep, Stuck}

@@ -8,9 +8,9 @@ use Rattle.df_lang.specs.declared.expr.FactorOperator.TheVariants as factors
 use Rattle.df_lang.specs.declared.expr.Junction.{Junction as JunctionKind}
 use Rattle.df_lang.specs.declared.expr.Comparison.{Comparison}
 use Rattle.df_lang.specs.declared.expr.Comparison.TheVariants as comparisons
-use Rattle.df_mean.specs.Value.{Value, same_truth, same_value}
-use Rattle.df_mean.specs.Value as values
-use Rattle.df_mean.specs.Evaluation.{code_of, summed, decides}
+use Rattle.df_meaning.specs.Value.{Value, same_truth, same_value}
+use Rattle.df_meaning.specs.Value as values
+use Rattle.df_meaning.specs.Evaluation.{code_of, summed, decides}
 use Rattle.df_nplain.specs.Kind.{Range, Between, Unbounded, Kind}
 use Rattle.df_nplain.specs.Kind as kinds
 use Rattle.df_nplain.specs.Expr.{Expr, Number, Truth, Character, Local, Negate, Not, Sum, Product, Junction, Implies, Iff, Chain, As, Addends, no_addend, addend, Factors, no_factor, factor, Members, no_member, member, Links, no_link, link}

@@ -1,7 +1,7 @@
 -- Execution of statements without ghosts, over what calls and turns of loops mean.
 use Rattle.std.specs.Prelude.{ℕ, List, [], ◌∷◌, ◌++◌, Option, None, Some, if◌then◌else◌}
-use Rattle.df_mean.specs.Value as values
-use Rattle.df_mean.specs.Execution.{Taken, is_distinct}
+use Rattle.df_meaning.specs.Value as values
+use Rattle.df_meaning.specs.Execution.{Taken, is_distinct}
 use Rattle.df_nplain.specs.Expr.{Expr}
 use Rattle.df_nplain.specs.Stmt.{Operand, Text, Value, Call, Source, Single, Results, Update, Variable, Stmt, Block, Var, Assign, CallOf, If, While, Break, Return, Print, Stmts, done, next, Branches, no_branch, branch}
 use Rattle.df_nplain.specs.Outcome.{Outcome, Gives, Wrong, after}

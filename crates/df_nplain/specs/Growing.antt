@@ -1,6 +1,6 @@
 -- That more depth keeps an answer.
 use Rattle.std.specs.Prelude.{◌≡◌, ◌≤◌, ℕ, List}
-use Rattle.df_mean.specs.Value.{Value}
+use Rattle.df_meaning.specs.Value.{Value}
 use Rattle.df_nplain.specs.Stmt.{Stmt}
 use Rattle.df_nplain.specs.Plain.{Method, Plain}
 use Rattle.df_nplain.specs.Outcome.{Outcome, Gives, Wrong, TooDeep, Stuck}

@@ -1,6 +1,6 @@
 -- What calls and turns of loops mean: execution is a functional over it.
 use Rattle.std.specs.Prelude.{ℕ, List}
-use Rattle.df_mean.specs.Value.{Value}
+use Rattle.df_meaning.specs.Value.{Value}
 use Rattle.df_nplain.specs.Expr.{Expr}
 use Rattle.df_nplain.specs.Stmt.{Stmts}
 use Rattle.df_nplain.specs.Plain.{Plain}

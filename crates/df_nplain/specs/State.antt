@@ -1,7 +1,7 @@
 -- States of a run without ghosts.
 use Rattle.std.specs.Prelude.{ℕ, List, ◌++◌, slice_get, Option, None, Some}
-use Rattle.df_mean.specs.Value.{Value, text_of}
-use Rattle.df_mean.specs.State.{Locals, set_local}
+use Rattle.df_meaning.specs.Value.{Value, text_of}
+use Rattle.df_meaning.specs.State.{Locals, set_local}
 
 -- the locals by their numbers, and the text printed so far
 pub record State : Type 0 where

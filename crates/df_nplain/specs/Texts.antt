@@ -1,7 +1,7 @@
 -- That printed text stays.
 use Rattle.std.specs.Prelude.{◌≡◌, ℕ, List}
-use Rattle.df_mean.specs.Value.{Value}
-use Rattle.df_mean.specs.Texts.{Extends}
+use Rattle.df_meaning.specs.Value.{Value}
+use Rattle.df_meaning.specs.Texts.{Extends}
 use Rattle.df_nplain.specs.Stmt.{Stmt}
 use Rattle.df_nplain.specs.Plain.{Method, Plain}
 use Rattle.df_nplain.specs.Outcome.{Gives}

@@ -1,7 +1,7 @@
 -- Which values are of a kind.
 use Rattle.std.specs.Prelude.{ℤ, Bool, true, false, ◌&&◌, int_le, nat_lt, List, [], ◌∷◌}
-use Rattle.df_mean.specs.Value.{Value}
-use Rattle.df_mean.specs.Value as values
+use Rattle.df_meaning.specs.Value.{Value}
+use Rattle.df_meaning.specs.Value as values
 use Rattle.df_nplain.specs.Kind.{Range, Between, Unbounded, Kind}
 use Rattle.df_nplain.specs.Kind as kinds
 

@@ -1,7 +1,7 @@
 -- Whole runs: calls run their bodies, and loops their turns, as deep as the depth reaches.
 use Rattle.std.specs.Prelude.{ℕ, zero, suc, List, [], ◌∷◌, length, if◌then◌else◌}
 use Rattle.std.specs.Option.{option_map_or}
-use Rattle.df_mean.specs.Value.{Value}
+use Rattle.df_meaning.specs.Value.{Value}
 use Rattle.df_nplain.specs.Plain.{Method, Plain, method_at}
 use Rattle.df_nplain.specs.Outcome.{Outcome, Gives, TooDeep, Stuck, after}
 use Rattle.df_nplain.specs.State.{State, begin, value_at}

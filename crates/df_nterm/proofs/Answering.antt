@@ -19,16 +19,16 @@ use Rattle.df_lang.specs.Expr.{Expr, Number, Truth, Character, Local, Negate, No
 use Rattle.df_lang.specs.Typing.{same_type, is_integer, is_arithmetic, casts, converts, compares, is_expr, are_addends, are_factors, are_members, are_links}
 use Rattle.df_lang.specs.Assignment.{reads, reads_of_addends, reads_of_factors, reads_of_members, reads_of_links}
 use Rattle.df_meaning.specs.declared.kind.Kind.TheVariants as kinds
-use Rattle.df_mean.specs.Value.{Value, number_of, truth_of, same_truth, same_value}
-use Rattle.df_mean.specs.Value as values
-use Rattle.df_mean.specs.Types.{is_in}
-use Rattle.df_mean.specs.Outcome.{Outcome, Gives, Wrong, after}
-use Rattle.df_mean.specs.State.{State}
-use Rattle.df_mean.specs.Meaning.{Meaning}
-use Rattle.df_mean.specs.Evaluation as meant
-use Rattle.df_mean.specs.Evaluation.{as_type, converted, compare, decides, value_of_local, evaluate, evaluate_addends, evaluate_factors, evaluate_junction, evaluate_implications, evaluate_equivalences, evaluate_links}
-use Rattle.df_mean.proofs.Cases.{both, three, four}
-use Rattle.df_mean.proofs.Types.{same_type_equal}
+use Rattle.df_meaning.specs.Value.{Value, number_of, truth_of, same_truth, same_value}
+use Rattle.df_meaning.specs.Value as values
+use Rattle.df_meaning.specs.Types.{is_in}
+use Rattle.df_meaning.specs.Outcome.{Outcome, Gives, Wrong, after}
+use Rattle.df_meaning.specs.State.{State}
+use Rattle.df_meaning.specs.Meaning.{Meaning}
+use Rattle.df_meaning.specs.Evaluation as meant
+use Rattle.df_meaning.specs.Evaluation.{as_type, converted, compare, decides, value_of_local, evaluate, evaluate_addends, evaluate_factors, evaluate_junction, evaluate_implications, evaluate_equivalences, evaluate_links}
+use Rattle.df_meaning.proofs.Cases.{both, three, four}
+use Rattle.df_meaning.proofs.Types.{same_type_equal}
 use Rattle.df_nterm.specs.Term.{Term, Terms, no_term, term, literal, negative, iff, sort_of_type, Numbers, Truths}
 use Rattle.df_nterm.specs.Meaning.{Interpretation, has_sort, value, truth, number}
 use Rattle.df_nterm.specs.Meaning as meanings

@@ -13,15 +13,15 @@ use Rattle.df_lang.specs.declared.expr.Junction.TheVariants as junctions
 use Rattle.df_lang.specs.declared.expr.Comparison.{Comparison}
 use Rattle.df_lang.specs.declared.expr.Comparison.TheVariants as comparisons
 use Rattle.df_lang.specs.Expr.{Expr, Number, Truth, Character, Local, Negate, Not, Sum, Product, Junction, Implies, Iff, Chain, As, Convert, Addends, no_addend, addend, Factors, no_factor, factor, Members, no_member, member, Links, no_link, link}
-use Rattle.df_mean.specs.Value.{Value, Number as NumberValue}
-use Rattle.df_mean.specs.Value as values
-use Rattle.df_mean.specs.Types.{has_type}
+use Rattle.df_meaning.specs.Value.{Value, Number as NumberValue}
+use Rattle.df_meaning.specs.Value as values
+use Rattle.df_meaning.specs.Types.{has_type}
 use Rattle.df_nterm.specs.Term.{Free, Op, Term, node, Terms, no_term, term, conjunction, disjunction, truth_term, literal, negative, iff}
 use Rattle.df_nterm.specs.Term as ops
 use Rattle.df_nterm.specs.Meaning.{Interpretation, apply, value}
 use Rattle.df_nterm.specs.Meaning as meanings
 use Rattle.df_nterm.specs.Expressions.{Environment, Condition, term_of, sum_of, product_of, members_of, implication_of, equivalence_of, comparisons_of, summed, multiplied, number_in, value_in, compared, equal_in, joined, goes_on, on_path, narrowed_path, under, in_range, divides, narrowing, conditions_under, conditions_of, conditions_of_addends, conditions_of_factors, conditions_of_junction, conditions_of_implication, conditions_of_members, conditions_of_links}
-use Rattle.df_mean.proofs.Cases.{both, joined as and_joined}
+use Rattle.df_meaning.proofs.Cases.{both, joined as and_joined}
 
 abbrev pub op_below : ℕ → Op → Bool
 op_below n (ops.FreeTerm free) = nat_lt free.number n

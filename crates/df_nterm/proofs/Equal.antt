@@ -4,8 +4,8 @@ use Rattle.std.proofs.lemmas.Bool.{eqb-true}
 use Rattle.std.proofs.lemmas.Bool.Decides.{Decides-int_eq}
 use Rattle.df_lang.specs.declared.ty.Ty.{Ty}
 use Rattle.df_lang.specs.Typing.{same_type}
-use Rattle.df_mean.proofs.Cases.{both, four}
-use Rattle.df_mean.proofs.Types.{same_type_equal}
+use Rattle.df_meaning.proofs.Cases.{both, four}
+use Rattle.df_meaning.proofs.Types.{same_type_equal}
 use Rattle.df_nterm.specs.Term.{Sort, Numbers, Truths, Characters, Free, Op, Number, FreeTerm, Plus, Times, Div, Mod, Code, Chr, Is, Equal, AtMost, Not, And, Or, Implies, Iff, Term, node, Terms, no_term, term}
 use Rattle.df_nterm.specs.Same.{same_sort, same_free, number_of_op, literal_in, free_in, type_in, same_op, same_term, same_terms}
 

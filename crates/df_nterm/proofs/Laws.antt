@@ -6,15 +6,15 @@ use Rattle.df_lang.specs.Expr.{Expr}
 use Rattle.df_lang.specs.Stmt.{Measure}
 use Rattle.df_lang.specs.Typing.{is_expr}
 use Rattle.df_lang.specs.Assignment.{Use, Reached, reads, unassigned}
-use Rattle.df_mean.specs.Value.{Value}
-use Rattle.df_mean.specs.Outcome.{Outcome, Gives, after}
-use Rattle.df_mean.specs.State.{State}
-use Rattle.df_mean.specs.Meaning.{Meaning}
-use Rattle.df_mean.specs.Evaluation.{evaluate}
-use Rattle.df_mean.specs.Modular.{measure_values}
-use Rattle.df_mean.proofs.Cases.{both}
-use Rattle.df_mean.proofs.Same.{evaluate_same}
-use Rattle.df_mean.proofs.Counting.{evaluate_counts, not_dismissed, use_there}
+use Rattle.df_meaning.specs.Value.{Value}
+use Rattle.df_meaning.specs.Outcome.{Outcome, Gives, after}
+use Rattle.df_meaning.specs.State.{State}
+use Rattle.df_meaning.specs.Meaning.{Meaning}
+use Rattle.df_meaning.specs.Evaluation.{evaluate}
+use Rattle.df_meaning.specs.Modular.{measure_values}
+use Rattle.df_meaning.proofs.Cases.{both}
+use Rattle.df_meaning.proofs.Same.{evaluate_same}
+use Rattle.df_meaning.proofs.Counting.{evaluate_counts, not_dismissed, use_there}
 use Rattle.df_nterm.specs.Meaning.{Interpretation, value}
 use Rattle.df_nterm.specs.Expressions.{Environment, term_of, conditions_of}
 use Rattle.df_nterm.specs.Measuring.{Measured, measured, conditions_of_measure}

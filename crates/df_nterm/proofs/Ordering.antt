@@ -1,9 +1,9 @@
 -- The formula of an order on measures.
 use Rattle.std.proofs.Common.{◌≡◌, ℕ, ℤ, pos, int_le, int_lt, nat_lt, Bool, true, false, not, ◌&&◌, ◌||◌, List, [], ◌∷◌, map, refl, ap, ◌∙◌, arith}
 use Rattle.std.proofs.lemmas.Int.{ints}
-use Rattle.df_mean.specs.Value.{Value, same_value, truth_of}
-use Rattle.df_mean.specs.Value as values
-use Rattle.df_mean.specs.Order as order
+use Rattle.df_meaning.specs.Value.{Value, same_value, truth_of}
+use Rattle.df_meaning.specs.Value as values
+use Rattle.df_meaning.specs.Order as order
 use Rattle.df_nterm.specs.Term.{Sort, Numbers, Truths, Characters, Term, sort_of_type, both, either}
 use Rattle.df_nterm.specs.Meaning.{Interpretation, has_sort, value}
 use Rattle.df_nterm.specs.Measuring.{Measured, below_of, same_of, is_below, is_same, are_below}

@@ -4,7 +4,7 @@ use Rattle.std.specs.List.{AllByRecursion}
 use Rattle.df_lang.specs.declared.ty.Ty.{Ty}
 use Rattle.df_lang.specs.declared.expr.Junction.{Junction as JunctionKind}
 use Rattle.df_lang.specs.Expr.{Expr, Number, Truth, Character, Local, Negate, Not, Sum, Product, Junction, Implies, Iff, Chain, As, Convert, Addends, no_addend, addend, Factors, no_factor, factor, Members, no_member, member, Links, no_link, link}
-use Rattle.df_mean.specs.Outcome.{Outcome, Wrong}
+use Rattle.df_meaning.specs.Outcome.{Outcome, Wrong}
 use Rattle.df_nterm.specs.Term.{Term, literal, negative}
 use Rattle.df_nterm.specs.Meaning.{Interpretation, truth}
 use Rattle.df_nterm.specs.Expressions.{Environment, Condition, on_path, narrowed_path, under, term_of, summed, multiplied, number_in, compared, goes_on, in_range, divides, narrowing, conditions_under, conditions_of_addends, conditions_of_factors, conditions_of_junction, conditions_of_implication, conditions_of_members, conditions_of_links}

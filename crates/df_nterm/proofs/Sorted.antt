@@ -16,12 +16,12 @@ use Rattle.df_lang.specs.Expr.{Expr, Number, Truth, Character, Local, Negate, No
 use Rattle.df_lang.specs.Program.{Program}
 use Rattle.df_lang.specs.Typing.{same_type, is_integer, is_arithmetic, casts, converts, is_expr, are_addends, are_factors, are_members, are_links}
 use Rattle.df_lang.specs.Assignment.{Use, reads}
-use Rattle.df_mean.specs.Value.{Value, truth_of}
-use Rattle.df_mean.specs.Value as values
-use Rattle.df_mean.specs.Types.{has_type}
-use Rattle.df_mean.specs.State.{State}
-use Rattle.df_mean.proofs.Cases.{both, three, four}
-use Rattle.df_mean.proofs.Types.{same_type_equal}
+use Rattle.df_meaning.specs.Value.{Value, truth_of}
+use Rattle.df_meaning.specs.Value as values
+use Rattle.df_meaning.specs.Types.{has_type}
+use Rattle.df_meaning.specs.State.{State}
+use Rattle.df_meaning.proofs.Cases.{both, three, four}
+use Rattle.df_meaning.proofs.Types.{same_type_equal}
 use Rattle.df_nterm.specs.Term.{Numbers, Truths, Characters, Term, Terms, no_term, term, conjunction, truth_term, sort_of_type}
 use Rattle.df_nterm.specs.Meaning.{Interpretation, has_sort, is_code, character_of, number, value}
 use Rattle.df_nterm.specs.Meaning as meanings

@@ -1,7 +1,7 @@
 -- Conditions in order.
 use Rattle.std.proofs.Common.{◌≡◌, ◌⊎◌, inl, inr, Bool, true, false, if◌then◌else◌, List, [], ◌∷◌, ◌++◌, refl, sym, ap, ◌∙◌, subst}
 use Rattle.std.specs.List.{AllByRecursion}
-use Rattle.df_mean.specs.Outcome.{Outcome, Gives, Wrong, Dismissed, after}
+use Rattle.df_meaning.specs.Outcome.{Outcome, Gives, Wrong, Dismissed, after}
 use Rattle.df_nterm.specs.Meaning.{Interpretation, truth}
 use Rattle.df_nterm.specs.Expressions.{Condition}
 use Rattle.df_nterm.specs.Laws.{told}

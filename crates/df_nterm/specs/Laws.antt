@@ -6,13 +6,13 @@ use Rattle.df_lang.specs.Expr.{Expr}
 use Rattle.df_lang.specs.Stmt.{Measure}
 use Rattle.df_lang.specs.Typing.{is_expr}
 use Rattle.df_lang.specs.Assignment.{Use, reads}
-use Rattle.df_mean.specs.Value.{Value, Truth}
-use Rattle.df_mean.specs.Outcome.{Outcome, Gives, Wrong}
-use Rattle.df_mean.specs.State.{State}
-use Rattle.df_mean.specs.Meaning.{Meaning}
-use Rattle.df_mean.specs.Evaluation.{evaluate}
-use Rattle.df_mean.specs.Modular.{measure_values}
-use Rattle.df_mean.specs.Order as order
+use Rattle.df_meaning.specs.Value.{Value, Truth}
+use Rattle.df_meaning.specs.Outcome.{Outcome, Gives, Wrong}
+use Rattle.df_meaning.specs.State.{State}
+use Rattle.df_meaning.specs.Meaning.{Meaning}
+use Rattle.df_meaning.specs.Evaluation.{evaluate}
+use Rattle.df_meaning.specs.Modular.{measure_values}
+use Rattle.df_meaning.specs.Order as order
 use Rattle.df_nterm.specs.Term.{sort_of_type}
 use Rattle.df_nterm.specs.Meaning.{Interpretation, has_sort, value, truth}
 use Rattle.df_nterm.specs.Meaning as meanings

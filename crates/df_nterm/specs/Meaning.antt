@@ -4,8 +4,8 @@ use Rattle.std.specs.Ordering.{int_eq}
 use Rattle.std.specs.Int.{int_div_euclid, int_rem_euclid}
 use Rattle.std.specs.List.{list_all, list_any}
 use Rattle.df_lang.specs.Program.{Program}
-use Rattle.df_mean.specs.Value.{Value, Truth, Character, Number, number_of, truth_of, same_truth, same_value}
-use Rattle.df_mean.specs.Types.{has_type}
+use Rattle.df_meaning.specs.Value.{Value, Truth, Character, Number, number_of, truth_of, same_truth, same_value}
+use Rattle.df_meaning.specs.Types.{has_type}
 use Rattle.df_nterm.specs.Term.{Sort, Numbers, Truths, Characters, Free, Op, Term, node, Terms, no_term, term}
 use Rattle.df_nterm.specs.Term as ops
 

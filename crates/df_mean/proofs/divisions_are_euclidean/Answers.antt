@@ -1,5 +1,0 @@
-use Rattle.df_mean.proofs.Division.{divisions_are_euclidean}
-use Rattle.df_mean.proofs.divisions_are_euclidean.Goals as goal
-
-pub returns : goal.returns
-returns c = divisions_are_euclidean

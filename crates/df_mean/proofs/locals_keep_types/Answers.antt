@@ -1,5 +1,0 @@
-use Rattle.df_mean.proofs.Laws.{locals_keep_types}
-use Rattle.df_mean.proofs.locals_keep_types.Goals as goal
-
-pub returns : goal.returns
-returns c = locals_keep_types

@@ -1,5 +1,0 @@
-use Rattle.df_mean.proofs.Endless.{loops_never_end}
-use Rattle.df_mean.proofs.loops_never_end.Goals as goal
-
-pub returns : goal.returns
-returns c = loops_never_end

@@ -1,3 +1,0 @@
-pub mod Interval
-pub mod Newtype
-pub mod View
