@@ -9,8 +9,7 @@ ghost use Rattle.df_axiom.specs.Schemas as spec;
 
 use crate::templates::{Need, Piece, Source, Template, Test};
 use df_form::{Lit, Op, Pair, World};
-use df_lang::Ty;
-use df_types::Interval;
+use df_lang::{Interval, Ty};
 use std::alloc::{AllocError, Global};
 
 /// A named term, which is to be of the operation.

@@ -2,12 +2,12 @@
 //! and rows by their entries.
 #![tactic(auto)]
 
+use df_base::Pos;
 use df_form::{
     Combination, Draft, Free, Lit, Multiple, Node, Nodes, Op, Pair, Sequent, Sort, Step, World,
 };
-use df_lang::Ty;
+use df_lang::{Decl, Declared, Interval, Newtype, Program, Ty};
 use df_level::Row;
-use df_types::{Declared, Interval, Newtype};
 use std::alloc::Global;
 use std::test::Fail;
 
@@ -90,6 +90,7 @@ fn declared(alloc: Global, name: u32, text: &str) -> Result<Declared, Fail> {
     Ok(Declared {
         name,
         text: String::from_str(alloc, text)?,
+        pos: Pos { line: 1, col: 9 },
     })
 }
 
@@ -103,7 +104,7 @@ fn i8(alloc: Global) -> Result<Newtype, Fail> {
 }
 
 /// newtype byte = x: int | 0 <= x < 256
-pub fn byte(alloc: Global) -> Result<Newtype, Fail> {
+fn byte(alloc: Global) -> Result<Newtype, Fail> {
     Ok(Newtype {
         declared: declared(alloc, 5, "byte")?,
         interval: Interval::new(0, 255).ok_or("ordered")?,
@@ -111,9 +112,12 @@ pub fn byte(alloc: Global) -> Result<Newtype, Fail> {
     })
 }
 
-/// `i8` and `byte`.
-pub fn newtypes(alloc: Global) -> Result<Vec<Newtype>, Fail> {
-    Ok(vec![in alloc; i8(alloc)?, byte(alloc)?]?)
+/// The program of `i8` and `byte`.
+pub fn program(alloc: Global) -> Result<Program, Fail> {
+    let first = i8(alloc)?;
+    let second = byte(alloc)?;
+    let decls = vec![in alloc; Decl::Newtype(first), Decl::Newtype(second)]?;
+    Ok(Program::new(decls))
 }
 
 /// Puts the terms on the stack.
@@ -157,11 +161,11 @@ pub fn conclude<'a>(
 /// The sequent of these hypotheses and this goal.
 pub fn sequent<'a>(
     alloc: Global,
-    newtypes: &'a [Newtype],
+    program: &'a Program,
     hypotheses: &[Terms],
     goal: Terms,
 ) -> Result<Sequent<'a>, Fail> {
-    let mut draft = Draft::new(alloc, World::Newtypes(newtypes));
+    let mut draft = Draft::new(alloc, World { program });
     for hypothesis in hypotheses {
         assume(&mut draft, *hypothesis)?;
     }

@@ -9,7 +9,6 @@ pub mod Lists
 pub mod Values
 pub mod Sorts
 pub mod Making
-pub mod Types
 pub mod Worlds
 pub mod Arithmetic
 pub mod Literals

@@ -2,24 +2,13 @@
 use Rattle.std.proofs.Common.{◌≡◌, ◌<◌, ℕ, length, get_or, sym, List, Option, Some, None, slice_get, refl, ap, ◌∙◌}
 use Rattle.std.specs.Option.{option_map, option_and_then}
 use Rattle.std.proofs.lemmas.Option.{slice_get-map, slice_get-get_or}
-use Rattle.df_types.specs.View.{newtypes_of, newtype_of}
-use Rattle.df_types.specs.declared.newtype.Newtype.{Newtype}
 use Rattle.df_lang.specs.declared.decl.Decl.{Decl}
 use Rattle.df_lang.specs.DeclView.{decl_of, program_with}
-use Rattle.df_form.specs.World.{Ends, ends_at, ends_of_newtype, of_newtypes, ends_of_decl, of_program}
-use Rattle.df_form.specs.WorldView.{ends_of}
-use Rattle.df_form.proofs.Types.{ends_of_newtypes}
+use Rattle.df_form.specs.World.{Ends, ends_at, ends_of_decl, of_program}
 
 -- what stands at a place of a list
 pub got : {A : Type 0} (xs : List A) (n : ℕ) (x : A) → n < length xs → x ≡ get_or xs n x → slice_get xs n ≡ Some x
 got xs n x less e = slice_get-get_or xs n x less ∙ ap (λ y. Some y) (sym e)
-
-pub newtype_ends : (newtypes : List Newtype) (number : ℕ) (found : Option Newtype) → slice_get newtypes number ≡ found → ends_at (of_newtypes (newtypes_of newtypes)) number ≡ option_map (λ (newtype : Newtype). ends_of newtype.interval) found
-newtype_ends newtypes number found e = ends_of_newtypes (newtypes_of newtypes) number (option_map newtype_of found) (slice_get-map newtype_of newtypes number ∙ ap (option_map newtype_of) e) ∙ by found
-  where
-    by : (found : Option Newtype) → option_and_then ends_of_newtype (option_map newtype_of found) ≡ option_map (λ (newtype : Newtype). ends_of newtype.interval) found
-    by None = refl
-    by (Some newtype) = refl
 
 pub decl_ends : (decls : List Decl) (number : ℕ) (found : Option Decl) → slice_get decls number ≡ found → ends_at (of_program (program_with decls)) number ≡ option_and_then (λ (decl : Decl). ends_of_decl (decl_of decl)) found
 decl_ends decls number found e =

@@ -1,6 +1,4 @@
 pub use Rattle.df_meaning.specs.Value
-pub use Rattle.df_types.specs.Newtype
-pub use Rattle.df_types.specs.View
 pub mod World
 pub mod WorldView
 pub mod Types

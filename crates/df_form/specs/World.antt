@@ -1,12 +1,9 @@
 -- What formulas know of the program that they speak of.
 use Rattle.std.specs.Prelude.{ℕ, ℤ, ◌&&◌, Bool, int_le, List, map, slice_get, Option, None, Some}
 use Rattle.std.specs.Option.{option_and_then}
-use Rattle.df_types.specs.Newtype as types
-use Rattle.df_types.specs.View.{newtypes_of}
 use Rattle.df_lang.specs.Program.{Program, Decl, NewtypeDecl, MethodDecl}
 use Rattle.df_lang.specs.View.{program_of}
 use Rattle.df_form.specs.declared.world.World as declared
-use Rattle.df_form.specs.declared.world.World.TheVariants as worlds
 
 -- the whole numbers from one end to the other, both inside
 pub record Ends : Type 0 where
@@ -23,13 +20,6 @@ pub record World : Type 0 where
 abbrev pub ends_at : World → ℕ → Option Ends
 ends_at world number = option_and_then (λ (found : Option Ends). found) (slice_get world.newtypes number)
 
-abbrev pub ends_of_newtype : types.Newtype → Option Ends
-ends_of_newtype n = Some (record { low = n.low; high = n.high })
-
--- newtypes by themselves, by their numbers
-abbrev pub of_newtypes : List types.Newtype → World
-of_newtypes newtypes = record { newtypes = map ends_of_newtype newtypes }
-
 abbrev pub ends_of_decl : Decl → Option Ends
 ends_of_decl (NewtypeDecl n) = Some (record { low = n.low; high = n.high })
 ends_of_decl (MethodDecl method) = None
@@ -40,5 +30,4 @@ of_program program = record { newtypes = map ends_of_decl program.decls }
 
 -- the code's world, without where it lies in memory
 abbrev pub world_of : declared.World → World
-world_of (worlds.Newtypes newtypes) = of_newtypes (newtypes_of newtypes.now)
-world_of (worlds.Program program) = of_program (program_of program.now)
+world_of world = of_program (program_of world.program.now)

@@ -1,5 +1,5 @@
 -- The code's intervals as ends.
-use Rattle.df_types.specs.declared.interval.Interval.{Interval}
+use Rattle.df_lang.specs.declared.interval.Interval.{Interval}
 use Rattle.df_form.specs.World.{Ends}
 
 abbrev pub ends_of : Interval → Ends

@@ -6,16 +6,12 @@ ghost use Rattle.df_form.specs.World.{world_of, ends_at, ends_of_decl};
 ghost use Rattle.df_form.specs.WorldView.{ends_of};
 ghost use Rattle.df_lang.specs.DeclView.{decl_of};
 
-use df_lang::{Decl, Program};
-use df_types::{Interval, Newtype};
+use df_lang::{Decl, Interval, Program};
 
-/// What formulas know of the program that they speak of: the interval of each newtype.
+/// What formulas know of the program that they speak of: the interval of each newtype, by the number of its declaration.
 #[derive(Clone, Copy)]
-pub enum World<'a> {
-    /// Newtypes by themselves, by their numbers.
-    Newtypes(&'a [Newtype]),
-    /// The newtypes among the declarations of a program, by the numbers of these.
-    Program(&'a Program),
+pub struct World<'a> {
+    pub program: &'a Program,
 }
 
 /// The interval of a declaration, if it is a newtype.
@@ -23,7 +19,7 @@ fn interval_of(decl: &Decl) -> Option<Interval>
     ensures { option_map ends_of result ≡ ends_of_decl (decl_of decl.now) }
 {
     match decl {
-        Decl::Newtype(newtype) => Interval::new(newtype.interval.low, newtype.interval.high),
+        Decl::Newtype(newtype) => Some(newtype.interval),
         Decl::Method(_) => None,
     }
 }
@@ -33,15 +29,9 @@ impl<'a> World<'a> {
     pub fn interval(self, number: usize) -> Option<Interval>
         ensures { option_map ends_of result ≡ ends_at (world_of self.entry) number }
     {
-        match self {
-            World::Newtypes(newtypes) => match newtypes.get(number) {
-                Some(newtype) => Some(newtype.interval),
-                None => None,
-            },
-            World::Program(program) => match program.decls.get(number) {
-                Some(decl) => interval_of(decl),
-                None => None,
-            },
+        match self.program.decls.get(number) {
+            Some(decl) => interval_of(decl),
+            None => None,
         }
     }
 }

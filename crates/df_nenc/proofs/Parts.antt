@@ -11,7 +11,7 @@ use Rattle.df_lang.specs.Expr.{Expr, Local, Negate, Not, Sum, Product, Junction,
 use Rattle.df_lang.specs.Program.{Program}
 use Rattle.df_lang.specs.Typing.{same_type, is_arithmetic, casts, converts, is_expr, are_addends, are_factors, are_members, are_links}
 use Rattle.df_form.specs.Node.{Node}
-use Rattle.df_mean.proofs.Cases.{both, three, four}
+use Rattle.df_meaning.proofs.Cases.{both, three, four}
 use Rattle.df_nterm.specs.Term.{Sort, Numbers, Truths, Term, sort_of_type}
 use Rattle.df_nterm.specs.Expressions.{term_of}
 use Rattle.df_nterm.proofs.Sorted.{integer_sort, arithmetic_integer}

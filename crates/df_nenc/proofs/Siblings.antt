@@ -11,7 +11,7 @@ use Rattle.df_lang.specs.Expr.{Expr, Addends, addend, Factors, factor, Members, 
 use Rattle.df_lang.specs.Program.{Program}
 use Rattle.df_lang.specs.Typing.{compares, is_expr, are_addends, are_factors, are_members, are_links}
 use Rattle.df_form.specs.Node.{Node}
-use Rattle.df_mean.proofs.Cases.{both, three}
+use Rattle.df_meaning.proofs.Cases.{both, three}
 use Rattle.df_nterm.specs.Term.{Numbers, Truths, sort_of_type}
 use Rattle.df_nterm.proofs.Sorted.{integer_sort, arithmetic_integer}
 use Rattle.df_nenc.specs.Growing.{Grows}

@@ -14,8 +14,8 @@ use Rattle.df_lang.specs.declared.expr.Comparison.TheVariants as comparisons
 use Rattle.df_lang.specs.Expr.{Expr, Number, Truth, Character, Local, Negate, Not, Sum, Product, Junction, Implies, Iff, Chain, As, Convert, Addends, no_addend, addend, Factors, no_factor, factor, Members, no_member, member, Links, no_link, link}
 use Rattle.df_lang.specs.Program.{Program}
 use Rattle.df_lang.specs.Typing.{same_type, is_integer, is_arithmetic, casts, converts, is_expr, are_addends, are_factors, are_members, are_links}
-use Rattle.df_mean.proofs.Cases.{both, three, four}
-use Rattle.df_mean.proofs.Types.{same_type_equal}
+use Rattle.df_meaning.proofs.Cases.{both, three, four}
+use Rattle.df_meaning.proofs.Types.{same_type_equal}
 use Rattle.df_nterm.specs.Term.{Sort, Numbers, Truths, Term, term, conjunction, truth_term, sort_of_type}
 use Rattle.df_nterm.specs.Expressions.{Environment, term_of, sum_of, product_of, members_of, implication_of, equivalence_of, comparisons_of, summed, multiplied, number_in, value_in, compared, joined, goes_on}
 use Rattle.df_nterm.proofs.Sorted.{integer_sort, arithmetic_integer, converted_sort}

@@ -4,7 +4,7 @@ use Rattle.std.proofs.lemmas.List.{length-map}
 use Rattle.std.proofs.lemmas.Option.{slice_get-get_or}
 use Rattle.df_lang.specs.declared.ty.Ty.{Ty}
 use Rattle.df_form.specs.Node.{Node}
-use Rattle.df_mean.specs.Modular.{Changed}
+use Rattle.df_meaning.specs.Modular.{Changed}
 use Rattle.df_nterm.specs.Term.{Sort, sort_of_type}
 use Rattle.df_nterm.specs.Expressions.{Environment, equal_in}
 use Rattle.df_nenc.specs.Growing.{Grows}

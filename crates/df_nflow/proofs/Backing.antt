@@ -1,7 +1,7 @@
 -- Locals that have again the terms that they had.
 use Rattle.std.proofs.Common.{◌≡◌, ◌⊎◌, inl, inr, ℕ, List, [], ◌∷◌, ◌++◌, refl, sym, ap}
 use Rattle.std.proofs.lemmas.Bool.{eq-eqb, ne_eqb}
-use Rattle.df_mean.proofs.Stating.{is_or_not}
+use Rattle.df_meaning.proofs.Stating.{is_or_not}
 use Rattle.df_nterm.specs.Term.{Term}
 use Rattle.df_nterm.specs.Expressions.{Environment}
 use Rattle.df_npass.specs.Rules.{with_term}

@@ -5,7 +5,7 @@ use Rattle.df_lemmas.proofs.Alls.{all_joined}
 use Rattle.df_lang.specs.declared.ty.Ty.{Ty}
 use Rattle.df_form.specs.Node.{Node}
 use Rattle.df_nenc.specs.Growing.{Grows}
-use Rattle.df_mean.specs.Modular.{Changed}
+use Rattle.df_meaning.specs.Modular.{Changed}
 use Rattle.df_nterm.specs.Term.{Term}
 use Rattle.df_nterm.specs.Expressions.{Environment}
 use Rattle.df_npass.specs.Rules.{Said, Way, Joined, join_branches, paths_of, any_path}

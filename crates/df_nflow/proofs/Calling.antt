@@ -7,7 +7,7 @@ use Rattle.df_lang.specs.declared.ty.Ty.{Ty}
 use Rattle.df_lang.specs.Expr.{Expr}
 use Rattle.df_lang.specs.Program.{Param, Method, Program, types_of}
 use Rattle.df_lang.specs.Typing.{is_type, is_expr, are_exprs, are_clauses, are_measures, are_stmts, is_method}
-use Rattle.df_mean.proofs.Cases.{four}
+use Rattle.df_meaning.proofs.Cases.{four}
 use Rattle.df_form.specs.Node.{Node}
 use Rattle.df_nterm.specs.Term.{Term}
 use Rattle.df_nenc.specs.Growing.{Grows}

@@ -3,7 +3,7 @@ use Rattle.std.proofs.Common.{◌≡◌, Bool, true, false, List, [], ◌++◌, 
 use Rattle.std.proofs.lemmas.List.{map-append}
 use Rattle.df_lemmas.proofs.Alls.{all_joined}
 use Rattle.df_lang.specs.Stmt.{Clause}
-use Rattle.df_mean.specs.Modular.{Changed}
+use Rattle.df_meaning.specs.Modular.{Changed}
 use Rattle.df_npass.specs.Rules.{Said, Way, Joined, paths_of, any_path, join}
 use Rattle.df_npass.specs.Statements.{Flow, ways_of}
 use Rattle.df_nflow.specs.Methods.{also_returns, at_end, owed_at, ended_over}

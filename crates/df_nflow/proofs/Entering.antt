@@ -9,8 +9,8 @@ use Rattle.df_lemmas.proofs.Lists.{get_below}
 use Rattle.df_lang.specs.declared.ty.Ty.{Ty}
 use Rattle.df_lang.specs.Program.{Param, Method, Program, types_of}
 use Rattle.df_lang.specs.Typing.{same_type, is_type, are_clauses, are_measures, are_stmts, is_method}
-use Rattle.df_mean.specs.Modular.{Changed}
-use Rattle.df_mean.proofs.Stating.{same_self, Within, before_all, within_front}
+use Rattle.df_meaning.specs.Modular.{Changed}
+use Rattle.df_meaning.proofs.Stating.{same_self, Within, before_all, within_front}
 use Rattle.df_form.specs.Node.{Node}
 use Rattle.df_nterm.specs.Term.{Sort, Numbers, Truths, Characters, Term, literal, sort_of_type}
 use Rattle.df_nterm.specs.Expressions.{Environment}

@@ -2,7 +2,7 @@
 use Rattle.std.proofs.Common.{◌≡◌, ℕ, suc, ◌+◌, List, [], ◌∷◌, ◌++◌, length, refl, sym, ap, ◌∙◌, arith}
 use Rattle.std.proofs.lemmas.List.{length-map}
 use Rattle.df_lang.specs.Program.{Param}
-use Rattle.df_mean.specs.Modular.{Changed}
+use Rattle.df_meaning.specs.Modular.{Changed}
 use Rattle.df_npass.specs.Methods.{locals_from}
 use Rattle.df_nflow.specs.Views.{changed_of, changed_in}
 use Rattle.df_nflow.specs.declared.way.Changed as declared

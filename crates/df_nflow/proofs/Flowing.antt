@@ -4,7 +4,7 @@ use Rattle.std.proofs.lemmas.List.{map-append}
 use Rattle.std.proofs.lemmas.Option.{same_Some}
 use Rattle.std.specs.Option.{option_map_or}
 use Rattle.df_lemmas.proofs.Alls.{all_joined}
-use Rattle.df_mean.specs.Modular.{Changed}
+use Rattle.df_meaning.specs.Modular.{Changed}
 use Rattle.df_npass.specs.Rules.{Said, Way, Moved}
 use Rattle.df_npass.specs.Statements.{Flow, goes_on, saying, behind, followed_by, then_next, moved_behind}
 use Rattle.df_nflow.specs.Ways.{back, Arrival, arrival, IsSortedWay}

@@ -2,7 +2,7 @@
 use Rattle.std.proofs.Common.{◌≡◌, ℕ, suc, Bool, true, false, ◌||◌, List, [], ◌∷◌, ◌++◌, Option, refl, sym, subst, append_assoc}
 use Rattle.std.proofs.Math.Bool.{or_assoc}
 use Rattle.df_lang.specs.Stmt.{Target}
-use Rattle.df_mean.specs.Modular.{Changed}
+use Rattle.df_meaning.specs.Modular.{Changed}
 use Rattle.df_nterm.specs.Term.{Term}
 use Rattle.df_npass.specs.Rules.{Said, Way, Moved, havoc}
 use Rattle.df_npass.specs.Statements.{Flow, goes_on, saying, then_next, Taken, give_all, Parted, last_of, first_of}

@@ -1,7 +1,7 @@
 -- What the code does where ways come together is what is said of it.
 use Rattle.std.proofs.Common.{◌≡◌, ◌<◌, ◌≤◌, ℕ, suc, Bool, true, false, if◌then◌else◌, List, [], ◌∷◌, ◌++◌, map, get_or, length, Option, sym, ap, ◌∙◌, subst, append-nil, arith}
 use Rattle.df_lemmas.proofs.Lists.{head_same}
-use Rattle.df_mean.specs.Modular.{Changed}
+use Rattle.df_meaning.specs.Modular.{Changed}
 use Rattle.df_nterm.specs.Term.{Term}
 use Rattle.df_nterm.specs.Expressions.{Environment}
 use Rattle.df_npass.specs.Rules.{Said, Way, Moved, over, with_term, free_of, join_locals, join, join_branches}

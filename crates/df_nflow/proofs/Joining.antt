@@ -2,7 +2,7 @@
 use Rattle.std.proofs.Common.{◌≡◌, ℕ, zero, suc, pos, Bool, true, false, ◌&&◌, if◌then◌else◌, List, [], ◌∷◌, ◌++◌, map, drop, slice_index_or, Option, refl, ap, ◌∙◌}
 use Rattle.df_lemmas.proofs.Lists.{head_same, tail_same}
 use Rattle.df_lang.specs.declared.ty.Ty.{Ty}
-use Rattle.df_mean.specs.Modular.{Changed}
+use Rattle.df_meaning.specs.Modular.{Changed}
 use Rattle.df_nterm.specs.Term.{Term, literal}
 use Rattle.df_nterm.specs.Same.{same_term}
 use Rattle.df_nterm.specs.Expressions.{Environment, equal_in}

@@ -3,7 +3,7 @@ use Rattle.std.proofs.Common.{◌≡◌, ℕ, Bool, true, false, List, [], ◌�
 use Rattle.std.proofs.lemmas.List.{map-append}
 use Rattle.df_lang.specs.declared.ty.Ty.{Ty}
 use Rattle.df_form.specs.Node.{Node}
-use Rattle.df_mean.specs.Modular.{Changed}
+use Rattle.df_meaning.specs.Modular.{Changed}
 use Rattle.df_nenc.specs.Tree.{sort_of_term, trees_in}
 use Rattle.df_nenc.proofs.Parts.{env_sorted}
 use Rattle.df_nterm.specs.Expressions.{Environment}

@@ -8,7 +8,7 @@ use Rattle.df_lang.specs.Expr.{Expr, Number, Truth, Character, Local, Negate, No
 use Rattle.df_lang.specs.Stmt.{Clause, Measure}
 use Rattle.df_lang.specs.Program.{Program}
 use Rattle.df_lang.specs.Typing.{same_type, is_type, is_arithmetic, converts, casts, compares, is_expr, are_addends, are_factors, are_members, are_links, are_exprs, are_clauses, are_measures}
-use Rattle.df_mean.proofs.Stating.{Within}
+use Rattle.df_meaning.proofs.Stating.{Within}
 
 -- the second part of two truths is replaced
 last_one : (a b c : Bool) → (b ≡ true → c ≡ true) → (a && b) ≡ true → (a && c) ≡ true

@@ -10,7 +10,7 @@ use Rattle.df_lang.specs.declared.ty.Ty.TheVariants as tys
 use Rattle.df_lang.specs.Program.{Program}
 use Rattle.df_lang.specs.Typing.{is_expr, are_clauses, are_measures}
 use Rattle.df_meaning.specs.declared.kind.Kind.TheVariants as kinds
-use Rattle.df_mean.specs.Modular.{Changed}
+use Rattle.df_meaning.specs.Modular.{Changed}
 use Rattle.df_nterm.specs.Term.{Term, negation}
 use Rattle.df_nterm.specs.Expressions.{term_of}
 use Rattle.df_nterm.specs.Measuring.{Measured, measured}

@@ -3,8 +3,8 @@ use Rattle.std.proofs.Common.{◌≡◌, ◌⊎◌, inl, inr, ℕ, ◌==◌, Boo
 use Rattle.std.specs.List.{list_any}
 use Rattle.std.proofs.lemmas.Bool.{eq-eqb, ne_eqb}
 use Rattle.std.proofs.lemmas.List.{map-append}
-use Rattle.df_mean.specs.Modular.{Changed}
-use Rattle.df_mean.proofs.Stating.{is_or_not}
+use Rattle.df_meaning.specs.Modular.{Changed}
+use Rattle.df_meaning.proofs.Stating.{is_or_not}
 use Rattle.df_npass.specs.Statements.{each_once}
 use Rattle.df_nflow.specs.Views.{changed_of, changed_in}
 use Rattle.df_nflow.specs.declared.way.Changed as declared

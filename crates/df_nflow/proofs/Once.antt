@@ -1,7 +1,7 @@
 -- Locals, each once: of what is left out it matters which are among it, and nothing else.
 use Rattle.std.proofs.Common.{◌≡◌, ℕ, ◌==◌, Bool, true, false, ◌||◌, if◌then◌else◌, List, [], ◌∷◌, refl, ap, ◌∙◌}
 use Rattle.std.specs.List.{list_any}
-use Rattle.df_mean.specs.Modular.{Changed}
+use Rattle.df_meaning.specs.Modular.{Changed}
 use Rattle.df_npass.specs.Statements.{each_once}
 
 abbrev pub is_out : List ℕ → ℕ → Bool

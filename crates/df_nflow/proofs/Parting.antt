@@ -17,7 +17,7 @@ use Rattle.df_lemmas.proofs.Alls.{all_joined}
 use Rattle.df_lemmas.proofs.Truths.{three}
 use Rattle.df_form.specs.Node.{Node}
 use Rattle.df_nenc.specs.Growing.{Grows}
-use Rattle.df_mean.specs.Modular.{Changed}
+use Rattle.df_meaning.specs.Modular.{Changed}
 use Rattle.df_nenc.proofs.Siblings.{drop_next}
 use Rattle.df_nterm.specs.Expressions.{Environment, term_of}
 use Rattle.df_nterm.specs.Measuring.{Measured}

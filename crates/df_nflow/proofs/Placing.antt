@@ -9,11 +9,11 @@ use Rattle.df_lang.specs.Expr.{Expr}
 use Rattle.df_lang.specs.Stmt.{Operand, Text, Value, Target, Call, Source, Single, Results, Update, Measure, Stmt, Block, Var, Assign, CallOf, If, While, Break, Return, Assert, Print, Stmts, done, next, Branches, no_branch, branch}
 use Rattle.df_lang.specs.Program.{Method, Program, method_at, types_of}
 use Rattle.df_lang.specs.Typing.{same_type, are_same_types, is_type, is_expr, are_exprs, are_clauses, are_measures, is_operand, is_call, are_results, is_source, source_types, is_target, is_update, may_update, are_numbered, variable_numbers, variable_types, locals_after, locals_after_all, locals_after_branches, is_measured, is_stmt, are_stmts, are_branches}
-use Rattle.df_mean.specs.Modular.{plain_meaning}
-use Rattle.df_mean.proofs.Assigning.{place}
-use Rattle.df_mean.proofs.Cases.{both, three, four}
-use Rattle.df_mean.proofs.Changing.{stmt_there}
-use Rattle.df_mean.proofs.Stating.{Within, before_all, before_branches, return_updates}
+use Rattle.df_meaning.specs.Modular.{plain_meaning}
+use Rattle.df_meaning.proofs.Assigning.{place}
+use Rattle.df_meaning.proofs.Cases.{both, three, four}
+use Rattle.df_meaning.proofs.Changing.{stmt_there}
+use Rattle.df_meaning.proofs.Stating.{Within, before_all, before_branches, return_updates}
 use Rattle.df_npass.specs.Statements.{changed_outside, changed_outside_if}
 use Rattle.df_npass.proofs.Altering.{outside_there, if_there}
 use Rattle.df_nflow.specs.Typed.{are_at, is_operand_over, is_call_over, is_source_over, is_target_over, is_update_over, may_update_over, is_over, are_over, are_branches_over}

@@ -1,7 +1,7 @@
 -- Locals one after the other: havoc, updates and joins.
 use Rattle.std.proofs.Common.{◌≡◌, ℕ, suc, Bool, true, false, if◌then◌else◌, List, [], ◌∷◌, ◌++◌, subst, append-nil}
 use Rattle.df_lang.specs.Stmt.{Target}
-use Rattle.df_mean.specs.Modular.{Changed}
+use Rattle.df_meaning.specs.Modular.{Changed}
 use Rattle.df_nterm.specs.Term.{Term}
 use Rattle.df_npass.specs.Rules.{Said, Way, Moved, over, with_term, free_of, assume_type, havoc}
 use Rattle.df_npass.specs.Statements.{saying, Taken, taken_by, assert_equal, give_all}

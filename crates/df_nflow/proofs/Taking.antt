@@ -1,8 +1,8 @@
 -- Of one way the changed locals alone are kept.
 use Rattle.std.proofs.Common.{◌≡◌, ◌⊎◌, inl, inr, ℕ, ◌==◌, if◌then◌else◌, List, [], ◌∷◌, map, refl, sym, ap, ◌∙◌}
 use Rattle.std.proofs.lemmas.Bool.{eq-eqb}
-use Rattle.df_mean.specs.Modular.{Changed}
-use Rattle.df_mean.proofs.Stating.{is_or_not}
+use Rattle.df_meaning.specs.Modular.{Changed}
+use Rattle.df_meaning.proofs.Stating.{is_or_not}
 use Rattle.df_nterm.specs.Term.{Term}
 use Rattle.df_nterm.specs.Expressions.{Environment}
 use Rattle.df_npass.specs.Rules.{with_term, changed_alone}

@@ -8,7 +8,7 @@ use Rattle.std.proofs.lemmas.Option.{slice_get-get_or, slice_get_within}
 use Rattle.df_lang.specs.declared.ty.Ty.{Ty}
 use Rattle.df_form.specs.Node.{Node}
 use Rattle.df_form.specs.Sorting.{IsTable}
-use Rattle.df_mean.proofs.Stating.{is_or_not, same_self}
+use Rattle.df_meaning.proofs.Stating.{is_or_not, same_self}
 use Rattle.df_nterm.specs.Term.{Sort, Numbers, Truths, Characters, Op, Term, node, Terms, no_term, term, sort_of_type}
 use Rattle.df_nterm.specs.Same.{same_sort, number_of_op, literal_in, free_in, type_in, same_op, same_term, same_terms}
 use Rattle.df_nterm.proofs.Equal.{term_is}

@@ -6,7 +6,7 @@ use Rattle.std.proofs.lemmas.List.{append-nil, length-set}
 use Rattle.std.proofs.lemmas.Option.{same_Some, slice_get-get_or}
 use Rattle.df_lang.specs.declared.ty.Ty.{Ty}
 use Rattle.df_form.specs.Node.{Node}
-use Rattle.df_mean.proofs.Stating.{is_or_not}
+use Rattle.df_meaning.proofs.Stating.{is_or_not}
 use Rattle.df_nterm.specs.Term.{Term, sort_of_type}
 use Rattle.df_nenc.specs.Tree.{sort_of_term, tree_at, trees_in}
 use Rattle.df_nterm.specs.Expressions.{Environment}

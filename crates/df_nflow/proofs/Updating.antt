@@ -3,7 +3,7 @@ use Rattle.std.proofs.Common.{◌≡◌, ◌⊎◌, inl, inr, ℕ, ◌==◌, Boo
 use Rattle.std.proofs.lemmas.Bool.{eq-eqb, ne_eqb}
 use Rattle.std.specs.List.{list_any}
 use Rattle.df_lang.specs.Stmt.{Target}
-use Rattle.df_mean.proofs.Stating.{is_or_not}
+use Rattle.df_meaning.proofs.Stating.{is_or_not}
 use Rattle.df_meaning.specs.declared.kind.Kind.TheVariants as kinds
 use Rattle.df_nterm.specs.Term.{Term}
 use Rattle.df_nterm.specs.Expressions.{Environment, equal_in}

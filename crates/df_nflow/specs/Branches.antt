@@ -1,7 +1,7 @@
 -- Branches that end where they began.
 use Rattle.std.specs.Prelude.{◌≡◌, Bool, List, ◌++◌, map}
 use Rattle.std.specs.List.{AllZip}
-use Rattle.df_mean.specs.Modular.{Changed}
+use Rattle.df_meaning.specs.Modular.{Changed}
 use Rattle.df_nterm.specs.Expressions.{Environment}
 use Rattle.df_npass.specs.Rules.{Way}
 use Rattle.df_npass.specs.Statements.{Parted}

@@ -5,7 +5,7 @@ use Rattle.df_lang.specs.Stmt.{Clause}
 use Rattle.df_lang.specs.Measures.{method_measure}
 use Rattle.df_lang.specs.Program.{Method, Program}
 use Rattle.df_lang.specs.Typing.{is_method}
-use Rattle.df_mean.specs.Modular.{Changed}
+use Rattle.df_meaning.specs.Modular.{Changed}
 use Rattle.df_meaning.specs.declared.kind.Kind.TheVariants as kinds
 use Rattle.df_nterm.specs.Expressions.{Environment}
 use Rattle.df_nterm.specs.Measuring.{measured}

@@ -2,7 +2,7 @@
 use Rattle.std.specs.Prelude.{◌≡◌, ℕ, Bool, true, false, List, [], ◌++◌, map, Option, None, Some}
 use Rattle.df_lang.specs.declared.ty.Ty.{Ty}
 use Rattle.df_nterm.specs.Term.{Term}
-use Rattle.df_mean.specs.Modular.{Changed}
+use Rattle.df_meaning.specs.Modular.{Changed}
 use Rattle.df_nterm.specs.Expressions.{Environment}
 use Rattle.df_nterm.specs.Measuring.{Measured}
 use Rattle.df_npass.specs.Rules.{Said, Way, Moved, Joined, over}

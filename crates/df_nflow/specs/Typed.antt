@@ -7,7 +7,7 @@ use Rattle.df_lang.specs.declared.ty.Ty.TheVariants as types
 use Rattle.df_lang.specs.Stmt.{Operand, Text, Value, Target, Call, Source, Single, Results, Update, Stmt, Block, Var, Assign, CallOf, If, While, Break, Return, Assert, Print, Stmts, done, next, Branches, no_branch, branch}
 use Rattle.df_lang.specs.Program.{Method, Program, method_at, types_of}
 use Rattle.df_lang.specs.Typing.{same_type, are_same_types, is_expr, are_exprs, are_clauses, are_measures, are_results, source_types}
-use Rattle.df_mean.specs.Modular.{Changed}
+use Rattle.df_meaning.specs.Modular.{Changed}
 use Rattle.df_npass.specs.Statements.{changed_outside, changed_outside_if}
 
 -- the local is of the type

@@ -3,7 +3,7 @@ use Rattle.std.specs.Prelude.{◌≡◌, ◌<◌, ℕ, List, length, map, slice_
 use Rattle.std.specs.List.{AllByRecursion}
 use Rattle.df_lang.specs.declared.ty.Ty.{Ty}
 use Rattle.df_lang.specs.View.{program_of}
-use Rattle.df_mean.specs.Modular.{Changed}
+use Rattle.df_meaning.specs.Modular.{Changed}
 use Rattle.df_form.specs.Node.{Node}
 use Rattle.df_nterm.specs.Term.{sort_of_type}
 use Rattle.df_nterm.specs.Measuring.{Measured}

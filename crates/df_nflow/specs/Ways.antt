@@ -1,7 +1,7 @@
 -- Ways of which the terms of some locals are kept.
 use Rattle.std.specs.Prelude.{◌≡◌, ℕ, List, [], ◌∷◌, map, Option}
 use Rattle.std.specs.List.{AllByRecursion}
-use Rattle.df_mean.specs.Modular.{Changed}
+use Rattle.df_meaning.specs.Modular.{Changed}
 use Rattle.df_nterm.specs.Term.{Term, sort_of_type}
 use Rattle.df_nterm.specs.Expressions.{Environment}
 use Rattle.df_nenc.specs.Tree.{sort_of_term}

@@ -4,7 +4,7 @@ ghost use Rattle.std.specs.Prelude.{◌≡◌, ◌++◌, Some, map, OnOk, IfOk};
 ghost use Rattle.std.specs.Option.{option_map};
 ghost use Rattle.df_groups.specs.Parts.{stmts_in, branches_in};
 ghost use Rattle.df_lang.specs.StmtView.{variable_of, update_of, stmt_of};
-ghost use Rattle.df_mean.specs.Modular.{changed_by as all_changed_by, changed_by_all, changed_by_branches, changed_by_update, changed_by_variables};
+ghost use Rattle.df_meaning.specs.Modular.{changed_by as all_changed_by, changed_by_all, changed_by_branches, changed_by_update, changed_by_variables};
 ghost use Rattle.df_lang.specs.Typing.{variable_numbers};
 ghost use Rattle.df_nflow.specs.Views.{changed_in};
 ghost use Rattle.df_npass.specs.Statements as pure;

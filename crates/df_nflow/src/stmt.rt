@@ -13,7 +13,7 @@ ghost use Rattle.df_lang.specs.declared.ty.Ty.TheVariants as types;
 ghost use Rattle.df_lang.specs.Typing.{are_clauses, are_measures, is_expr};
 ghost use Rattle.df_meaning.specs.declared.kind.Kind.TheVariants as kinds;
 ghost use Rattle.df_nenc.specs.Growing.{Grows};
-ghost use Rattle.df_mean.specs.Modular.{Changed as ChangedLocal};
+ghost use Rattle.df_meaning.specs.Modular.{Changed as ChangedLocal};
 ghost use Rattle.df_nenc.specs.Standing.{IsTerm, Stands};
 ghost use Rattle.df_nenc.specs.Tree.{path_in, tree_at};
 ghost use Rattle.df_nflow.specs.Branches.{Ended, Parts};

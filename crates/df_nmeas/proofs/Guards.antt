@@ -10,7 +10,7 @@ use Rattle.df_lang.specs.ExprView.{expr_of, links_of}
 use Rattle.df_lang.specs.Measures.{guard_measure, measure_of_number}
 use Rattle.df_lang.specs.Typing.{same_type, compares, is_expr, are_links}
 use Rattle.df_form.specs.Node.{Node}
-use Rattle.df_mean.proofs.Cases.{three}
+use Rattle.df_meaning.proofs.Cases.{three}
 use Rattle.df_nenc.specs.declared.condition.Condition as declared_condition
 use Rattle.df_nenc.specs.Encoding.{IsOver}
 use Rattle.df_nenc.specs.Views.{links_in}

@@ -5,7 +5,7 @@ use Rattle.std.proofs.lemmas.List.{get_or-set_same, get_or-set_other, length-set
 use Rattle.std.proofs.lemmas.List.Folds.{list_any-append}
 use Rattle.std.specs.List.{AllByRecursion}
 use Rattle.df_lemmas.proofs.Alls.{all_joined}
-use Rattle.df_mean.proofs.Stating.{is_or_not}
+use Rattle.df_meaning.proofs.Stating.{is_or_not}
 use Rattle.df_nowed.specs.Listing.{is_among, AreFlags}
 
 -- nothing is known

@@ -4,7 +4,7 @@ use Rattle.std.proofs.lemmas.Bool.{eq-eqb, ne_eqb, and_from}
 use Rattle.std.proofs.lemmas.Bool.Decides.{Decides-int_eq}
 use Rattle.std.specs.Ordering.{int_eq}
 use Rattle.df_lang.specs.Typing.{same_type}
-use Rattle.df_mean.proofs.Stating.{is_or_not, same_self}
+use Rattle.df_meaning.proofs.Stating.{is_or_not, same_self}
 use Rattle.df_form.specs.Node.{Node}
 use Rattle.df_form.specs.Sorting.{IsTable}
 use Rattle.df_nterm.specs.Term.{Sort, Numbers, Truths, Characters, Free, Op, Term, node, Terms, no_term, term}

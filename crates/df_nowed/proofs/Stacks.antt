@@ -6,7 +6,7 @@ use Rattle.std.proofs.lemmas.List.{map-append, length-map, length-append, drop-m
 use Rattle.std.proofs.lemmas.Option.{same_Some, slice_get_within}
 use Rattle.std.proofs.Math.Seq.{take-append_seam, drop-append_seam}
 use Rattle.df_lemmas.proofs.Lists.{all_parts, all_weaker, head_same, tail_same, map_agree}
-use Rattle.df_mean.proofs.Stating.{is_or_not}
+use Rattle.df_meaning.proofs.Stating.{is_or_not}
 use Rattle.df_form.specs.declared.node.Sort.{Sort}
 use Rattle.df_form.specs.Node.{Node}
 use Rattle.df_form.specs.Sorting.{IsTable, is_well_sorted, sort_at, takes}

@@ -8,8 +8,8 @@ use Rattle.df_lang.specs.declared.ty.Ty.TheVariants as types
 use Rattle.df_lang.specs.Newtype.{Newtype}
 use Rattle.df_lang.specs.Program.{Decl, NewtypeDecl, MethodDecl, Program, as_newtype}
 use Rattle.df_meaning.specs.Value as logic
-use Rattle.df_mean.specs.Value.{Value, Truth, Character, Number, Text, number_of, truth_of, same_truth, same_value}
-use Rattle.df_mean.specs.Types.{holds, has_type}
+use Rattle.df_meaning.specs.Value.{Value, Truth, Character, Number, Text, number_of, truth_of, same_truth, same_value}
+use Rattle.df_meaning.specs.Types.{holds, has_type}
 use Rattle.df_form.specs.declared.node.Sort.{Sort}
 use Rattle.df_form.specs.declared.node.Sort.TheVariants as sorts
 use Rattle.df_form.specs.declared.node.Free.{Free}

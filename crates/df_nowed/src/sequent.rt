@@ -212,7 +212,7 @@ impl MethodObligations {
         ensures owed { IfOk result (λ sequent. obligation_of self.now.declaration obligation.now.pos obligation.now.kind (sequent_of sequent) ≡ obligation_in self.now.declaration self.now.nodes self.now.known.items obligation.now) }
     {
         let mut renumbering = Renumbering {
-            draft: Draft::new(alloc, World::Program(program)),
+            draft: Draft::new(alloc, World { program }),
             terms: vec![in alloc; None; self.nodes.len()]?,
         };
         renumbering.assume_all(

@@ -2,7 +2,7 @@
 
 use df_cases::{
     BOOL, BYTE, CHAR, I8, INT, Line, NAT, P, Q, Signed, Terms, UNDECLARED, X, Y, Z, literals,
-    newtypes, sequent, step, steps,
+    program, sequent, step, steps,
 };
 use df_form::{Op, Sequent, World};
 use df_kern::{AxiomFault, Checker, KernFault, check, connective, instance};
@@ -576,9 +576,9 @@ fn checks_each(
 #[test]
 fn accepts_logs_or_tells_where_they_are_refused(rt: HostRuntime) -> Result<(), Fail> {
     let alloc = rt.alloc();
-    let newtypes = newtypes(alloc)?;
+    let program = program(alloc)?;
     for (hypotheses, goal, first, cases) in SHEETS.iter() {
-        let sequent = sequent(alloc, newtypes.as_slice(), *hypotheses, *goal)?;
+        let sequent = sequent(alloc, &program, *hypotheses, *goal)?;
         checks_each(&rt, alloc, &sequent, *first, *cases)?;
     }
     Ok(())
@@ -587,8 +587,8 @@ fn accepts_logs_or_tells_where_they_are_refused(rt: HostRuntime) -> Result<(), F
 #[test]
 fn adds_clauses(rt: HostRuntime) -> Result<(), Fail> {
     let alloc = rt.alloc();
-    let newtypes = newtypes(alloc)?;
-    let sequent = sequent(alloc, newtypes.as_slice(), &[], &EACH)?;
+    let program = program(alloc)?;
+    let sequent = sequent(alloc, &program, &[], &EACH)?;
     let mut checker = Checker::new(alloc, &sequent)?;
     for (number, (line, added)) in ADDED.iter().enumerate() {
         let step = step(alloc, *line)?;
@@ -604,8 +604,8 @@ fn adds_clauses(rt: HostRuntime) -> Result<(), Fail> {
 #[test]
 fn takes_twenty_thousand_lines(rt: HostRuntime) -> Result<(), Fail> {
     let alloc = rt.alloc();
-    let newtypes = newtypes(alloc)?;
-    let sequent = sequent(alloc, newtypes.as_slice(), MODUS_PONENS, &[(Q, 0)])?;
+    let program = program(alloc)?;
+    let sequent = sequent(alloc, &program, MODUS_PONENS, &[(Q, 0)])?;
     let hypothesis = step(alloc, Line::H(0))?;
     let propagation = step(alloc, Line::U(&[0], &[(true, 0)]))?;
     let mut checker = Checker::new(alloc, &sequent)?;
@@ -625,9 +625,9 @@ fn takes_twenty_thousand_lines(rt: HostRuntime) -> Result<(), Fail> {
 #[test]
 fn gives_clauses_of_types_and_connectives(rt: HostRuntime) -> Result<(), Fail> {
     let alloc = rt.alloc();
-    let newtypes = newtypes(alloc)?;
+    let program = program(alloc)?;
     let goal = [(X, 0), (I8, 1), (Op::Not, 1)];
-    let sequent = sequent(alloc, newtypes.as_slice(), &[], &goal)?;
+    let sequent = sequent(alloc, &program, &[], &goal)?;
     let mut nodes = sequent.nodes.copy(alloc)?;
     let clause = instance(alloc, sequent.world, &mut nodes, 74, 2, &[1])?;
     let expected = literals(alloc, &[(true, 1), (false, 4), (false, 6)])?;

@@ -1,6 +1,6 @@
 //! Logs that are built, and the branch of a search.
 
-use df_cases::{Line, P, X, newtypes, sequent, steps};
+use df_cases::{Line, P, X, program, sequent, steps};
 use df_form::{Combination, Lit, Multiple, Node, Op, Sequent};
 use df_kern::check;
 use df_logbuild::{Derivation, logs_end_with_empty_clauses};
@@ -18,10 +18,10 @@ fn literal(positive: bool, node: usize) -> Lit {
 fn builds_a_log_that_is_accepted(rt: HostRuntime) -> Result<(), Fail> {
     let alloc = rt.alloc();
     logs_end_with_empty_clauses();
-    let newtypes = newtypes(alloc)?;
+    let program = program(alloc)?;
     let sequent = sequent(
         alloc,
-        newtypes.as_slice(),
+        &program,
         &[&[(X, 0), (Op::Number(3), 0), (Op::AtMost, 2)]],
         &[(X, 0), (Op::Number(4), 0), (Op::AtMost, 2)],
     )?;
@@ -93,9 +93,9 @@ fn close(
 #[test]
 fn closes_both_sides_of_a_decision(rt: HostRuntime) -> Result<(), Fail> {
     let alloc = rt.alloc();
-    let newtypes = newtypes(alloc)?;
+    let program = program(alloc)?;
     let goal = [(P, 0), (P, 0), (Op::Not, 1), (Op::Or, 2)];
-    let sequent = sequent(alloc, newtypes.as_slice(), &[], &goal)?;
+    let sequent = sequent(alloc, &program, &[], &goal)?;
     let (mut derivation, mut trail) = begun(&rt, alloc, &sequent)?;
     // p makes the goal true
     let retreat = close(alloc, &mut derivation, &mut trail, &[0, 1])?;

@@ -1,6 +1,6 @@
 //! Sequents that are drafted.
 
-use df_cases::{X, assume, conclude, newtypes};
+use df_cases::{X, assume, conclude, program};
 use df_form::{Draft, Node, Op, World};
 use std::test::Fail;
 
@@ -8,8 +8,8 @@ use std::test::Fail;
 #[test]
 fn numbers_nodes_in_postorder_of_first_occurrence(rt: HostRuntime) -> Result<(), Fail> {
     let alloc = rt.alloc();
-    let newtypes = newtypes(alloc)?;
-    let world = World::Newtypes(newtypes.as_slice());
+    let program = program(alloc)?;
+    let world = World { program: &program };
     let mut draft = Draft::new(alloc, world);
     assume(&mut draft, &[(X, 0), (Op::Number(3), 0), (Op::AtMost, 2)])?;
     let goal = [

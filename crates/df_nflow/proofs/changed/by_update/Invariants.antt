@@ -1,7 +1,7 @@
 use Rattle.std.proofs.Common.{◌≡◌, ◌++◌, map, drop}
 use Rattle.df_lang.specs.Stmt.{Target}
 use Rattle.df_lang.specs.StmtView.{target_of}
-use Rattle.df_mean.specs.Modular.{Changed}
+use Rattle.df_meaning.specs.Modular.{Changed}
 use Rattle.df_nflow.specs.Views.{changed_in}
 use Rattle.df_nflow.proofs.changed.by_update.Given as goal
 

@@ -1,6 +1,6 @@
 use Rattle.std.proofs.Common.{◌≡◌, ◌++◌, map, drop}
 use Rattle.df_lang.specs.StmtView.{variable_of}
-use Rattle.df_mean.specs.Modular.{changed_by_variables}
+use Rattle.df_meaning.specs.Modular.{changed_by_variables}
 use Rattle.df_nflow.specs.Views.{changed_in}
 use Rattle.df_nflow.proofs.changed.by_variables.Given as goal
 

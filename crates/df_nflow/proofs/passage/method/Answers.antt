@@ -1,8 +1,8 @@
 use Rattle.std.proofs.Common.{◌++◌, List, [], refl, sym, ap, ◌∙◌, subst}
 use Rattle.df_lang.specs.DeclView.{method_of}
 use Rattle.df_lang.specs.View.{program_of}
-use Rattle.df_mean.specs.Modular.{Changed}
-use Rattle.df_mean.proofs.Wholes.{method_typed}
+use Rattle.df_meaning.specs.Modular.{Changed}
+use Rattle.df_meaning.proofs.Wholes.{method_typed}
 use Rattle.df_npass.specs.Statements.{pass_all}
 use Rattle.df_nflow.specs.Methods.{begun, ended_over}
 use Rattle.df_nflow.specs.PassedView.{standing_of}

@@ -8,7 +8,7 @@ use Rattle.df_lang.specs.Program.{Param, Method, method_at, types_of}
 use Rattle.df_lang.specs.StmtView.{call_of}
 use Rattle.df_lang.specs.Typing.{are_exprs}
 use Rattle.df_lang.specs.View.{program_of}
-use Rattle.df_mean.proofs.Wholes.{method_typed}
+use Rattle.df_meaning.proofs.Wholes.{method_typed}
 use Rattle.df_nenc.specs.Tree.{trees_at}
 use Rattle.df_nenc.proofs.Results.{if_ok}
 use Rattle.df_nmeas.specs.Measuring.{measured_in}

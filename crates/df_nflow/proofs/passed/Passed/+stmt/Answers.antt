@@ -12,7 +12,7 @@ use Rattle.df_lang.specs.declared.stmt.Operand as declared_operand
 use Rattle.df_lang.specs.declared.stmt.Stmt as declared_stmt
 use Rattle.df_lang.specs.declared.stmt.Stmt.{the_lemmas}
 use Rattle.df_lang.specs.declared.ty.Ty.{Ty}
-use Rattle.df_mean.specs.Modular.{Changed}
+use Rattle.df_meaning.specs.Modular.{Changed}
 use Rattle.df_nenc.specs.Tree.{tree_at}
 use Rattle.df_nenc.proofs.Growing.{grows_then, term_stays, tree_stays, stays, path_same}
 use Rattle.df_nenc.proofs.Results.{if_ok}

@@ -2,7 +2,7 @@ use Rattle.std.proofs.Common.{◌≡◌, ◌<◌, ◌+◌, ℕ, List, ◌∷◌,
 use Rattle.std.proofs.lemmas.List.{get_or_default}
 use Rattle.std.proofs.lemmas.Option.{slice_get_within}
 use Rattle.df_lang.specs.declared.ty.Ty.TheVariants as tys
-use Rattle.df_mean.specs.Modular.{Changed}
+use Rattle.df_meaning.specs.Modular.{Changed}
 use Rattle.df_nenc.specs.Tree.{tree_at, trees_at, trees_in}
 use Rattle.df_nenc.proofs.Growing.{grows_not}
 use Rattle.df_nenc.proofs.Siblings.{drop_next}

@@ -1,6 +1,6 @@
 use Rattle.std.proofs.Common.{◌≡◌, ◌<◌, ◌++◌, true, map, drop, length}
 use Rattle.std.specs.List.{AllByRecursion}
-use Rattle.df_mean.specs.Modular.{Changed}
+use Rattle.df_meaning.specs.Modular.{Changed}
 use Rattle.df_nenc.specs.Tree.{trees_at, trees_in}
 use Rattle.df_nflow.specs.Typed.{are_at}
 use Rattle.df_nflow.specs.Views.{changed_in}

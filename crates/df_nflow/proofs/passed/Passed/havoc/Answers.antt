@@ -1,7 +1,7 @@
 use Rattle.std.proofs.Common.{suc, List, refl, ap, ◌∙◌, subst}
 use Rattle.std.proofs.lemmas.List.{drop_all}
 use Rattle.df_lang.specs.declared.ty.Ty.{Ty}
-use Rattle.df_mean.specs.Modular.{Changed}
+use Rattle.df_meaning.specs.Modular.{Changed}
 use Rattle.df_nenc.specs.Tree.{tree_at}
 use Rattle.df_nenc.proofs.Growing.{grows_not, grows_then, grows_same, is_term}
 use Rattle.df_npass.specs.Rules.{assume_type, free_of, havoc}
