@@ -1,8 +1,15 @@
 //! Clauses, with what derives each.
 
 use crate::literal::Literal;
-use df_form::Combination;
+use df_form::{Combination, Pair};
 use std::alloc::{AllocError, Global};
+
+/// A clause of a schema by their numbers.
+#[derive(Clone, Copy, Debug, PartialEq, Eq, Hash)]
+pub struct Instance {
+    pub schema: u8,
+    pub clause: u32,
+}
 
 /// What derives a clause.
 #[derive(Debug, Drop)]
@@ -10,10 +17,27 @@ pub enum Origin {
     Hypothesis(usize),
     Goal,
     /// A defining clause of a node.
-    Connective { node: usize, clause: usize },
+    Connective {
+        node: usize,
+        clause: usize,
+    },
     /// A clause on what it is to be of a type.
-    Type { node: usize, clause: u32 },
-    Split { node: usize, bound: i128 },
+    Type {
+        node: usize,
+        clause: u32,
+    },
+    /// A clause of a schema for terms, and the nodes that it needs, in the order in which it makes them.
+    Schema {
+        instance: Instance,
+        terms: Vec<usize>,
+        needed: Vec<usize>,
+    },
+    /// Classes of the negated literals' equalities, closed by pairs of congruent nodes.
+    Congruence(Vec<Pair>),
+    Split {
+        node: usize,
+        bound: i128,
+    },
     /// Combinations of the rows of its negated literals.
     Linear(Vec<Combination>),
     /// Unit propagation through clauses, in this order.
@@ -58,6 +82,8 @@ impl Origin {
         match self {
             Origin::Linear(combinations) => size_of_combinations(combinations),
             Origin::Learned(antecedents) => antecedents.len(),
+            Origin::Schema { terms, needed, .. } => terms.len().saturating_add(needed.len()),
+            Origin::Congruence(pairs) => pairs.len().saturating_mul(2),
             Origin::Hypothesis(_)
             | Origin::Goal
             | Origin::Connective { .. }

@@ -11,7 +11,7 @@ mod trail;
 mod watching;
 
 pub use analysis::Analysis;
-pub use book::{Book, Clause, Origin};
+pub use book::{Book, Clause, Instance, Origin};
 pub use literal::Literal;
 pub use order::Order;
 pub use trail::{Assignment, Reason, Trail};

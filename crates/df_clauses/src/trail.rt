@@ -13,6 +13,8 @@ pub enum Reason {
     Bound(usize),
     /// It compares constants.
     Constant,
+    /// It is an equality whose sides are in one class.
+    Classes,
 }
 
 /// The value of a variable.

@@ -1,7 +1,7 @@
 //! The steps that derive clauses, with the numbers that the kernel gives nodes and clauses.
 
-use df_clauses::{Clause, Literal, Origin};
-use df_form::{Combination, Lit, Multiple, Node, Op, Step};
+use df_clauses::{Clause, Instance, Literal, Origin};
+use df_form::{Combination, Lit, Multiple, Node, Pair, Step};
 use df_theory::{Made, Shape, Terms, Variables};
 use std::alloc::{AllocError, Global};
 use std::collections::HashMap;
@@ -80,13 +80,11 @@ impl<'a> Recorder<'a> {
         Ok(true)
     }
 
-    /// The node that the next step makes gets a number, after its parts.
-    fn name_made(&mut self, made: Made) -> Result<(), AllocError> {
-        if let Made::AtMost(a, b) = made {
-            self.name(a)?;
-            self.name(b)?;
-        }
-        if let Some(node) = self.terms.find(made) {
+    /// The comparison that the next step makes gets a number, after its parts.
+    fn name_comparison(&mut self, a: usize, b: usize) -> Result<(), AllocError> {
+        self.name(a)?;
+        self.name(b)?;
+        if let Some(node) = self.terms.find(Made::at_most(a, b)) {
             self.name(node)?;
         }
         Ok(())
@@ -94,44 +92,66 @@ impl<'a> Recorder<'a> {
 
     fn name_at_least(&mut self, bound: i128, node: usize) -> Result<(), AllocError> {
         match self.terms.find(Made::Number(bound)) {
-            Some(low) => self.name_made(Made::AtMost(low, node)),
+            Some(low) => self.name_comparison(low, node),
             None => Ok(()),
         }
     }
 
     fn name_at_most(&mut self, node: usize, bound: i128) -> Result<(), AllocError> {
         match self.terms.find(Made::Number(bound)) {
-            Some(high) => self.name_made(Made::AtMost(node, high)),
+            Some(high) => self.name_comparison(node, high),
             None => Ok(()),
         }
     }
 
-    /// Makes a node by a step of its own, if it has no number, after its parts.
-    fn make(&mut self, node: usize) -> Result<(), AllocError> {
-        match self.terms.made(node) {
-            Some(Made::AtMost(a, b)) => {
-                self.make_number(a)?;
-                self.make_number(b)?;
-                if self.name(node)? {
-                    let parts = vec![in self.alloc; self.number(a), self.number(b)]?;
-                    self.make_node(Op::AtMost, parts)?;
-                }
-                Ok(())
-            }
-            Some(Made::Number(_)) | None => self.make_number(node),
-        }
+    /// Whether the node has a number.
+    fn is_named(&self, node: usize) -> bool {
+        self.terms.made(node).is_none() || self.numbers.contains_key(&node)
     }
 
-    fn make_number(&mut self, node: usize) -> Result<(), AllocError> {
-        if let Some(Made::Number(number)) = self.terms.made(node) {
-            if self.name(node)? {
-                self.make_node(Op::Number(number), Vec::new(self.alloc))?;
+    /// A part of a made node that has no number.
+    fn unnamed_part(&self, made: Made) -> Option<usize> {
+        for place in 0..made.part_count() {
+            let part = made.part(place)?;
+            if !self.is_named(part) {
+                return Some(part);
             }
+        }
+        None
+    }
+
+    /// Makes a node by a step of its own, if it has no number, after its parts.
+    fn make(&mut self, node: usize) -> Result<(), AllocError> {
+        let mut waiting = vec![in self.alloc; node]?;
+        for _ in 0..usize::MAX {
+            let Some(top) = waiting.last().copied() else {
+                break;
+            };
+            let Some(made) = self.terms.made(top) else {
+                let _ = waiting.pop();
+                continue;
+            };
+            if let Some(part) = self.unnamed_part(made) {
+                waiting.push(part)?;
+                continue;
+            }
+            if self.name(top)? {
+                self.make_node(made)?;
+            }
+            let _ = waiting.pop();
         }
         Ok(())
     }
 
-    fn make_node(&mut self, op: Op, parts: Vec<usize>) -> Result<(), AllocError> {
+    /// Makes a node whose parts have numbers.
+    fn make_node(&mut self, made: Made) -> Result<(), AllocError> {
+        let mut parts = Vec::new(self.alloc);
+        for place in 0..made.part_count() {
+            if let Some(part) = made.part(place) {
+                parts.push(self.number(part))?;
+            }
+        }
+        let op = made.op();
         self.steps.push(Step::Make(Node { op, parts }))?;
         Ok(())
     }
@@ -147,18 +167,23 @@ impl<'a> Recorder<'a> {
     }
 
     fn connective(&mut self, node: usize, clause: usize) -> Result<Step, AllocError> {
+        self.make(node)?;
         if let Shape::Equal(a, b) = self.terms.shape(node) {
             if clause != 1 {
-                self.name_made(Made::AtMost(a, b))?;
+                self.name_comparison(a, b)?;
             }
             if clause != 0 {
-                self.name_made(Made::AtMost(b, a))?;
+                self.name_comparison(b, a)?;
             }
         }
-        Ok(Step::Connective { node, clause })
+        Ok(Step::Connective {
+            node: self.number(node),
+            clause,
+        })
     }
 
-    fn schema(&mut self, node: usize, clause: u32) -> Result<Step, AllocError> {
+    fn type_clause(&mut self, node: usize, clause: u32) -> Result<Step, AllocError> {
+        self.make(node)?;
         if let Shape::Is { ends, part } = self.terms.shape(node) {
             if let Some(low) = ends.low_in(clause as usize) {
                 self.name_at_least(low, part)?;
@@ -170,14 +195,56 @@ impl<'a> Recorder<'a> {
         Ok(Step::Schema {
             schema: TYPES,
             clause,
-            terms: vec![in self.alloc; node]?,
+            terms: vec![in self.alloc; self.number(node)]?,
+        })
+    }
+
+    fn schema(
+        &mut self,
+        schema: Instance,
+        terms: &[usize],
+        needed: &[usize],
+    ) -> Result<Step, AllocError> {
+        let mut numbers = Vec::with_capacity(self.alloc, terms.len())?;
+        for term in terms {
+            self.make(*term)?;
+            numbers.push(self.number(*term))?;
+        }
+        for node in needed {
+            self.name(*node)?;
+        }
+        Ok(Step::Schema {
+            schema: schema.schema,
+            clause: schema.clause,
+            terms: numbers,
+        })
+    }
+
+    fn congruence(&mut self, literals: &[Literal], pairs: &[Pair]) -> Result<Step, AllocError> {
+        self.make_all(literals)?;
+        let mut named = Vec::with_capacity(self.alloc, pairs.len())?;
+        for pair in pairs {
+            self.make(pair.left)?;
+            self.make(pair.right)?;
+            named.push(Pair {
+                left: self.number(pair.left),
+                right: self.number(pair.right),
+            })?;
+        }
+        Ok(Step::Congruence {
+            conclusion: self.conclusion(literals)?,
+            pairs: named,
         })
     }
 
     fn split(&mut self, node: usize, bound: i128) -> Result<Step, AllocError> {
+        self.make(node)?;
         self.name_at_most(node, bound)?;
         self.name_at_least(bound.saturating_add(1), node)?;
-        Ok(Step::Split { node, bound })
+        Ok(Step::Split {
+            node: self.number(node),
+            bound,
+        })
     }
 
     fn linear(
@@ -209,7 +276,13 @@ impl<'a> Recorder<'a> {
             Origin::Hypothesis(number) => Ok(Step::Hypothesis(*number)),
             Origin::Goal => Ok(Step::Goal),
             Origin::Connective { node, clause } => self.connective(*node, *clause),
-            Origin::Type { node, clause } => self.schema(*node, *clause),
+            Origin::Type { node, clause } => self.type_clause(*node, *clause),
+            Origin::Schema {
+                instance,
+                terms,
+                needed,
+            } => self.schema(*instance, terms, needed),
+            Origin::Congruence(pairs) => self.congruence(&clause.literals, pairs),
             Origin::Split { node, bound } => self.split(*node, *bound),
             Origin::Linear(combinations) => self.linear(&clause.literals, combinations),
             Origin::Learned(antecedents) => self.learned(&clause.literals, antecedents),

@@ -42,10 +42,10 @@ fn tested(alloc: Global, sequent: &Sequent, table: Table) -> Result<Option<Found
 }
 
 /// What the engine proposes, if it passes its check.
-fn proposed(alloc: Global, sequent: &Sequent, steps: u64) -> Result<Option<Found>, AllocError>
+fn proposed(alloc: Global, sequent: &Sequent, budget: Budget) -> Result<Option<Found>, AllocError>
     ensures { (count : ℕ) → IfOk result (λ found. IfSome found (Finds (sequent_of sequent.now) count)) }
 {
-    match propose(alloc, sequent, steps)? {
+    match propose(alloc, sequent, budget.steps, budget.rounds)? {
         Proposal::Proved(log) => taken(alloc, sequent, log),
         Proposal::Modelled(table) => tested(alloc, sequent, table),
         Proposal::GaveUp => Ok(None),
@@ -59,7 +59,7 @@ pub fn search(alloc: Global, sequent: &Sequent, budget: Budget) -> Result<Found,
     requires steps { 1 ≤ budget.steps }
     ensures { IfOk result (Finds (sequent_of sequent.now) budget.steps) }
 {
-    match proposed(alloc, sequent, budget.steps)? {
+    match proposed(alloc, sequent, budget)? {
         Some(found) => Ok(found),
         None => exhaust(alloc, sequent, budget),
     }

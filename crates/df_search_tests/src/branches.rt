@@ -1,7 +1,7 @@
 //! What comes next at the empty branch of a search.
 
 use df_branch::{Leaf, ground_sets_are_places, leaf_at};
-use df_cases::{P, Q, Terms, X, Y, newtypes, sequent};
+use df_cases::{P, Q, Terms, X, Y, program, sequent};
 use df_form::{Op, Sequent};
 use df_ground::Ground;
 use std::alloc::Global;
@@ -100,9 +100,9 @@ fn word(leaf: &Leaf) -> &'static str {
 #[test]
 fn ends_as_told(rt: HostRuntime) -> Result<(), Fail> {
     let alloc = rt.alloc();
-    let newtypes = newtypes(alloc)?;
+    let program = program(alloc)?;
     for (case, (hypotheses, goal, wanted)) in CASES.iter().enumerate() {
-        let sequent = sequent(alloc, newtypes.as_slice(), *hypotheses, *goal)?;
+        let sequent = sequent(alloc, &program, *hypotheses, *goal)?;
         let leaf = end(alloc, &sequent)?;
         assert_eq!(rt; word(&leaf), *wanted, "at {case}");
     }

@@ -1,7 +1,7 @@
 //! Ground sets that are listed by hand.
 
 use df_cases::{
-    BYTE, CHAR, I8, INT, NAT, P, Q, Signed, Terms, UNDECLARED, X, Y, assume, conclude, newtypes,
+    BYTE, CHAR, I8, INT, NAT, P, Q, Signed, Terms, UNDECLARED, X, Y, assume, conclude, program,
     sequent,
 };
 use df_form::{Draft, Op, Sequent, World};
@@ -201,10 +201,10 @@ fn is_as_listed(
 #[test]
 fn lists_clauses(rt: HostRuntime) -> Result<(), Fail> {
     let alloc = rt.alloc();
-    let newtypes = newtypes(alloc)?;
+    let program = program(alloc)?;
     for sheet in SHEETS.iter() {
         let (hypotheses, goal, ..) = *sheet;
-        let sequent = sequent(alloc, newtypes.as_slice(), hypotheses, goal)?;
+        let sequent = sequent(alloc, &program, hypotheses, goal)?;
         is_as_listed(&rt, alloc, &sequent, *sheet)?;
     }
     Ok(())
@@ -212,8 +212,8 @@ fn lists_clauses(rt: HostRuntime) -> Result<(), Fail> {
 
 /// The answer for the hypothesis p so many times, and the goal q.
 fn repeated(rt: &impl Abort, alloc: Global, count: usize) -> Result<Option<GroundFault>, Fail> {
-    let newtypes = newtypes(alloc)?;
-    let world = World::Newtypes(newtypes.as_slice());
+    let program = program(alloc)?;
+    let world = World { program: &program };
     let mut draft = Draft::new(alloc, world);
     for _ in 0..count {
         assume(&mut draft, &[(P, 0)])?;

@@ -1,5 +1,5 @@
-//! Tests of ground sets, closures, tables, branches, searches, obligations and verdicts, as tables against
-//! their public calls. The crate holds nothing else.
+//! Tests of ground sets, closures, tables, branches and searches, as tables against their public calls. The crate
+//! holds nothing else.
 #![tactic(auto)]
 
 #[cfg(test)]
@@ -9,10 +9,8 @@ mod closures;
 #[cfg(test)]
 mod grounds;
 #[cfg(test)]
-mod methods;
+mod operations;
 #[cfg(test)]
-mod obligations;
+mod searches;
 #[cfg(test)]
 mod tables;
-#[cfg(test)]
-mod verdicts;

@@ -1,7 +1,7 @@
 //! Tables by hand: those that are models of ground sets and those that are not, and those of assignments.
 
 use df_cases::{
-    BOOL, CHAR, I8, INT, NAT, P, Plain, Q, Terms, UNDECLARED, X, Y, Z, newtypes, nodes, sequent,
+    BOOL, CHAR, I8, INT, NAT, P, Plain, Q, Terms, UNDECLARED, X, Y, Z, nodes, program, sequent,
 };
 use df_form::{Lit, Op, Sequent, World};
 use df_ground::Ground;
@@ -113,9 +113,9 @@ fn are_models(
 #[test]
 fn tells_models(rt: HostRuntime) -> Result<(), Fail> {
     let alloc = rt.alloc();
-    let newtypes = newtypes(alloc)?;
+    let program = program(alloc)?;
     for (hypotheses, goal, tables) in SHEETS.iter() {
-        let sequent = sequent(alloc, newtypes.as_slice(), *hypotheses, *goal)?;
+        let sequent = sequent(alloc, &program, *hypotheses, *goal)?;
         are_models(&rt, alloc, &sequent, *tables)?;
     }
     Ok(())
@@ -176,8 +176,8 @@ const TABLE: [(Plain, i128); 42] = [
 #[test]
 fn tabulates_each_operation(rt: HostRuntime) -> Result<(), Fail> {
     let alloc = rt.alloc();
-    let newtypes = newtypes(alloc)?;
-    let world = World::Newtypes(newtypes.as_slice());
+    let program = program(alloc)?;
+    let world = World { program: &program };
     let mut plain = Vec::new(alloc);
     for (node, _) in TABLE.iter() {
         plain.push(*node)?;
@@ -215,8 +215,8 @@ const WIDE: [(Op, [i128; 2], bool); 10] = [
 #[test]
 fn tells_of_wide_numbers(rt: HostRuntime) -> Result<(), Fail> {
     let alloc = rt.alloc();
-    let newtypes = newtypes(alloc)?;
-    let world = World::Newtypes(newtypes.as_slice());
+    let program = program(alloc)?;
+    let world = World { program: &program };
     let known = Known::new(alloc);
     for (case, (op, numbers, wide)) in WIDE.iter().enumerate() {
         let nodes = nodes(alloc, &[(X, &[]), (Y, &[]), (*op, &[0, 1])])?;

@@ -41,6 +41,9 @@ pub struct Bound {
     pub previous: Option<usize>,
 }
 
+/// So many bounds of a column rows may give one after another, however little tighter they are.
+const RUN: usize = 4;
+
 /// The tightest bounds of a column.
 #[derive(Clone, Copy, Debug)]
 struct Ends {
@@ -101,12 +104,58 @@ impl Bounds {
         Some(bound.constant)
     }
 
+    /// The constant of the tightest bound of the lowest level.
+    pub fn settled(&self, column: usize, side: Side) -> Option<i128> {
+        let end = match self.starts.first() {
+            Some(start) => *start,
+            None => self.all.len(),
+        };
+        let bound = self.get(self.before(column, side, end)?)?;
+        Some(bound.constant)
+    }
+
     /// Whether a bound of this constant would be tighter than those so far.
     pub fn is_tighter(&self, column: usize, side: Side, constant: i128) -> bool {
         match self.constant(column, side) {
             Some(known) => constant < known,
             None => true,
         }
+    }
+
+    /// How many of the latest bounds rows gave at the present level, up to some.
+    fn run_of_rows(&self, column: usize, side: Side) -> usize {
+        let mut number = self.current(column, side);
+        for count in 0..RUN {
+            match self.latest_of_row(number) {
+                Some(bound) => number = bound.previous,
+                None => return count,
+            }
+        }
+        RUN
+    }
+
+    /// The bound of this number, if a row gave it at the present level.
+    fn latest_of_row(&self, number: Option<usize>) -> Option<Bound> {
+        let bound = self.get(number?)?;
+        match bound.cause {
+            Cause::Row(_) if bound.level == self.starts.len() => Some(bound),
+            Cause::Row(_) | Cause::Literal(_) => None,
+        }
+    }
+
+    /// Whether a row's bound, which is tighter, is to be taken: after some in a row only where it is so by much.
+    pub fn is_worthwhile(&self, column: usize, side: Side, constant: i128) -> bool {
+        let Some(known) = self.constant(column, side) else {
+            return true;
+        };
+        if self.run_of_rows(column, side) < RUN {
+            return true;
+        }
+        let span = match self.constant(column, side.opposite()) {
+            Some(other) => known.saturating_add(other),
+            None => known.saturating_abs(),
+        };
+        span / 4 <= known.saturating_sub(constant)
     }
 
     /// The number of the tightest bound before a number.

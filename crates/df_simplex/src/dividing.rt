@@ -2,11 +2,10 @@
 //! between two of its multiples, no whole values are left.
 
 use crate::bounds::{Bounds, Side};
-use crate::linear::{Entry, gcd};
+use crate::linear::{Entry, combine};
 use crate::rows::{Derivation, Need};
 use crate::tableau::Tableau;
-use crate::tableau_row::Row;
-use std::alloc::AllocError;
+use std::alloc::{AllocError, Global};
 
 /// A sum of multiples of columns: the sums of the constants of their bounds from above and from below.
 #[derive(Clone, Copy)]
@@ -36,12 +35,8 @@ fn widened(bounds: &Bounds, span: Span, entry: &Entry) -> Option<Span> {
     })
 }
 
-/// Whether the divisor does not divide the coefficient.
-fn is_rest(entry: &Entry, divisor: i128) -> bool {
-    entry.coefficient.checked_rem(divisor) != Some(0)
-}
-
-fn is_fixed(bounds: &Bounds, column: usize) -> bool {
+/// Whether a column has one value.
+pub fn is_fixed(bounds: &Bounds, column: usize) -> bool {
     match (
         bounds.constant(column, Side::Lower),
         bounds.constant(column, Side::Upper),
@@ -51,24 +46,35 @@ fn is_fixed(bounds: &Bounds, column: usize) -> bool {
     }
 }
 
-/// The greatest common divisor of the coefficients of columns that are not fixed.
-fn common(bounds: &Bounds, members: &[Entry]) -> i128 {
-    let mut divisor = 0u128;
-    for entry in members {
-        if !is_fixed(bounds, entry.column) {
-            divisor = gcd(divisor, entry.coefficient.unsigned_abs());
-        }
+/// What is left of a coefficient by a divisor above 1, of the least magnitude.
+fn residue(coefficient: i128, divisor: i128) -> Option<i128> {
+    let rest = coefficient.checked_rem_euclid(divisor)?;
+    if rest > divisor / 2 {
+        rest.checked_sub(divisor)
+    } else {
+        Some(rest)
     }
-    i128::try_from(divisor).unwrap_or(0)
 }
 
-/// The span of what the divisor does not divide.
-fn span_of(bounds: &Bounds, members: &[Entry], divisor: i128) -> Option<Span> {
-    let mut span = Span { above: 0, below: 0 };
+/// What is left of a sum of members without multiples of a divisor above 1.
+pub fn residues(alloc: Global, members: &[Entry], divisor: i128) -> Result<Vec<Entry>, AllocError> {
+    let mut rest = Vec::new(alloc);
     for entry in members {
-        if is_rest(entry, divisor) {
-            span = widened(bounds, span, entry)?;
+        let coefficient = residue(entry.coefficient, divisor).unwrap_or(0);
+        if coefficient != 0 {
+            rest.push(Entry {
+                column: entry.column,
+                coefficient,
+            })?;
         }
+    }
+    Ok(rest)
+}
+
+fn span_of(bounds: &Bounds, rest: &[Entry]) -> Option<Span> {
+    let mut span = Span { above: 0, below: 0 };
+    for entry in rest {
+        span = widened(bounds, span, entry)?;
     }
     Some(span)
 }
@@ -80,57 +86,62 @@ fn is_between(span: Span, divisor: i128) -> Option<bool> {
     Some(above.checked_add(below)? < 0)
 }
 
-fn is_indivisible(bounds: &Bounds, members: &[Entry], divisor: i128) -> bool {
-    match span_of(bounds, members, divisor) {
+/// Whether a sum, which is a multiple of the divisor, lies strictly between two of its multiples.
+pub fn is_indivisible(bounds: &Bounds, rest: &[Entry], divisor: i128) -> bool {
+    match span_of(bounds, rest) {
         Some(span) if divisor > 1 => is_between(span, divisor).unwrap_or(false),
         _ => false,
     }
 }
 
+/// The bounds of a sum from above or from below.
+fn derivation_of(
+    alloc: Global,
+    rest: &[Entry],
+    divisor: i128,
+    from_above: bool,
+) -> Result<Derivation, AllocError> {
+    let mut needs = Vec::new(alloc);
+    for entry in rest {
+        let side = side_above(entry.coefficient);
+        needs.push(Need {
+            factor: entry.coefficient.checked_abs().unwrap_or(0),
+            column: entry.column,
+            side: if from_above { side } else { side.opposite() },
+        })?;
+    }
+    Ok(Derivation { divisor, needs })
+}
+
+/// Combinations that exclude each other, of a sum that is a multiple of the divisor and lies strictly
+/// between two of its multiples.
+pub fn exclusion(
+    alloc: Global,
+    rest: &[Entry],
+    divisor: i128,
+) -> Result<Vec<Derivation>, AllocError> {
+    let above = derivation_of(alloc, rest, divisor, true)?;
+    let below = derivation_of(alloc, rest, divisor, false)?;
+    Ok(vec![in alloc; above, below]?)
+}
+
 impl Tableau {
-    /// The members of a row, whose sum is 0.
-    fn members_of(&self, row: &Row) -> Result<Vec<Entry>, AllocError> {
-        let mut members = Vec::from_slice(self.alloc, row.entries.as_slice())?;
-        members.push(Entry {
+    pub fn row_count(&self) -> usize {
+        self.rows.len()
+    }
+
+    /// The members of a row in the order of columns: their sum is 0.
+    pub fn members(&self, row: usize) -> Result<Vec<Entry>, AllocError> {
+        let Some(row) = self.rows.get(row) else {
+            return Ok(Vec::new(self.alloc));
+        };
+        let basic = [Entry {
             column: row.basic,
             coefficient: row.factor.checked_neg().unwrap_or(0),
-        })?;
-        Ok(members)
-    }
-
-    /// The bounds of what the divisor does not divide, from above or from below.
-    fn derivation_of(
-        &self,
-        members: &[Entry],
-        divisor: i128,
-        from_above: bool,
-    ) -> Result<Derivation, AllocError> {
-        let mut needs = Vec::new(self.alloc);
-        for entry in members {
-            if is_rest(entry, divisor) {
-                let side = side_above(entry.coefficient);
-                needs.push(Need {
-                    factor: entry.coefficient.checked_abs().unwrap_or(0),
-                    column: entry.column,
-                    side: if from_above { side } else { side.opposite() },
-                })?;
-            }
+        }];
+        match combine(self.alloc, 1, &row.entries, 1, &basic)? {
+            Some(members) => Ok(members),
+            None => Ok(Vec::new(self.alloc)),
         }
-        Ok(Derivation { divisor, needs })
-    }
-
-    /// Combinations that exclude each other, by a row that no whole values meet.
-    pub fn indivisible(&self, bounds: &Bounds) -> Result<Option<Vec<Derivation>>, AllocError> {
-        for row in self.rows.iter() {
-            let members = self.members_of(row)?;
-            for divisor in [row.factor, common(bounds, &members)] {
-                if is_indivisible(bounds, &members, divisor) {
-                    let above = self.derivation_of(&members, divisor, true)?;
-                    let below = self.derivation_of(&members, divisor, false)?;
-                    return Ok(Some(vec![in self.alloc; above, below]?));
-                }
-            }
-        }
-        Ok(None)
     }
 }

@@ -155,7 +155,7 @@ pub fn divided(
 }
 
 /// The coefficient of a column.
-pub(crate) fn coefficient_at(entries: &[Entry], column: usize) -> i128 {
+pub fn coefficient_at(entries: &[Entry], column: usize) -> i128 {
     match entries.binary_search_by_key(&column, |entry| entry.column) {
         Ok(place) => match entries.get(place) {
             Some(entry) => entry.coefficient,

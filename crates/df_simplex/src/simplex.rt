@@ -176,6 +176,12 @@ impl Tableau {
         self.set_value(violation.column, violation.target);
     }
 
+    /// How much work a pivot is.
+    fn pivot_work(&self) -> usize {
+        let rows = self.rows.len().saturating_mul(4);
+        self.size().saturating_mul(4).saturating_add(rows)
+    }
+
     /// Brings all variables within their bounds, by at most so many pivots. What it comes to, and how
     /// many numbers it has gone through.
     pub fn check(
@@ -198,7 +204,7 @@ impl Tableau {
                 return Ok((Check::Refuted(self.refutation(&violation)?), work));
             };
             self.is_broken = !self.pivot(&violation, column)?;
-            work = work.saturating_add(self.size());
+            work = work.saturating_add(self.pivot_work());
         }
         Ok((Check::GaveUp, work))
     }

@@ -6,7 +6,7 @@ use df_clauses::{Analysis, Literal, Origin, Reason};
 use std::alloc::AllocError;
 
 /// What a conflict comes to.
-#[derive(Clone, Copy, Debug, PartialEq, Eq)]
+#[derive(Clone, Copy, PartialEq, Eq)]
 pub(crate) enum Lesson {
     /// A clause is learned, which gives a literal now.
     Learned,
@@ -83,6 +83,7 @@ impl<'a> Engine<'a> {
             Reason::Clause(clause) => return Ok(Some(clause)),
             Reason::Bound(bound) => self.explain_bound(literal, bound, assignment.place)?,
             Reason::Constant => self.explain_constant(literal)?,
+            Reason::Classes => self.explain_equality(literal)?,
         };
         if let Some(clause) = clause {
             self.solver.trail.explain(literal.variable, clause);

@@ -24,16 +24,18 @@ impl<'a> Search<'a> {
         }
         let size = self.engine.theory.tableau.size();
         self.engine.spend(size);
+        let level = self.engine.solver.trail.level();
         let Some((node, bound)) = self.fractional() else {
-            return Ok(Turn::Complete);
+            return self.conclude(level);
         };
-        let theory = &self.engine.theory;
-        if let Some(derivations) = theory.tableau.indivisible(&theory.bounds)? {
+        let work = self.engine.theory.dividing_work();
+        self.engine.spend(work);
+        if let Some(derivations) = self.engine.theory.indivisible()? {
             let conflict = self.engine.explain_conflicts(&derivations)?;
             return self.after(conflict);
         }
         if self.is_rounded()? {
-            return Ok(Turn::Complete);
+            return self.conclude(level);
         }
         self.split(node, bound)
     }

@@ -1,6 +1,8 @@
 //! The state of the engine, its variables and its clauses.
 
+use crate::instances::Instances;
 use df_clauses::{Literal, Origin, Reason, Solver};
+use df_egraph::Graph;
 use df_form::Sequent;
 use df_simplex::{Cause, Check, Need, Side};
 use df_theory::{Atom, Meaning, Shape, Terms, Theory, Variables};
@@ -17,6 +19,10 @@ pub(crate) struct Engine<'a> {
     pub variables: Variables,
     pub solver: Solver,
     pub theory: Theory,
+    /// Whether some operation needs classes and instances.
+    pub has_classes: bool,
+    pub graph: Graph,
+    pub instances: Instances,
     /// How much work is left to do.
     pub fuel: u64,
     /// A number of an explanation is past 128 bits.
@@ -28,13 +34,19 @@ impl<'a> Engine<'a> {
         alloc: Global,
         sequent: &'a Sequent<'a>,
         fuel: u64,
+        rounds: u32,
     ) -> Result<Engine<'a>, AllocError> {
+        let terms = Terms::new(alloc, sequent)?;
+        let has_classes = terms.has_operations;
         Ok(Engine {
             alloc,
-            terms: Terms::new(alloc, sequent)?,
+            terms,
             variables: Variables::new(alloc),
             solver: Solver::new(alloc),
             theory: Theory::new(alloc),
+            has_classes,
+            graph: Graph::new(alloc),
+            instances: Instances::new(alloc, rounds),
             fuel,
             is_lost: false,
         })
@@ -75,7 +87,14 @@ impl<'a> Engine<'a> {
     fn add_variable(&mut self, node: usize) -> Result<usize, AllocError> {
         self.spend(8);
         let meaning = match self.terms.shape(node) {
-            Shape::AtMost(a, b) => self.theory.comparison(&self.terms, a, b)?,
+            Shape::AtMost(a, b) => {
+                self.meet_all(&[a, b])?;
+                self.theory.comparison(&self.terms, a, b)?
+            }
+            Shape::Equal(a, b) | Shape::Same(a, b) => {
+                self.meet_equality(node, a, b)?;
+                Meaning::Nothing
+            }
             _ => Meaning::Nothing,
         };
         let variable = self.variables.add(node, meaning)?;
@@ -174,12 +193,13 @@ impl<'a> Engine<'a> {
     pub fn cancel(&mut self, level: usize) -> Result<(), AllocError> {
         self.solver.cancel(level)?;
         self.theory.bounds.cancel(level);
-        Ok(())
+        self.graph.cancel(level)
     }
 
     /// A decision level begins.
     pub fn open(&mut self) -> Result<(), AllocError> {
         self.solver.trail.open()?;
+        self.graph.open()?;
         self.theory.bounds.open()
     }
 

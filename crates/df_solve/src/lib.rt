@@ -5,14 +5,20 @@
 #![tactic(auto)]
 
 mod analyzing;
+mod classing;
 mod completing;
+mod concluding;
 mod defining;
 mod engine;
 mod explaining;
+mod instances;
+mod instantiating;
 mod modelling;
+mod normalizing;
 mod probing;
 mod propagating;
 mod proposing;
+mod refining;
 mod searching;
 mod units;
 

@@ -9,7 +9,7 @@ use df_theory::{Meaning, Shape};
 use std::alloc::AllocError;
 
 /// How far a bound is followed that is tried out.
-#[derive(Clone, Copy, Debug, PartialEq, Eq)]
+#[derive(Clone, Copy, PartialEq, Eq)]
 pub(crate) enum Reach {
     /// Through clauses: this joins what the cases of a clause say of a number.
     Clauses,

@@ -16,6 +16,8 @@ impl<'a> Engine<'a> {
             }
             let conflict = if let Some(literal) = self.solver.trail.next() {
                 self.propagate_literal(literal)?
+            } else if self.has_classes && !self.graph.is_quiet() {
+                self.propagate_classes()?
             } else if visits == 0 {
                 self.theory.rows.rest();
                 break;
@@ -67,7 +69,7 @@ impl<'a> Engine<'a> {
     /// Has arithmetic know the literal. A clause that is false, if one is.
     fn assert_literal(&mut self, literal: Literal) -> Result<Option<usize>, AllocError> {
         match self.variables.meaning(literal.variable) {
-            Meaning::Nothing => Ok(None),
+            Meaning::Nothing => self.assert_equality(literal),
             Meaning::Constant(positive) if positive == literal.positive => Ok(None),
             Meaning::Constant(_) => self.explain_constant(literal.negation()),
             Meaning::Atom(atom) => {
@@ -89,6 +91,10 @@ impl<'a> Engine<'a> {
 
     fn take_all(&mut self, row: usize, all: &[Given]) -> Result<Option<usize>, AllocError> {
         for given in all {
+            let bounds = &self.theory.bounds;
+            if !bounds.is_worthwhile(given.column, given.side, given.constant) {
+                continue;
+            }
             let conflict = self.tighten(given.column, given.side, given.constant, Cause::Row(row))?;
             if conflict.is_some() {
                 return Ok(conflict);

@@ -1,6 +1,5 @@
 //! What the engine proposes.
 
-use crate::modelling::counterexample;
 use crate::searching::{Search, Turn};
 use df_form::{Sequent, Step};
 use df_record::{Recorder, log_of};
@@ -24,10 +23,15 @@ const WORK: u64 = 1_000;
 const BASE: u64 = 10_000_000;
 
 /// Looks for a log that derives the sequent, or for a table model of its ground set. Nothing is promised
-/// of either. The more steps, the longer it looks.
-pub fn propose(alloc: Global, sequent: &Sequent, steps: u64) -> Result<Proposal, AllocError> {
+/// of either. The more steps, the longer it looks; so many rounds of instances may follow from one another.
+pub fn propose(
+    alloc: Global,
+    sequent: &Sequent,
+    steps: u64,
+    rounds: u32,
+) -> Result<Proposal, AllocError> {
     let fuel = steps.saturating_mul(WORK).saturating_add(BASE);
-    let mut search = Search::new(alloc, sequent, fuel)?;
+    let mut search = Search::new(alloc, sequent, fuel, rounds)?;
     let mut turn = search.begin()?;
     for _ in 0..fuel {
         if turn != Turn::On {
@@ -42,14 +46,14 @@ pub fn propose(alloc: Global, sequent: &Sequent, steps: u64) -> Result<Proposal,
             let recorder = Recorder::new(alloc, &engine.terms, &engine.variables, nodes);
             Ok(Proposal::Proved(log_of(recorder, &engine.solver.book, clause)?))
         }
-        Turn::Complete => proposed(counterexample(alloc, &search.engine, sequent)?),
+        Turn::Complete => Ok(proposed(search.table.take())),
         Turn::On | Turn::GaveUp => Ok(Proposal::GaveUp),
     }
 }
 
-fn proposed(table: Option<Table>) -> Result<Proposal, AllocError> {
+fn proposed(table: Option<Table>) -> Proposal {
     match table {
-        Some(table) => Ok(Proposal::Modelled(table)),
-        None => Ok(Proposal::GaveUp),
+        Some(table) => Proposal::Modelled(table),
+        None => Proposal::GaveUp,
     }
 }

@@ -6,6 +6,7 @@ use crate::probing::Reach;
 use df_clauses::{Literal, Origin};
 use df_form::Sequent;
 use df_simplex::Check;
+use df_table::Table;
 use df_theory::Meaning;
 use std::alloc::{AllocError, Global};
 
@@ -16,7 +17,9 @@ const RESTART: u64 = 100;
 #[derive(Drop)]
 pub(crate) struct Search<'a> {
     pub engine: Engine<'a>,
-    sequent: &'a Sequent<'a>,
+    pub sequent: &'a Sequent<'a>,
+    /// The table of a counterexample.
+    pub table: Option<Table>,
     /// The hypotheses before this one are taken in,
     first: usize,
     /// and so are those from this one on.
@@ -33,7 +36,7 @@ pub(crate) struct Search<'a> {
 }
 
 /// What a turn comes to.
-#[derive(Clone, Copy, Debug, PartialEq, Eq)]
+#[derive(Clone, Copy, PartialEq, Eq)]
 pub(crate) enum Turn {
     On,
     /// The empty clause has this number.
@@ -64,10 +67,12 @@ impl<'a> Search<'a> {
         alloc: Global,
         sequent: &'a Sequent<'a>,
         fuel: u64,
+        rounds: u32,
     ) -> Result<Search<'a>, AllocError> {
         Ok(Search {
-            engine: Engine::new(alloc, sequent, fuel)?,
+            engine: Engine::new(alloc, sequent, fuel, rounds)?,
             sequent,
+            table: None,
             first: 0,
             end: sequent.hypotheses.len(),
             chunk: 4,
@@ -130,6 +135,10 @@ impl<'a> Search<'a> {
 
     fn advance(&mut self) -> Result<Turn, AllocError> {
         if self.engine.solver.trail.level() == 0 {
+            if self.engine.has_unseen_operations() {
+                let conflict = self.engine.ask_for_operations()?;
+                return self.after(conflict);
+            }
             if self.first < self.end {
                 return self.assume_chunk();
             }

@@ -87,7 +87,8 @@ impl Forms {
         }
     }
 
-    fn linear(&self, node: usize) -> Option<&Linear> {
+    /// What a number is as a sum of multiples of columns, where that is known.
+    pub fn linear(&self, node: usize) -> Option<&Linear> {
         match self.linear_of.get(&node) {
             Some(place) => self.linears.get(*place),
             None => None,
@@ -108,7 +109,7 @@ impl Forms {
     }
 
     /// Has the linear form of a number known, and those of its parts. Whether it could.
-    fn expand(&mut self, terms: &Terms, node: usize) -> Result<bool, AllocError> {
+    pub fn expand(&mut self, terms: &Terms, node: usize) -> Result<bool, AllocError> {
         let mut waiting = vec![in self.alloc; node]?;
         for _ in 0..terms.len().saturating_mul(4) {
             let Some(top) = waiting.last().copied() else {
@@ -202,6 +203,37 @@ impl Forms {
         self.columns.push(Column::Form(form))?;
         self.column_of.push(column)?;
         Ok(column)
+    }
+
+    /// The column of a sum, and how many times the sum is that column, where there is one.
+    pub fn find(&self, sum: &[Entry]) -> Result<Option<Entry>, AllocError> {
+        let (Some(first), Some(divisor)) = (sum.first(), content(0, sum)) else {
+            return Ok(None);
+        };
+        let signed = if first.coefficient < 0 {
+            divisor.checked_neg().unwrap_or(1)
+        } else {
+            divisor
+        };
+        let Some(entries) = divided(self.alloc, sum, signed)? else {
+            return Ok(None);
+        };
+        match self.known_column(entries) {
+            Some(column) => Ok(Some(Entry {
+                column,
+                coefficient: signed,
+            })),
+            None => Ok(None),
+        }
+    }
+
+    /// The column of entries whose coefficients have no common divisor, the first one above 0.
+    fn known_column(&self, entries: Vec<Entry>) -> Option<usize> {
+        if let [entry] = entries.as_slice() {
+            return Some(entry.column);
+        }
+        let form = self.forms.get_index_of(&Form { entries })?;
+        self.column_of.get(form).copied()
     }
 
     /// What `a <= b` says.

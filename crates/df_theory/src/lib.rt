@@ -4,6 +4,7 @@
 #![tactic(auto)]
 
 mod choosing;
+mod dividing;
 mod explaining;
 mod explanation;
 mod forms;

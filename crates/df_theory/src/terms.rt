@@ -1,15 +1,47 @@
 //! The nodes of a sequent, and those that clauses make.
 
-use df_form::{Node, Nodes, Op, Sequent, Sort, World};
+use df_form::{Nodes, Op, Sequent, Sort, World};
 use df_lang::Ty;
 use std::alloc::{AllocError, Global};
 use std::collections::HashMap;
 
-/// A node that clauses make.
+/// A node that clauses may make.
 #[derive(Clone, Copy, Debug, PartialEq, Eq, Hash)]
 pub enum Made {
     Number(i128),
-    AtMost(usize, usize),
+    One(Op, usize),
+    Two(Op, usize, usize),
+}
+
+impl Made {
+    /// The node `a <= b`.
+    pub fn at_most(a: usize, b: usize) -> Made {
+        Made::Two(Op::AtMost, a, b)
+    }
+
+    pub fn op(self) -> Op {
+        match self {
+            Made::Number(number) => Op::Number(number),
+            Made::One(op, _) | Made::Two(op, _, _) => op,
+        }
+    }
+
+    pub fn part(self, place: usize) -> Option<usize> {
+        match (self, place) {
+            (Made::One(_, part), 0) => Some(part),
+            (Made::Two(_, left, _), 0) => Some(left),
+            (Made::Two(_, _, right), 1) => Some(right),
+            _ => None,
+        }
+    }
+
+    pub fn part_count(self) -> usize {
+        match self {
+            Made::Number(_) => 0,
+            Made::One(..) => 1,
+            Made::Two(..) => 2,
+        }
+    }
 }
 
 /// The ends of the numbers that are values of a type, where it has any: an end on one side, on both, or on
@@ -62,6 +94,8 @@ pub enum Shape {
     AtMost(usize, usize),
     /// Two numbers are equal.
     Equal(usize, usize),
+    /// Two characters are.
+    Same(usize, usize),
     /// A value is of a type.
     Is { ends: Ends, part: usize },
     Not(usize),
@@ -71,28 +105,6 @@ pub enum Shape {
     Iff(usize, usize),
     /// Any other truth.
     Atom,
-}
-
-/// The number of a literal.
-fn number_at(nodes: &Nodes, node: usize) -> Option<i128> {
-    match nodes.get(node)?.op {
-        Op::Number(number) => Some(number),
-        _ => None,
-    }
-}
-
-fn product(nodes: &Nodes, a: usize, b: usize) -> Shape {
-    match number_at(nodes, a) {
-        Some(factor) => Shape::Multiple(factor, b),
-        None => Shape::Unknown,
-    }
-}
-
-fn equality(nodes: &Nodes, a: usize, b: usize) -> Shape {
-    match nodes.sort(a) {
-        Sort::Number => Shape::Equal(a, b),
-        Sort::Truth | Sort::Character => Shape::Atom,
-    }
 }
 
 fn free(sort: Sort) -> Shape {
@@ -130,33 +142,59 @@ fn type_test(world: World, ty: Ty, part: usize) -> Shape {
     }
 }
 
-fn shape_of(world: World, nodes: &Nodes, node: &Node) -> Shape {
-    match (node.op, node.parts.as_slice()) {
-        (Op::Number(number), _) => Shape::Number(number),
-        (Op::Free(found), _) => free(found.sort),
-        (Op::Plus, [a, b]) => Shape::Sum(*a, *b),
-        (Op::Times, [a, b]) => product(nodes, *a, *b),
-        (Op::Plus | Op::Times | Op::Div | Op::Mod | Op::Code | Op::Chr, _) => Shape::Unknown,
-        (Op::AtMost, [a, b]) => Shape::AtMost(*a, *b),
-        (Op::Equal, [a, b]) => equality(nodes, *a, *b),
-        (Op::Is(ty), [part]) => type_test(world, ty, *part),
-        (Op::Not, [part]) => Shape::Not(*part),
-        (Op::And, _) => Shape::And,
-        (Op::Or, _) => Shape::Or,
-        (Op::Implies, [a, b]) => Shape::Implies(*a, *b),
-        (Op::Iff, [a, b]) => Shape::Iff(*a, *b),
-        _ => Shape::Atom,
-    }
-}
-
-/// The node of a number, where clauses could make one like it.
-fn made_like(nodes: &Nodes, number: usize) -> Option<Made> {
+/// The node of a number, where clauses could make one like it: a number or a comparison, and where there
+/// are operations any application.
+fn made_like(nodes: &Nodes, number: usize, has_operations: bool) -> Option<Made> {
     let node = nodes.get(number)?;
     match (node.op, node.parts.as_slice()) {
         (Op::Number(number), _) => Some(Made::Number(number)),
-        (Op::AtMost, [a, b]) => Some(Made::AtMost(*a, *b)),
+        (Op::AtMost, [a, b]) => Some(Made::at_most(*a, *b)),
+        (op, [a]) if has_operations => Some(Made::One(op, *a)),
+        (op, [a, b]) if has_operations => Some(Made::Two(op, *a, *b)),
         _ => None,
     }
+}
+
+fn is_literal(nodes: &Nodes, number: usize) -> bool {
+    match nodes.get(number) {
+        Some(node) => matches!(node.op, Op::Number(_)),
+        None => false,
+    }
+}
+
+/// Whether the node is a product, a quotient, a remainder or a character, or the code of one.
+fn is_operation(nodes: &Nodes, number: usize) -> bool {
+    let Some(node) = nodes.get(number) else {
+        return false;
+    };
+    match (node.op, node.parts.as_slice()) {
+        (Op::Times, [factor, _]) => !is_literal(nodes, *factor),
+        (Op::Times | Op::Div | Op::Mod | Op::Code | Op::Chr, _) => true,
+        (op, _) => op.sort() == Sort::Character,
+    }
+}
+
+/// Nodes by what they are: numbers and comparisons. Whether there are operations.
+fn enter_comparisons(nodes: &Nodes, places: &mut HashMap<Made, usize>) -> Result<bool, AllocError> {
+    let mut has_operations = false;
+    for number in 0..nodes.len() {
+        if let Some(made) = made_like(nodes, number, false) {
+            places.insert(made, number)?;
+        } else if is_operation(nodes, number) {
+            has_operations = true;
+        }
+    }
+    Ok(has_operations)
+}
+
+/// Nodes by what they are.
+fn enter_all(nodes: &Nodes, places: &mut HashMap<Made, usize>) -> Result<(), AllocError> {
+    for number in 0..nodes.len() {
+        if let Some(made) = made_like(nodes, number, true) {
+            places.insert(made, number)?;
+        }
+    }
+    Ok(())
 }
 
 /// The nodes of a sequent by their numbers, and after them those that clauses make.
@@ -165,21 +203,27 @@ pub struct Terms<'a> {
     sequent: &'a Sequent<'a>,
     made: Vec<Made>,
     places: HashMap<Made, usize>,
+    /// Whether the sequent has products, quotients, remainders or characters.
+    pub has_operations: bool,
 }
 
 impl<'a> Terms<'a> {
     pub fn new(alloc: Global, sequent: &'a Sequent<'a>) -> Result<Terms<'a>, AllocError> {
         let mut places = HashMap::new(alloc);
-        for number in 0..sequent.nodes.len() {
-            if let Some(made) = made_like(&sequent.nodes, number) {
-                places.insert(made, number)?;
-            }
+        let has_operations = enter_comparisons(&sequent.nodes, &mut places)?;
+        if has_operations {
+            enter_all(&sequent.nodes, &mut places)?;
         }
         Ok(Terms {
             sequent,
             made: Vec::new(alloc),
             places,
+            has_operations,
         })
+    }
+
+    pub fn world(&self) -> World<'a> {
+        self.sequent.world
     }
 
     /// How many nodes there are.
@@ -187,18 +231,81 @@ impl<'a> Terms<'a> {
         self.sequent.nodes.len().saturating_add(self.made.len())
     }
 
-    pub fn shape(&self, node: usize) -> Shape {
+    /// What the node does with its parts.
+    pub fn op(&self, node: usize) -> Option<Op> {
         match self.sequent.nodes.get(node) {
-            Some(found) => shape_of(self.sequent.world, &self.sequent.nodes, found),
-            None => self.made_shape(node),
+            Some(found) => Some(found.op),
+            None => Some(self.made(node)?.op()),
         }
     }
 
-    fn made_shape(&self, node: usize) -> Shape {
-        match self.made(node) {
-            Some(Made::Number(number)) => Shape::Number(number),
-            Some(Made::AtMost(a, b)) => Shape::AtMost(a, b),
+    /// The number of a literal.
+    pub fn number(&self, node: usize) -> Option<i128> {
+        match self.op(node)? {
+            Op::Number(number) => Some(number),
+            _ => None,
+        }
+    }
+
+    /// Whether the value of a node is a number or a character.
+    pub fn is_term(&self, node: usize) -> bool {
+        match self.op(node) {
+            Some(op) => op.sort() != Sort::Truth,
+            None => false,
+        }
+    }
+
+    pub fn is_number(&self, node: usize) -> bool {
+        match self.op(node) {
+            Some(op) => op.sort() == Sort::Number,
+            None => false,
+        }
+    }
+
+    pub fn shape(&self, node: usize) -> Shape {
+        match self.sequent.nodes.get(node) {
+            Some(found) => {
+                let parts = found.parts.as_slice();
+                self.shape_of(found.op, parts.first().copied(), parts.get(1).copied())
+            }
+            None => match self.made(node) {
+                Some(made) => self.shape_of(made.op(), made.part(0), made.part(1)),
+                None => Shape::Unknown,
+            },
+        }
+    }
+
+    fn shape_of(&self, op: Op, first: Option<usize>, second: Option<usize>) -> Shape {
+        match (op, first, second) {
+            (Op::Number(number), _, _) => Shape::Number(number),
+            (Op::Free(found), _, _) => free(found.sort),
+            (Op::Plus, Some(a), Some(b)) => Shape::Sum(a, b),
+            (Op::Times, Some(a), Some(b)) => self.product(a, b),
+            (Op::Plus | Op::Times | Op::Div | Op::Mod | Op::Code | Op::Chr, _, _) => Shape::Unknown,
+            (Op::AtMost, Some(a), Some(b)) => Shape::AtMost(a, b),
+            (Op::Equal, Some(a), Some(b)) => self.equality(a, b),
+            (Op::Is(ty), Some(part), _) => type_test(self.sequent.world, ty, part),
+            (Op::Not, Some(part), _) => Shape::Not(part),
+            (Op::And, _, _) => Shape::And,
+            (Op::Or, _, _) => Shape::Or,
+            (Op::Implies, Some(a), Some(b)) => Shape::Implies(a, b),
+            (Op::Iff, Some(a), Some(b)) => Shape::Iff(a, b),
+            _ => Shape::Atom,
+        }
+    }
+
+    fn product(&self, a: usize, b: usize) -> Shape {
+        match self.number(a) {
+            Some(factor) => Shape::Multiple(factor, b),
             None => Shape::Unknown,
+        }
+    }
+
+    fn equality(&self, a: usize, b: usize) -> Shape {
+        if self.is_number(a) {
+            Shape::Equal(a, b)
+        } else {
+            Shape::Same(a, b)
         }
     }
 
@@ -208,17 +315,23 @@ impl<'a> Terms<'a> {
         self.made.get(place).copied()
     }
 
-    /// How many parts a node of the sequent has.
+    /// How many parts a node has.
     pub fn part_count(&self, node: usize) -> usize {
         match self.sequent.nodes.get(node) {
             Some(found) => found.parts.len(),
-            None => 0,
+            None => match self.made(node) {
+                Some(made) => made.part_count(),
+                None => 0,
+            },
         }
     }
 
-    /// A part of a node of the sequent.
+    /// A part of a node.
     pub fn part(&self, node: usize, place: usize) -> Option<usize> {
-        self.sequent.nodes.get(node)?.parts.get(place).copied()
+        match self.sequent.nodes.get(node) {
+            Some(found) => found.parts.get(place).copied(),
+            None => self.made(node)?.part(place),
+        }
     }
 
     /// The node that is like this one, if one stands.
@@ -237,20 +350,29 @@ impl<'a> Terms<'a> {
         Ok(node)
     }
 
+    pub fn add_number(&mut self, number: i128) -> Result<usize, AllocError> {
+        self.add(Made::Number(number))
+    }
+
+    /// The node of an operation on two parts.
+    pub fn add_two(&mut self, op: Op, a: usize, b: usize) -> Result<usize, AllocError> {
+        self.add(Made::Two(op, a, b))
+    }
+
     /// The node `a <= b`.
     pub fn at_most_node(&mut self, a: usize, b: usize) -> Result<usize, AllocError> {
-        self.add(Made::AtMost(a, b))
+        self.add(Made::at_most(a, b))
     }
 
     /// The node `bound <= node`.
     pub fn at_least(&mut self, bound: i128, node: usize) -> Result<usize, AllocError> {
         let low = self.add(Made::Number(bound))?;
-        self.add(Made::AtMost(low, node))
+        self.at_most_node(low, node)
     }
 
     /// The node `node <= bound`.
     pub fn at_most(&mut self, node: usize, bound: i128) -> Result<usize, AllocError> {
         let high = self.add(Made::Number(bound))?;
-        self.add(Made::AtMost(node, high))
+        self.at_most_node(node, high)
     }
 }

@@ -2,13 +2,24 @@
 
 use crate::forms::{Atom, Forms, Meaning};
 use crate::terms::Terms;
-use df_simplex::{Bounds, Entry, Rows, Side, Tableau};
+use df_simplex::{Bounds, Entry, Fraction, Rows, Side, Tableau};
 use std::alloc::{AllocError, Global};
+
+/// The nearest whole number.
+fn rounded(value: Fraction) -> Option<i128> {
+    let below = value.numerator.checked_div_euclid(value.denominator)?;
+    let rest = value.numerator.checked_rem_euclid(value.denominator)?;
+    if rest < value.denominator.checked_sub(rest)? {
+        Some(below)
+    } else {
+        below.checked_add(1)
+    }
+}
 
 /// The state of arithmetic.
 #[derive(Drop)]
 pub struct Theory {
-    alloc: Global,
+    pub(crate) alloc: Global,
     pub forms: Forms,
     pub bounds: Bounds,
     pub rows: Rows,
@@ -32,10 +43,59 @@ impl Theory {
     /// What `a <= b` says.
     pub fn comparison(&mut self, terms: &Terms, a: usize, b: usize) -> Result<Meaning, AllocError> {
         let meaning = self.forms.comparison(terms, a, b)?;
+        self.add_columns()?;
+        Ok(meaning)
+    }
+
+    /// Has the linear form of a number known.
+    pub fn expand(&mut self, terms: &Terms, node: usize) -> Result<(), AllocError> {
+        self.forms.expand(terms, node)?;
+        self.add_columns()
+    }
+
+    /// The columns of forms that are new.
+    fn add_columns(&mut self) -> Result<(), AllocError> {
         for column in self.bounds.columns()..self.forms.len() {
             self.add_column(column)?;
         }
-        Ok(meaning)
+        Ok(())
+    }
+
+    /// The number of a column at the tableau's values: the nearest whole one.
+    pub fn column_value(&self, column: usize) -> Option<i128> {
+        rounded(self.tableau.fraction(column))
+    }
+
+    /// The number of a node at the tableau's values, where its linear form is known.
+    pub fn value(&self, node: usize) -> Option<i128> {
+        let linear = self.forms.linear(node)?;
+        let mut sum = linear.constant;
+        for entry in linear.entries.iter() {
+            let value = self.column_value(entry.column)?;
+            sum = sum.checked_add(entry.coefficient.checked_mul(value)?)?;
+        }
+        Some(sum)
+    }
+
+    /// The bound of a number on a side, where it is a column that has one: the present one, or that of the lowest
+    /// level.
+    pub fn end(&self, node: usize, side: Side, is_settled: bool) -> Option<i128> {
+        let linear = self.forms.linear(node)?;
+        let [entry] = linear.entries.as_slice() else {
+            return None;
+        };
+        if entry.coefficient != 1 || linear.constant != 0 {
+            return None;
+        }
+        let constant = if is_settled {
+            self.bounds.settled(entry.column, side)?
+        } else {
+            self.bounds.constant(entry.column, side)?
+        };
+        match side {
+            Side::Lower => constant.checked_neg(),
+            Side::Upper => Some(constant),
+        }
     }
 
     fn add_column(&mut self, column: usize) -> Result<(), AllocError> {

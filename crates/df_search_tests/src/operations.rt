@@ -1,0 +1,254 @@
+//! Searches for proofs of sequents with products, quotients, remainders and characters.
+
+use df_cases::{P, Terms, X, Y, Z, program, sequent};
+use df_form::{Op, Sequent};
+use df_ground::Ground;
+use df_kern::check;
+use df_search::{Budget, Found, search};
+use df_table::is_model;
+use std::alloc::Global;
+use std::process::Abort;
+use std::test::Fail;
+
+/// How a search ends.
+#[derive(Clone, Copy, Debug, PartialEq, Eq)]
+enum Ending {
+    Proved,
+    Modelled,
+    Spent,
+    Wide,
+    Many,
+}
+
+/// A sequent's hypotheses and goal, how many rounds of instances there may be, and how the search ends.
+type Case<'a> = (&'a [Terms<'a>], Terms<'a>, u32, Ending);
+
+const CASES: [Case; 14] = [
+    // x = y, so z / x = z / y
+    (
+        &[&[(X, 0), (Y, 0), (Op::Equal, 2)]],
+        &[
+            (Z, 0),
+            (X, 0),
+            (Op::Div, 2),
+            (Z, 0),
+            (Y, 0),
+            (Op::Div, 2),
+            (Op::Equal, 2),
+        ],
+        0,
+        Ending::Proved,
+    ),
+    // x <= y and y <= x, so x * x = y * y: that x = y stands nowhere
+    (
+        &[
+            &[(X, 0), (Y, 0), (Op::AtMost, 2)],
+            &[(Y, 0), (X, 0), (Op::AtMost, 2)],
+        ],
+        &[
+            (X, 0),
+            (X, 0),
+            (Op::Times, 2),
+            (Y, 0),
+            (Y, 0),
+            (Op::Times, 2),
+            (Op::Equal, 2),
+        ],
+        0,
+        Ending::Proved,
+    ),
+    // chr(x) = chr(y), so code(chr(x)) <= code(chr(y))
+    (
+        &[&[(X, 0), (Op::Chr, 1), (Y, 0), (Op::Chr, 1), (Op::Equal, 2)]],
+        &[
+            (X, 0),
+            (Op::Chr, 1),
+            (Op::Code, 1),
+            (Y, 0),
+            (Op::Chr, 1),
+            (Op::Code, 1),
+            (Op::AtMost, 2),
+        ],
+        0,
+        Ending::Proved,
+    ),
+    // a table may give x * y and y * x any numbers
+    (&[], TURNED, 0, Ending::Modelled),
+    // with instances they are equal
+    (&[], TURNED, 2, Ending::Proved),
+    // a table may give x mod y any number
+    (
+        &[],
+        &[
+            (Op::Number(0), 0),
+            (X, 0),
+            (Y, 0),
+            (Op::Mod, 2),
+            (Op::AtMost, 2),
+        ],
+        0,
+        Ending::Modelled,
+    ),
+    // 0 <= x mod 7 with instances
+    (
+        &[],
+        &[
+            (Op::Number(0), 0),
+            (X, 0),
+            (Op::Number(7), 0),
+            (Op::Mod, 2),
+            (Op::AtMost, 2),
+        ],
+        1,
+        Ending::Proved,
+    ),
+    // (x + 1) * (x + 1) = x * x + (2 * x + 1)
+    (
+        &[],
+        &[
+            (X, 0),
+            (Op::Number(1), 0),
+            (Op::Plus, 2),
+            (X, 0),
+            (Op::Number(1), 0),
+            (Op::Plus, 2),
+            (Op::Times, 2),
+            (X, 0),
+            (X, 0),
+            (Op::Times, 2),
+            (Op::Number(2), 0),
+            (X, 0),
+            (Op::Times, 2),
+            (Op::Number(1), 0),
+            (Op::Plus, 2),
+            (Op::Plus, 2),
+            (Op::Equal, 2),
+        ],
+        2,
+        Ending::Proved,
+    ),
+    // 0 <= x * x
+    (
+        &[],
+        &[
+            (Op::Number(0), 0),
+            (X, 0),
+            (X, 0),
+            (Op::Times, 2),
+            (Op::AtMost, 2),
+        ],
+        2,
+        Ending::Proved,
+    ),
+    // x * x is not always 1 or more
+    (
+        &[],
+        &[
+            (Op::Number(1), 0),
+            (X, 0),
+            (X, 0),
+            (Op::Times, 2),
+            (Op::AtMost, 2),
+        ],
+        2,
+        Ending::Modelled,
+    ),
+    // 2 * (x / 2) <= x
+    (
+        &[],
+        &[
+            (Op::Number(2), 0),
+            (X, 0),
+            (Op::Number(2), 0),
+            (Op::Div, 2),
+            (Op::Times, 2),
+            (X, 0),
+            (Op::AtMost, 2),
+        ],
+        2,
+        Ending::Proved,
+    ),
+    // 0 <= x and 0 <= y, so 0 <= x * y
+    (
+        &[
+            &[(Op::Number(0), 0), (X, 0), (Op::AtMost, 2)],
+            &[(Op::Number(0), 0), (Y, 0), (Op::AtMost, 2)],
+        ],
+        &[
+            (Op::Number(0), 0),
+            (X, 0),
+            (Y, 0),
+            (Op::Times, 2),
+            (Op::AtMost, 2),
+        ],
+        2,
+        Ending::Proved,
+    ),
+    // code(chr(x)) is not always x
+    (
+        &[],
+        &[(X, 0), (Op::Chr, 1), (Op::Code, 1), (X, 0), (Op::Equal, 2)],
+        2,
+        Ending::Modelled,
+    ),
+    // -2 minus the greatest number is no number of 128 bits
+    (
+        &[&[
+            (X, 0),
+            (Op::Number(i128::MAX), 0),
+            (Op::Plus, 2),
+            (Op::Number(-2), 0),
+            (Op::AtMost, 2),
+        ]],
+        &[(P, 0)],
+        0,
+        Ending::Wide,
+    ),
+];
+
+/// x * y = y * x
+const TURNED: Terms = &[
+    (X, 0),
+    (Y, 0),
+    (Op::Times, 2),
+    (Y, 0),
+    (X, 0),
+    (Op::Times, 2),
+    (Op::Equal, 2),
+];
+
+/// How a search ends, where the kernel takes its log, and its table is a model.
+fn end(rt: &impl Abort, alloc: Global, sequent: &Sequent, rounds: u32) -> Result<Ending, Fail> {
+    let budget = Budget {
+        steps: 1000,
+        rounds,
+    };
+    Ok(match search(alloc, sequent, budget)? {
+        Found::Proved(log) => {
+            assert!(rt; check(alloc, sequent, &log).is_ok());
+            Ending::Proved
+        }
+        Found::Modelled(table) => {
+            let set = Ground::new(alloc, sequent).map_err(|_| "refused")?;
+            assert!(rt; is_model(&set, &table));
+            Ending::Modelled
+        }
+        Found::Spent(_branches) => Ending::Spent,
+        Found::Wide {
+            closed: _closed,
+            branch: _branch,
+        } => Ending::Wide,
+        Found::Many(_what) => Ending::Many,
+    })
+}
+
+#[test]
+fn searches_with_operations(rt: HostRuntime) -> Result<(), Fail> {
+    let alloc = rt.alloc();
+    let program = program(alloc)?;
+    for (case, (hypotheses, goal, rounds, wanted)) in CASES.iter().enumerate() {
+        let sequent = sequent(alloc, &program, *hypotheses, *goal)?;
+        assert_eq!(rt; end(&rt, alloc, &sequent, *rounds)?, *wanted, "at {case}");
+    }
+    Ok(())
+}

@@ -1,0 +1,313 @@
+//! Instances of schemas come into the book: their patterns and clauses are templates.
+
+use crate::engine::Engine;
+use crate::instances::Asked;
+use df_axiom::{Need, Source, Template, Test, schema_template};
+use df_clauses::{Instance, Literal, Origin};
+use df_form::Op;
+use df_theory::{Made, Shape};
+use std::alloc::AllocError;
+
+/// The schemas by their numbers.
+pub(crate) const DIVISION: u8 = 1;
+
+pub(crate) const REMAINDER_AT_LEAST: u8 = 2;
+
+pub(crate) const REMAINDER_BELOW: u8 = 3;
+
+pub(crate) const REMAINDER_BELOW_OPPOSITE: u8 = 4;
+
+pub(crate) const FACTORS_CHANGE: u8 = 5;
+
+pub(crate) const FACTORS_JOIN: u8 = 6;
+
+pub(crate) const FACTOR_GOES_IN: u8 = 7;
+
+pub(crate) const LITERAL_COMES_FIRST: u8 = 8;
+
+pub(crate) const PRODUCTS_COMPARE: u8 = 10;
+
+pub(crate) const CODES: u8 = 109;
+
+pub(crate) const CHARACTER_HAS_CODE: u8 = 110;
+
+/// Whether instances of a schema only write products in another way.
+fn is_rewriting(schema: u8) -> bool {
+    matches!(
+        schema,
+        FACTORS_CHANGE | FACTORS_JOIN | FACTOR_GOES_IN | LITERAL_COMES_FIRST
+    )
+}
+
+/// The node of a place.
+fn node_at(places: &[usize], place: usize) -> usize {
+    match places.get(place) {
+        Some(node) => *node,
+        None => 0,
+    }
+}
+
+impl<'a> Engine<'a> {
+    /// Whether a node passes a test.
+    fn passes(&self, test: Test, node: usize) -> bool {
+        match test {
+            Test::Any => true,
+            Test::Literal => self.terms.number(node).is_some(),
+            Test::Of(op) => self.terms.op(node) == Some(op),
+        }
+    }
+
+    /// The nodes of a template's pieces, where the named terms are as it wants them.
+    fn places(
+        &self,
+        terms: &[usize],
+        template: &Template,
+    ) -> Result<Option<Vec<usize>>, AllocError> {
+        let mut places: Vec<usize> = Vec::new(self.alloc);
+        for piece in template.pieces.iter() {
+            let node = match piece.source {
+                Source::Named(term) => terms.get(term).copied(),
+                Source::Part(place, part) => match places.get(place) {
+                    Some(whole) => self.terms.part(*whole, part),
+                    None => None,
+                },
+            };
+            match node {
+                Some(node) if self.passes(piece.test, node) => places.push(node)?,
+                _ => return Ok(None),
+            }
+        }
+        for pair in template.same.iter() {
+            if node_at(&places, pair.left) != node_at(&places, pair.right) {
+                return Ok(None);
+            }
+        }
+        Ok(Some(places))
+    }
+
+    /// The node that a clause needs.
+    fn needed(&mut self, places: &[usize], need: Need) -> Result<usize, AllocError> {
+        match need {
+            Need::Number(number) => self.terms.add(Made::Number(number)),
+            Need::One(op, part) => self.terms.add(Made::One(op, node_at(places, part))),
+            Need::Two(op, left, right) => {
+                let left = node_at(places, left);
+                self.terms.add(Made::Two(op, left, node_at(places, right)))
+            }
+        }
+    }
+
+    /// The highest round of terms.
+    fn round_of(&self, terms: &[usize]) -> u32 {
+        let mut round = 0;
+        for term in terms {
+            round = self.instances.round(*term).max(round);
+        }
+        round
+    }
+
+    /// Adds a clause of a schema for terms, if it is new. Whether it could.
+    pub fn instantiate(
+        &mut self,
+        schema: u8,
+        clause: u32,
+        terms: &[usize],
+    ) -> Result<bool, AllocError> {
+        let (Some(first), second) = (terms.first().copied(), terms.get(1).copied()) else {
+            return Ok(false);
+        };
+        let round = self.round_of(terms);
+        let asked = Asked {
+            schema,
+            clause,
+            first,
+            second: second.unwrap_or(0),
+        };
+        if !self.instances.is_within(round) || !self.instances.ask(asked)? {
+            return Ok(false);
+        }
+        let Some(op) = self.terms.op(first) else {
+            return Ok(false);
+        };
+        match schema_template(self.alloc, self.terms.world(), op, schema, clause)? {
+            Some(template) => {
+                let instance = Instance { schema, clause };
+                self.add_instance(instance, terms, &template, round)
+            }
+            None => Ok(false),
+        }
+    }
+
+    fn add_instance(
+        &mut self,
+        instance: Instance,
+        terms: &[usize],
+        template: &Template,
+        round: u32,
+    ) -> Result<bool, AllocError> {
+        let Some(mut places) = self.places(terms, template)? else {
+            return Ok(false);
+        };
+        self.spend(64);
+        let next = if is_rewriting(instance.schema) {
+            round
+        } else {
+            round.saturating_add(1)
+        };
+        let mut needed = Vec::new(self.alloc);
+        for need in template.needed.iter() {
+            let before = self.terms.len();
+            let node = self.needed(&places, *need)?;
+            if before < self.terms.len() {
+                self.instances.set_round(node, next)?;
+            }
+            places.push(node)?;
+            needed.push(node)?;
+        }
+        let literals = self.literals_at(&places, template)?;
+        let origin = Origin::Schema {
+            instance,
+            terms: Vec::from_slice(self.alloc, terms)?,
+            needed,
+        };
+        self.add_and_define(literals, origin)?;
+        Ok(true)
+    }
+
+    fn literals_at(
+        &mut self,
+        places: &[usize],
+        template: &Template,
+    ) -> Result<Vec<Literal>, AllocError> {
+        let mut literals = Vec::new(self.alloc);
+        for literal in template.clause.iter() {
+            let node = node_at(places, literal.node);
+            literals.push(self.literal(node, literal.positive)?)?;
+        }
+        Ok(literals)
+    }
+
+    /// Adds a clause, and has it be known what its equalities mean.
+    fn add_and_define(&mut self, literals: Vec<Literal>, origin: Origin) -> Result<(), AllocError> {
+        let copies = Vec::from_slice(self.alloc, literals.as_slice())?;
+        let conflict = self.add_clause(literals, origin)?;
+        self.note(conflict);
+        for literal in copies.iter() {
+            self.define_both(*literal)?;
+        }
+        Ok(())
+    }
+
+    /// Keeps a clause that is false.
+    pub fn note(&mut self, conflict: Option<usize>) {
+        if self.instances.conflict.is_none() {
+            self.instances.conflict = conflict;
+        }
+    }
+
+    /// Has it be known what an equality of numbers means.
+    pub fn define_both(&mut self, literal: Literal) -> Result<(), AllocError> {
+        let node = self.variables.node(literal.variable).unwrap_or(0);
+        if let Shape::Equal(..) = self.terms.shape(node) {
+            for positive in [true, false] {
+                let conflict = self.define(Literal {
+                    variable: literal.variable,
+                    positive,
+                })?;
+                self.note(conflict);
+            }
+        }
+        Ok(())
+    }
+
+    /// Whether operations were met since the last time that they were looked at.
+    pub fn has_unseen_operations(&self) -> bool {
+        self.instances.seen < self.instances.len()
+    }
+
+    /// Looks at the operations that were met since the last time. A clause that is false, if one is.
+    pub fn ask_for_operations(&mut self) -> Result<Option<usize>, AllocError> {
+        for _ in 0..usize::MAX {
+            if self.is_over() || self.instances.conflict.is_some() {
+                break;
+            }
+            let Some(node) = self.instances.operation(self.instances.seen) else {
+                break;
+            };
+            self.instances.seen = self.instances.seen.saturating_add(1);
+            self.ask_for_operation(node)?;
+        }
+        Ok(self.instances.conflict.take())
+    }
+
+    /// Has the linear forms of an operation and its parts known.
+    fn expand(&mut self, node: usize) -> Result<(), AllocError> {
+        let parts = [
+            Some(node),
+            self.terms.part(node, 0),
+            self.terms.part(node, 1),
+        ];
+        for part in parts {
+            if let Some(part) = part {
+                if self.terms.is_number(part) {
+                    self.theory.expand(&self.terms, part)?;
+                }
+            }
+        }
+        Ok(())
+    }
+
+    /// Adds the instances that say all that is linear of an operation.
+    fn ask_for_operation(&mut self, node: usize) -> Result<(), AllocError> {
+        let (Some(op), Some(first)) = (self.terms.op(node), self.terms.part(node, 0)) else {
+            return Ok(());
+        };
+        self.expand(node)?;
+        match op {
+            Op::Times => {
+                self.normalize(node)?;
+            }
+            Op::Div => {
+                self.instantiate(DIVISION, 0, &[node])?;
+            }
+            Op::Mod => self.ask_for_remainder(node, first)?,
+            Op::Code => {
+                self.instantiate(CODES, 0, &[node])?;
+                self.instantiate(CODES, 1, &[node])?;
+                if self.terms.op(first) != Some(Op::Chr) {
+                    self.instantiate(CODES, 2, &[node])?;
+                }
+            }
+            Op::Chr => {
+                if self.terms.op(first) != Some(Op::Code) {
+                    self.instantiate(CHARACTER_HAS_CODE, 0, &[node])?;
+                }
+            }
+            _ => {}
+        }
+        Ok(())
+    }
+
+    fn ask_for_remainder(&mut self, node: usize, first: usize) -> Result<(), AllocError> {
+        let Some(divisor) = self.terms.part(node, 1) else {
+            return Ok(());
+        };
+        // The quotient says the same.
+        if self
+            .terms
+            .find(Made::Two(Op::Div, first, divisor))
+            .is_none()
+        {
+            self.instantiate(DIVISION, 0, &[node])?;
+        }
+        self.instantiate(REMAINDER_AT_LEAST, 0, &[node])?;
+        let number = self.terms.number(divisor);
+        if number.unwrap_or(1) > 0 {
+            self.instantiate(REMAINDER_BELOW, 0, &[node])?;
+        }
+        if number.unwrap_or(-1) < 0 {
+            self.instantiate(REMAINDER_BELOW_OPPOSITE, 0, &[node])?;
+        }
+        Ok(())
+    }
+}
