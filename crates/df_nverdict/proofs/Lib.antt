@@ -1,0 +1,4 @@
+pub mod Correct
+pub mod Judgements
+pub mod Methods
+pub mod Positions

@@ -1,0 +1,5 @@
+pub mod Sequents
+pub mod Verdict
+pub mod View
+pub mod Judging
+pub mod Laws
