@@ -2,7 +2,7 @@
 #![tactic(auto)]
 
 use df_base::{HostFiles, HostSink};
-use df_top::{tell_memory, top};
+use df_ntop::{tell_memory, top};
 use std::alloc::AllocError;
 use std::env;
 use std::io::ErrorKind;

@@ -1,0 +1,13 @@
+pub mod Texts
+pub mod Steps
+pub mod Runs
+pub mod Searching
+pub mod Programs
+pub mod Knowing
+pub mod Reports
+pub mod Rows
+pub mod Commands
+pub mod Due
+pub mod Headline
+pub mod Limits
+pub mod Counting

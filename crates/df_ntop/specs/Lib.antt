@@ -1,0 +1,12 @@
+pub mod Command
+pub mod Call
+pub mod Lines
+pub mod Loaded
+pub mod Steps
+pub mod Entry
+pub mod Run
+pub mod Headline
+pub mod Answer
+pub mod Complete
+pub mod Telling
+pub mod Ending
