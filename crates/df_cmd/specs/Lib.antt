@@ -1,4 +1,0 @@
-pub mod Line
-pub mod View
-pub mod Reading
-pub mod Reads

@@ -1,5 +1,0 @@
-pub mod Obligation
-pub mod Passing
-pub mod State
-pub mod Chains
-pub mod Laws

@@ -1,4 +1,0 @@
-pub mod Source
-pub mod Refused
-pub mod Line
-pub mod Told

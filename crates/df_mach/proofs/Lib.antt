@@ -1,4 +1,0 @@
-pub mod Same
-pub mod Equal
-pub mod Runs
-pub mod Examples

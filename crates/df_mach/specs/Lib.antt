@@ -1,7 +1,0 @@
-pub mod Value
-pub mod State
-pub mod View
-pub mod Printing
-pub mod Step
-pub mod Run
-pub mod Front

@@ -1,5 +1,0 @@
-mod Printing
-mod Fronts
-mod Telling
-mod Finals
-mod Searching

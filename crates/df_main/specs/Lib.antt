@@ -1,4 +1,0 @@
-pub mod Compiled
-pub mod Steps
-pub mod Run
-pub mod Entry

@@ -1,3 +1,0 @@
-mod Loop
-mod Rows
-mod Refusals

@@ -1,4 +1,0 @@
-mod Measure
-mod Loop
-mod Readers
-mod Parts

@@ -1,9 +1,0 @@
-pub mod Expr
-pub mod Stmt
-pub mod Plain
-pub mod MethodView
-pub mod View
-pub mod Kinds
-pub mod Evaluation
-pub mod Execution
-pub mod Run

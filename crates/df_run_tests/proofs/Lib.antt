@@ -1,3 +1,0 @@
-mod Tried
-mod Sampled
-mod Faults

@@ -1,3 +1,0 @@
-pub mod Counting
-pub mod First
-pub mod Edges

@@ -1,9 +1,0 @@
-pub mod Newtypes
-pub mod Statements
-pub mod Faults
-pub mod Elaboration
-pub mod Elaborating
-pub mod Laws
-pub mod Walking
-pub mod Bounding
-pub mod Declaring

@@ -1,7 +1,0 @@
-use Rattle.std.proofs.Common.{◌≡◌, map, drop}
-use Rattle.df_tree.specs.Expr.{operation_of, members_of}
-use Rattle.df_texpr.specs.Elaboration.{rises, all_of}
-use Rattle.df_texpr.proofs.rules.all_rise.Given as goal
-
-abbrev pub invariant-loop-operation : goal.invariant-loop-operation
-invariant-loop-operation l = all_of rises (members_of (map operation_of (drop l.operation-index l.rest))) ≡ all_of rises (members_of (map operation_of l.rest))

@@ -1,9 +1,0 @@
-pub use Rattle.df_base.specs.Outside
-pub mod Call
-pub mod Loaded
-pub mod Headline
-pub mod Lines
-pub mod Answer
-pub mod Complete
-pub mod Ending
-pub mod Telling

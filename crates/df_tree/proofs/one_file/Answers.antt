@@ -1,5 +1,0 @@
-use Rattle.df_tree.proofs.FileLaw.{same_file}
-use Rattle.df_tree.proofs.one_file.Goals as goal
-
-pub returns : goal.returns
-returns c = same_file

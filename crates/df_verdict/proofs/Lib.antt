@@ -1,4 +1,0 @@
-pub mod Judgements
-pub mod Methods
-pub mod Positions
-pub mod Numbers
