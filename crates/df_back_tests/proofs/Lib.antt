@@ -1,1 +1,2 @@
 mod Sampled
+mod Faults

@@ -10,3 +10,5 @@ mod listing;
 mod machine;
 #[cfg(test)]
 mod programs;
+#[cfg(test)]
+mod reports;

@@ -1,9 +1,9 @@
 //! Texts of many parts, and what they are read as.
 
 use df_base::{Global, Names, Refusal, Stop};
-use df_pexpr::expression;
+use df_npexpr::expression;
+use df_ntree::Expr;
 use df_tok::{Tokens, tokens};
-use df_tree::Expr;
 use std::test::Fail;
 
 /// A text, then another so often, then a third.

@@ -2,8 +2,8 @@
 
 use crate::building::{expression_of, nested, refusal_of, repeated, tokens_of};
 use df_base::{Code, Global, Stop};
-use df_pexpr::{expression, ty};
-use df_tree::{BinaryOperator, Expr, TreeType, UnaryOperator};
+use df_npexpr::{expression, ty};
+use df_ntree::{BinaryOperator, Expr, TreeType, UnaryOperator};
 use std::alloc::AllocError;
 use std::test::Fail;
 
@@ -22,6 +22,9 @@ fn sign(operator: BinaryOperator) -> &'static [u8] {
         BinaryOperator::AtLeast => b">=",
         BinaryOperator::Add => b"+",
         BinaryOperator::Subtract => b"-",
+        BinaryOperator::Multiply => b"*",
+        BinaryOperator::Divide => b"/",
+        BinaryOperator::Modulo => b"%",
     }
 }
 
@@ -191,7 +194,9 @@ fn a_part_ends_where_nothing_continues_it(rt: HostRuntime) -> Result<(), Fail> {
     assert_eq!(rt; after, 4);
     assert!(rt; expression(alloc, &tokens, 4).is_err());
     assert!(rt; expression(alloc, &tokens, 9).is_err());
-    let (TreeType::Named(name), end) = ty(alloc, &tokens, 1).ok().ok_or("a type")?;
+    let (TreeType::Named(name), end) = ty(alloc, &tokens, 1).ok().ok_or("a type")? else {
+        return Err(Fail::new("a name"));
+    };
     assert_eq!(rt; (name.name, name.pos.col, end), (0, 3, 2));
     assert!(rt; ty(alloc, &tokens, 5).is_err());
     Ok(())

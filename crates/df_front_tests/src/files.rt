@@ -2,9 +2,9 @@
 
 use crate::building::{nested, refusal_of, repeated};
 use df_base::{Code, Names, Stop};
-use df_pdecl::parse;
+use df_npdecl::parse;
+use df_ntree::File;
 use df_tok::tokens;
-use df_tree::File;
 use std::alloc::Global;
 use std::test::Fail;
 

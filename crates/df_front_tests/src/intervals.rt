@@ -1,6 +1,6 @@
 //! Intervals of whole numbers.
 
-use df_types::Interval;
+use df_lang::Interval;
 
 /// The ends of intervals, a number, and whether it lies inside: none where the ends are turned.
 const ROWS: [(i128, i128, i128, Option<bool>); 10] = [

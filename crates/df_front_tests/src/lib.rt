@@ -1,4 +1,4 @@
-//! Tests of the front, from bytes to checked programs, by its public calls.
+//! Tests of the front, from bytes to files, and of what it tells, by its public calls.
 #![tactic(auto)]
 
 #[cfg(test)]
@@ -14,12 +14,4 @@ mod lines;
 #[cfg(test)]
 mod outside;
 #[cfg(test)]
-mod programs;
-#[cfg(test)]
-mod refusals;
-#[cfg(test)]
-mod scopes;
-#[cfg(test)]
 mod tokens;
-#[cfg(test)]
-mod typing;

@@ -1,7 +1,7 @@
 //! The lines of refusals, one for each code.
 
 use df_base::{Code, Detail, Names, Pos, Refusal};
-use df_front::{pos_text, refusal_line};
+use df_nfront::{pos_text, refusal_line};
 use std::test::Fail;
 
 /// Refusals at line 12 and column 3, where `b` is the name 1, and their lines.
