@@ -3,6 +3,7 @@
 #![tactic(auto)]
 
 mod example;
+mod fitting;
 mod folder;
 mod play;
 mod reading;

@@ -1,9 +1,10 @@
 //! Plays a try.
 
 use crate::example::{Failing, Try};
+use crate::fitting::fits;
 use anyhow::Result;
 use df_base::{MemFiles, MemSink, Memory};
-use df_top::top;
+use df_ntop::top;
 use std::alloc::{AllocError, Global};
 
 /// How many tries there were, and how many of them differ from what is written.
@@ -79,10 +80,7 @@ pub fn play(
         mut err,
     } = made(alloc, file.as_str(), source, &tried.failing)?;
     let status = top(alloc, &tried.words, &mut files, &mut out, &mut err).code();
-    if status == tried.status
-        && out.taken() == tried.out.as_slice()
-        && err.taken() == tried.err.as_slice()
-    {
+    if status == tried.status && fits(&tried.out, out.taken()) && fits(&tried.err, err.taken()) {
         return Ok(true);
     }
     let line = tried.line;

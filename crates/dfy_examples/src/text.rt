@@ -1,5 +1,6 @@
 //! Text with escapes.
 
+use crate::fitting::NUMBER;
 use anyhow::{Result, bail};
 use std::alloc::Global;
 
@@ -11,13 +12,14 @@ fn escaped(letter: u8) -> Result<u8> {
         b't' => Ok(b'\t'),
         b'0' => Ok(0),
         b's' => Ok(b' '),
+        b'd' => Ok(NUMBER),
         b'\\' => Ok(b'\\'),
-        _ => bail!("an escape is \\n, \\r, \\t, \\0, \\s or \\\\"),
+        _ => bail!("an escape is \\n, \\r, \\t, \\0, \\s, \\d or \\\\"),
     }
 }
 
-/// The bytes of a text in which `\n`, `\r`, `\t`, `\0`, `\s` and `\\` stand for a line feed, a carriage
-/// return, a tab, the byte 0, a blank and `\`.
+/// The bytes of a text in which `\n`, `\r`, `\t`, `\0`, `\s`, `\d` and `\\` stand for a line feed, a carriage
+/// return, a tab, the byte 0, a blank, any decimal number and `\`.
 pub fn unescaped(alloc: Global, text: &str) -> Result<Vec<u8>> {
     let mut bytes = Vec::new(alloc);
     let mut escape = false;

@@ -1,0 +1,1 @@
+method Main() { var x := 5; print x, "\n"; }

@@ -1,0 +1,4 @@
+method Main() {
+  var k: nat := 3;
+  k := k - 4;
+}
