@@ -4,18 +4,18 @@ use Rattle.std.specs.List.{list_any}
 use Rattle.df_base.specs.Outside.{Contents, bytes_of}
 
 -- files in memory: what they are, the numbers of the calls that are to fail, how many calls and faults there were, and
--- the name and the bytes of the file that was given last
+-- the names and the bytes of the files that were given, the last one first
 pub record FilesInMemory : Type 0 where
   pub files : Contents
   pub failing : List ℕ
   pub calls : ℕ
   pub faults : ℕ
-  pub given : Option (List ℕ × List ℕ)
+  pub given : List (List ℕ × List ℕ)
 
 -- the same where no load fails
 pub record SureInMemory : Type 0 where
   pub files : Contents
-  pub given : Option (List ℕ × List ℕ)
+  pub given : List (List ℕ × List ℕ)
 
 -- a sink in memory: what it took, the calls that are to fail with how many bytes each takes first, and how many calls and faults there were
 pub record SinkInMemory : Type 0 where

@@ -1,6 +1,6 @@
 //! Files, as the program reads them.
 
-ghost use Rattle.std.specs.Prelude.{◌≡◌, ◌≢◌, ◌↔◌, None, ℕ, ◌+◌, ◌<◌, ◌≤◌, List, Option, Some, length, vec_len, IfOk, IfSome, Err};
+ghost use Rattle.std.specs.Prelude.{◌≡◌, ◌≢◌, ◌↔◌, None, ℕ, ◌+◌, ◌<◌, ◌≤◌, List, ◌∷◌, Option, Some, length, vec_len, IfOk, IfSome, OnErr, Err};
 ghost use Rattle.df_base.specs.Outside.{Contents, bytes_of, HasCause};
 ghost use Rattle.df_base.specs.declared.files.LoadFault.TheVariants.{Failed, Large, Memory};
 
@@ -10,6 +10,7 @@ pub(crate) mod read;
 mod store;
 mod sure;
 
+use crate::memory::Memory as OutOfMemory;
 pub use host::HostFiles;
 pub use mem::MemFiles;
 use std::alloc::{AllocError, Global};
@@ -37,13 +38,21 @@ impl From<AllocError> for LoadFault {
     }
 }
 
+impl From<OutOfMemory> for LoadFault {
+    ghost from_gives = { λ _ fault. fault ≡ Memory };
+
+    fn from(_error: OutOfMemory) -> LoadFault {
+        LoadFault::Memory
+    }
+}
+
 /// A place that files are read from.
 pub trait Files {
     /// The files that it holds, or none where it does not tell.
     ghost holds: { Self → Option Contents };
 
-    /// The name and the bytes of the file that it gave last, or none where it gave none yet.
-    ghost given: { Self → Option (List ℕ × List ℕ) };
+    /// The names and the bytes of the files that it gave, the last one first.
+    ghost given: { Self → List (List ℕ × List ℕ) };
 
     /// How many faults it has met.
     ghost fault_count: { Self → ℕ };
@@ -60,7 +69,8 @@ pub trait Files {
         requires { allowed self.old name.now }
         // The bytes are the file's, and within the limit.
         ensures loaded { IfOk result (λ bytes. IfSome (holds self.old) (λ files. bytes_of files name.now ≡ Some bytes.items)) }
-        ensures given { IfOk result (λ bytes. given self.new ≡ Some (name.now, bytes.items)) }
+        ensures given { IfOk result (λ bytes. given self.new ≡ (name.now, bytes.items) ∷ given self.old) }
+        ensures kept { OnErr result (given self.new ≡ given self.old) }
         ensures within { IfOk result (λ bytes. vec_len bytes ≤ limit) }
         // It is too large just where no read failed and the file is longer than the limit.
         ensures large { (n : ℕ) → result ≡ Err (Large n) → n ≡ limit + 1 }

@@ -5,4 +5,4 @@ mod outcome;
 mod report;
 
 pub use outcome::{Evidence, Failure, Outcome, Parameter};
-pub use report::lines;
+pub use report::{last_line, lines};

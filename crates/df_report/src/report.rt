@@ -129,6 +129,15 @@ fn push_summary(alloc: Global, text: &mut Vec<u8>, outcomes: &[Outcome]) -> Resu
     push_count(alloc, text, unproved(outcomes), " unproved\n")
 }
 
+/// The last line of the report: how many outcomes are verified and how many unproved.
+pub fn last_line(alloc: Global, outcomes: &[Outcome]) -> Result<Vec<u8>, AllocError>
+    ensures { IfOk result (λ text. text.items ≡ summary (map outcome_of outcomes.now)) }
+{
+    let mut text = Vec::new(alloc);
+    push_summary(alloc, &mut text, outcomes)?;
+    Ok(text)
+}
+
 /// The report on outcomes: for each its name with `verified` or `unproved`; after `unproved` for each
 /// failure its place, kind and evidence, and after `model` the parameters; and last how many are verified
 /// and how many unproved. Each line ends with a line feed.

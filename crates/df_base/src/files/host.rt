@@ -1,13 +1,11 @@
 //! Files of the system.
 
 ghost use Rattle.std.specs.Prelude.{◌≡◌, ◌≢◌, ℕ, ◌+◌, ◌<◌, ◌≤◌, List, [], ◌∷◌, Some, None, Err, length, vec_len, IfOk, IfSome, OnOk, OnErr};
-ghost use Rattle.std.specs.Option.{option_map};
 ghost use Rattle.df_base.specs.Outside.{HasCause};
-ghost use Rattle.df_base.specs.Stored.{stored};
 ghost use Rattle.df_base.specs.declared.files.LoadFault.TheVariants.{Failed, Large};
 
 use super::read::{fault_of, read_all};
-use super::store::File;
+use super::store::Store;
 use super::{Files, LoadFault};
 use std::alloc::Global;
 use std::{fs, rt};
@@ -19,19 +17,19 @@ use std::{fs, rt};
 pub struct HostFiles<R> {
     rt: R,
     faults: u64,
-    /// The file that was given last.
-    given: Option<File>,
+    /// The files that were given.
+    given: Store,
 }
 
 impl<R: rt::Files> HostFiles<R> {
     /// The files that this runtime reaches, with no fault yet.
-    pub fn new(rt: R) -> HostFiles<R>
+    pub fn new(alloc: Global, rt: R) -> HostFiles<R>
         ensures { result.faults ≡ 0 }
     {
         HostFiles {
             rt,
             faults: 0,
-            given: None,
+            given: Store::new(alloc),
         }
     }
 }
@@ -55,7 +53,7 @@ fn load_file<R: rt::Files>(
 impl<R: rt::Files> Files for HostFiles<R> {
     ghost holds = { λ _. None };
 
-    ghost given = { λ h. option_map stored h.given };
+    ghost given = { λ h. h.given };
 
     ghost fault_count = { λ h. h.faults };
 
@@ -66,7 +64,8 @@ impl<R: rt::Files> Files for HostFiles<R> {
     }
 
     fn load(&mut self, alloc: Global, name: &str, limit: u64) -> Result<Vec<u8>, LoadFault>
-        ensures given { IfOk result (λ bytes. option_map stored self.new.given ≡ Some (name.now, bytes.items)) }
+        ensures given { IfOk result (λ bytes. self.new.given ≡ (name.now, bytes.items) ∷ self.old.given) }
+        ensures kept { OnErr result (self.new.given ≡ self.old.given) }
         ensures within { IfOk result (λ bytes. vec_len bytes ≤ limit) }
         ensures large { (n : ℕ) → result ≡ Err (Large n) → n ≡ limit + 1 }
         // The count rises just at a failure.
@@ -75,7 +74,7 @@ impl<R: rt::Files> Files for HostFiles<R> {
     {
         let result = load_file(&self.rt, alloc, name, limit);
         match &result {
-            Ok(bytes) => self.given = Some(File::new(alloc, name, bytes)?),
+            Ok(bytes) => self.given.add(name, bytes)?,
             Err(LoadFault::Failed) => self.faults = self.faults.saturating_add(1),
             Err(_) => {}
         }

@@ -5,7 +5,7 @@ ghost use Rattle.df_base.specs.Outside.{bytes_of, HasCause};
 ghost use Rattle.df_base.specs.Fakes.{FilesInMemory, is_failing, next_count};
 ghost use Rattle.df_base.specs.declared.files.LoadFault.TheVariants.{Failed, Large};
 
-use super::store::{File, Store, copy_within};
+use super::store::{Store, copy_within};
 use super::{Files, LoadFault};
 use crate::memory::Memory;
 use std::alloc::Global;
@@ -18,30 +18,28 @@ pub struct MemFiles {
     failing: Vec<u64>,
     calls: u64,
     faults: u64,
-    given: Option<File>,
+    given: Store,
 }
 
 impl Model for MemFiles {
-    ghost use Rattle.std.specs.Option.{option_map};
     ghost use Rattle.df_base.specs.Fakes.{FilesInMemory};
-    ghost use Rattle.df_base.specs.Stored.{stored};
 
     ghost Value = { FilesInMemory };
 
-    ghost view = { λ m. record { files = m.store; failing = m.failing.items; calls = m.calls; faults = m.faults; given = option_map stored m.given } };
+    ghost view = { λ m. record { files = m.store; failing = m.failing.items; calls = m.calls; faults = m.faults; given = m.given } };
 }
 
 impl MemFiles {
     /// No files, and no load that is to fail.
     pub fn new(alloc: Global) -> MemFiles
-        ensures { result ≡ record { files = []; failing = []; calls = 0; faults = 0; given = None } }
+        ensures { result ≡ record { files = []; failing = []; calls = 0; faults = 0; given = [] } }
     {
         MemFiles {
             store: Store::new(alloc),
             failing: Vec::new(alloc),
             calls: 0,
             faults: 0,
-            given: None,
+            given: Store::new(alloc),
         }
     }
 
@@ -97,7 +95,8 @@ impl Files for MemFiles {
 
     fn load(&mut self, alloc: Global, name: &str, limit: u64) -> Result<Vec<u8>, LoadFault>
         ensures loaded { IfOk result (λ bytes. bytes_of self.old.files name.now ≡ Some bytes.items) }
-        ensures given { IfOk result (λ bytes. self.new.given ≡ Some (name.now, bytes.items)) }
+        ensures given { IfOk result (λ bytes. self.new.given ≡ (name.now, bytes.items) ∷ self.old.given) }
+        ensures kept { OnErr result (self.new.given ≡ self.old.given) }
         ensures within { IfOk result (λ bytes. vec_len bytes ≤ limit) }
         ensures large { (n : ℕ) → result ≡ Err (Large n) → n ≡ limit + 1 }
         ensures longer { (n : ℕ) → result ≡ Err (Large n) → IfSome (bytes_of self.old.files name.now) (λ bytes. limit < length bytes) }
@@ -113,7 +112,7 @@ impl Files for MemFiles {
         let result = self.look_up(alloc, name, limit);
         self.calls = self.calls.saturating_add(1);
         match &result {
-            Ok(bytes) => self.given = Some(File::new(alloc, name, bytes)?),
+            Ok(bytes) => self.given.add(name, bytes)?,
             Err(LoadFault::Failed) => self.faults = self.faults.saturating_add(1),
             Err(_) => {}
         }

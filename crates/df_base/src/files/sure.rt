@@ -5,7 +5,7 @@ ghost use Rattle.df_base.specs.Outside.{bytes_of, HasCause};
 ghost use Rattle.df_base.specs.Fakes.{bytes_or_none};
 ghost use Rattle.df_base.specs.declared.files.LoadFault.TheVariants.{Failed, Large};
 
-use super::store::{File, Store, copy_within};
+use super::store::{Store, copy_within};
 use super::{Files, LoadFault};
 use crate::memory::Memory;
 use std::alloc::Global;
@@ -15,27 +15,25 @@ use std::marker::Model;
 #[derive(Drop)]
 pub struct SureFiles {
     store: Store,
-    given: Option<File>,
+    given: Store,
 }
 
 impl Model for SureFiles {
-    ghost use Rattle.std.specs.Option.{option_map};
     ghost use Rattle.df_base.specs.Fakes.{SureInMemory};
-    ghost use Rattle.df_base.specs.Stored.{stored};
 
     ghost Value = { SureInMemory };
 
-    ghost view = { λ s. record { files = s.store; given = option_map stored s.given } };
+    ghost view = { λ s. record { files = s.store; given = s.given } };
 }
 
 impl SureFiles {
     /// No files.
     pub fn new(alloc: Global) -> SureFiles
-        ensures { result ≡ record { files = []; given = None } }
+        ensures { result ≡ record { files = []; given = [] } }
     {
         SureFiles {
             store: Store::new(alloc),
-            given: None,
+            given: Store::new(alloc),
         }
     }
 
@@ -66,7 +64,8 @@ impl Files for SureFiles {
 
     fn load(&mut self, alloc: Global, name: &str, limit: u64) -> Result<Vec<u8>, LoadFault>
         ensures text { IfOk result (λ bytes. bytes.items ≡ bytes_or_none self.old.files name.now) }
-        ensures given { IfOk result (λ bytes. self.new.given ≡ Some (name.now, bytes.items)) }
+        ensures given { IfOk result (λ bytes. self.new.given ≡ (name.now, bytes.items) ∷ self.old.given) }
+        ensures keeps { OnErr result (self.new.given ≡ self.old.given) }
         ensures within { IfOk result (λ bytes. vec_len bytes ≤ limit) }
         ensures large { (n : ℕ) → result ≡ Err (Large n) → n ≡ limit + 1 }
         ensures over { (n : ℕ) → result ≡ Err (Large n) → limit < length (bytes_or_none self.old.files name.now) }
@@ -75,7 +74,7 @@ impl Files for SureFiles {
     {
         let bytes = self.store.find(name).unwrap_or(&[]);
         let bytes = copy_within(alloc, bytes, limit)?;
-        self.given = Some(File::new(alloc, name, &bytes)?);
+        self.given.add(name, &bytes)?;
         Ok(bytes)
     }
 }
