@@ -1,6 +1,7 @@
 pub mod Same
 pub mod Tables
 pub mod Keys
+pub mod Fronts
 pub mod Walks
 pub mod Drafts
 pub mod Examples
@@ -10,5 +11,5 @@ pub mod Values
 pub mod Sorts
 pub mod Making
 pub mod Worlds
-pub mod Arithmetic
 pub mod Literals
+pub mod Tested

@@ -98,7 +98,8 @@ same_list f bound same (n ∷ ns) below =
     let tail = same_list f bound same ns both.1 in
     λ i. head i ∷ tail i
 
-same_items : (xs ys : List Node) → length xs ≡ length ys → ((n : ℕ) (x : Node) → slice_get xs n ≡ Some x → slice_get ys n ≡ Some x) → ys ≡ xs
+-- lists that have the same nodes at each number are the same
+pub same_items : (xs ys : List Node) → length xs ≡ length ys → ((n : ℕ) (x : Node) → slice_get xs n ≡ Some x → slice_get ys n ≡ Some x) → ys ≡ xs
 same_items [] [] long items = refl
 same_items [] (y ∷ ys) long items = absurd (omega arith)
 same_items (x ∷ xs) [] long items = absurd (omega arith)

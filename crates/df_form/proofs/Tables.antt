@@ -5,6 +5,7 @@ use Rattle.std.proofs.Math.Seq.{take-append_seam, take-suc}
 use Rattle.std.proofs.lemmas.List.Sums.{prefix_len_passes}
 use Rattle.std.proofs.lemmas.Bool.Decides.{nat_tests}
 use Rattle.std.proofs.lemmas.List.Quantifiers.{position-Some}
+use Rattle.std.specs.Prelude.{position}
 use Rattle.std.specs.List.{position_or_len, prefix_len}
 use Rattle.std.proofs.lemmas.Option.{slice_get_within, slice_get-get_or, get_or_from_slice_get, slice_get_cases, same_Some, none-some}
 use Rattle.std.proofs.lemmas.Bool.{cases_lt}
@@ -25,7 +26,7 @@ number_of_some nodes node n e =
     let same = same_node_equal node (get_or nodes n node) found.1 in
     slice_get-get_or nodes n node found.0 ∙ ap Some (sym same)
 
-passes_prefix : (q : Node → Bool) (xs : List Node) (n : ℕ) (x : Node) → length xs ≤ prefix_len q xs → slice_get xs n ≡ Some x → q x ≡ true
+passes_prefix : {A : Type 0} (q : A → Bool) (xs : List A) (n : ℕ) (x : A) → length xs ≤ prefix_len q xs → slice_get xs n ≡ Some x → q x ≡ true
 passes_prefix q xs n x all at =
     let within = slice_get_within xs n x at in
     let passes = prefix_len_passes q xs n x (omega (arith, within, all)) in
@@ -41,13 +42,15 @@ none_past a b e = by (nat_lt a b) refl
         no_some h = cc
     by false v = grind (arith, nat_tests)
 
--- and what it does not find is not there
+-- what a search does not find is not there
+pub not_found : {A : Type 0} (test : A → Bool) (xs : List A) (n : ℕ) (x : A) → position test xs ≡ None → slice_get xs n ≡ Some x → test x ≡ true → ⊥
+not_found test xs n x e at passes =
+    let past = none_past (position_or_len test xs) (length xs) e in
+    let other : not (test x) ≡ true = passes_prefix (λ y. not (test y)) xs n x past at in
+    absurd (true≢false (sym other ∙ ap not passes))
+
 pub number_of_none : (nodes : List Node) (node : Node) (n : ℕ) → number_of nodes node ≡ None → slice_get nodes n ≡ Some node → ⊥
-number_of_none nodes node n e at =
-    let past = none_past (position_or_len (same_node node) nodes) (length nodes) e in
-    let other : not (same_node node node) ≡ true = passes_prefix (λ x. not (same_node node x)) nodes n node past at in
-    let same = same_node-refl node in
-    absurd (true≢false (sym other ∙ ap not same))
+number_of_none nodes node n e at = not_found (same_node node) nodes n node e at (same_node-refl node)
 
 -- where nodes are distinct a search finds this number
 pub number_of_at : (nodes : List Node) (node : Node) (n : ℕ) → IsDistinct nodes → slice_get nodes n ≡ Some node → number_of nodes node ≡ Some n
@@ -100,7 +103,7 @@ pub table-append : (nodes : List Node) (node : Node) → IsTable nodes → is_we
 table-append nodes node table sorted distinct = record { sorted = sorted-append nodes node table sorted; distinct = distinct }
 
 -- fewer nodes
-get-take : (nodes : List Node) (k n : ℕ) (x : Node) → slice_get (take k nodes) n ≡ Some x → (n < k) × (slice_get nodes n ≡ Some x)
+pub get-take : (nodes : List Node) (k n : ℕ) (x : Node) → slice_get (take k nodes) n ≡ Some x → (n < k) × (slice_get nodes n ≡ Some x)
 get-take nodes k n x at =
     let within = slice_get_within (take k nodes) n x at in
     let less : n < k = omega (arith, within, length-take k nodes) in

@@ -7,7 +7,6 @@ pub mod Made
 pub mod Sorting
 pub mod Truth
 pub mod Sequent
-pub mod Arithmetic
 pub mod Log
 pub mod Clause
 pub mod SequentView

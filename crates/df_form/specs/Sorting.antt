@@ -2,6 +2,8 @@
 use Rattle.std.specs.Prelude.{◌≡◌, ℕ, Bool, true, false, ◌&&◌, ◌||◌, nat_lt, List, [], ◌∷◌, map, take, length, slice_get, Some}
 use Rattle.std.specs.Option.{option_map_or}
 use Rattle.std.specs.List.{list_all}
+use Rattle.df_lang.specs.declared.ty.Ty.{Ty}
+use Rattle.df_lang.specs.declared.ty.Ty.TheVariants as types
 use Rattle.df_form.specs.declared.node.Sort.{Sort}
 use Rattle.df_form.specs.declared.node.Sort.TheVariants as sorts
 use Rattle.df_form.specs.declared.node.Op.{Op}
@@ -37,6 +39,11 @@ are_two sort parts = false
 abbrev pub are_two_values : List Sort → Bool
 are_two_values parts = are_two sorts.Number parts || are_two sorts.Character parts
 
+-- A number or a character is tested for a type; that a truth is one is no formula.
+abbrev pub is_tested : Ty → List Sort → Bool
+is_tested types.Bool parts = false
+is_tested ty parts = is_one (sort_of_type ty) parts
+
 -- the operation takes parts of these sorts
 abbrev pub takes : Op → List Sort → Bool
 takes (ops.Number n) parts = are_none parts
@@ -47,7 +54,7 @@ takes ops.Div parts = are_two sorts.Number parts
 takes ops.Mod parts = are_two sorts.Number parts
 takes ops.Code parts = is_one sorts.Character parts
 takes ops.Chr parts = is_one sorts.Number parts
-takes (ops.Is ty) parts = is_one (sort_of_type ty) parts
+takes (ops.Is ty) parts = is_tested ty parts
 takes ops.Equal parts = are_two_values parts
 takes ops.AtMost parts = are_two sorts.Number parts
 takes ops.Not parts = is_one sorts.Truth parts

@@ -5,6 +5,7 @@ ghost use Rattle.std.specs.List.{list_all};
 ghost use Rattle.df_form.specs.Sorting.{IsTable, is_formula};
 ghost use Rattle.df_form.specs.Sequent.{Walk};
 
+use crate::formulas::Formulas;
 use crate::node::{Formula, Node, Op, Term};
 use crate::nodes::Nodes;
 use crate::sequent::Sequent;
@@ -142,13 +143,14 @@ impl<'a> Draft<'a> {
         requires formula { is_formula self.now.nodes (slice_index self.now.stack.items 0) ≡ true }
         ensures world { IfOk result (λ sequent. sequent.world ≡ self.now.world) }
         ensures nodes { IfOk result (λ sequent. sequent.nodes ≡ self.now.nodes) }
-        ensures hypotheses { IfOk result (λ sequent. sequent.hypotheses.items ≡ self.now.hypotheses.items) }
+        ensures hypotheses { IfOk result (λ sequent. sequent.hypotheses ≡ self.now.hypotheses.items) }
         ensures goal { IfOk result (λ sequent. sequent.goal ∷ [] ≡ self.now.stack.items) }
     {
+        let formulas = Vec::from_slice(alloc, self.hypotheses.as_slice())?;
         Ok(Sequent {
             world: self.world,
             nodes: self.nodes.copy(alloc)?,
-            hypotheses: Vec::from_slice(alloc, self.hypotheses.as_slice())?,
+            hypotheses: Formulas::new(alloc, formulas)?,
             goal: self.stack[0],
         })
     }

@@ -3,6 +3,8 @@
 #![tactic(auto)]
 
 mod draft;
+mod formulas;
+mod front;
 mod law;
 mod log;
 mod node;
@@ -13,6 +15,7 @@ mod world;
 
 pub use df_meaning::Kind;
 pub use draft::Draft;
+pub use formulas::Formulas;
 pub use law::{one_numbering, one_sequent};
 pub use log::{Combination, Lit, Multiple, Pair, Step};
 pub use node::{Formula, Free, Node, Op, Sort, Term};

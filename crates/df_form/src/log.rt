@@ -6,7 +6,7 @@ ghost use Rattle.df_form.specs.Clause.{negation as negation_of};
 use crate::node::{Formula, Node, Term};
 
 /// A literal: a formula by the number of its node, or its negation.
-#[derive(Clone, Copy, Debug, PartialEq, Eq)]
+#[derive(Clone, Copy, Debug, PartialEq, Eq, Hash)]
 pub struct Lit {
     pub positive: bool,
     pub node: Formula,

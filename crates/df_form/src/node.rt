@@ -42,7 +42,7 @@ pub enum Op {
     Code,
     /// The character of a number; of a number that no character has it is that of 0.
     Chr,
-    /// The value is of the type.
+    /// The number or the character is of the type.
     Is(Ty),
     /// Two numbers, or two characters, are equal.
     Equal,

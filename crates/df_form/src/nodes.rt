@@ -6,28 +6,33 @@ ghost use Rattle.df_form.specs.Node.{node_of};
 ghost use Rattle.df_form.specs.Made.{made};
 ghost use Rattle.df_form.specs.Sorting.{IsTable, is_well_sorted};
 
+use crate::front::Front;
 use crate::node::Node;
 use indexmap::IndexSet;
 use std::alloc::{AllocError, Global};
 use std::marker::Model;
 
+/// The largest number of nodes.
+const LIMIT: usize = 0x7fff_ffff_ffff_ffff;
+
 /// Nodes by their numbers, which count from 0. Each is well sorted after those before it, and no two
-/// are equal.
+/// are equal. The first ones may lie in a table that others use too.
 #[derive(Drop)]
 pub struct Nodes {
-    set: IndexSet<Node>,
+    front: Front,
+    own: IndexSet<Node>,
 }
 
 impl Model for Nodes {
-    ghost use Rattle.std.specs.Prelude.{List, map};
+    ghost use Rattle.std.specs.Prelude.{List, ◌++◌, ◌<◌, ◌^◌, map, length};
     ghost use Rattle.df_form.specs.Node as pure;
     ghost use Rattle.df_form.specs.Sorting as sorting;
 
     ghost Value = { List pure.Node };
 
-    ghost view = { λ s. map pure.node_of s.set.keys };
+    ghost view = { λ s. s.front ++ map pure.node_of s.own.keys };
 
-    ghost invariant = { λ s. sorting.IsTable (map pure.node_of s.set.keys) };
+    ghost invariant = { λ s. sorting.IsTable (s.front ++ map pure.node_of s.own.keys) × (length (s.front ++ map pure.node_of s.own.keys) < 2 ^ 63) };
 }
 
 impl Nodes {
@@ -36,7 +41,8 @@ impl Nodes {
         ensures { result ≡ [] }
     {
         Nodes {
-            set: IndexSet::new(alloc),
+            front: Front::none(),
+            own: IndexSet::new(alloc),
         }
     }
 
@@ -46,7 +52,7 @@ impl Nodes {
         ensures small { result < 2 ^ 63 }
         ensures table { IsTable self.now }
     {
-        self.set.len()
+        self.front.len() + self.own.len()
     }
 
     /// The node of a number, if there is one.
@@ -54,7 +60,12 @@ impl Nodes {
         ensures node { option_map (λ node. node_of node.now) result ≡ slice_get self.now number }
         ensures sorted { IfSome result (λ node. is_well_sorted (take number self.now) (node_of node.now) ≡ true) }
     {
-        self.set.get_index(number)
+        let count = self.front.len();
+        if number < count {
+            self.front.get(number)
+        } else {
+            self.own.get_index(number - count)
+        }
     }
 
     /// The number of a node, which is added last where it is new.
@@ -64,16 +75,24 @@ impl Nodes {
         ensures err { OnErr result (self.new ≡ self.old) }
         ensures longer { length self.old ≤ length self.new }
     {
-        let (number, _) = self.set.insert_full(node)?;
-        Ok(number)
+        if let Some(number) = self.front.find(&node) {
+            return Ok(number);
+        }
+        let count = self.front.len();
+        if count + self.own.len() >= LIMIT {
+            return Err(AllocError);
+        }
+        let (number, _) = self.own.insert_full(node)?;
+        Ok(count + number)
     }
 
-    /// The same nodes once more.
+    /// The same nodes once more. What is shared stays in one place.
     pub fn copy(&self, alloc: Global) -> Result<Nodes, AllocError>
         ensures { IfOk result (λ copy. copy ≡ self.now) }
     {
         let mut copy = Nodes {
-            set: IndexSet::with_capacity(alloc, self.set.len())?,
+            front: self.front.copy()?,
+            own: IndexSet::with_capacity(alloc, self.own.len())?,
         };
         while let Some(node) = self.get(copy.len()) {
             let parts = Vec::from_slice(alloc, node.parts.as_slice())?;
@@ -82,12 +101,26 @@ impl Nodes {
         Ok(copy)
     }
 
+    /// The same nodes, from now on in a place that copies share.
+    pub fn shared(self, alloc: Global) -> Result<Nodes, AllocError>
+        ensures { IfOk result (λ shared. shared ≡ self) }
+    {
+        if self.front.len() > 0 {
+            return Ok(self);
+        }
+        let Nodes { own, .. } = self;
+        Ok(Nodes {
+            front: Front::of(alloc, own)?,
+            own: IndexSet::new(alloc),
+        })
+    }
+
     /// Takes the nodes from this number on away.
     pub fn cut(&mut self, len: usize)
         ensures { self.new ≡ take len self.old }
     {
-        while self.set.len() > len {
-            let _ = self.set.pop();
-        }
+        let count = self.front.len();
+        self.front.cut(len);
+        self.own.truncate(len.saturating_sub(count));
     }
 }

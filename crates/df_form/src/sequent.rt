@@ -3,6 +3,7 @@
 ghost use Rattle.df_form.specs.World.{world_of};
 ghost use Rattle.df_form.specs.Sequent.{IsSequent, IsNumbered};
 
+use crate::formulas::Formulas;
 use crate::node::Formula;
 use crate::nodes::Nodes;
 use crate::world::World;
@@ -15,8 +16,8 @@ pub struct Sequent<'a> {
     /// What they know of the program.
     pub world: World<'a>,
     pub nodes: Nodes,
-    pub hypotheses: Vec<Formula>,
+    pub hypotheses: Formulas,
     pub goal: Formula,
-    pub ghost is_sequent: { IsSequent (record { world = world_of world; nodes = nodes; hypotheses = hypotheses.items; goal = goal }) },
-    pub ghost is_numbered: { ∥ IsNumbered (record { world = world_of world; nodes = nodes; hypotheses = hypotheses.items; goal = goal }) ∥₁ },
+    pub ghost is_sequent: { IsSequent (record { world = world_of world; nodes = nodes; hypotheses = hypotheses; goal = goal }) },
+    pub ghost is_numbered: { ∥ IsNumbered (record { world = world_of world; nodes = nodes; hypotheses = hypotheses; goal = goal }) ∥₁ },
 }

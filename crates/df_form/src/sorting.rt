@@ -5,7 +5,7 @@ ghost use Rattle.std.specs.List.{list_all};
 ghost use Rattle.df_form.specs.Clause.{are_literals};
 ghost use Rattle.df_form.specs.Node.{node_of, same_sort};
 ghost use Rattle.df_form.specs.Types.{sort_of_type};
-ghost use Rattle.df_form.specs.Sorting.{sort_of, sort_at, takes, is_formula, is_well_sorted, is_one, are_two, are_two_values};
+ghost use Rattle.df_form.specs.Sorting.{sort_of, sort_at, takes, is_formula, is_well_sorted, is_one, are_two, are_two_values, is_tested};
 
 use crate::log::Lit;
 use crate::node::{Node, Op, Sort};
@@ -106,6 +106,18 @@ impl Nodes {
         self.are_two(Sort::Number, parts) || self.are_two(Sort::Character, parts)
     }
 
+    /// Whether a number or a character is tested for the type.
+    fn is_tested(&self, ty: Ty, parts: &[usize]) -> bool
+        ensures { result ≡ is_tested ty (map (sort_at self.now) parts.now) }
+    {
+        match ty {
+            Ty::Bool => false,
+            Ty::Newtype(_) | Ty::Int | Ty::Nat | Ty::Char => {
+                self.is_one(sort_of_type(ty), parts)
+            }
+        }
+    }
+
     fn are_truths(&self, parts: &[usize]) -> bool
         ensures { result ≡ list_all (λ part. same_sort Sort.Truth (sort_at self.now part)) parts.now }
     {
@@ -125,7 +137,7 @@ impl Nodes {
             }
             Op::Code => self.is_one(Sort::Character, parts),
             Op::Chr => self.is_one(Sort::Number, parts),
-            Op::Is(ty) => self.is_one(sort_of_type(ty), parts),
+            Op::Is(ty) => self.is_tested(ty, parts),
             Op::Equal => self.are_two_values(parts),
             Op::Not => self.is_one(Sort::Truth, parts),
             Op::And | Op::Or => self.are_truths(parts),

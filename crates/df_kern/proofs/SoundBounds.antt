@@ -27,7 +27,7 @@ use Rattle.df_form.proofs.Same.{same_sort_equal}
 use Rattle.df_kern.proofs.SoundNodes.{at_least_stands, at_most_stands}
 use Rattle.df_kern.specs.Schema.{schema_line}
 use Rattle.df_kern.proofs.TypeLines.{schema_lines}
-use Rattle.df_axiom.proofs.Schemas.{line_kept}
+use Rattle.df_axiom.proofs.SchemaTruth.{line_kept}
 use Rattle.df_axiom.proofs.Numbers.{a_number}
 use Rattle.df_kern.proofs.SoundClauses.{IsLine, holds_where}
 use Rattle.df_kern.proofs.SoundConnectives.{node_truth, at_most_truth, number_in, stands_below}

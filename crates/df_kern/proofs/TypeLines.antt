@@ -1,5 +1,5 @@
 -- The clauses of types are the instances of their schema.
-use Rattle.std.proofs.Common.{◌≡◌, ◌==◌, ℕ, zero, suc, ◌<◌, ℤ, pos, Bool, true, false, ◌&&◌, List, [], ◌∷◌, length, Option, None, Some, slice_get, nat_lt, if◌then◌else◌, refl, sym, ap, ◌∙◌, lt-ltb, ltb-true, eqb-true, true≢false, arith}
+use Rattle.std.proofs.Common.{◌≡◌, ◌==◌, ℕ, zero, suc, ◌<◌, ℤ, pos, Bool, true, false, ◌&&◌, List, [], ◌∷◌, map, length, Option, None, Some, slice_get, nat_lt, if◌then◌else◌, refl, sym, ap, ◌∙◌, lt-ltb, ltb-true, eqb-true, arith}
 use Rattle.std.specs.Option.{option_and_then, option_map, option_map_or}
 use Rattle.std.proofs.lemmas.Bool.{and_from, and_parts}
 use Rattle.std.proofs.lemmas.Option.{slice_get_within}
@@ -8,19 +8,19 @@ use Rattle.df_lemmas.proofs.Numbers.{more_unequal}
 use Rattle.df_lang.specs.declared.ty.Ty.{Ty}
 use Rattle.df_lang.specs.declared.ty.Ty.TheVariants as types
 use Rattle.df_form.specs.World.{World, Ends, ends_at}
-use Rattle.df_form.specs.Types.{sort_of_type}
 use Rattle.df_form.specs.declared.log.Lit.{Lit}
 use Rattle.df_form.specs.declared.node.Sort.{Sort}
 use Rattle.df_form.specs.declared.node.Sort.TheVariants as sorts
 use Rattle.df_form.specs.declared.node.Op.{Op}
 use Rattle.df_form.specs.declared.node.Op.TheVariants as ops
 use Rattle.df_form.specs.Node.{Node, same_sort}
-use Rattle.df_form.specs.Sorting.{sort_at, sort_of, is_formula, is_well_sorted}
+use Rattle.df_form.specs.Sorting.{sort_at, sort_of, is_tested, is_formula, is_well_sorted}
 use Rattle.df_form.specs.Made.{Made, made}
 use Rattle.df_form.specs.Clause.{yes, no, are_literals}
 use Rattle.df_form.proofs.Drafts.{sort_here}
 use Rattle.df_form.proofs.Making.{IsNumber, grown_number, made_stands, number_of_op}
 use Rattle.df_form.proofs.Same.{same_sort_equal, same_op-refl}
+use Rattle.df_form.proofs.Tested.{tested_none, tested_many}
 use Rattle.df_form.proofs.Values.{Grows, grows_not, grows_twice, grown_get, AreSorted, parts_below, parts_taken}
 use Rattle.df_axiom.specs.declared.templates.Test.TheVariants as tests
 use Rattle.df_axiom.specs.Instance.{part_at, suits, passes, found_from, agreeing, found, built, with_clause, instantiated}
@@ -165,7 +165,7 @@ module _ (world : World) (nodes : List Node) (sorted : AreSorted nodes) where
   newtype_is n x t k None at less sort = refl
   newtype_is n x t k (Some newtype) at less sort = interval_is nodes sorted n x (types.Newtype t) at less sort newtype k
 
-  type_is : (n x k : ℕ) (ty : Ty) → slice_get nodes n ≡ Some (record { op = ops.Is ty; parts = x ∷ [] }) → x < length nodes → same_sort (sort_at nodes x) (sort_of_type ty) ≡ true
+  type_is : (n x k : ℕ) (ty : Ty) → slice_get nodes n ≡ Some (record { op = ops.Is ty; parts = x ∷ [] }) → x < length nodes → is_tested ty (sort_at nodes x ∷ []) ≡ true
       → option_and_then (instantiated nodes (n ∷ [])) (type_template world ty k) ≡ type_clause world nodes n x ty k
   type_is n x k (types.Newtype t) at less sort = newtype_is n x t k (ends_at world t) at less (same_sort_equal (sort_at nodes x) sorts.Number sort)
   type_is n x k types.Int at less sort = always_is nodes sorted n x types.Int at less k
@@ -179,8 +179,8 @@ module _ (world : World) (nodes : List Node) (sorted : AreSorted nodes) where
       let within = slice_get_within nodes n node at in
       let below = and_parts (nat_lt x n) true (parts_below nodes n node sorted at) in
       type_is n x k ty at (omega (arith, ltb-true x n below.0, within)) (parts_taken nodes n node sorted at)
-  op_is n k (ops.Is ty) [] at = absurd (true≢false (sym (parts_taken nodes n (record { op = ops.Is ty; parts = [] }) sorted at)))
-  op_is n k (ops.Is ty) (x ∷ y ∷ others) at = absurd (true≢false (sym (parts_taken nodes n (record { op = ops.Is ty; parts = x ∷ y ∷ others }) sorted at)))
+  op_is n k (ops.Is ty) [] at = absurd (tested_none ty (parts_taken nodes n (record { op = ops.Is ty; parts = [] }) sorted at))
+  op_is n k (ops.Is ty) (x ∷ y ∷ others) at = absurd (tested_many ty (sort_at nodes x) (sort_at nodes y) (map (sort_at nodes) others) (parts_taken nodes n (record { op = ops.Is ty; parts = x ∷ y ∷ others }) sorted at))
   op_is n k op parts at = refl
 
   -- a template of types names one term

@@ -22,7 +22,7 @@ pub(crate) fn hypothesis_clause(
 ) -> Result<Option<Vec<Lit>>, AllocError>
     ensures { Gives result (option_map (λ h. yes h ∷ []) (slice_get (sequent_of sequent.now).hypotheses number)) }
 {
-    match sequent.hypotheses.get(number) {
+    match sequent.hypotheses.as_slice().get(number) {
         Some(formula) => Ok(Some(vec![in alloc; yes_of(*formula)]?)),
         None => Ok(None),
     }

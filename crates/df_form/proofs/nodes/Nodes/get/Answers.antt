@@ -1,5 +1,25 @@
-use Rattle.df_form.proofs.Keys.{sorted-read}
+use Rattle.std.proofs.Common.{◌<◌, ◌≤◌, ◌-◌, ◌∙◌, sym, ap, subst, map, slice_get}
+use Rattle.df_form.specs.Node.{node_of}
+use Rattle.df_form.specs.Sorting.{IsTable}
+use Rattle.df_form.proofs.Fronts.{get_ahead, get_past, read-keys, sorted-read}
 use Rattle.df_form.proofs.nodes.Nodes.get.Goals as goal
 
-pub returns-clause-sorted : goal.returns-clause-sorted
-returns-clause-sorted c = rw (← c.self.view_is) (sorted-read c.self.inside.set.keys c.args.number c.get_index.result c.self.invariant c.get_index.ensures.key)
+pub returns-then-number-count-clause-node : goal.returns-then-number-count-clause-node
+returns-then-number-count-clause-node c =
+    let less = subst (λ k. c.args.number < k) c.len-count.ensures.len c.if-number-count.true in
+    c.get.ensures ∙ sym (get_ahead c.self.inside.front (map node_of c.self.inside.own.keys) c.args.number less) ∙ ap (λ nodes. slice_get nodes c.args.number) c.self.view_is
+
+pub returns-then-number-count-clause-sorted : goal.returns-then-number-count-clause-sorted
+returns-then-number-count-clause-sorted c = sorted-read c.args.self.now c.args.number c.get.result (subst IsTable c.self.view_is c.self.invariant.0) (returns-then-number-count-clause-node c)
+
+pub returns-else-number-count-clause-node : goal.returns-else-number-count-clause-node
+returns-else-number-count-clause-node c =
+    let own = map node_of c.self.inside.own.keys in
+    let past = subst (λ k. k ≤ c.args.number) c.len-count.ensures.len c.if-number-count.false in
+    read-keys c.self.inside.own.keys (c.args.number - c.len-count.result) c.get_index.result c.get_index.ensures.key
+    ∙ ap (λ k. slice_get own (c.args.number - k)) c.len-count.ensures.len
+    ∙ sym (get_past c.self.inside.front own c.args.number past)
+    ∙ ap (λ nodes. slice_get nodes c.args.number) c.self.view_is
+
+pub returns-else-number-count-clause-sorted : goal.returns-else-number-count-clause-sorted
+returns-else-number-count-clause-sorted c = sorted-read c.args.self.now c.args.number c.get_index.result (subst IsTable c.self.view_is c.self.invariant.0) (returns-else-number-count-clause-node c)
