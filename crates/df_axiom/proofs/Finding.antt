@@ -32,7 +32,7 @@ pub record Step (nodes : List Node) (terms before : List ℕ) (piece : Piece) (o
   pub passed : passes nodes piece.test n ≡ true
   pub later : found_from nodes terms (before ++ n ∷ []) others ≡ Some found
 
-step_of : (nodes : List Node) (terms before : List ℕ) (piece : Piece) (others : List Piece) (found : List ℕ) → found_from nodes terms before (piece ∷ others) ≡ Some found → Step nodes terms before piece others found
+pub step_of : (nodes : List Node) (terms before : List ℕ) (piece : Piece) (others : List Piece) (found : List ℕ) → found_from nodes terms before (piece ∷ others) ≡ Some found → Step nodes terms before piece others found
 step_of nodes terms before piece others found e =
     let step = then_some _ (source_at nodes terms before piece.source) found e in
     let tested = test_some (passes nodes piece.test step.0) (found_from nodes terms (before ++ step.0 ∷ []) others) found step.2 in
@@ -55,7 +55,7 @@ pub record Passed (nodes : List Node) (n : ℕ) (op : Op) : Type 0 where
   pub at : slice_get nodes n ≡ Some node
   pub same : op ≡ node.op
 
-passed_op : (nodes : List Node) (n : ℕ) (op : Op) → passes nodes (tests.Of op) n ≡ true → Passed nodes n op
+pub passed_op : (nodes : List Node) (n : ℕ) (op : Op) → passes nodes (tests.Of op) n ≡ true → Passed nodes n op
 passed_op nodes n op e = by (slice_get nodes n) refl e
   where
     by : (o : Option Node) → slice_get nodes n ≡ o → option_map_or (λ (node : Node). suits (tests.Of op) node.op) o false ≡ true → Passed nodes n op

@@ -7,5 +7,5 @@ pub mod Needing
 pub mod Sound
 pub mod Numbers
 pub mod Types
-pub mod Schemas
+pub mod SchemaTruth
 pub mod Examples

@@ -1,5 +1,5 @@
 -- The schemas of types and of characters are sound.
-use Rattle.std.proofs.Common.{◌≡◌, ℕ, zero, suc, ℤ, pos, int_le, Bool, true, false, ◌&&◌, nat_lt, List, [], ◌∷◌, Option, Some, refl, sym, ap, ◌∙◌, subst}
+use Rattle.std.proofs.Common.{◌≡◌, ℕ, zero, suc, ℤ, pos, int_le, Bool, true, false, ◌&&◌, nat_lt, List, [], ◌∷◌, Option, Some, refl, sym, ap, ◌∙◌, subst, true≢false}
 use Rattle.std.specs.Option.{option_map_or}
 use Rattle.std.proofs.lemmas.Bool.{and_parts, and_from}
 use Rattle.std.proofs.lemmas.Option.{same_Some}
@@ -8,13 +8,13 @@ use Rattle.df_lemmas.proofs.Options.{then_some}
 use Rattle.df_lang.specs.declared.ty.Ty.{Ty}
 use Rattle.df_lang.specs.declared.ty.Ty.TheVariants as types
 use Rattle.df_form.specs.World.{World, Ends, is_within, ends_at}
-use Rattle.df_form.specs.Types.{sort_of_type, has_type}
+use Rattle.df_form.specs.Types.{has_type}
 use Rattle.df_meaning.specs.Value.{Value, Truth, Character, Number, Text, number_of, truth_of, same_value}
 use Rattle.df_form.specs.declared.node.Sort.{Sort}
 use Rattle.df_form.specs.declared.node.Sort.TheVariants as sorts
 use Rattle.df_form.specs.declared.node.Op.{Op}
 use Rattle.df_form.specs.declared.node.Op.TheVariants as ops
-use Rattle.df_form.specs.Sorting.{is_one}
+use Rattle.df_form.specs.Sorting.{is_one, is_tested}
 use Rattle.df_form.specs.Truth.{Assignment, has_sort, value_at, number_at, code_in}
 use Rattle.df_form.proofs.Same.{same_sort_equal}
 use Rattle.df_axiom.specs.Template.{Template}
@@ -53,24 +53,6 @@ one_character (s ∷ []) [] taken zip = absurd zip
 one_character (s ∷ []) (v ∷ u ∷ others) taken zip = absurd zip.1
 one_character [] vs taken zip = absurd cc
 one_character (s ∷ t ∷ others) vs taken zip = absurd cc
-
--- the value of one formula
-pub record IsTruth (vs : List Value) : Type 0 where
-  pub b : Bool
-  pub is : vs ≡ Truth b ∷ []
-
-a_truth : (v : Value) → has_sort sorts.Truth v ≡ true → IsTruth (v ∷ [])
-a_truth (Truth b) e = record { b = b; is = refl }
-a_truth (Number k) e = absurd cc
-a_truth (Character c) e = absurd cc
-a_truth (Text t) e = absurd cc
-
-one_truth : (ss : List Sort) (vs : List Value) → is_one sorts.Truth ss ≡ true → AreOf ss vs → IsTruth vs
-one_truth (s ∷ []) (v ∷ []) taken zip = a_truth v (subst (λ (z : Sort). has_sort z v ≡ true) (same_sort_equal s sorts.Truth taken) zip.0)
-one_truth (s ∷ []) [] taken zip = absurd zip
-one_truth (s ∷ []) (v ∷ u ∷ others) taken zip = absurd zip.1
-one_truth [] vs taken zip = absurd cc
-one_truth (s ∷ t ∷ others) vs taken zip = absurd cc
 
 module _ (depth : ℕ) (world : World) (assignment : Assignment) where
   -- "x is of the newtype" is place 0, and x is 1
@@ -130,13 +112,13 @@ module _ (depth : ℕ) (world : World) (assignment : Assignment) where
 
   -- all values of the sort of a type are of it
   abbrev HasAll : Ty → Type 0
-  HasAll ty = (ss : List Sort) (vs : List Value) → is_one (sort_of_type ty) ss ≡ true → AreOf ss vs → has_type world ty (value_at vs 0) ≡ true
+  HasAll ty = (ss : List Sort) (vs : List Value) → is_tested ty ss ≡ true → AreOf ss vs → has_type world ty (value_at vs 0) ≡ true
 
   int_holds : HasAll types.Int
   int_holds ss vs taken zip = ap (λ (us : List Value). has_type world types.Int (value_at us 0)) (one_number ss vs taken zip).is
 
   bool_holds : HasAll types.Bool
-  bool_holds ss vs taken zip = ap (λ (us : List Value). has_type world types.Bool (value_at us 0)) (one_truth ss vs taken zip).is
+  bool_holds ss vs taken zip = absurd (true≢false (sym taken))
 
   char_holds : HasAll types.Char
   char_holds ss vs taken zip = let x = one_character ss vs taken zip in ap (λ (us : List Value). has_type world types.Char (value_at us 0)) x.is ∙ x.small

@@ -18,6 +18,7 @@ ghost use Rattle.df_cong.specs.Laws.{LinesAreContradictions, LabelsAreExact, Con
 pub use answer::{Answer, Congruence, Mark, Reason};
 pub use classes::Classes;
 pub use deciding::congruence;
+pub use lists::Lists;
 pub use theory::Theory;
 
 /// A clause of literals has a line of congruence exactly where the least congruence contradicts its negation.

@@ -8,7 +8,7 @@ use std::marker::Model;
 
 /// Lists of numbers.
 #[derive(Drop)]
-pub(crate) struct Lists {
+pub struct Lists {
     lists: Vec<Vec<usize>>,
 }
 
@@ -22,7 +22,7 @@ impl Model for Lists {
 
 impl Lists {
     /// Empty lists, so many.
-    pub(crate) fn new(alloc: Global, count: usize) -> Result<Lists, AllocError>
+    pub fn new(alloc: Global, count: usize) -> Result<Lists, AllocError>
         ensures { IfOk result (λ lists. lists ≡ replicate count []) }
     {
         let mut lists = Vec::with_capacity(alloc, count)?;
@@ -44,14 +44,14 @@ impl Lists {
     }
 
     /// How many lists there are.
-    pub(crate) fn len(&self) -> usize
+    pub fn len(&self) -> usize
         ensures { result ≡ length self.now }
     {
         self.lists.len()
     }
 
     /// The list of a number; one past the last is empty.
-    pub(crate) fn list(&self, number: usize) -> &[usize]
+    pub fn list(&self, number: usize) -> &[usize]
         ensures { result.now ≡ list_at self.now number }
     {
         match self.lists.get(number) {
@@ -61,7 +61,7 @@ impl Lists {
     }
 
     /// One more member at the end of a list that there is.
-    pub(crate) fn push(&mut self, number: usize, member: usize) -> Result<(), AllocError>
+    pub fn push(&mut self, number: usize, member: usize) -> Result<(), AllocError>
         requires { number < length self.old }
         ensures pushed { OnOk result (self.new ≡ pushed self.old number member) }
         ensures err { OnErr result (self.new ≡ self.old) }

@@ -20,14 +20,14 @@ use Rattle.df_axiom.proofs.Numbers.{division_sound, at_least_sound, below_sound,
 use Rattle.df_axiom.proofs.Types.{types_sound, code_sound, character_sound}
 
 -- a template, or what else
-one_of : (P : Template → Type 0) (b : Bool) (here : Template) (other : Option Template) (t : Template) → P here → (other ≡ Some t → P t) → cond b (Some here) other ≡ Some t → P t
+pub one_of : (P : Template → Type 0) (b : Bool) (here : Template) (other : Option Template) (t : Template) → P here → (other ≡ Some t → P t) → cond b (Some here) other ≡ Some t → P t
 one_of P b here other t is go e =
     elim (choice b (Some here) other (Some t) e) [
       | inl p ↦ subst P (same_Some here t p.1) is
       | inr p ↦ go p.1
     ]
 
-any_of : (P : Template → Type 0) (b : Bool) (first other : Option Template) (t : Template) → (first ≡ Some t → P t) → (other ≡ Some t → P t) → cond b first other ≡ Some t → P t
+pub any_of : (P : Template → Type 0) (b : Bool) (first other : Option Template) (t : Template) → (first ≡ Some t → P t) → (other ≡ Some t → P t) → cond b first other ≡ Some t → P t
 any_of P b first other t is go e =
     elim (choice b first other (Some t) e) [
       | inl p ↦ is p.1
