@@ -1,11 +1,9 @@
 -- An equality of numbers is the `and` of its two comparisons: what it means as clauses.
-use Rattle.std.proofs.Common.{◌≡◌, ◌⊎◌, inl, inr, ℕ, zero, suc, ◌≤◌, List, [], ◌∷◌, take, length, None, Some, slice_get, refl, sym, ap, ◌∙◌, subst, arith, true≢false}
+use Rattle.std.proofs.Common.{◌≡◌, ◌⊎◌, inl, inr, ℕ, zero, suc, ◌≤◌, List, [], ◌∷◌, take, length, None, Some, slice_get, refl, sym, ap, ◌∙◌, subst, arith}
 use Rattle.std.specs.Option.{option_and_then}
 use Rattle.std.proofs.lemmas.Option.{same_Some, slice_get_within}
-use Rattle.df_lang.specs.declared.ty.Ty.{Ty}
 use Rattle.df_form.specs.declared.node.Sort.{Sort}
 use Rattle.df_form.specs.declared.node.Sort.TheVariants as sorts
-use Rattle.df_form.specs.declared.node.Op.TheVariants as ops
 use Rattle.df_form.specs.Node.{Node}
 use Rattle.df_form.specs.Made.{Made, made}
 use Rattle.df_form.specs.Sorting.{IsTable, sort_at}
@@ -14,17 +12,17 @@ use Rattle.df_form.proofs.Tables.{made_old, number_of_at, table-take}
 use Rattle.df_form.proofs.Values.{Grows, grown_get, grown_sort, AreSorted, parts_below}
 use Rattle.df_kern.specs.Bound.{at_most}
 use Rattle.df_kern.specs.Connective.{Added, equal_clause, equal_by_sort, connective_clause, connective_line}
-use Rattle.df_ground.specs.Among.{Among}
-use Rattle.df_ground.specs.Lines.{bound_by}
-use Rattle.df_ground.proofs.Presence.{first_below}
-use Rattle.df_ground.proofs.Running.{grown_from}
+use Rattle.df_clause.specs.Among.{Among}
+use Rattle.df_clause.specs.Lines.{bound_by}
+use Rattle.df_clause.proofs.Parts.{first_below}
+use Rattle.df_clause.proofs.Running.{grown_from}
 use Rattle.df_closure.specs.Closure.{GroundClause}
 use Rattle.df_closure.specs.Filled.{AreComparing}
-use Rattle.df_closure.proofs.SameClauses.{connective_again}
+use Rattle.df_clause.proofs.SameClauses.{connective_again}
 use Rattle.df_branch.specs.TermPair.{equal}
 use Rattle.df_branch.specs.Evidence.{IsOfEquality, HaveEqualities}
 use Rattle.df_branch.specs.Place.{HaveMeanings, equality_clauses}
-use Rattle.df_branch.proofs.GroundMeanings.{no_connective}
+use Rattle.df_clause.proofs.KeptNodes.{no_connective}
 use Rattle.df_branch.proofs.LaterClauses.{AreLater}
 use Rattle.df_branch.proofs.LaterMeanings.{HaveMeaningsFrom}
 
@@ -121,7 +119,7 @@ module _ (nodes : List Node) (table : IsTable nodes) (n a b up down : ℕ) (at :
 
   -- where it is the first of some nodes, and only comparisons follow, these have what they mean
   pub equality_meanings : AreComparing (suc n) nodes → HaveMeaningsFrom n nodes (equality_clauses n up down)
-  equality_meanings comparing = record { connectives = λ m k node added le there line. connective m k node added there line (split m n le); tests = λ m ty parts le there. test m ty parts there (split m n le) }
+  equality_meanings comparing = record { connectives = λ m k node added le there line. connective m k node added there line (split m n le) }
     where
       split : (m k : ℕ) → k ≤ m → (m ≡ k) ⊎ (suc k ≤ m)
       split m k le = grind arith
@@ -133,10 +131,3 @@ module _ (nodes : List Node) (table : IsTable nodes) (n a b up down : ℕ) (at :
           (has.0, (has.1.0, has.1.1 ∙ (λ i. Some (record { literals = added.clause; bound = bound_by (sym same i) (sym is i).op }))))
       connective m k node added there line (inr past) =
           absurd (no_connective nodes m k node.op node.parts added (comparing m node past there) (sym (ap (option_and_then (λ (node : Node). connective_clause nodes m k node.op node.parts)) there) ∙ line))
-
-      test : (m : ℕ) (ty : Ty) (parts : List ℕ) → slice_get nodes m ≡ Some (record { op = ops.Is ty; parts = parts }) → (m ≡ n) ⊎ (suc n ≤ m) → ⊥
-      test m ty parts there (inl same) =
-          let is : record { op = ops.Is ty; parts = parts } ≡ equal a b = same_Some (record { op = ops.Is ty; parts = parts }) (equal a b) (sym there ∙ ap (slice_get nodes) same ∙ at) in
-          let clash : ops.Is ty ≡ ops.Equal = ap (λ (node : Node). node.op) is in
-          cc
-      test m ty parts there (inr past) = true≢false (sym (comparing m _ past there))

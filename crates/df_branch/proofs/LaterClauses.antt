@@ -5,7 +5,7 @@ use Rattle.df_lemmas.proofs.Truths.{true_is_not_false}
 use Rattle.df_form.specs.declared.log.Lit.{Lit}
 use Rattle.df_form.specs.Node.{Node}
 use Rattle.df_form.specs.Clause.{yes, no, is_among, are_literals}
-use Rattle.df_ground.specs.Among.{Among}
+use Rattle.df_clause.specs.Among.{Among}
 use Rattle.df_closure.specs.Closure.{GroundClause, counts_for, Teaches, Refutes, Taught, nothing, more, after, IsClosed, IsRefuted}
 use Rattle.df_closure.specs.Filled.{IsOpenClause, IsFilled}
 use Rattle.df_branch.specs.Evidence.{IsShut, by_clauses, by_congruence, by_rows, IsUnshut, IsDecision, of_clause, of_equality, of_split, MayFollow, IsBranchAfter}

@@ -1,32 +1,27 @@
 -- What nodes mean stays among clauses where nodes are added, with what they mean.
-use Rattle.std.proofs.Common.{◌≡◌, ◌⊎◌, inl, inr, ℕ, suc, ◌<◌, ◌≤◌, List, [], ◌∷◌, ◌++◌, take, length, Option, None, Some, slice_get, refl, sym, ap, ◌∙◌, subst, arith, true≢false}
+use Rattle.std.proofs.Common.{◌≡◌, ◌⊎◌, inl, inr, ℕ, suc, ◌<◌, ◌≤◌, List, [], ◌∷◌, ◌++◌, take, length, Option, None, Some, slice_get, refl, sym, ap, ◌∙◌, subst, arith}
 use Rattle.std.specs.Option.{option_and_then}
 use Rattle.std.proofs.lemmas.Bool.{cases_lt}
 use Rattle.std.proofs.lemmas.Option.{same_Some, slice_get_within}
 use Rattle.df_lemmas.proofs.Lists.{get_below, get_grown}
-use Rattle.df_lang.specs.declared.ty.Ty.{Ty}
-use Rattle.df_form.specs.declared.node.Sort.TheVariants as sorts
-use Rattle.df_form.specs.declared.node.Op.TheVariants as ops
 use Rattle.df_form.specs.Node.{Node}
 use Rattle.df_form.specs.Sorting.{IsTable, sort_at}
-use Rattle.df_form.specs.Clause.{yes}
 use Rattle.df_form.proofs.Tables.{table-take}
 use Rattle.df_form.proofs.Values.{Grows, grown_get, grown_sort, AreSorted, parts_below}
 use Rattle.df_kern.specs.Connective.{Added, connective_clause, connective_line}
-use Rattle.df_ground.specs.Among.{Among}
-use Rattle.df_ground.specs.Lines.{bound_by}
-use Rattle.df_ground.proofs.Presence.{first_below}
-use Rattle.df_ground.proofs.Running.{grown_from}
+use Rattle.df_clause.specs.Among.{Among}
+use Rattle.df_clause.specs.Lines.{bound_by}
+use Rattle.df_clause.proofs.Parts.{first_below}
+use Rattle.df_clause.proofs.Running.{grown_from}
 use Rattle.df_closure.specs.Closure.{GroundClause}
 use Rattle.df_closure.specs.Filled.{AreComparing}
-use Rattle.df_closure.proofs.SameClauses.{again, connective_again, connective_too}
+use Rattle.df_clause.proofs.SameClauses.{again, connective_again, connective_too}
 use Rattle.df_branch.specs.Place.{HaveMeanings}
-use Rattle.df_branch.proofs.GroundMeanings.{no_connective}
+use Rattle.df_clause.proofs.KeptNodes.{no_connective}
 
--- what the nodes from a number on mean is among the clauses, and none of them is a test of a type
+-- what the nodes from a number on mean is among the clauses
 pub record HaveMeaningsFrom (count : ℕ) (nodes : List Node) (clauses : List GroundClause) : Type 0 where
   pub connectives : (n k : ℕ) (node : Node) (added : Added) → count ≤ n → slice_get nodes n ≡ Some node → connective_line nodes n k ≡ Some added → (added.nodes ≡ nodes) × Among clauses (record { literals = added.clause; bound = bound_by n node.op })
-  pub tests : (n : ℕ) (ty : Ty) (parts : List ℕ) → count ≤ n → slice_get nodes n ≡ Some (record { op = ops.Is ty; parts = parts }) → ⊥
 
 among_more : (clauses added : List GroundClause) (clause : GroundClause) → Among clauses clause → Among (clauses ++ added) clause
 among_more clauses added clause there = (there.0, get_grown clauses added there.0 clause there.1)
@@ -69,9 +64,6 @@ module _ (nodes more : List Node) (table : IsTable more) (begins : take (length 
             let same : added ≡ again more table old = same_Some added (again more table old) (sym e ∙ now) in
             (ap (λ (x : Added). x.nodes) same, (has.1.0, has.1.1 ∙ (λ i. Some (record { literals = (sym same i).clause; bound = bound_by n node.op }))))
 
-    old_test : (n a : ℕ) (ty : Ty) → slice_get nodes n ≡ Some (record { op = ops.Is ty; parts = a ∷ [] }) → sort_at more a ≡ sorts.Truth → Among clauses (record { literals = yes n ∷ []; bound = None })
-    old_test n a ty at truth = meanings.tests n a ty at (sym (alike n (record { op = ops.Is ty; parts = a ∷ [] }) at a [] refl) ∙ truth)
-
     module _ (added : List GroundClause) (later : HaveMeaningsFrom (length nodes) more added) where
       connectives : (n k : ℕ) (node : Node) (line : Added) → slice_get more n ≡ Some node → connective_line more n k ≡ Some line → (line.nodes ≡ more) × Among (clauses ++ added) (record { literals = line.clause; bound = bound_by n node.op })
       connectives n k node line at e = by (cases_lt n (length nodes))
@@ -85,15 +77,8 @@ module _ (nodes more : List Node) (table : IsTable more) (begins : take (length 
               (has.0, among_more clauses added clause has.1)
           by (inr past) = let has = later.connectives n k node line past at e in (has.0, among_added clauses added clause has.1)
 
-      tests : (n a : ℕ) (ty : Ty) → slice_get more n ≡ Some (record { op = ops.Is ty; parts = a ∷ [] }) → sort_at more a ≡ sorts.Truth → Among (clauses ++ added) (record { literals = yes n ∷ []; bound = None })
-      tests n a ty at truth = by (cases_lt n (length nodes))
-        where
-          by : (n < length nodes) ⊎ (length nodes ≤ n) → Among (clauses ++ added) (record { literals = yes n ∷ []; bound = None })
-          by (inl less) = among_more clauses added _ (old_test n a ty (old_node n _ less at) truth)
-          by (inr past) = absurd (later.tests n ty (a ∷ []) past at)
-
       pub meanings_grow : HaveMeanings more (clauses ++ added)
-      meanings_grow = record { connectives = connectives; tests = tests }
+      meanings_grow = record { connectives = connectives }
 
     -- numbers and comparisons mean nothing
     module _ (comparing : AreComparing (length nodes) more) where
@@ -101,7 +86,6 @@ module _ (nodes more : List Node) (table : IsTable more) (begins : take (length 
       meanings_stay = record {
         connectives = λ n k node line at e.
             by (cases_lt n (length nodes)) (λ less. old_connective n k node line (old_node n node less at) (read n k node line at e)) (λ past. absurd (no_connective more n k node.op node.parts line (comparing n node past at) (read n k node line at e)));
-        tests = λ n a ty at truth. by (cases_lt n (length nodes)) (λ less. old_test n a ty (old_node n _ less at) truth) (λ past. absurd (true≢false (sym (comparing n _ past at))));
       }
         where
           by : {A : Type 0} {n : ℕ} → (n < length nodes) ⊎ (length nodes ≤ n) → (n < length nodes → A) → (length nodes ≤ n → A) → A

@@ -11,8 +11,8 @@ use Rattle.df_form.specs.Clause.{yes, no, is_among}
 use Rattle.df_form.proofs.Tables.{table-take}
 use Rattle.df_form.proofs.Values.{grown_sort, AreSorted}
 use Rattle.df_kern.specs.Derivation.{is_number}
-use Rattle.df_ground.proofs.Running.{grown_from}
-use Rattle.df_closure.specs.Closure.{GroundClause, ground_of, after}
+use Rattle.df_clause.proofs.Running.{grown_from}
+use Rattle.df_closure.specs.Closure.{GroundClause, after}
 use Rattle.df_closure.specs.Filled.{IsFilled}
 use Rattle.df_closure.specs.Full.{knows_of}
 use Rattle.df_cong.specs.Congruence.{label_at}
@@ -61,13 +61,13 @@ module _ (set : List Node) (clauses : List GroundClause) (nodes : List Node) (br
 
   pub modelled : (table : List ℤ) → IsWholeTable (basis_of numbers labels facts) set table → ((m n : ℕ) → Agree set table m n) → IsModelOf set clauses table
   modelled table whole agree s g more valid is same_set same_clauses =
-      table_is_model s g valid is nodes (grown_from g.nodes nodes (subst (λ (ns : List Node). take (length ns) nodes ≡ ns) (sym same_set) p.place.begins)) known filled numbers labels (solution set clauses nodes branch levels labels facts p numbers point) table
+      table_is_model s g is nodes (grown_from g.nodes nodes (subst (λ (ns : List Node). take (length ns) nodes ≡ ns) (sym same_set) p.place.begins)) known filled numbers labels (solution set clauses nodes branch levels labels facts p numbers point) table
       (subst (λ (ns : List Node). IsWholeTable (basis_of numbers labels known) ns table) (sym same_set) (known_table table whole))
       (subst (λ (ns : List Node). (m n : ℕ) → Agree ns table m n) (sym same_set) agree)
     where
-      filled : IsFilled (map ground_of g.clauses.items) known
+      filled : IsFilled (g.clauses) known
       filled clause o =
-          p.filled clause (record { number = o.number; there = subst (λ (cs : List GroundClause). slice_get cs o.number ≡ Some clause) same_clauses (get_grown (map ground_of g.clauses.items) more o.number clause o.there); counts = o.counts; none = o.none })
+          p.filled clause (record { number = o.number; there = subst (λ (cs : List GroundClause). slice_get cs o.number ≡ Some clause) same_clauses (get_grown (g.clauses) more o.number clause o.there); counts = o.counts; none = o.none })
 
   pub wide_node : ((row : Row) → Stands row (level_rows levels.first) → IsWithin (length nodes) row) → IsWideTable (basis_of numbers labels facts) set → IsWideLeaf set clauses nodes branch
   wide_node within wide = record {

@@ -1,20 +1,17 @@
 -- Where no clause is open, a point of the rows and the labels of congruence solve the closed list.
-use Rattle.std.proofs.Common.{◌≡◌, ◌⊎◌, inl, inr, ℕ, ℤ, true, false, List, [], ◌∷◌, map, length, None, Some, slice_get, refl, sym, subst, true≢false}
+use Rattle.std.proofs.Common.{◌≡◌, ◌⊎◌, inl, inr, ℕ, ℤ, true, false, List, [], ◌∷◌, map, length, slice_get, refl, sym, subst, true≢false}
 use Rattle.std.specs.List.{list_any}
 use Rattle.std.proofs.lemmas.Bool.{cases_Bool, or_cases}
 use Rattle.df_lemmas.proofs.Options.{then_some}
-use Rattle.df_lang.specs.declared.ty.Ty.{Ty}
 use Rattle.df_form.specs.declared.log.Lit.{Lit}
-use Rattle.df_form.specs.declared.node.Sort.TheVariants as sorts
 use Rattle.df_form.specs.declared.node.Op.{Op}
 use Rattle.df_form.specs.declared.node.Op.TheVariants as ops
 use Rattle.df_form.specs.Node.{Node}
-use Rattle.df_form.specs.Sorting.{sort_at}
-use Rattle.df_form.specs.Clause.{yes, is_among, are_literals}
+use Rattle.df_form.specs.Clause.{is_among, are_literals}
 use Rattle.df_row.specs.Value.{rows_hold}
 use Rattle.df_kern.specs.Connective.{connective_clause}
-use Rattle.df_ground.specs.Among.{Among}
-use Rattle.df_ground.specs.Lines.{bound_by}
+use Rattle.df_clause.specs.Among.{Among}
+use Rattle.df_clause.specs.Lines.{bound_by}
 use Rattle.df_cong.specs.Congruence.{HasLabels}
 use Rattle.df_closure.specs.Closure.{GroundClause, counts_for, after}
 use Rattle.df_closure.specs.Full.{IsConsistent, knows_of, AreConnectivesMet}
@@ -63,9 +60,6 @@ module _ (set : List Node) (clauses : List GroundClause) (nodes : List Node) (br
       let has = p.place.meanings.connectives n k node.0 added node.1 line in
       record { stands = has.0; one = one_known (record { literals = added.clause; bound = bound_by n node.0.op }) has.1 (counts_by known n node.0.op knows) }
 
-  tests : (n a : ℕ) (ty : Ty) → slice_get nodes n ≡ Some (record { op = ops.Is ty; parts = a ∷ [] }) → sort_at nodes a ≡ sorts.Truth → is_among known (yes n) ≡ true
-  tests n a ty at truth = one_is known (yes n) (one_known (record { literals = yes n ∷ []; bound = None }) (p.place.meanings.tests n a ty at truth) refl)
-
   consistent : IsConsistent known
   consistent = consistent_after clauses branch p.reasons p.learned p.closed.taught p.place.consistent
 
@@ -79,7 +73,6 @@ module _ (set : List Node) (clauses : List GroundClause) (nodes : List Node) (br
       formulas = formulas;
       consistent = consistent;
       connectives = connectives;
-      tests = tests;
       labels_are = labels_are;
       rows = p.rows;
       rows_are = p.rows_are;

@@ -1,5 +1,5 @@
 -- Evidence: why a search for a proof stopped.
-use Rattle.std.specs.Prelude.{◌≡◌, ◌⊎◌, ℕ, true, false, List, [], ◌∷◌, ◌++◌, map, length, take, slice_get, Some}
+use Rattle.std.specs.Prelude.{◌≡◌, ◌≤◌, ◌⊎◌, ℕ, true, false, List, [], ◌∷◌, ◌++◌, map, length, take, slice_get, Some}
 use Rattle.df_form.specs.declared.log.Lit.{Lit}
 use Rattle.df_form.specs.declared.node.Op.TheVariants as ops
 use Rattle.df_form.specs.Node.{Node}
@@ -10,10 +10,10 @@ use Rattle.df_form.specs.Log.{Step}
 use Rattle.df_row.specs.Row.{Row}
 use Rattle.df_row.specs.Linear.{rows_of}
 use Rattle.df_kern.specs.Derivation.{begin, after_all}
-use Rattle.df_ground.specs.declared.set.Ground.{Ground}
-use Rattle.df_ground.specs.GroundView.{IsGroundOf}
-use Rattle.df_ground.specs.Among.{Among}
-use Rattle.df_closure.specs.Closure.{GroundClause, ground_of, after, IsClosed, IsRefuted}
+use Rattle.df_clause.specs.declared.ground.Ground.{Ground}
+use Rattle.df_trig.specs.Instances.{IsInstances}
+use Rattle.df_clause.specs.Among.{Among}
+use Rattle.df_closure.specs.Closure.{GroundClause, after, IsClosed, IsRefuted}
 use Rattle.df_closure.specs.Filled.{IsOpenClause, IsFilled}
 use Rattle.df_level.specs.Elimination.{AreRefuted, IsElimination}
 use Rattle.df_kern.specs.Connective.{Added, connective_line}
@@ -37,13 +37,15 @@ HaveEqualities nodes clauses =
     (node : ℕ) (of : Node) (number : ℕ) (added : Added) → slice_get nodes node ≡ Some of → of.op ≡ ops.Equal → connective_line nodes node number ≡ Some added
     → (added.nodes ≡ nodes) × Among clauses (record { literals = added.clause; bound = Some node })
 
--- The ground clauses of a sequent, with those of the equalities of a list's literals; and a table of nodes that begins
--- with those of the ground set: lines may have made more.
-pub record IsGroundIn (s : Sequent) (nodes : List Node) (clauses : List GroundClause) : Type 0 where
+-- The ground set of a sequent with one number of rounds of instances, which is at most this, and with the clauses of the
+-- equalities of a list's literals; and a table of nodes that begins with those of the ground set: lines may have made more.
+pub record IsGroundIn (s : Sequent) (rounds : ℕ) (nodes : List Node) (clauses : List GroundClause) : Type 0 where
   pub set : Ground
-  pub is_of : IsGroundOf s set
+  pub own : ℕ
+  pub within : own ≤ rounds
+  pub is_of : IsInstances s own set
   pub more : List GroundClause
-  pub clauses_are : clauses ≡ map ground_of set.clauses.items ++ more
+  pub clauses_are : clauses ≡ set.clauses ++ more
   pub of_equalities : (clause : GroundClause) → Among more clause → IsOfEquality nodes clause
   pub equalities : HaveEqualities nodes clauses
   pub table : IsTable nodes

@@ -10,13 +10,13 @@ use Rattle.df_row.specs.RowView.{IsWithin}
 use Rattle.df_row.specs.Linear.{rows_of, refutes}
 use Rattle.df_kern.specs.Bound.{number, at_most}
 use Rattle.df_kern.specs.Derivation.{is_number}
-use Rattle.df_ground.specs.declared.set.Ground.{Ground}
-use Rattle.df_ground.specs.GroundView.{IsGroundOf, state_of}
+use Rattle.df_clause.specs.declared.ground.Ground.{Ground}
+use Rattle.df_clause.specs.GroundView.{IsGround, state_of}
 use Rattle.df_table.specs.TableModel.{IsTableModel}
 use Rattle.df_cong.specs.declared.answer.Reason.{Reason}
 use Rattle.df_cong.specs.Equal.{IsContradicted}
 use Rattle.df_cong.specs.Theory.{IsReason}
-use Rattle.df_closure.specs.Closure.{GroundClause, ground_of, after, IsClosed, IsRefuted}
+use Rattle.df_closure.specs.Closure.{GroundClause, after, IsClosed, IsRefuted}
 use Rattle.df_closure.specs.Filled.{IsFilled}
 use Rattle.df_level.specs.Levels.{Stands, row_limit}
 use Rattle.df_level.specs.Elimination.{AreRefuted, AreMany}
@@ -99,7 +99,7 @@ pub record IsManyLeaf (clauses : List GroundClause) (nodes : List Node) (branch 
 
 -- the table is a model of the ground set of each sequent whose ground clauses stand first among these
 abbrev pub IsModelOf : List Node → List GroundClause → List ℤ → Type 0
-IsModelOf set clauses table = (s : Sequent) (g : Ground) (more : List GroundClause) → IsSequent s → IsGroundOf s g → g.nodes ≡ set → map ground_of g.clauses.items ++ more ≡ clauses → IsTableModel (state_of g) table
+IsModelOf set clauses table = (s : Sequent) (g : Ground) (more : List GroundClause) → IsSequent s → IsGround s g → g.nodes ≡ set → g.clauses ++ more ≡ clauses → IsTableModel (state_of g) table
 
 abbrev pub TellsLeaf : List Node → List GroundClause → List Node → List Lit → Leaf → Type 0
 TellsLeaf set clauses nodes branch (leaves.Refuted numbers) = IsRefuted clauses branch numbers.items

@@ -1,23 +1,19 @@
 -- Places of a search.
-use Rattle.std.specs.Prelude.{◌≡◌, ℕ, true, List, [], ◌∷◌, take, length, slice_get, None, Some}
+use Rattle.std.specs.Prelude.{◌≡◌, ℕ, true, List, [], ◌∷◌, take, length, slice_get, Some}
 use Rattle.std.specs.List.{list_all}
-use Rattle.df_lang.specs.declared.ty.Ty.{Ty}
 use Rattle.df_form.specs.declared.log.Lit.{Lit}
-use Rattle.df_form.specs.declared.node.Op.TheVariants as ops
-use Rattle.df_form.specs.declared.node.Sort.TheVariants as sorts
 use Rattle.df_form.specs.Node.{Node}
-use Rattle.df_form.specs.Sorting.{IsTable, sort_at}
+use Rattle.df_form.specs.Sorting.{IsTable}
 use Rattle.df_form.specs.Clause.{yes, no, are_literals}
 use Rattle.df_kern.specs.Connective.{Added, connective_line}
-use Rattle.df_ground.specs.Among.{Among}
-use Rattle.df_ground.specs.Lines.{bound_by}
+use Rattle.df_clause.specs.Among.{Among}
+use Rattle.df_clause.specs.Lines.{bound_by}
 use Rattle.df_closure.specs.Closure.{GroundClause}
 use Rattle.df_closure.specs.Full.{IsConsistent}
 
--- Among the clauses is whatever a connective means, and that a test of a truth for its type is true.
+-- Among the clauses is whatever a connective means.
 pub record HaveMeanings (nodes : List Node) (clauses : List GroundClause) : Type 0 where
   pub connectives : (n k : ℕ) (node : Node) (added : Added) → slice_get nodes n ≡ Some node → connective_line nodes n k ≡ Some added → (added.nodes ≡ nodes) × Among clauses (record { literals = added.clause; bound = bound_by n node.op })
-  pub tests : (n a : ℕ) (ty : Ty) → slice_get nodes n ≡ Some (record { op = ops.Is ty; parts = a ∷ [] }) → sort_at nodes a ≡ sorts.Truth → Among clauses (record { literals = yes n ∷ []; bound = None })
 
 -- what an equality of numbers means by its two comparisons
 abbrev pub equality_clauses : ℕ → ℕ → ℕ → List GroundClause

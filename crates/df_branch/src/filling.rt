@@ -8,8 +8,8 @@ ghost use Rattle.df_kern.specs.Known.{knows, IsSetOf};
 ghost use Rattle.df_closure.specs.Closure.{ground_of, counts_for};
 ghost use Rattle.df_branch.specs.Filling.{TellsMember, TellsOpen, TellsUndecided};
 
+use df_clause::GroundClause;
 use df_form::{Formula, Lit};
-use df_ground::GroundClause;
 use df_kern::Known;
 
 /// Whether a clause that is bound to an equality counts.

@@ -7,7 +7,6 @@ use Rattle.std.proofs.lemmas.Option.{same_Some}
 use Rattle.std.proofs.lemmas.Bool.{and_from, or_cases, or_left, or_right, and_parts}
 use Rattle.df_form.proofs.Literals.{same_self}
 use Rattle.df_lemmas.proofs.Options.{then_some, map_some}
-use Rattle.df_form.specs.World.{World}
 use Rattle.df_form.specs.declared.log.Lit.{Lit}
 use Rattle.df_form.specs.declared.node.Sort.{Sort}
 use Rattle.df_form.specs.declared.node.Sort.TheVariants as sorts
@@ -15,7 +14,6 @@ use Rattle.df_form.specs.declared.node.Op.{Op}
 use Rattle.df_form.specs.declared.node.Op.TheVariants as ops
 use Rattle.df_form.specs.Node.{Node, same_sort}
 use Rattle.df_form.specs.Sorting.{sort_at}
-use Rattle.df_form.specs.Truth.{Assignment, truth}
 use Rattle.df_meaning.specs.Value.{same_truth}
 use Rattle.df_form.specs.Clause.{same_literal, is_among, literal_truth}
 use Rattle.df_row.specs.Row.{Row, difference}
@@ -24,11 +22,10 @@ use Rattle.df_row.specs.Linear.{one_row, two_rows, comparison_rows, rows_by_sort
 use Rattle.df_form.proofs.Values.{AreSorted, parts_taken}
 use Rattle.df_form.proofs.Same.{same_sort_equal}
 use Rattle.df_kern.proofs.SoundClauses.{same_literal_is}
-use Rattle.df_closure.specs.Full.{is_basic, Agrees}
-use Rattle.df_closure.specs.Comparisons.{IsComparison, at_most, equal, numbers_of, AreComparisonsTrue, ComparisonsHold, FreeFormulasHold}
+use Rattle.df_closure.specs.Comparisons.{IsComparison, at_most, equal, AreComparisonsTrue}
 use Rattle.df_closure.specs.Reading.{IsReading}
 use Rattle.df_closure.proofs.Expansions.{both_inside, difference_value}
-use Rattle.df_closure.proofs.Readings.{equal_is_both, values_read}
+use Rattle.df_closure.proofs.Readings.{equal_is_both}
 
 same_bools : (a b : Bool) → (a ≡ true → b ≡ true) → (b ≡ true → a ≡ true) → a ≡ b
 same_bools true b there back = sym (there refl)
@@ -176,19 +173,3 @@ module _ (nodes : List Node) (sorted : AreSorted nodes) where
   two_parts l [] at = absurd (true≢false (sym (parts_taken nodes l.node (record { op = ops.AtMost; parts = [] }) sorted at)))
   two_parts l (a ∷ []) at = absurd (true≢false (sym (parts_taken nodes l.node (record { op = ops.AtMost; parts = a ∷ [] }) sorted at)))
   two_parts l (a ∷ b ∷ c ∷ others) at = absurd (true≢false (sym (parts_taken nodes l.node (record { op = ops.AtMost; parts = a ∷ b ∷ c ∷ others }) sorted at)))
-
--- and so for the values under an assignment
-module _ (depth : ℕ) (world : World) (assignment : Assignment) (nodes : List Node) (sorted : AreSorted nodes) where
-  abbrev IsTrue : ℕ → Bool
-  IsTrue n = truth depth world assignment nodes n
-
-  pub comparisons_true : (literals : List Lit) (rows : List Row) → rows_of nodes literals ≡ Some rows → rows_hold (length nodes) (numbers_of depth world assignment nodes) rows ≡ true → ComparisonsHold depth world assignment nodes literals
-  comparisons_true = comparisons_follow nodes sorted (numbers_of depth world assignment nodes) IsTrue (values_read depth world assignment nodes sorted)
-
-  pub they_agree : (known : List Lit) → ComparisonsHold depth world assignment nodes known → FreeFormulasHold depth world assignment nodes known → Agrees depth world assignment nodes known
-  they_agree known comparisons free l node among at basic = by node.op node.parts at basic
-    where
-      by : (op : Op) (parts : List ℕ) → slice_get nodes l.node ≡ Some (record { op = op; parts = parts }) → is_basic op ≡ true → literal_truth IsTrue l ≡ true
-      by (ops.Free term) parts at basic = free l term parts among at
-      by ops.AtMost parts at basic = comparisons l among (two_parts nodes sorted l parts at)
-      by op parts at basic = absurd (true≢false (sym basic))

@@ -5,7 +5,6 @@ use Rattle.std.proofs.lemmas.Option.{slice_get_within}
 use Rattle.std.proofs.lemmas.Bool.{and_from, or_cases, cases_Bool, and_parts}
 use Rattle.df_form.proofs.Drafts.{sort_here}
 use Rattle.df_lemmas.proofs.Lists.{get_below}
-use Rattle.df_form.specs.World.{World}
 use Rattle.df_meaning.specs.Value.{same_truth}
 use Rattle.df_form.specs.declared.log.Lit.{Lit}
 use Rattle.df_form.specs.declared.node.Sort.{Sort}
@@ -15,22 +14,18 @@ use Rattle.df_form.specs.declared.node.Op.TheVariants as ops
 use Rattle.df_form.specs.Node.{Node, same_sort}
 use Rattle.df_form.specs.Made.{made}
 use Rattle.df_form.specs.Sorting.{sort_of, sort_at, is_formula, takes}
-use Rattle.df_form.specs.Arithmetic.{IsOfNumbers}
-use Rattle.df_form.specs.Truth.{Assignment, truth}
 use Rattle.df_form.specs.Clause.{yes, no, same_literal, is_among, are_literals}
-use Rattle.df_form.proofs.Values.{grown_get, AreSorted, parts_below, parts_taken}
+use Rattle.df_form.proofs.Values.{grown_get, parts_below, parts_taken}
 use Rattle.df_form.proofs.Making.{made_stands, IsNumber, grown_number}
 use Rattle.df_form.proofs.Same.{same_sort_equal, values_alike}
 use Rattle.df_kern.specs.Bound.{at_most}
 use Rattle.df_kern.specs.Connective.{equal_by_sort}
 use Rattle.df_kern.proofs.SoundNodes.{at_most_sorted}
 use Rattle.df_kern.proofs.SoundClauses.{same_literal_is}
-use Rattle.df_closure.specs.Full.{IsFull, IsConsistent, Agrees, is_primitive, ArePrimitivesTrue}
-use Rattle.df_closure.specs.Comparisons.{numbers_of}
+use Rattle.df_closure.specs.Full.{is_primitive, ArePrimitivesTrue}
 use Rattle.df_closure.proofs.Atoms.{two_below}
-use Rattle.df_closure.proofs.Readings.{equal_is_both, values_read}
+use Rattle.df_closure.proofs.Readings.{equal_is_both}
 use Rattle.df_closure.proofs.Knowing.{and_false, one_left, two_left, rest_yes, rest_no}
-use Rattle.df_closure.proofs.FullTypes.{basic_true, type_holds}
 use Rattle.df_closure.proofs.FullConnectives.{IsReadList, Knows, AreTrueBelow, met, not_holds, implies_holds, iff_holds, and_holds, or_holds}
 
 pub passes_among : (test : Lit → Bool) (literals : List Lit) (l : Lit) → list_all test literals ≡ true → is_among literals l ≡ true → test l ≡ true
@@ -156,29 +151,3 @@ module _ (nodes : List Node) (known : List Lit) (v : ℕ → ℤ) (t : ℕ → B
 
     pub known_hold : (l : Lit) → is_among known l ≡ true → same_truth l.positive (t l.node) ≡ true
     known_hold l is = node_holds l.node (all_hold l.node) l.positive is
-
--- and so for the values under an assignment, where the types are met
-module _ (depth : ℕ) (world : World) (assignment : Assignment) (nodes : List Node) (known : List Lit) (sorted : AreSorted nodes) (arithmetic : IsOfNumbers world nodes) (full : IsFull world nodes known)
-    (consistent : IsConsistent known) (agrees : Agrees depth world assignment nodes known) where
-  abbrev IsTrue : ℕ → Bool
-  IsTrue m = truth depth world assignment nodes m
-
-  values_primitive : ArePrimitivesTrue nodes IsTrue known
-  values_primitive l node is there primitive = by node.op node.parts there primitive
-    where
-      by : (op : Op) (parts : List ℕ) → slice_get nodes l.node ≡ Some (record { op = op; parts = parts }) → is_primitive nodes op parts ≡ true → same_truth l.positive (IsTrue l.node) ≡ true
-      by (ops.Free free) parts there primitive = basic_true depth world assignment nodes known sorted arithmetic full consistent agrees l.positive l.node (record { op = ops.Free free; parts = parts }) is there refl
-      by ops.AtMost parts there primitive = basic_true depth world assignment nodes known sorted arithmetic full consistent agrees l.positive l.node (record { op = ops.AtMost; parts = parts }) is there refl
-      by (ops.Is ty) (x ∷ []) there primitive = type_holds depth world assignment nodes known sorted arithmetic full consistent agrees l.node x ty there l.positive is
-      by (ops.Is ty) [] there primitive = absurd (true≢false (sym (parts_taken nodes l.node (record { op = ops.Is ty; parts = [] }) sorted there)))
-      by (ops.Is ty) (x ∷ y ∷ others) there primitive = absurd (true≢false (sym (parts_taken nodes l.node (record { op = ops.Is ty; parts = x ∷ y ∷ others }) sorted there)))
-      by ops.Equal (p ∷ q ∷ []) there primitive = absurd (true≢false (sym (sym (ap (λ (s : Sort). not (same_sort s sorts.Number)) (arithmetic.equalities l.node p q there)) ∙ primitive)))
-      by ops.Equal [] there primitive = absurd (true≢false (sym primitive))
-      by ops.Equal (p ∷ []) there primitive = absurd (true≢false (sym (parts_taken nodes l.node (record { op = ops.Equal; parts = p ∷ [] }) sorted there)))
-      by ops.Equal (p ∷ q ∷ o ∷ others) there primitive = absurd (true≢false (sym (parts_taken nodes l.node (record { op = ops.Equal; parts = p ∷ q ∷ o ∷ others }) sorted there)))
-      by op parts there primitive = absurd (true≢false (sym primitive))
-
-  pub literals_hold : are_literals nodes known ≡ true → (l : Lit) → is_among known l ≡ true → same_truth l.positive (IsTrue l.node) ≡ true
-  literals_hold literals =
-      let read : IsReadList nodes known (numbers_of depth world assignment nodes) IsTrue = record { sorted = sorted; reading = values_read depth world assignment nodes sorted; connectives = full.connectives; consistent = consistent } in
-      known_hold nodes known (numbers_of depth world assignment nodes) IsTrue read values_primitive literals

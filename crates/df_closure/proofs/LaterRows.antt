@@ -18,7 +18,7 @@ use Rattle.df_row.specs.Row.{Row, fits, constant_row, with_more, literal_number,
 use Rattle.df_row.specs.Linear.{one_row, two_rows, comparison_rows, rows_by_sort, rows_of_parts, rows_of_node, rows_of}
 use Rattle.df_row.proofs.Rows.{skip}
 use Rattle.df_form.proofs.Values.{Grows, grown_get, grown_sort, grown_length, AreSorted, parts_below}
-use Rattle.df_ground.proofs.Running.{grown_from}
+use Rattle.df_clause.proofs.Running.{grown_from}
 use Rattle.df_closure.proofs.Atoms.{more_elsewhere, below_elsewhere, two_below}
 
 -- a test that passes from a number on says the same of all nodes below a larger one

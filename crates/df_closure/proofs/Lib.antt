@@ -1,8 +1,6 @@
 pub mod Lists
 pub mod Rounds
-pub mod TypeValues
 pub mod Knowing
-pub mod FullTypes
 pub mod Atoms
 pub mod Expansions
 pub mod Readings
@@ -13,7 +11,3 @@ pub mod Comparisons
 pub mod LaterRows
 pub mod Coefficients
 pub mod NumberAtoms
-pub mod KeptNodes
-pub mod GroundRuns
-pub mod SameClauses
-pub mod FilledLists

@@ -1,17 +1,9 @@
 -- Lists of literals that are closed under unit propagation.
 use Rattle.std.specs.Prelude.{◌≡◌, ℕ, Bool, true, ◌||◌, List, [], ◌∷◌, ◌++◌, slice_get, Option, None, Some}
 use Rattle.df_form.specs.declared.log.Lit.{Lit}
-use Rattle.df_form.specs.Clause.{Clause, yes, no, is_among}
+use Rattle.df_form.specs.Clause.{yes, no, is_among}
 use Rattle.df_kern.specs.Propagation.{left, only, is_empty}
-use Rattle.df_ground.specs.declared.clause.GroundClause as declared
-
--- a clause, and the equality that it is bound to
-pub record GroundClause : Type 0 where
-  pub literals : Clause
-  pub bound : Option ℕ
-
-abbrev pub ground_of : declared.GroundClause → GroundClause
-ground_of c = record { literals = c.literals.items; bound = c.bound }
+pub use Rattle.df_clause.specs.GroundClause.{GroundClause, ground_of}
 
 -- A bound clause counts beside literals among which its equality or the negation is.
 abbrev pub counts_for : List Lit → Option ℕ → Bool

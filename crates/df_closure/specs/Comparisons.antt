@@ -3,11 +3,10 @@ use Rattle.std.specs.Prelude.{◌≡◌, ℕ, ℤ, Bool, true, List, [], ◌∷�
 use Rattle.df_form.specs.World.{World}
 use Rattle.df_form.specs.declared.log.Lit.{Lit}
 use Rattle.df_form.specs.declared.node.Sort.TheVariants as sorts
-use Rattle.df_form.specs.declared.node.Free.{Free}
 use Rattle.df_form.specs.declared.node.Op.TheVariants as ops
 use Rattle.df_form.specs.Node.{Node}
 use Rattle.df_form.specs.Sorting.{sort_at}
-use Rattle.df_form.specs.Truth.{Assignment, values, number_at, truth}
+use Rattle.df_form.specs.Truth.{Assignment, values, number_at}
 use Rattle.df_form.specs.Clause.{is_among, literal_truth}
 
 -- a comparison of numbers or its negation, or an equality of numbers
@@ -22,11 +21,3 @@ numbers_of depth world assignment nodes n = number_at (values depth world assign
 -- each comparison among the literals is true
 abbrev pub AreComparisonsTrue : List Node → (ℕ → Bool) → List Lit → Type 0
 AreComparisonsTrue nodes t literals = (l : Lit) → is_among literals l ≡ true → IsComparison nodes l → literal_truth t l ≡ true
-
--- and so under an assignment
-abbrev pub ComparisonsHold : ℕ → World → Assignment → List Node → List Lit → Type 0
-ComparisonsHold depth world assignment nodes literals = AreComparisonsTrue nodes (truth depth world assignment nodes) literals
-
--- each free formula among the literals is true, or false where it is negated
-abbrev pub FreeFormulasHold : ℕ → World → Assignment → List Node → List Lit → Type 0
-FreeFormulasHold depth world assignment nodes literals = (l : Lit) (free : Free) (parts : List ℕ) → is_among literals l ≡ true → slice_get nodes l.node ≡ Some (record { op = ops.Free free; parts = parts }) → literal_truth (truth depth world assignment nodes) l ≡ true

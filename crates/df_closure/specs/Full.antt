@@ -1,18 +1,14 @@
 -- Lists of literals beside which nothing is open.
-use Rattle.std.specs.Prelude.{◌≡◌, ℕ, Bool, true, false, not, ◌||◌, List, [], ◌∷◌, slice_get, Some}
+use Rattle.std.specs.Prelude.{◌≡◌, ℕ, Bool, true, false, not, ◌||◌, List, ◌∷◌, slice_get, Some}
 use Rattle.std.specs.List.{list_any}
-use Rattle.df_form.specs.World.{World}
 use Rattle.df_form.specs.declared.log.Lit.{Lit}
 use Rattle.df_form.specs.declared.node.Sort.TheVariants as sorts
 use Rattle.df_form.specs.declared.node.Op.{Op}
 use Rattle.df_form.specs.declared.node.Op.TheVariants as ops
 use Rattle.df_form.specs.Node.{Node, same_sort}
 use Rattle.df_form.specs.Sorting.{sort_at}
-use Rattle.df_form.specs.Truth.{Assignment, truth}
-use Rattle.df_meaning.specs.Value.{same_truth}
 use Rattle.df_form.specs.Clause.{yes, no, negation, is_among, literal_truth}
 use Rattle.df_kern.specs.Connective.{Added, connective_line}
-use Rattle.df_kern.specs.Schema.{schema_line}
 
 -- the nodes hold what the clause needs, and one of its literals is known
 pub record IsMet (nodes : List Node) (known : List Lit) (added : Added) : Type 0 where
@@ -26,11 +22,6 @@ knows_of known n = is_among known (yes n) || is_among known (no n)
 -- each clause that a known connective means has a known literal
 abbrev pub AreConnectivesMet : List Node → List Lit → Type 0
 AreConnectivesMet nodes known = (n k : ℕ) (added : Added) → knows_of known n ≡ true → connective_line nodes n k ≡ Some added → IsMet nodes known added
-
--- and each clause that a known node means
-pub record IsFull (world : World) (nodes : List Node) (known : List Lit) : Type 0 where
-  pub connectives : AreConnectivesMet nodes known
-  pub types : (n k : ℕ) (added : Added) → knows_of known n ≡ true → schema_line world nodes 74 k (n ∷ []) ≡ Some added → IsMet nodes known added
 
 -- no literal is known with its negation
 abbrev pub IsConsistent : List Lit → Type 0
@@ -48,13 +39,3 @@ is_primitive nodes op parts = false
 -- the known ones are true, or false where they are negated
 abbrev pub ArePrimitivesTrue : List Node → (ℕ → Bool) → List Lit → Type 0
 ArePrimitivesTrue nodes t known = (l : Lit) (node : Node) → is_among known l ≡ true → slice_get nodes l.node ≡ Some node → is_primitive nodes node.op node.parts ≡ true → literal_truth t l ≡ true
-
--- a free term, or a comparison
-abbrev pub is_basic : Op → Bool
-is_basic (ops.Free free) = true
-is_basic ops.AtMost = true
-is_basic op = false
-
--- an assignment makes the known free terms and comparisons true
-abbrev pub Agrees : ℕ → World → Assignment → List Node → List Lit → Type 0
-Agrees depth world assignment nodes known = (l : Lit) (node : Node) → is_among known l ≡ true → slice_get nodes l.node ≡ Some node → is_basic node.op ≡ true → same_truth l.positive (truth depth world assignment nodes l.node) ≡ true

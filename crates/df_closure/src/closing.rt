@@ -7,8 +7,8 @@ ghost use Rattle.df_kern.specs.Known.{knows, IsSetOf};
 ghost use Rattle.df_closure.specs.Closure.{GroundClause as Ground, ground_of, counts_for};
 ghost use Rattle.df_closure.specs.Closing.{teaching, IsClosing, Rounds};
 
+use df_clause::GroundClause;
 use df_form::{Formula, Lit};
-use df_ground::GroundClause;
 use df_kern::Known;
 use std::alloc::{AllocError, Global};
 

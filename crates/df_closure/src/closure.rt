@@ -6,8 +6,8 @@ ghost use Rattle.df_closure.specs.Closes.{Closes};
 ghost use Rattle.df_closure.specs.Closing.{IsClosing};
 
 use crate::closing::{Closing, Round};
+use df_clause::GroundClause;
 use df_form::Lit;
-use df_ground::GroundClause;
 use df_kern::Known;
 use std::alloc::{AllocError, Global};
 

@@ -8,10 +8,7 @@ mod filling;
 mod law;
 
 pub use closure::{Closure, close};
-pub use filling::{
-    filled_lists_are_full, filled_lists_have_hypotheses, grounds_make_comparisons,
-    later_nodes_leave_rows, rows_are_of_numbers,
-};
+pub use filling::{later_nodes_leave_rows, rows_are_of_numbers};
 pub use law::{
     closed_lists_are_lines, full_lists_hold, refuted_lists_are_lines, rows_hold_by_atoms,
     rows_hold_where_comparisons_do,

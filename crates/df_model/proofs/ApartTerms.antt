@@ -1,29 +1,28 @@
 -- Terms that are apart are numbers.
-use Rattle.std.proofs.Common.{◌≡◌, ℕ, zero, suc, ◌<◌, ℤ, pos, true, ◌&&◌, ◌==◌, List, [], ◌∷◌, map, length, Some, slice_get, nat_lt, refl, sym, ap, ◌∙◌, arith, ltb-true}
+use Rattle.std.proofs.Common.{◌≡◌, ℕ, zero, suc, ◌<◌, ℤ, pos, true, ◌&&◌, ◌==◌, List, [], ◌∷◌, map, length, Some, slice_get, nat_lt, refl, sym, ap, ◌∙◌, arith, ltb-true, true≢false}
 use Rattle.std.specs.List.{list_any}
 use Rattle.std.specs.Option.{option_map}
 use Rattle.std.proofs.lemmas.Bool.{and_parts}
 use Rattle.std.proofs.lemmas.Option.{slice_get-map, same_Some, slice_get_within}
 use Rattle.df_lemmas.proofs.Lists.{get_below}
 use Rattle.df_lang.specs.declared.ty.Ty.{Ty}
+use Rattle.df_lang.specs.declared.ty.Ty.TheVariants as types
 use Rattle.df_form.specs.declared.log.Lit.{Lit}
 use Rattle.df_form.specs.declared.node.Sort.{Sort}
 use Rattle.df_form.specs.declared.node.Sort.TheVariants as sorts
 use Rattle.df_form.specs.declared.node.Op.{Op}
 use Rattle.df_form.specs.declared.node.Op.TheVariants as ops
 use Rattle.df_form.specs.Node.{Node, same_sort}
-use Rattle.df_form.specs.Sorting.{sort_at, are_none, is_one, are_two, takes}
-use Rattle.df_form.specs.Types.{sort_of_type}
+use Rattle.df_form.specs.Sorting.{sort_at, are_none, is_one, is_tested, are_two, takes}
 use Rattle.df_form.proofs.Drafts.{sort_here}
 use Rattle.df_form.proofs.Same.{same_sort_equal}
-use Rattle.df_form.proofs.Values.{Grows, grown_get, grown_sort, AreSorted, parts_below, parts_taken}
+use Rattle.df_form.proofs.Values.{Grows, grown_get, AreSorted, parts_below, parts_taken}
 use Rattle.df_cong.specs.Congruence.{label_at}
 use Rattle.df_cong.specs.Labels.{HaveOneLabel}
 use Rattle.df_table.specs.TableModel.{number_at}
 use Rattle.df_model.specs.TableNumbers.{number_of_truth, Basis, basis_of, first_factor, number_by}
 use Rattle.df_model.specs.Tabulation.{IsWholeTable}
 use Rattle.df_model.specs.Solution.{IsSolution}
-use Rattle.df_model.proofs.KnownLabels.{true_held}
 use Rattle.df_model.proofs.Tests.{passes_at}
 use Rattle.df_model.proofs.TableReadings.{number_is, character_is}
 use Rattle.df_model.proofs.SolvedTables.{same_codes}
@@ -105,29 +104,20 @@ module _ (nodes : List Node) (known : List Lit) (numbers : List ℤ) (labels : L
         let second = character_number right (inside n place right (record { op = op; parts = ys }) p.1 other) is_right in
         unlike (same_codes (label left) (label right) (sym first ∙ numbers_equal xs ys place left right p.2 at other ∙ second))
 
-    -- a truth is of each type that it is tested for
-    holds_there : (ty : Ty) (zs : List ℕ) (k q : ℕ) → slice_get set k ≡ Some (record { op = ops.Is ty; parts = zs }) → slice_get zs place ≡ Some q → sort_at set q ≡ sorts.Truth → basis.holds k ≡ true
-    holds_there ty (z ∷ []) k q there part sort = by place part
-      where
-        by : (i : ℕ) → slice_get (z ∷ []) i ≡ Some q → basis.holds k ≡ true
-        by zero part =
-            let same = same_Some z q part in
-            let less = inside k 0 z (record { op = ops.Is ty; parts = z ∷ [] }) there refl in
-            true_held (λ m. label m) known k (s.tests k z ty (grown_get set nodes grows k (record { op = ops.Is ty; parts = z ∷ [] }) there) (grown_sort set nodes grows z less ∙ ap (sort_at set) same ∙ sort))
-        by (suc i) part = absurd cc
-    holds_there ty [] k q there part sort = absurd cc
-    holds_there ty (z ∷ w ∷ others) k q there part sort = let wrong = taken (ops.Is ty) (z ∷ w ∷ others) k there in absurd cc
-
     tested : (ty : Ty) → Pair (ops.Is ty) xs ys m n → AreNumbers
-    tested ty p =
-        let is_left = one_sort (sort_at set) (sort_of_type ty) xs place left (taken (ops.Is ty) xs m p.0) at in
-        let is_right = one_sort (sort_at set) (sort_of_type ty) ys place right (taken (ops.Is ty) ys n p.1) other in
-        by (sort_of_type ty) is_left is_right
+    tested ty p = by ty p (taken (ops.Is ty) xs m p.0) (taken (ops.Is ty) ys n p.1)
       where
-        by : (sort : Sort) → sort_at set left ≡ sort → sort_at set right ≡ sort → AreNumbers
-        by sorts.Number is_left is_right = (is_left, is_right)
-        by sorts.Truth is_left is_right = absurd (agreed (ops.Is ty) xs ys m n p (ap number_of_truth (holds_there ty xs m left p.0 at is_left ∙ sym (holds_there ty ys n right p.1 other is_right))))
-        by sorts.Character is_left is_right = absurd (no_characters (ops.Is ty) p is_left is_right)
+        are_numbers : is_one sorts.Number (map (sort_at set) xs) ≡ true → is_one sorts.Number (map (sort_at set) ys) ≡ true → AreNumbers
+        are_numbers of_xs of_ys = (one_sort (sort_at set) sorts.Number xs place left of_xs at, one_sort (sort_at set) sorts.Number ys place right of_ys other)
+
+        -- a truth is tested for no type
+        by : (ty : Ty) → Pair (ops.Is ty) xs ys m n → is_tested ty (map (sort_at set) xs) ≡ true → is_tested ty (map (sort_at set) ys) ≡ true → AreNumbers
+        by (types.Newtype number) p of_xs of_ys = are_numbers of_xs of_ys
+        by types.Int p of_xs of_ys = are_numbers of_xs of_ys
+        by types.Nat p of_xs of_ys = are_numbers of_xs of_ys
+        by types.Bool p of_xs of_ys = absurd (true≢false (sym of_xs))
+        by types.Char p of_xs of_ys =
+            absurd (no_characters (ops.Is types.Char) p (one_sort (sort_at set) sorts.Character xs place left of_xs at) (one_sort (sort_at set) sorts.Character ys place right of_ys other))
 
     pub part_numbers : (op : Op) → Pair op xs ys m n → AreNumbers
     part_numbers (ops.Free free) p = absurd (nothing_at (sort_at set) xs place left (taken (ops.Free free) xs m p.0) at)

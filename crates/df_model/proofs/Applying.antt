@@ -17,6 +17,7 @@ use Rattle.df_form.specs.Node.{same_sort}
 use Rattle.df_form.specs.Sorting.{are_two_values, takes}
 use Rattle.df_form.specs.Truth.{Assignment, has_sort, quotient, remainder, code_in, apply}
 use Rattle.df_form.proofs.Same.{same_sort_equal, values_alike}
+use Rattle.df_form.proofs.Tested.{tested_one, tested_none, tested_many}
 use Rattle.df_model.specs.Valuation.{number_of_truth, number_of_value}
 use Rattle.df_model.specs.Numbers.{counts_as_true, is_of_type, number_by}
 
@@ -173,7 +174,9 @@ module _ (worth : ℕ → Value) (sort : ℕ → Sort) (test : ℕ → Bool) (so
     applied ops.Mod (a ∷ b ∷ []) passes taken = let two = two_numbers a b passes taken in λ i. remainder (two.0 i) (two.1 i)
     applied ops.Code (a ∷ []) passes taken = a_character a (and_parts (test a) true passes).0 taken
     applied ops.Chr (a ∷ []) passes taken = let one = a_number a (and_parts (test a) true passes).0 taken in λ i. pos (code_in (one i))
-    applied (ops.Is ty) (a ∷ []) passes taken = ap number_of_truth (type_is world ty (worth a) (has a (sort_of_type ty) (and_parts (test a) true passes).0 taken))
+    applied (ops.Is ty) (a ∷ []) passes taken = ap number_of_truth (type_is world ty (worth a) (has a (sort_of_type ty) (and_parts (test a) true passes).0 (tested_one ty (sort a) taken)))
+    applied (ops.Is ty) [] passes taken = absurd (tested_none ty taken)
+    applied (ops.Is ty) (a ∷ b ∷ others) passes taken = absurd (tested_many ty (sort a) (sort b) (map sort others) taken)
     applied ops.Equal (a ∷ b ∷ []) passes taken = ap number_of_truth (two_alike a b passes taken)
     applied ops.AtMost (a ∷ b ∷ []) passes taken = let two = two_numbers a b passes taken in λ i. number_of_truth (int_le (two.0 i) (two.1 i))
     applied ops.Not (a ∷ []) passes taken = let one = a_truth a (and_parts (test a) true passes).0 taken in λ i. number_of_truth (not (one i))

@@ -1,8 +1,7 @@
 -- The clauses of equalities of numbers are true wherever nodes are read as they are.
-use Rattle.std.proofs.Common.{◌≡◌, ℕ, zero, suc, ◌<◌, ℤ, int_le, Bool, true, false, not, ◌&&◌, ◌||◌, List, [], ◌∷◌, map, length, Option, Some, slice_get, refl, sym, ap, ◌∙◌, arith, subst}
-use Rattle.std.specs.Option.{option_map, option_and_then}
-use Rattle.std.proofs.lemmas.Option.{slice_get-map, same_Some, slice_get_within}
-use Rattle.df_lemmas.proofs.Options.{then_some, map_some}
+use Rattle.std.proofs.Common.{◌≡◌, ℕ, zero, suc, ℤ, int_le, Bool, true, false, not, ◌&&◌, ◌||◌, List, [], ◌∷◌, Some, slice_get, refl, sym, ap, ◌∙◌, arith, subst}
+use Rattle.std.specs.Option.{option_and_then}
+use Rattle.std.proofs.lemmas.Option.{same_Some, slice_get_within}
 use Rattle.df_form.specs.declared.node.Sort.{Sort}
 use Rattle.df_form.specs.declared.node.Sort.TheVariants as sorts
 use Rattle.df_form.specs.declared.node.Op.{Op}
@@ -10,26 +9,20 @@ use Rattle.df_form.specs.declared.node.Op.TheVariants as ops
 use Rattle.df_form.specs.Node.{Node}
 use Rattle.df_form.specs.Made.{made}
 use Rattle.df_form.specs.Sorting.{sort_at}
-use Rattle.df_form.specs.Sequent.{Sequent, IsSequent}
+use Rattle.df_form.specs.Sequent.{Sequent}
 use Rattle.df_form.specs.Clause.{yes, no, clause_truth}
-use Rattle.df_form.specs.Log.{Step, Hypothesis, Goal, Connective, Schema, Propagation, Congruence, Linear, Split, Make}
 use Rattle.df_form.proofs.Making.{made_stands, IsNumber, grown_number}
 use Rattle.df_form.proofs.Same.{values_alike}
-use Rattle.df_form.proofs.Values.{Grows, grown_get, grown_sort, AreSorted, parts_below, parts_taken}
+use Rattle.df_form.proofs.Values.{grown_get, AreSorted, parts_below, parts_taken}
 use Rattle.df_kern.specs.Bound.{at_most}
 use Rattle.df_kern.specs.Connective.{Added, equal_clause, equal_by_sort, connective_clause}
 use Rattle.df_kern.proofs.SoundNodes.{at_most_sorted}
-use Rattle.df_ground.specs.declared.clause.GroundClause.{GroundClause as Declared}
-use Rattle.df_ground.specs.declared.set.Ground.{Ground}
-use Rattle.df_ground.specs.Lines.{bound_by, bound_of, ground_lines}
-use Rattle.df_ground.specs.GroundView.{IsGroundOf, state_of}
-use Rattle.df_ground.proofs.Presence.{first_below}
-use Rattle.df_ground.proofs.Running.{grown_from}
+use Rattle.df_clause.specs.declared.ground.Ground.{Ground}
+use Rattle.df_clause.specs.GroundClause.{GroundClause}
+use Rattle.df_clause.specs.GroundView.{IsGround}
 use Rattle.df_closure.specs.Reading.{IsReading}
 use Rattle.df_closure.proofs.Atoms.{two_below}
 use Rattle.df_closure.proofs.Readings.{equal_is_both}
-use Rattle.df_closure.proofs.GroundRuns.{HasAdded, ground_added}
-use Rattle.df_closure.proofs.SameClauses.{again, connective_again}
 
 -- n is the `and` of p and q
 first_true : (n p q : Bool) → n ≡ (p && q) → (not n || (p || false)) ≡ true
@@ -97,49 +90,10 @@ module _ (nodes : List Node) (sorted : AreSorted nodes) (v : ℕ → ℤ) (t : �
   equality_clause_true n k ops.Equal (a ∷ b ∷ c ∷ others) added at is e stands = absurd cc
   equality_clause_true n k op parts added at is e stands = absurd cc
 
--- only a clause of an equality is bound
-bound_equal : (n m : ℕ) (op : Op) → bound_by n op ≡ Some m → op ≡ ops.Equal
-bound_equal n m ops.Equal e = refl
-bound_equal n m op e = absurd cc
-
-module _ (s : Sequent) (g : Ground) (valid : IsSequent s) (is : IsGroundOf s g) (v : ℕ → ℤ) (t : ℕ → Bool) (reading : IsReading g.nodes v t) where
-  grown : Grows s.nodes g.nodes
-  grown = grown_from s.nodes g.nodes is.grows
-
-  alike : (before : List Node) → Grows s.nodes before → (n : ℕ) (node : Node) → slice_get s.nodes n ≡ Some node → (a : ℕ) (others : List ℕ) → node.parts ≡ a ∷ others → sort_at g.nodes a ≡ sort_at before a
-  alike before from n node at a others e =
-      let less = first_below n node.parts a others (parts_below s.nodes n node (record { sorted = valid.table.sorted }) at) e in
-      let within = slice_get_within s.nodes n node at in
-      let inside : a < length s.nodes = omega (arith, less, within) in
-      grown_sort s.nodes g.nodes grown a inside ∙ sym (grown_sort s.nodes before from a inside)
-
-  connective_true : (i m k : ℕ) (node : Node) → slice_get (ground_lines s) i ≡ Some (Connective m k) → slice_get s.nodes m ≡ Some node → node.op ≡ ops.Equal → (has : HasAdded s (state_of g) i (Connective m k)) → clause_truth t has.added.clause ≡ true
-  connective_true i m k node line at equal has =
-      let read = ap (option_and_then (λ (node : Node). connective_clause has.nodes m k node.op node.parts)) (grown_get s.nodes has.nodes has.before m node at) in
-      let now = connective_again g.nodes is.table has.nodes m k node.op node.parts has.added (alike has.nodes has.before m node at) (sym read ∙ has.by) has.after in
-      equality_clause_true g.nodes (record { sorted = is.table.sorted }) v t reading m k node.op node.parts (again g.nodes is.table has.added) (grown_get s.nodes g.nodes grown m node at) equal now refl
-
-  step_true : (i n : ℕ) (step : Step) → slice_get (ground_lines s) i ≡ Some step → bound_of s.nodes step ≡ Some n → (has : HasAdded s (state_of g) i step) → clause_truth t has.added.clause ≡ true
-  step_true i n (Connective m k) line bound has =
-      let found = then_some (λ (node : Node). bound_by m node.op) (slice_get s.nodes m) n bound in
-      connective_true i m k found.0 line found.1 (bound_equal m n found.0.op found.2) has
-  step_true i n (Hypothesis h) line bound has = absurd cc
-  step_true i n Goal line bound has = absurd cc
-  step_true i n (Schema schema k terms) line bound has = absurd cc
-  step_true i n (Propagation numbers conclusion) line bound has = absurd cc
-  step_true i n (Congruence conclusion pairs) line bound has = absurd cc
-  step_true i n (Linear conclusion combinations) line bound has = absurd cc
-  step_true i n (Split m k) line bound has = absurd cc
-  step_true i n (Make node) line bound has = absurd cc
-
+module _ (s : Sequent) (g : Ground) (is : IsGround s g) (v : ℕ → ℤ) (t : ℕ → Bool) (reading : IsReading g.nodes v t) where
   -- a bound clause is true
-  pub bound_true : (i n : ℕ) (clause : Declared) → slice_get g.clauses.items i ≡ Some clause → clause.bound ≡ Some n → clause_truth t clause.literals.items ≡ true
+  pub bound_true : (i n : ℕ) (clause : GroundClause) → slice_get g.clauses i ≡ Some clause → clause.bound ≡ Some n → clause_truth t clause.literals ≡ true
   bound_true i n clause at bound =
-      let items = g.clauses.items in
-      let literals = λ (c : Declared). c.literals.items in
-      let bounds = λ (c : Declared). c.bound in
-      let own : slice_get (map bounds items) i ≡ Some (Some n) = slice_get-map bounds items i ∙ ap (option_map bounds) at ∙ ap Some bound in
-      let line = map_some (bound_of s.nodes) (slice_get (ground_lines s) i) (Some n) (sym (slice_get-map (bound_of s.nodes) (ground_lines s) i) ∙ ap (λ (all : List (Option ℕ)). slice_get all i) (sym is.bounds) ∙ own) in
-      let has = ground_added s g is i line.0 line.1 in
-      let there : slice_get (map literals items) i ≡ Some clause.literals.items = slice_get-map literals items i ∙ ap (option_map literals) at in
-      ap (clause_truth t) (same_Some clause.literals.items has.added.clause (sym there ∙ has.clause)) ∙ step_true i n line.0 line.1 line.2 has
+      let of = is.bounds n clause (i, at) bound in
+      let read = ap (option_and_then (λ (node : Node). connective_clause g.nodes n of.number node.op node.parts)) of.there in
+      equality_clause_true g.nodes (record { sorted = is.table.sorted }) v t reading n of.number of.of.op of.of.parts (record { nodes = g.nodes; clause = clause.literals }) of.there of.equality (sym read ∙ of.line) refl

@@ -5,7 +5,7 @@ use Rattle.df_meaning.specs.Value.{number_of, truth_of}
 use Rattle.df_form.specs.Node.{Node}
 use Rattle.df_form.specs.Truth.{Assignment, values, number_at, truth}
 use Rattle.df_form.proofs.Values.{grown_value}
-use Rattle.df_ground.proofs.Running.{grown_from}
+use Rattle.df_clause.proofs.Running.{grown_from}
 
 module _ (depth : ℕ) (world : World) (assignment : Assignment) where
   pub same_truth_of_first : (nodes more : List Node) (n : ℕ) → take (length nodes) more ≡ nodes → n < length nodes → truth depth world assignment more n ≡ truth depth world assignment nodes n

@@ -2,19 +2,21 @@
 use Rattle.std.proofs.Common.{◌≡◌, ℕ, suc, ◌<◌, ℤ, true, false, List, [], ◌∷◌, map, length, Some, slice_get, nat_lt, refl, sym, ap, ◌∙◌, ltb-true}
 use Rattle.std.specs.List.{list_all, AllByRecursion}
 use Rattle.std.proofs.lemmas.Bool.{and_parts}
+use Rattle.std.proofs.lemmas.List.Folds.{list_all-map}
 use Rattle.df_lemmas.proofs.Lists.{all_parts}
 use Rattle.df_form.specs.declared.node.Sort.TheVariants as sorts
 use Rattle.df_form.specs.Node.{Node, same_sort}
 use Rattle.df_form.specs.Sorting.{is_formula, sort_at}
 use Rattle.df_form.specs.Truth.{Assignment, truth}
+use Rattle.df_form.specs.Clause.{are_literals}
+use Rattle.df_form.specs.Log.{step_of}
 use Rattle.df_form.specs.Sequent.{Sequent, IsSequent}
 use Rattle.df_form.proofs.Values.{AreSorted, grows_not}
 use Rattle.df_kern.specs.Derivation.{begin}
 use Rattle.df_kern.proofs.SoundClauses.{Holds}
 use Rattle.df_kern.proofs.Sound.{Keeps, after_all_keeps}
-use Rattle.df_ground.specs.declared.set.Ground.{Ground}
-use Rattle.df_ground.specs.Lines.{ground_lines}
-use Rattle.df_ground.specs.GroundView.{IsGroundOf, state_of}
+use Rattle.df_clause.specs.declared.ground.Ground.{Ground}
+use Rattle.df_clause.specs.GroundView.{IsGround, literals_of, state_of}
 use Rattle.df_table.specs.TableModel.{number_at, IsTableModel}
 use Rattle.df_model.specs.Valuation.{number_of_value, numbers_of_nodes}
 use Rattle.df_model.specs.Numbers.{number_by}
@@ -26,7 +28,7 @@ use Rattle.df_model.proofs.ClauseTruths.{clauses_hold}
 formula_below : (nodes : List Node) (n : ℕ) → is_formula nodes n ≡ true → n < length nodes
 formula_below nodes n e = ltb-true n (length nodes) (and_parts (nat_lt n (length nodes)) (same_sort (sort_at nodes n) sorts.Truth) e).0
 
-module _ (s : Sequent) (g : Ground) (depth : ℕ) (assignment : Assignment) (is : IsSequent s) (has : IsGroundOf s g) where
+module _ (s : Sequent) (g : Ground) (depth : ℕ) (assignment : Assignment) (is : IsSequent s) (has : IsGround s g) where
   abbrev table : List ℤ
   table = numbers_of_nodes depth s.world assignment g.nodes
 
@@ -53,12 +55,12 @@ module _ (s : Sequent) (g : Ground) (depth : ℕ) (assignment : Assignment) (is 
       let goal_false = sym (same_truth_of_first depth s.world assignment s.nodes g.nodes s.goal has.grows (formula_below s.nodes s.goal goal_formula.0)) ∙ goal in
       let true_all = all_true s.hypotheses formulas.0 each in
       let begun : Keeps depth assignment s is true_all goal_false (begin s) = record { grows = grows_not s.nodes; sorted = record { sorted = is.table.sorted }; hold = tt } in
-      (after_all_keeps depth assignment s is true_all goal_false (begin s) (state_of g) (ground_lines s) begun has.run).hold
+      (after_all_keeps depth assignment s is true_all goal_false (begin s) (state_of g) (map step_of g.lines.items) begun has.run).hold
 
   pub valuation_is_model : ((h i : ℕ) → slice_get s.hypotheses i ≡ Some h → truth depth s.world assignment g.nodes h ≡ true) → truth depth s.world assignment g.nodes s.goal ≡ false → IsTableModel (state_of g) table
   valuation_is_model each goal = record {
     covers = table_length depth s.world assignment g.nodes;
     congruent = λ m n less other a b. tables_agree s.world (λ free. number_of_value (assignment.value free)) g.nodes table numbers m n a b;
     exact = table_is_exact s.world (λ free. number_of_value (assignment.value free)) g.nodes table numbers;
-    clauses = clauses_hold depth s.world assignment g.nodes sorted (state_of g).clauses has.literals (clauses_true each goal);
+    clauses = clauses_hold depth s.world assignment g.nodes sorted (state_of g).clauses (list_all-map (are_literals g.nodes) literals_of g.clauses ∙ has.literals) (clauses_true each goal);
   }

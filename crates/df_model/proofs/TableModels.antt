@@ -1,6 +1,5 @@
 -- The table of a solution that leaves no clause open is a model of the ground set.
-use Rattle.std.proofs.Common.{◌≡◌, ℕ, ◌<◌, ◌⊎◌, inl, inr, ℤ, ◌+ℤ◌, int_le, Bool, true, false, ◌||◌, List, [], ◌∷◌, map, length, Option, Some, None, slice_get, nat_lt, refl, sym, ap, ◌∙◌, ltb-true}
-use Rattle.std.specs.Option.{option_map}
+use Rattle.std.proofs.Common.{◌≡◌, ℕ, ◌<◌, ◌⊎◌, inl, inr, ℤ, ◌+ℤ◌, int_le, Bool, true, false, ◌||◌, List, [], ◌∷◌, length, Option, Some, None, slice_get, nat_lt, refl, sym, ap, ◌∙◌, ltb-true}
 use Rattle.std.specs.Ordering.{int_eq}
 use Rattle.std.specs.List.{list_any}
 use Rattle.std.proofs.lemmas.Bool.{and_parts, or_cases, or_left, or_right, cases_Bool}
@@ -13,15 +12,15 @@ use Rattle.df_form.specs.declared.node.Op.{Op}
 use Rattle.df_form.specs.declared.node.Op.TheVariants as ops
 use Rattle.df_form.specs.Node.{Node, same_sort}
 use Rattle.df_form.specs.Sorting.{sort_at, is_formula}
-use Rattle.df_form.specs.Sequent.{Sequent, IsSequent}
+use Rattle.df_form.specs.Sequent.{Sequent}
 use Rattle.df_form.specs.Clause.{Clause, is_among, are_literals, literal_truth, clause_truth}
 use Rattle.df_form.proofs.Values.{Grows, AreSorted}
 use Rattle.df_meaning.specs.Value.{same_truth}
 use Rattle.df_row.specs.Row.{literal_number}
-use Rattle.df_ground.specs.declared.clause.GroundClause.{GroundClause as Declared}
-use Rattle.df_ground.specs.declared.set.Ground.{Ground}
-use Rattle.df_ground.specs.GroundView.{IsGroundOf, state_of}
-use Rattle.df_closure.specs.Closure.{ground_of, counts_for}
+use Rattle.df_clause.specs.declared.ground.Ground.{Ground}
+use Rattle.df_clause.specs.GroundClause.{GroundClause}
+use Rattle.df_clause.specs.GroundView.{IsGround, literals_of, state_of}
+use Rattle.df_closure.specs.Closure.{counts_for}
 use Rattle.df_closure.specs.Filled.{IsFilled}
 use Rattle.df_closure.specs.Reading.{IsReading}
 use Rattle.df_table.specs.TableModel.{number_at, is_true, is_multiple, is_exact, Agree, IsTableModel}
@@ -60,7 +59,7 @@ module _ (nodes : List Node) (table : List ℤ) (reading : IsReading nodes (numb
   pub exact : (n : ℕ) (node : Node) → slice_get nodes n ≡ Some node → is_exact nodes table n node.op node.parts ≡ true
   exact n node at = exact_by n node.op node.parts at
 
-module _ (s : Sequent) (g : Ground) (valid : IsSequent s) (is : IsGroundOf s g) (nodes : List Node) (grows : Grows g.nodes nodes) (known : List Lit) (filled : IsFilled (map ground_of g.clauses.items) known)
+module _ (s : Sequent) (g : Ground) (is : IsGround s g) (nodes : List Node) (grows : Grows g.nodes nodes) (known : List Lit) (filled : IsFilled g.clauses known)
     (numbers : List ℤ) (labels : List ℕ) (solution : IsSolution nodes known numbers labels) (table : List ℤ) (whole : IsWholeTable (basis_of numbers labels known) g.nodes table) where
   set_sorted : AreSorted g.nodes
   set_sorted = record { sorted = is.table.sorted }
@@ -80,23 +79,22 @@ module _ (s : Sequent) (g : Ground) (valid : IsSequent s) (is : IsGroundOf s g) 
       by inside (inl here) go = or_left (literal_truth t l) (clause_truth t others) (solved_first nodes known numbers labels solution g.nodes grows set_sorted table whole l here inside)
       by inside (inr rest) go = or_right (literal_truth t l) (clause_truth t others) (go rest)
 
-  counted_true : (i : ℕ) (clause : Declared) → slice_get g.clauses.items i ≡ Some clause → are_literals g.nodes clause.literals.items ≡ true → clause.bound ≡ None → clause_truth t clause.literals.items ≡ true
-  counted_true i clause at are free = some_true clause.literals.items are (by (cases_Bool (list_any (is_among known) clause.literals.items)))
+  counted_true : (i : ℕ) (clause : GroundClause) → slice_get g.clauses i ≡ Some clause → are_literals g.nodes clause.literals ≡ true → clause.bound ≡ None → clause_truth t clause.literals ≡ true
+  counted_true i clause at are free = some_true clause.literals are (by (cases_Bool (list_any (is_among known) clause.literals)))
     where
-      by : (list_any (is_among known) clause.literals.items ≡ true) ⊎ (list_any (is_among known) clause.literals.items ≡ false) → list_any (is_among known) clause.literals.items ≡ true
+      by : (list_any (is_among known) clause.literals ≡ true) ⊎ (list_any (is_among known) clause.literals ≡ false) → list_any (is_among known) clause.literals ≡ true
       by (inl one) = one
-      by (inr none) = absurd (filled (ground_of clause) (record { number = i; there = slice_get-map ground_of g.clauses.items i ∙ ap (option_map ground_of) at; counts = ap (counts_for known) free; none = none }))
+      by (inr none) = absurd (filled clause (record { number = i; there = at; counts = ap (counts_for known) free; none = none }))
 
-  clause_at : (i : ℕ) (clause : Declared) (bound : Option ℕ) → slice_get g.clauses.items i ≡ Some clause → are_literals g.nodes clause.literals.items ≡ true → clause.bound ≡ bound → clause_truth t clause.literals.items ≡ true
+  clause_at : (i : ℕ) (clause : GroundClause) (bound : Option ℕ) → slice_get g.clauses i ≡ Some clause → are_literals g.nodes clause.literals ≡ true → clause.bound ≡ bound → clause_truth t clause.literals ≡ true
   clause_at i clause None at are bound = counted_true i clause at are bound
-  clause_at i clause (Some n) at are bound = bound_true s g valid is (number_at table) t (table_reads (basis_of numbers labels known) g.nodes set_sorted table whole) i n clause at bound
+  clause_at i clause (Some n) at are bound = bound_true s g is (number_at table) t (table_reads (basis_of numbers labels known) g.nodes set_sorted table whole) i n clause at bound
 
   clauses_true : (i : ℕ) (clause : Clause) → slice_get (state_of g).clauses i ≡ Some clause → clause_truth t clause ≡ true
   clauses_true i clause at =
-      let literals = λ (c : Declared). c.literals.items in
-      let found = map_some literals (slice_get g.clauses.items i) clause (sym (slice_get-map literals g.clauses.items i) ∙ at) in
-      let are = passes_at (are_literals g.nodes) (state_of g).clauses i clause is.literals at in
-      ap (clause_truth t) (sym found.2) ∙ clause_at i found.0 found.0.bound found.1 (ap (are_literals g.nodes) found.2 ∙ are) refl
+      let found = map_some literals_of (slice_get g.clauses i) clause (sym (slice_get-map literals_of g.clauses i) ∙ at) in
+      let are = passes_at (λ (c : GroundClause). are_literals g.nodes c.literals) g.clauses i found.0 is.literals found.1 in
+      ap (clause_truth t) (sym found.2) ∙ clause_at i found.0 found.0.bound found.1 are refl
 
   pub table_is_model : ((m n : ℕ) → Agree g.nodes table m n) → IsTableModel (state_of g) table
   table_is_model agree = record {

@@ -1,12 +1,11 @@
 -- Lists of literals with numbers and labels that solve them.
 use Rattle.std.specs.Prelude.{◌≡◌, ℕ, ◌<◌, ℤ, true, false, List, [], ◌∷◌, length, slice_get, Some}
-use Rattle.df_lang.specs.declared.ty.Ty.{Ty}
 use Rattle.df_form.specs.declared.log.Lit.{Lit}
 use Rattle.df_form.specs.declared.node.Sort.TheVariants as sorts
 use Rattle.df_form.specs.declared.node.Op.TheVariants as ops
 use Rattle.df_form.specs.Node.{Node}
 use Rattle.df_form.specs.Sorting.{IsTable, sort_at}
-use Rattle.df_form.specs.Clause.{yes, is_among, are_literals}
+use Rattle.df_form.specs.Clause.{are_literals}
 use Rattle.df_row.specs.Row.{Row}
 use Rattle.df_row.specs.Linear.{rows_of}
 use Rattle.df_row.specs.Value.{rows_hold}
@@ -15,13 +14,12 @@ use Rattle.df_cong.specs.Congruence.{HasLabels}
 use Rattle.df_table.specs.TableModel.{number_at}
 
 -- The numbers meet the rows of the list, and the labels are those of its equalities. What the list knows of connectives is
--- met, each truth is known to be of the types that it is tested for, and no literal contradicts another one.
+-- met, and no literal contradicts another one.
 pub record IsSolution (nodes : List Node) (known : List Lit) (numbers : List ℤ) (labels : List ℕ) : Type 0 where
   pub table : IsTable nodes
   pub formulas : are_literals nodes known ≡ true
   pub consistent : IsConsistent known
   pub connectives : AreConnectivesMet nodes known
-  pub tests : (n a : ℕ) (ty : Ty) → slice_get nodes n ≡ Some (record { op = ops.Is ty; parts = a ∷ [] }) → sort_at nodes a ≡ sorts.Truth → is_among known (yes n) ≡ true
   pub labels_are : HasLabels nodes known labels
   pub rows : List Row
   pub rows_are : rows_of nodes known ≡ Some rows

@@ -9,16 +9,15 @@ ghost use Rattle.df_form.specs.Node.{Node};
 ghost use Rattle.df_form.specs.Sorting.{IsTable};
 ghost use Rattle.df_form.specs.Truth.{Assignment, values, number_at, truth};
 ghost use Rattle.df_form.specs.Sequent.{Sequent, IsSequent};
-ghost use Rattle.df_form.specs.Arithmetic.{IsArithmeticSequent};
-ghost use Rattle.df_ground.specs.declared.set.Ground.{Ground};
-ghost use Rattle.df_ground.specs.GroundView.{IsGroundOf, state_of};
+ghost use Rattle.df_clause.specs.declared.ground.Ground.{Ground};
+ghost use Rattle.df_clause.specs.GroundView.{IsGround, state_of};
 ghost use Rattle.df_table.specs.TableModel.{IsTableModel};
 ghost use Rattle.df_model.specs.Valuation.{assignment_of, numbers_of_nodes};
 
-/// The numbers of all nodes of a ground set are a model of it where the hypotheses are true and the goal
-/// is false.
+/// The numbers of all nodes of a ground set, whatever instances are in it, are a model of it where the
+/// hypotheses are true and the goal is false.
 pub fn valuations_are_models()
-    ensures { (s : Sequent) (g : Ground) (depth : ℕ) (assignment : Assignment) → IsSequent s → IsGroundOf s g → IsArithmeticSequent s → ((h i : ℕ) → slice_get s.hypotheses i ≡ Some h → truth depth s.world assignment g.nodes h ≡ true) → truth depth s.world assignment g.nodes s.goal ≡ false → IsTableModel (state_of g) (numbers_of_nodes depth s.world assignment g.nodes) }
+    ensures { (s : Sequent) (g : Ground) (depth : ℕ) (assignment : Assignment) → IsSequent s → IsGround s g → ((h i : ℕ) → slice_get s.hypotheses i ≡ Some h → truth depth s.world assignment g.nodes h ≡ true) → truth depth s.world assignment g.nodes s.goal ≡ false → IsTableModel (state_of g) (numbers_of_nodes depth s.world assignment g.nodes) }
 {}
 
 /// More nodes do not change what the first ones mean.

@@ -1,13 +1,12 @@
 //! What tables of solutions are worth.
 
-ghost use Rattle.std.specs.Prelude.{◌≡◌, ℕ, ℤ, ◌<◌, true, List, map, take, length};
+ghost use Rattle.std.specs.Prelude.{◌≡◌, ℕ, ℤ, ◌<◌, true, List, take, length};
 ghost use Rattle.df_form.specs.declared.log.Lit.{Lit};
 ghost use Rattle.df_form.specs.Node.{Node};
 ghost use Rattle.df_form.specs.Sequent.{Sequent, IsSequent};
 ghost use Rattle.df_form.specs.Clause.{is_among, literal_truth};
-ghost use Rattle.df_ground.specs.declared.set.Ground.{Ground};
-ghost use Rattle.df_ground.specs.GroundView.{IsGroundOf, state_of};
-ghost use Rattle.df_closure.specs.Closure.{ground_of};
+ghost use Rattle.df_clause.specs.declared.ground.Ground.{Ground};
+ghost use Rattle.df_clause.specs.GroundView.{IsGround, state_of};
 ghost use Rattle.df_closure.specs.Filled.{IsFilled};
 ghost use Rattle.df_cong.specs.Congruence.{label_at};
 ghost use Rattle.df_table.specs.TableModel.{is_true, Agree, IsTableModel};
@@ -23,7 +22,7 @@ pub fn tabulated_literals_are_true()
 
 /// Where no clause of a ground set is open beside the list, a table in which no nodes disagree is a model.
 pub fn tables_are_models()
-    ensures { (s : Sequent) (g : Ground) (nodes : List Node) (known : List Lit) (numbers table : List ℤ) (labels : List ℕ) → IsSequent s → IsGroundOf s g → take (length g.nodes) nodes ≡ g.nodes → IsFilled (map ground_of g.clauses.items) known → IsSolution nodes known numbers labels → IsWholeTable (basis_of numbers labels known) g.nodes table → ((m n : ℕ) → Agree g.nodes table m n) → IsTableModel (state_of g) table }
+    ensures { (s : Sequent) (g : Ground) (nodes : List Node) (known : List Lit) (numbers table : List ℤ) (labels : List ℕ) → IsSequent s → IsGround s g → take (length g.nodes) nodes ≡ g.nodes → IsFilled g.clauses known → IsSolution nodes known numbers labels → IsWholeTable (basis_of numbers labels known) g.nodes table → ((m n : ℕ) → Agree g.nodes table m n) → IsTableModel (state_of g) table }
 {}
 
 /// Terms that are apart in a table of a solution are two numbers of whose equality nothing is known.

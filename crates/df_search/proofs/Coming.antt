@@ -26,6 +26,7 @@ use Rattle.df_search.proofs.Apart.{Covers, covers_after}
 use Rattle.df_search.proofs.Consistent.{consistent_more}
 use Rattle.df_branch.proofs.Consistency.{consistent_after}
 use Rattle.df_search.proofs.Leaving.{literals_split, all_leave_decided, incompatible, closed_of}
+use Rattle.df_trig.proofs.Grounds.{instances_ground}
 use Rattle.df_search.proofs.Turning.{place_for, ground_in}
 
 uncovered : (wide known : List Lit) (l : Lit) → Covers wide known → is_among wide l ≡ false → is_among known l ≡ false
@@ -42,9 +43,9 @@ formulas_more nodes (m ∷ literals) l e f =
     and_from (is_formula nodes m.node) (are_literals nodes (literals ++ l ∷ [])) parts.0 (formulas_more nodes literals l parts.1 f)
 
 -- a further decision
-pub decides : (s : Sequent) (all : List Clause) (old : State) → IsSearching s all old → (l : Lit) → MayFollow old.set old.derivation.nodes (clauses_of old) (branch_of old.trail) l → is_formula old.derivation.nodes l.node ≡ true
-    → (trail : Trail) → trail.decisions.items ≡ old.trail.decisions.items ++ decided l ∷ [] → IsSearching s all (record old { trail = trail })
-decides s all old is l follows formula trail trail_is = record {
+pub decides : (s : Sequent) (rounds : ℕ) (all : List Clause) (old : State) → IsSearching s rounds all old → (l : Lit) → MayFollow old.set old.derivation.nodes (clauses_of old) (branch_of old.trail) l → is_formula old.derivation.nodes l.node ≡ true
+    → (trail : Trail) → trail.decisions.items ≡ old.trail.decisions.items ++ decided l ∷ [] → IsSearching s rounds all (record old { trail = trail })
+decides s rounds all old is l follows formula trail trail_is = record {
   standing = record {
     ground_set = is.standing.ground_set;
     is_of = is.standing.is_of;
@@ -109,35 +110,35 @@ pub all_exclude : (decisions : List Decision) (branches : List (List Lit)) → A
 all_exclude decisions [] all = tt
 all_exclude decisions (branch ∷ others) all = (incompatible decisions branch all.0, all_exclude decisions others all.1)
 
-module _ (s : Sequent) (all : List Clause) (state : State) (is : IsSearching s all state) where
+module _ (s : Sequent) (rounds : ℕ) (all : List Clause) (state : State) (is : IsSearching s rounds all state) where
   pub open_formula : (l : Lit) → IsOpenLeaf (clauses_of state) state.derivation.nodes (branch_of state.trail) l → is_formula state.derivation.nodes l.node ≡ true
   open_formula l leaf =
       literal_formula state.derivation.nodes leaf.member.clause.literals l
       (clause_formulas state.derivation.nodes (clauses_of state) leaf.member.is_open.number leaf.member.clause is.standing.place.clause_formulas leaf.member.is_open.there)
       leaf.member.in_clause
 
-  pub open_decides : (l : Lit) → IsOpenLeaf (clauses_of state) state.derivation.nodes (branch_of state.trail) l → (trail : Trail) → trail.decisions.items ≡ state.trail.decisions.items ++ decided l ∷ [] → IsSearching s all (record state { trail = trail })
-  open_decides l leaf trail trail_is = decides s all state is l (open_follows (clauses_of state) state.set state.derivation.nodes (branch_of state.trail) l leaf) (open_formula l leaf) trail trail_is
+  pub open_decides : (l : Lit) → IsOpenLeaf (clauses_of state) state.derivation.nodes (branch_of state.trail) l → (trail : Trail) → trail.decisions.items ≡ state.trail.decisions.items ++ decided l ∷ [] → IsSearching s rounds all (record state { trail = trail })
+  open_decides l leaf trail trail_is = decides s rounds all state is l (open_follows (clauses_of state) state.set state.derivation.nodes (branch_of state.trail) l leaf) (open_formula l leaf) trail trail_is
 
-  pub modelled : (table : Table) → IsModelOf state.set (clauses_of state) table → IsSequent s → HasModel s table
+  pub modelled : (table : Table) → IsModelOf state.set (clauses_of state) table → IsSequent s → HasModel s rounds table
   modelled table model sequent = record {
     set = is.standing.ground_set;
     is_of = is.standing.is_of;
-    model = model s is.standing.ground_set is.standing.more sequent is.standing.is_of (sym is.standing.set_is) (sym is.standing.clauses_are);
+    model = model s is.standing.ground_set is.standing.more sequent (instances_ground s rounds is.standing.ground_set sequent is.standing.is_of) (sym is.standing.set_is) (sym is.standing.clauses_are);
   }
 
-  abbrev pub stop : IsStop s state.derivation.nodes (clauses_of state) (branches_of state) (branch_of state.trail)
+  abbrev pub stop : IsStop s rounds state.derivation.nodes (clauses_of state) (branches_of state) (branch_of state.trail)
   stop = record {
-    of_sequent = ground_in s all state is.standing;
+    of_sequent = ground_in s rounds all state is.standing;
     are_closed = subst (λ (set : List Node). AreClosedBranches s set state.derivation.nodes (clauses_of state) (branches_of state)) is.standing.set_is (closed_of s state.set state.derivation.nodes (clauses_of state) (branches_of state) is.standing.counted);
     excluded = all_exclude state.trail.decisions.items (branches_of state) is.leave;
     is_branch = subst (λ (set : List Node). IsBranch set state.derivation.nodes (clauses_of state) (branch_of state.trail)) is.standing.set_is is.standing.branch;
   }
 
-  pub too_wide : IsWideLeaf state.set (clauses_of state) state.derivation.nodes (branch_of state.trail) → IsTooWide s (branches_of state) (branch_of state.trail)
+  pub too_wide : IsWideLeaf state.set (clauses_of state) state.derivation.nodes (branch_of state.trail) → IsTooWide s rounds (branches_of state) (branch_of state.trail)
   too_wide wide = there (subst (λ (ns : List Node). IsWideLeaf ns (clauses_of state) state.derivation.nodes (branch_of state.trail)) is.standing.set_is wide)
     where
-      there : IsWideLeaf is.standing.ground_set.nodes (clauses_of state) state.derivation.nodes (branch_of state.trail) → IsTooWide s (branches_of state) (branch_of state.trail)
+      there : IsWideLeaf is.standing.ground_set.nodes (clauses_of state) state.derivation.nodes (branch_of state.trail) → IsTooWide s rounds (branches_of state) (branch_of state.trail)
       there here = record {
         nodes = state.derivation.nodes;
         clauses = clauses_of state;
@@ -146,7 +147,7 @@ module _ (s : Sequent) (all : List Clause) (state : State) (is : IsSearching s a
         consistent = consistent_after (clauses_of state) (branch_of state.trail) here.reasons here.learned here.closed.taught is.standing.place.consistent;
       }
 
-  pub many_rows : (count : ℕ) → IsManyLeaf (clauses_of state) state.derivation.nodes (branch_of state.trail) count → HasManyRows s (branches_of state) (branch_of state.trail) count
+  pub many_rows : (count : ℕ) → IsManyLeaf (clauses_of state) state.derivation.nodes (branch_of state.trail) count → HasManyRows s rounds (branches_of state) (branch_of state.trail) count
   many_rows count many = record {
     nodes = state.derivation.nodes;
     clauses = clauses_of state;

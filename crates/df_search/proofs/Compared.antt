@@ -69,7 +69,7 @@ module _ (nodes : List Node) (left right : ℕ) (left_is : is_number nodes left 
       at_down : slice_get second down ≡ Some (at_most right left)
       at_down = made-at first (at_most right left) (record { nodes = second; number = down }) down_is
 
-module _ (s : Sequent) (old : State) (searches : Searches s old) (left right up down n : ℕ) (first second third : Derivation) (left_is : is_number old.derivation.nodes left ≡ true) (right_is : is_number old.derivation.nodes right ≡ true)
+module _ (s : Sequent) (rounds : ℕ) (old : State) (searches : Searches s rounds old) (left right up down n : ℕ) (first second third : Derivation) (left_is : is_number old.derivation.nodes left ≡ true) (right_is : is_number old.derivation.nodes right ≡ true)
     (up_is : made old.derivation.nodes (at_most left right) ≡ record { nodes = first.nodes; number = up }) (runs_up : (s : Sequent) (all : List Clause) → Runs s old.derivation all → Runs s first all)
     (down_is : made first.nodes (at_most right left) ≡ record { nodes = second.nodes; number = down }) (runs_down : (s : Sequent) (all : List Clause) → Runs s first all → Runs s second all)
     (n_is : made second.nodes (equal left right) ≡ record { nodes = third.nodes; number = n }) (runs_n : (s : Sequent) (all : List Clause) → Runs s second all → Runs s third all)
@@ -80,11 +80,11 @@ module _ (s : Sequent) (old : State) (searches : Searches s old) (left right up 
   abbrev all : List Clause
   all = searches.all
 
-  one : IsSearching s all (record old { derivation = first })
-  one = makes_node s all old searches.is (at_most left right) (up_sorted nodes left right left_is right_is) refl refl first (makes nodes (at_most left right) first.nodes up up_is) (runs_up s all searches.is.runs)
+  one : IsSearching s rounds all (record old { derivation = first })
+  one = makes_node s rounds all old searches.is (at_most left right) (up_sorted nodes left right left_is right_is) refl refl first (makes nodes (at_most left right) first.nodes up up_is) (runs_up s all searches.is.runs)
 
-  two : IsSearching s all (record old { derivation = second })
-  two = makes_node s all (record old { derivation = first }) one (at_most right left) (down_sorted nodes left right left_is right_is first.nodes up up_is) refl refl second (makes first.nodes (at_most right left) second.nodes down down_is) (runs_down s all one.runs)
+  two : IsSearching s rounds all (record old { derivation = second })
+  two = makes_node s rounds all (record old { derivation = first }) one (at_most right left) (down_sorted nodes left right left_is right_is first.nodes up up_is) refl refl second (makes first.nodes (at_most right left) second.nodes down down_is) (runs_down s all one.runs)
 
   makes_it : Makes second.nodes third.nodes (equal left right)
   makes_it = makes second.nodes (equal left right) third.nodes n n_is
@@ -99,24 +99,24 @@ module _ (s : Sequent) (old : State) (searches : Searches s old) (left right up 
   number = left_second nodes left right left_is right_is first.nodes up up_is second.nodes down down_is
 
   -- it is new
-  pub new_equality : (new : State) → length second.nodes < length third.nodes → IsDefined (record old { derivation = third }) n up down new → HasEquality s new n
+  pub new_equality : (new : State) → length second.nodes < length third.nodes → IsDefined (record old { derivation = third }) n up down new → HasEquality s rounds new n
   new_equality new longer defined =
       let up_there = at_up nodes left right left_is right_is first.nodes up up_is second.nodes down down_is in
       let down_there = at_down nodes left right left_is right_is first.nodes up up_is second.nodes down down_is in
       let sorted = equal_sorted nodes left right left_is right_is first.nodes up up_is second.nodes down down_is in
       let runs = runs_n s all two.runs in
       record {
-        searches = record { all = _; is = equality_made s all (record old { derivation = second }) two left right up down n third new number.1 number.0 up_there down_there sorted makes_it at longer runs defined };
-        follows = equality_decided s all (record old { derivation = second }) two left right up down n third new number.1 number.0 up_there down_there sorted makes_it at longer runs defined nodes begins leaf;
-        formula = equality_is_formula s all (record old { derivation = second }) two left right up down n third new number.1 number.0 up_there down_there sorted makes_it at longer runs defined;
+        searches = record { all = _; is = equality_made s rounds all (record old { derivation = second }) two left right up down n third new number.1 number.0 up_there down_there sorted makes_it at longer runs defined };
+        follows = equality_decided s rounds all (record old { derivation = second }) two left right up down n third new number.1 number.0 up_there down_there sorted makes_it at longer runs defined nodes begins leaf;
+        formula = equality_is_formula s rounds all (record old { derivation = second }) two left right up down n third new number.1 number.0 up_there down_there sorted makes_it at longer runs defined;
       }
 
   -- it stood there
-  pub old_equality : length third.nodes ≤ length second.nodes → HasEquality s (record old { derivation = third }) n
+  pub old_equality : length third.nodes ≤ length second.nodes → HasEquality s rounds (record old { derivation = third }) n
   old_equality le =
       let same = same_where second.nodes third.nodes (equal left right) makes_it le in
       record {
-        searches = record { all = all; is = with_log s all (record old { derivation = second }) two third same (runs_n s all two.runs) };
+        searches = record { all = all; is = with_log s rounds all (record old { derivation = second }) two third same (runs_n s all two.runs) };
         follows =
             subst (λ (cs : List GroundClause). MayFollow old.set third.nodes cs (branch_of old.trail) (yes n)) (append-nil (clauses_of old))
             (equality_follows old.set (clauses_of old) [] nodes third.nodes (subst IsTable (sym same) two.standing.place.table) (ap (take (length nodes)) same ∙ begins) (none_later (length nodes)) (branch_of old.trail) left right n leaf at);

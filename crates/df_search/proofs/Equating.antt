@@ -18,10 +18,10 @@ use Rattle.df_form.proofs.Values.{Grows, grown_get, grown_sort}
 use Rattle.df_kern.specs.Bound.{at_most}
 use Rattle.df_kern.specs.Growth.{IsNumber}
 use Rattle.df_kern.proofs.Growth.{get-grows, grows-trans, length-grows}
-use Rattle.df_ground.specs.Among.{Among}
-use Rattle.df_ground.proofs.Running.{grown_from}
-use Rattle.df_ground.proofs.Literals.{literals_grown}
-use Rattle.df_closure.specs.Closure.{GroundClause, ground_of, after}
+use Rattle.df_clause.specs.Among.{Among}
+use Rattle.df_clause.proofs.Running.{grown_from}
+use Rattle.df_clause.proofs.Literals.{literals_grown}
+use Rattle.df_closure.specs.Closure.{GroundClause, after}
 use Rattle.df_closure.specs.Filled.{AreComparing}
 use Rattle.df_logbuild.specs.declared.derivation.Derivation.{Derivation}
 use Rattle.df_logbuild.specs.Runs.{Runs}
@@ -84,7 +84,7 @@ module _ (set : List Node) (clauses more_clauses : List GroundClause) (nodes mor
   }
 
 -- a new equality, with what it means
-module _ (s : Sequent) (all : List Clause) (old : State) (is : IsSearching s all old) (left right up down n : ℕ) (derivation : Derivation) (new : State) (sort : sort_at old.derivation.nodes left ≡ sorts.Number) (below : left < length old.derivation.nodes)
+module _ (s : Sequent) (rounds : ℕ) (all : List Clause) (old : State) (is : IsSearching s rounds all old) (left right up down n : ℕ) (derivation : Derivation) (new : State) (sort : sort_at old.derivation.nodes left ≡ sorts.Number) (below : left < length old.derivation.nodes)
     (at_up : slice_get old.derivation.nodes up ≡ Some (at_most left right)) (at_down : slice_get old.derivation.nodes down ≡ Some (at_most right left)) (sorted : is_well_sorted old.derivation.nodes (equal left right) ≡ true)
     (makes_it : Makes old.derivation.nodes derivation.nodes (equal left right)) (at : slice_get derivation.nodes n ≡ Some (equal left right)) (longer : length old.derivation.nodes < length derivation.nodes) (runs : Runs s derivation all)
     (defined : IsDefined (record old { derivation = derivation }) n up down new) where
@@ -170,14 +170,14 @@ module _ (s : Sequent) (all : List Clause) (old : State) (is : IsSearching s all
   of_equalities : (clause : GroundClause) → Among (is.standing.more ++ extra) clause → IsOfEquality more clause
   of_equalities clause there = ⊎_elim (λ before. of_equality_later nodes more table begins clause (is.standing.of_equalities clause (there.0, before))) (λ own. each_of_equality more table n left right up down at sort_now up_now down_now clause own) (get_joined is.standing.more extra there.0 clause there.1)
 
-  pub equality_made : IsSearching s (all ++ map literals_in extra) new
+  pub equality_made : IsSearching s rounds (all ++ map literals_in extra) new
   equality_made = record {
     standing = record {
       ground_set = is.standing.ground_set;
       is_of = is.standing.is_of;
       set_is = defined.set ∙ is.standing.set_is;
       more = is.standing.more ++ extra;
-      clauses_are = defined.clauses_are ∙ ap (λ (cs : List GroundClause). cs ++ extra) is.standing.clauses_are ∙ append_assoc (map ground_of is.standing.ground_set.clauses.items) is.standing.more extra;
+      clauses_are = defined.clauses_are ∙ ap (λ (cs : List GroundClause). cs ++ extra) is.standing.clauses_are ∙ append_assoc is.standing.ground_set.clauses is.standing.more extra;
       of_equalities = λ clause there. subst (λ (ns : List Node). IsOfEquality ns clause) (sym defined.nodes) (of_equalities clause there);
       lines = adds.1;
       place = moved (λ set cs ns t bs. IsPlace set cs ns (branch_of t)) place;

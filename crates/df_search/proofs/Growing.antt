@@ -28,8 +28,8 @@ use Rattle.df_search.specs.declared.searching.State as declared
 use Rattle.df_search.specs.Searching.{clauses_of, branches_of, AreCounted, IsSearching}
 use Rattle.df_form.proofs.Tables.{table_next}
 use Rattle.df_form.proofs.Values.{grown_length}
-use Rattle.df_ground.proofs.Running.{grown_from}
-use Rattle.df_ground.proofs.Literals.{literals_grown}
+use Rattle.df_clause.proofs.Running.{grown_from}
+use Rattle.df_clause.proofs.Literals.{literals_grown}
 
 -- a node that is made: it stands there, or is the one that is added
 pub data Makes (nodes more : List Node) (node : Node) : Type 0 where
@@ -104,9 +104,9 @@ pub none_later : (count : ℕ) → AreLater count []
 none_later count clause (n, at) = absurd cc
 
 -- a search whose log makes a number or a comparison
-pub makes_node : (s : Sequent) (all : List Clause) (old : declared.State) → IsSearching s all old → (node : Node) → is_well_sorted old.derivation.nodes node ≡ true → is_free node.op ≡ false → is_comparing node.op ≡ true → (derivation : Derivation) → Makes old.derivation.nodes derivation.nodes node → Runs s derivation all
-    → IsSearching s all (record old { derivation = derivation })
-makes_node s all old is node sorted bound compares derivation makes_it runs =
+pub makes_node : (s : Sequent) (rounds : ℕ) (all : List Clause) (old : declared.State) → IsSearching s rounds all old → (node : Node) → is_well_sorted old.derivation.nodes node ≡ true → is_free node.op ≡ false → is_comparing node.op ≡ true → (derivation : Derivation) → Makes old.derivation.nodes derivation.nodes node → Runs s derivation all
+    → IsSearching s rounds all (record old { derivation = derivation })
+makes_node s rounds all old is node sorted bound compares derivation makes_it runs =
     let nodes = old.derivation.nodes in
     let more = derivation.nodes in
     let table = table_more nodes more node makes_it is.standing.place.table sorted in

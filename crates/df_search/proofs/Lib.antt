@@ -12,3 +12,4 @@ pub mod Splitting
 pub mod Binding
 pub mod Equating
 pub mod Compared
+pub mod Widening

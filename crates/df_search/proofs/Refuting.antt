@@ -17,7 +17,7 @@ use Rattle.df_closure.specs.Closure.{GroundClause, after, IsClosed, IsRefuted}
 use Rattle.df_logbuild.specs.declared.derivation.Derivation.{Derivation}
 use Rattle.df_logbuild.specs.Runs.{Runs}
 use Rattle.df_trail.specs.Trail.{branch_of}
-use Rattle.df_ground.specs.Among.{Among}
+use Rattle.df_clause.specs.Among.{Among}
 use Rattle.df_cong.specs.declared.answer.Reason.{Reason}
 use Rattle.df_cong.specs.Equal.{IsContradicted}
 use Rattle.df_cong.proofs.Growing.{reason_contradicts}
@@ -36,7 +36,7 @@ pub both_ok : {X E : Type 0} (r : Result X E) (A : Type 0) (N Q : X → Type 0) 
 both_ok (Ok x) A N Q a n f = f a x n
 both_ok (Err e) A N Q a n f = tt
 
-module _ (s : Sequent) (all : List Clause) (old : State) (is : IsSearching s all old) (derivation : Derivation) (nodes : derivation.nodes ≡ old.derivation.nodes) where
+module _ (s : Sequent) (rounds : ℕ) (all : List Clause) (old : State) (is : IsSearching s rounds all old) (derivation : Derivation) (nodes : derivation.nodes ≡ old.derivation.nodes) where
   place_there : IsPlace old.set (clauses_of old) derivation.nodes (branch_of old.trail)
   place_there = subst (λ (ns : List Node). IsPlace old.set (clauses_of old) ns (branch_of old.trail)) (sym nodes) is.standing.place
 
@@ -44,7 +44,7 @@ module _ (s : Sequent) (all : List Clause) (old : State) (is : IsSearching s all
   equalities_there clause there = subst (λ (ns : List Node). IsOfEquality ns clause) (sym nodes) (is.standing.of_equalities clause there)
 
   -- a log of the same nodes that adds these clauses
-  pub with_log : Runs s derivation all → IsSearching s all (record old { derivation = derivation })
+  pub with_log : Runs s derivation all → IsSearching s rounds all (record old { derivation = derivation })
   with_log runs = record {
     standing = record {
       ground_set = is.standing.ground_set;
@@ -64,7 +64,7 @@ module _ (s : Sequent) (all : List Clause) (old : State) (is : IsSearching s all
   }
 
   -- a further clause of the log
-  pub one_more_clause : (clause : Clause) → Runs s derivation (all ++ clause ∷ []) → IsSearching s (all ++ clause ∷ []) (record old { derivation = derivation })
+  pub one_more_clause : (clause : Clause) → Runs s derivation (all ++ clause ∷ []) → IsSearching s rounds (all ++ clause ∷ []) (record old { derivation = derivation })
   one_more_clause clause runs = record {
     standing = record {
       ground_set = is.standing.ground_set;
@@ -84,7 +84,7 @@ module _ (s : Sequent) (all : List Clause) (old : State) (is : IsSearching s all
   }
 
   -- the clause that the branch is not
-  pub branch_refuted : (number : ℕ) → IsShut old.derivation.nodes (clauses_of old) (branch_of old.trail) → Runs s derivation (all ++ map negation (branch_of old.trail) ∷ []) → number ≡ old.derivation.clauses → IsFinished s all (record old { derivation = derivation }) number
+  pub branch_refuted : (number : ℕ) → IsShut old.derivation.nodes (clauses_of old) (branch_of old.trail) → Runs s derivation (all ++ map negation (branch_of old.trail) ∷ []) → number ≡ old.derivation.clauses → IsFinished s rounds all (record old { derivation = derivation }) number
   branch_refuted number shut runs number_is = record {
     standing = record {
       ground_set = is.standing.ground_set;

@@ -94,16 +94,16 @@ truth_formula nodes m node e is =
     and_from (nat_lt m (length nodes)) (same_sort (sort_at nodes m) sorts.Truth) (lt-ltb m (length nodes) (slice_get_within nodes m node e))
     (ap (λ (o : Option Node). same_sort (option_map_or (λ (node : Node). sort_of node.op) o sorts.Number) sorts.Truth) e ∙ ap (λ (sort : Sort). same_sort sort sorts.Truth) is)
 
-pub splits : (s : Sequent) (old : State) → Searches s old → (term place m : ℕ) (bound : ℤ) (first second : Derivation) (trail : Trail) → IsBetweenLeaf (clauses_of old) old.derivation.nodes (branch_of old.trail) term bound
+pub splits : (s : Sequent) (rounds : ℕ) (old : State) → Searches s rounds old → (term place m : ℕ) (bound : ℤ) (first second : Derivation) (trail : Trail) → IsBetweenLeaf (clauses_of old) old.derivation.nodes (branch_of old.trail) term bound
     → made old.derivation.nodes (number bound) ≡ record { nodes = first.nodes; number = place } → ((s : Sequent) (all : List Clause) → Runs s old.derivation all → Runs s first all)
     → made first.nodes (at_most term place) ≡ record { nodes = second.nodes; number = m } → ((s : Sequent) (all : List Clause) → Runs s first all → Runs s second all)
-    → trail.decisions.items ≡ old.trail.decisions.items ++ decided (yes m) ∷ [] → Searches s (record old { derivation = second; trail = trail })
-splits s old searches term place m bound first second trail leaf made_first runs_first made_second runs_second trail_is =
+    → trail.decisions.items ≡ old.trail.decisions.items ++ decided (yes m) ∷ [] → Searches s rounds (record old { derivation = second; trail = trail })
+splits s rounds old searches term place m bound first second trail leaf made_first runs_first made_second runs_second trail_is =
     let all = searches.all in
     let nodes = old.derivation.nodes in
-    let one = makes_node s all old searches.is (number bound) refl refl refl first (makes nodes (number bound) first.nodes place made_first) (runs_first s all searches.is.runs) in
+    let one = makes_node s rounds all old searches.is (number bound) refl refl refl first (makes nodes (number bound) first.nodes place made_first) (runs_first s all searches.is.runs) in
     let sorted = comparison_sorted nodes first.nodes term place bound leaf.of_number made_first in
-    let two = makes_node s all (record old { derivation = first }) one (at_most term place) sorted refl refl second (makes first.nodes (at_most term place) second.nodes m made_second) (runs_second s all one.runs) in
+    let two = makes_node s rounds all (record old { derivation = first }) one (at_most term place) sorted refl refl second (makes first.nodes (at_most term place) second.nodes m made_second) (runs_second s all one.runs) in
     let grows_one = made-grows nodes (number bound) (record { nodes = first.nodes; number = place }) made_first in
     let grows_two = made-grows first.nodes (at_most term place) (record { nodes = second.nodes; number = m }) made_second in
     let at_place = made-at nodes (number bound) (record { nodes = first.nodes; number = place }) made_first in
@@ -111,4 +111,4 @@ splits s old searches term place m bound first second trail leaf made_first runs
     let is_number_there = number-made nodes bound (record { nodes = first.nodes; number = place }) made_first in
     let follows = bound_follows old.set (clauses_of old) nodes first.nodes second.nodes (branch_of old.trail) term place m bound leaf searches.is.standing.place.table two.standing.place.table (grows-trans nodes first.nodes second.nodes grows_one grows_two)
     (get-grows first.nodes second.nodes place grows_two is_number_there.0 ∙ at_place) at_m in
-    record { all = all; is = decides s all (record old { derivation = second }) two (yes m) follows (truth_formula second.nodes m (at_most term place) at_m refl) trail trail_is }
+    record { all = all; is = decides s rounds all (record old { derivation = second }) two (yes m) follows (truth_formula second.nodes m (at_most term place) at_m refl) trail trail_is }

@@ -1,5 +1,5 @@
 -- A branch that is closed, counted, and left.
-use Rattle.std.proofs.Common.{◌≡◌, ℕ, true, List, [], ◌∷◌, ◌++◌, map, length, take, Vec, sym, ap, ◌∙◌, subst}
+use Rattle.std.proofs.Common.{◌≡◌, ℕ, true, List, [], ◌∷◌, ◌++◌, map, length, take, Vec, sym, ap, ◌∙◌, subst, arith}
 use Rattle.std.proofs.lemmas.List.{map-append}
 use Rattle.std.specs.declared.alloc.Global.{Global}
 use Rattle.df_lemmas.proofs.Lists.{get_grown, get_last}
@@ -33,8 +33,8 @@ in_longer clauses places log more are = record { long = are.long; at = λ n clau
 pub place_for : (set : List Node) (clauses : List GroundClause) (nodes : List Node) (branch other : List Lit) → IsPlace set clauses nodes branch → are_literals nodes other ≡ true → IsConsistent other → IsPlace set clauses nodes other
 place_for set clauses nodes branch other place formulas consistent = record { table = place.table; begins = place.begins; formulas = formulas; consistent = consistent; clause_formulas = place.clause_formulas; meanings = place.meanings }
 
-module _ (s : Sequent) (front : List Clause) (number : ℕ) (old : State) (is : IsFinished s front old number) where
-  pub counts_not : IsCounted s front old number
+module _ (s : Sequent) (rounds : ℕ) (front : List Clause) (number : ℕ) (old : State) (is : IsFinished s rounds front old number) where
+  pub counts_not : IsCounted s rounds front old number
   counts_not = record { standing = is.standing; closed = is.closed; leave = leave_or old.trail.decisions.items (branches_of old) is.leave }
 
   has_log : HasLog s old.derivation.nodes (branch_of old.trail)
@@ -49,7 +49,7 @@ module _ (s : Sequent) (front : List Clause) (number : ℕ) (old : State) (is : 
   closed_branch : IsClosedBranch s old.set old.derivation.nodes (clauses_of old) (branch_of old.trail)
   closed_branch = record { branch_is = is.standing.branch; shut = is.shut; has_log = has_log }
 
-  pub counts_it : (branch : Vec Lit Global) (closed : Vec (Vec Lit Global) Global) → branch.items ≡ branch_of old.trail → AllApart branch.items (branches_of old) → closed.items ≡ old.closed.items ++ branch ∷ [] → IsCounted s front (record old { closed = closed }) number
+  pub counts_it : (branch : Vec Lit Global) (closed : Vec (Vec Lit Global) Global) → branch.items ≡ branch_of old.trail → AllApart branch.items (branches_of old) → closed.items ≡ old.closed.items ++ branch ∷ [] → IsCounted s rounds front (record old { closed = closed }) number
   counts_it branch closed branch_is apart closed_is =
       let same : map (λ (b : Vec Lit Global). b.items) closed.items ≡ branches_of old ++ branch.items ∷ [] = ap (map (λ (b : Vec Lit Global). b.items)) closed_is ∙ map-append (λ (b : Vec Lit Global). b.items) old.closed.items (branch ∷ []) in
       record {
@@ -71,8 +71,8 @@ module _ (s : Sequent) (front : List Clause) (number : ℕ) (old : State) (is : 
         leave = subst (AllLeaveOr old.trail.decisions.items) (sym same) (leave_or_last old.trail.decisions.items (branches_of old) branch.items branch_is is.leave);
       }
 
-module _ (s : Sequent) (front : List Clause) (number : ℕ) (mid : State) (is : IsCounted s front mid number) (derivation : Derivation) (trail : Trail) (nodes : derivation.nodes ≡ mid.derivation.nodes) where
-  pub turned_searches : (has : HasTurned s derivation trail front) → IsTurned mid.trail trail → IsSearching s (front ++ has.more) (record mid { derivation = derivation; trail = trail })
+module _ (s : Sequent) (rounds : ℕ) (front : List Clause) (number : ℕ) (mid : State) (is : IsCounted s rounds front mid number) (derivation : Derivation) (trail : Trail) (nodes : derivation.nodes ≡ mid.derivation.nodes) where
+  pub turned_searches : (has : HasTurned s derivation trail front) → IsTurned mid.trail trail → IsSearching s rounds (front ++ has.more) (record mid { derivation = derivation; trail = trail })
   turned_searches has turned_it = record {
     standing = record {
       ground_set = is.standing.ground_set;
@@ -94,9 +94,11 @@ module _ (s : Sequent) (front : List Clause) (number : ℕ) (mid : State) (is : 
 pub ended_derives : (s : Sequent) (front : List Clause) (derivation : Derivation) → HasEnded s derivation front → Derives s (map step_of derivation.lines.items)
 ended_derives s front derivation has = finished s derivation (front ++ has.more) has.runs
 
-abbrev pub ground_in : (s : Sequent) (all : List Clause) (state : State) → IsStanding s all state → IsGroundIn s state.derivation.nodes (clauses_of state)
-ground_in s all state is = record {
+abbrev pub ground_in : (s : Sequent) (rounds : ℕ) (all : List Clause) (state : State) → IsStanding s rounds all state → IsGroundIn s rounds state.derivation.nodes (clauses_of state)
+ground_in s rounds all state is = record {
   set = is.ground_set;
+  own = rounds;
+  within = omega arith;
   is_of = is.is_of;
   more = is.more;
   clauses_are = is.clauses_are;
@@ -106,11 +108,11 @@ ground_in s all state is = record {
   begins = subst (λ (ns : List Node). take (length ns) state.derivation.nodes ≡ ns) is.set_is is.place.begins;
 }
 
-pub spent : (s : Sequent) (all : List Clause) (state : State) (steps : ℕ) → IsSearching s all state → length state.closed.items ≡ steps → AreSpent s steps (branches_of state)
-spent s all state steps is count = record {
+pub spent : (s : Sequent) (rounds : ℕ) (all : List Clause) (state : State) (steps : ℕ) → IsSearching s rounds all state → length state.closed.items ≡ steps → AreSpent s steps rounds (branches_of state)
+spent s rounds all state steps is count = record {
   nodes = state.derivation.nodes;
   clauses = clauses_of state;
-  of_sequent = ground_in s all state is.standing;
+  of_sequent = ground_in s rounds all state is.standing;
   closed = subst (λ (set : List Node). AreClosedBranches s set state.derivation.nodes (clauses_of state) (branches_of state)) is.standing.set_is (closed_of s state.set state.derivation.nodes (clauses_of state) (branches_of state) is.standing.counted);
   count = length_mapped (λ (b : Vec Lit Global). b.items) state.closed.items ∙ count;
 }

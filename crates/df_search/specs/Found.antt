@@ -1,13 +1,13 @@
 -- What a search finds.
-use Rattle.std.specs.Prelude.{◌≡◌, ℕ, ℤ, ◌≤◌, List, [], ◌∷◌, map, length}
+use Rattle.std.specs.Prelude.{◌≡◌, ℕ, ℤ, Bool, true, false, List, [], ◌∷◌, map, length}
 use Rattle.df_form.specs.declared.log.Lit.{Lit}
 use Rattle.df_form.specs.Node.{Node}
 use Rattle.df_form.specs.Log.{step_of}
 use Rattle.df_form.specs.Sequent.{Sequent}
 use Rattle.df_kern.specs.Derivation.{Derives}
-use Rattle.df_ground.specs.declared.set.Ground.{Ground}
-use Rattle.df_ground.specs.GroundView.{IsGroundOf, state_of}
-use Rattle.df_ground.specs.Lines.{ground_lines, unbound_count}
+use Rattle.df_clause.specs.declared.ground.Ground.{Ground}
+use Rattle.df_clause.specs.GroundView.{state_of}
+use Rattle.df_trig.specs.Instances.{IsInstances, AreTooMany, instance_limit}
 use Rattle.df_table.specs.TableModel.{IsTableModel}
 use Rattle.df_closure.specs.Closure.{GroundClause, after}
 use Rattle.df_closure.specs.Full.{IsConsistent}
@@ -17,17 +17,17 @@ use Rattle.df_search.specs.declared.found.What.TheVariants as whats
 use Rattle.df_branch.specs.Evidence.{IsGroundIn, IsBranch, AreIncompatible, AreClosedBranches}
 use Rattle.df_branch.specs.Leaf.{IsWideLeaf, IsManyLeaf}
 
--- a table model of the ground set of the sequent
-pub record HasModel (s : Sequent) (table : List ℤ) : Type 0 where
+-- a table model of the ground set of the sequent with so many rounds of instances
+pub record HasModel (s : Sequent) (rounds : ℕ) (table : List ℤ) : Type 0 where
   pub set : Ground
-  pub is_of : IsGroundOf s set
+  pub is_of : IsInstances s rounds set
   pub model : IsTableModel (state_of set) table
 
--- so many closed branches
-pub record AreSpent (s : Sequent) (steps : ℕ) (branches : List (List Lit)) : Type 0 where
+-- so many closed branches beside a ground set of at most so many rounds
+pub record AreSpent (s : Sequent) (steps rounds : ℕ) (branches : List (List Lit)) : Type 0 where
   pub nodes : List Node
   pub clauses : List GroundClause
-  pub of_sequent : IsGroundIn s nodes clauses
+  pub of_sequent : IsGroundIn s rounds nodes clauses
   pub closed : AreClosedBranches s of_sequent.set.nodes nodes clauses branches
   pub count : length branches ≡ steps
 
@@ -37,32 +37,37 @@ AllExclude [] branch = Unit {0}
 AllExclude (closed ∷ others) branch = AreIncompatible closed branch × AllExclude others branch
 
 -- A branch at which a search stops, and the branches that it has closed, each apart from the others and incompatible with it.
-pub record IsStop (s : Sequent) (nodes : List Node) (clauses : List GroundClause) (closed : List (List Lit)) (branch : List Lit) : Type 0 where
-  pub of_sequent : IsGroundIn s nodes clauses
+pub record IsStop (s : Sequent) (rounds : ℕ) (nodes : List Node) (clauses : List GroundClause) (closed : List (List Lit)) (branch : List Lit) : Type 0 where
+  pub of_sequent : IsGroundIn s rounds nodes clauses
   pub are_closed : AreClosedBranches s of_sequent.set.nodes nodes clauses closed
   pub excluded : AllExclude closed branch
   pub is_branch : IsBranch of_sequent.set.nodes nodes clauses branch
 
 -- There a number is past 128 bits, and the closed list holds no literal with its negation.
-pub record IsTooWide (s : Sequent) (closed : List (List Lit)) (branch : List Lit) : Type 0 where
+pub record IsTooWide (s : Sequent) (rounds : ℕ) (closed : List (List Lit)) (branch : List Lit) : Type 0 where
   pub nodes : List Node
   pub clauses : List GroundClause
-  pub stop : IsStop s nodes clauses closed branch
+  pub stop : IsStop s rounds nodes clauses closed branch
   pub wide : IsWideLeaf stop.of_sequent.set.nodes clauses nodes branch
   pub consistent : IsConsistent (after branch wide.learned)
 
 -- There a level has so many rows, and the closed list holds no literal with its negation.
-pub record HasManyRows (s : Sequent) (closed : List (List Lit)) (branch : List Lit) (count : ℕ) : Type 0 where
+pub record HasManyRows (s : Sequent) (rounds : ℕ) (closed : List (List Lit)) (branch : List Lit) (count : ℕ) : Type 0 where
   pub nodes : List Node
   pub clauses : List GroundClause
-  pub stop : IsStop s nodes clauses closed branch
+  pub stop : IsStop s rounds nodes clauses closed branch
   pub many : IsManyLeaf clauses nodes branch count
   pub consistent : IsConsistent (after branch many.learned)
 
-abbrev pub Finds : Sequent → ℕ → Found → Type 0
-Finds s steps (found.Proved log) = Derives s (map step_of log.items)
-Finds s steps (found.Modelled table) = HasModel s table
-Finds s steps (found.Spent branches) = AreSpent s steps (map (λ branch. branch.items) branches.items)
-Finds s steps (found.Wide closed branch) = IsTooWide s (map (λ other. other.items) closed.items) branch.items
-Finds s steps (found.Many (whats.Instances count)) = (count ≡ 200000) × (count ≤ unbound_count s.nodes (ground_lines s))
-Finds s steps (found.Many (whats.Rows count closed branch)) = HasManyRows s (map (λ other. other.items) closed.items) branch.items count
+-- within so many steps and rounds
+abbrev pub Finds : Sequent → ℕ → ℕ → Found → Type 0
+Finds s steps rounds (found.Proved log) = Derives s (map step_of log.items)
+Finds s steps rounds (found.Modelled table) = HasModel s rounds table
+Finds s steps rounds (found.Spent branches) = AreSpent s steps rounds (map (λ branch. branch.items) branches.items)
+Finds s steps rounds (found.Wide closed branch) = IsTooWide s rounds (map (λ other. other.items) closed.items) branch.items
+Finds s steps rounds (found.Many (whats.Instances count)) = (count ≡ instance_limit) × AreTooMany s rounds
+Finds s steps rounds (found.Many (whats.Rows count closed branch)) = HasManyRows s rounds (map (λ other. other.items) closed.items) branch.items count
+
+abbrev pub is_model : Found → Bool
+is_model (found.Modelled table) = true
+is_model found = false

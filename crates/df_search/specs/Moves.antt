@@ -25,33 +25,33 @@ use Rattle.df_search.specs.Searching.{clauses_of, IsSearching, Searches, IsFinis
 -- Whatever sequent the search is for: clauses of the log say that the branch is not, which is shut.
 abbrev pub Propagates : State → List ℕ → State → ℕ → Type 0
 Propagates old numbers new number =
-    (s : Sequent) (all : List Clause) → IsSearching s all old → IsShut old.derivation.nodes (clauses_of old) (branch_of old.trail)
-    → propagation_line old.derivation.nodes all numbers (map negation (branch_of old.trail)) ≡ Some (map negation (branch_of old.trail)) → IsFinished s all new number
+    (s : Sequent) (rounds : ℕ) (all : List Clause) → IsSearching s rounds all old → IsShut old.derivation.nodes (clauses_of old) (branch_of old.trail)
+    → propagation_line old.derivation.nodes all numbers (map negation (branch_of old.trail)) ≡ Some (map negation (branch_of old.trail)) → IsFinished s rounds all new number
 
 -- a clause is false beside the branch
 abbrev pub Refutes : State → List ℕ → State → ℕ → Type 0
-Refutes old numbers new number = (s : Sequent) → Searches s old → IsRefuted (clauses_of old) (branch_of old.trail) numbers → Finishes s new number
+Refutes old numbers new number = (s : Sequent) (rounds : ℕ) → Searches s rounds old → IsRefuted (clauses_of old) (branch_of old.trail) numbers → Finishes s rounds new number
 
 -- a clause of the log is false beside the closed list
 abbrev pub RefutesBy : State → List ℕ → ℕ → State → ℕ → Type 0
 RefutesBy old reasons last new number =
-    (s : Sequent) (all : List Clause) (learned : List Lit) (clause : Clause) → IsSearching s all old → IsShut old.derivation.nodes (clauses_of old) (branch_of old.trail)
-    → IsClosed (clauses_of old) (branch_of old.trail) reasons learned → slice_get all last ≡ Some clause → is_empty (left (after (branch_of old.trail) learned) clause) ≡ true → IsFinished s all new number
+    (s : Sequent) (rounds : ℕ) (all : List Clause) (learned : List Lit) (clause : Clause) → IsSearching s rounds all old → IsShut old.derivation.nodes (clauses_of old) (branch_of old.trail)
+    → IsClosed (clauses_of old) (branch_of old.trail) reasons learned → slice_get all last ≡ Some clause → is_empty (left (after (branch_of old.trail) learned) clause) ≡ true → IsFinished s rounds all new number
 
 -- the rows of the closed list are refuted
 abbrev pub Solves : State → List ℕ → List Lit → List Combination → State → ℕ → Type 0
 Solves old reasons facts combinations new number =
-    (s : Sequent) (rows : List Row) → Searches s old → IsUnsolvable (clauses_of old) old.derivation.nodes (branch_of old.trail) reasons facts rows
-    → ((count : ℕ) → refutes count rows (map combination_of combinations) ≡ true) → Finishes s new number
+    (s : Sequent) (rounds : ℕ) (rows : List Row) → Searches s rounds old → IsUnsolvable (clauses_of old) old.derivation.nodes (branch_of old.trail) reasons facts rows
+    → ((count : ℕ) → refutes count rows (map combination_of combinations) ≡ true) → Finishes s rounds new number
 
 -- congruence contradicts the closed list
 abbrev pub Contradicts : State → List ℕ → Reason → State → ℕ → Type 0
 Contradicts old reasons reason new number =
-    (s : Sequent) (facts : List Lit) → Searches s old → IsIncongruent (clauses_of old) old.derivation.nodes (branch_of old.trail) reasons facts reason → Finishes s new number
+    (s : Sequent) (rounds : ℕ) (facts : List Lit) → Searches s rounds old → IsIncongruent (clauses_of old) old.derivation.nodes (branch_of old.trail) reasons facts reason → Finishes s rounds new number
 
 -- a further decision, at a bound
 abbrev pub SplitsAt : State → ℕ → ℤ → State → Type 0
-SplitsAt old node bound new = (s : Sequent) → Searches s old → IsBetweenLeaf (clauses_of old) old.derivation.nodes (branch_of old.trail) node bound → Searches s new
+SplitsAt old node bound new = (s : Sequent) (rounds : ℕ) → Searches s rounds old → IsBetweenLeaf (clauses_of old) old.derivation.nodes (branch_of old.trail) node bound → Searches s rounds new
 
 -- the connective has this clause, whose nodes stand
 abbrev pub HasLine : List Node → ℕ → ℕ → Clause → Type 0
@@ -83,14 +83,14 @@ abbrev pub IsDefined : State → ℕ → ℕ → ℕ → State → Type 0
 IsDefined old equality up down new = AreBound old (equality_clauses equality up down) (AreLines old.derivation.nodes equality up down) new
 
 -- The search goes on, and the number names an equality that may be decided.
-pub record HasEquality (s : Sequent) (state : State) (number : ℕ) : Type 0 where
-  pub searches : Searches s state
+pub record HasEquality (s : Sequent) (rounds : ℕ) (state : State) (number : ℕ) : Type 0 where
+  pub searches : Searches s rounds state
   pub follows : MayFollow state.set state.derivation.nodes (clauses_of state) (branch_of state.trail) (yes number)
   pub formula : is_formula state.derivation.nodes number ≡ true
 
 abbrev pub MakesEquality : State → ℕ → ℕ → State → ℕ → Type 0
-MakesEquality old left right new number = (s : Sequent) → Searches s old → IsApartLeaf old.set (clauses_of old) old.derivation.nodes (branch_of old.trail) left right → HasEquality s new number
+MakesEquality old left right new number = (s : Sequent) (rounds : ℕ) → Searches s rounds old → IsApartLeaf old.set (clauses_of old) old.derivation.nodes (branch_of old.trail) left right → HasEquality s rounds new number
 
 -- a further decision, that two numbers are equal
 abbrev pub Equates : State → ℕ → ℕ → State → Type 0
-Equates old left right new = (s : Sequent) → Searches s old → IsApartLeaf old.set (clauses_of old) old.derivation.nodes (branch_of old.trail) left right → Searches s new
+Equates old left right new = (s : Sequent) (rounds : ℕ) → Searches s rounds old → IsApartLeaf old.set (clauses_of old) old.derivation.nodes (branch_of old.trail) left right → Searches s rounds new

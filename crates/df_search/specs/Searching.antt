@@ -7,9 +7,9 @@ use Rattle.df_form.specs.Clause.{Clause, negation, is_among}
 use Rattle.df_form.specs.Sequent.{Sequent, IsSequent}
 use Rattle.df_form.specs.Log.{step_of}
 use Rattle.df_kern.specs.Derivation.{Derives}
-use Rattle.df_ground.specs.declared.set.Ground.{Ground}
-use Rattle.df_ground.specs.GroundView.{IsGroundOf}
-use Rattle.df_ground.specs.Among.{Among}
+use Rattle.df_clause.specs.declared.ground.Ground.{Ground}
+use Rattle.df_trig.specs.Instances.{IsInstances}
+use Rattle.df_clause.specs.Among.{Among}
 use Rattle.df_closure.specs.Closure.{GroundClause, ground_of}
 use Rattle.df_logbuild.specs.Runs.{Runs}
 use Rattle.df_trail.specs.declared.decision.Decision.{Decision}
@@ -74,14 +74,14 @@ abbrev pub AreCounted : Sequent → List Node → List Node → List GroundClaus
 AreCounted s set nodes clauses [] = Unit {0}
 AreCounted s set nodes clauses (branch ∷ others) = IsClosedBranch s set nodes clauses branch × AllDiffer branch others × AreCounted s set nodes clauses others
 
--- The nodes and clauses are those of the ground set of the sequent and of equalities that were decided, and the trail's branch
--- is one.
-pub record IsStanding (s : Sequent) (all : List Clause) (state : State) : Type 0 where
+-- The nodes and clauses are those of the ground set of the sequent with so many rounds of instances, and of equalities that
+-- were decided, and the trail's branch is one.
+pub record IsStanding (s : Sequent) (rounds : ℕ) (all : List Clause) (state : State) : Type 0 where
   pub ground_set : Ground
-  pub is_of : IsGroundOf s ground_set
+  pub is_of : IsInstances s rounds ground_set
   pub set_is : state.set ≡ ground_set.nodes
   pub more : List GroundClause
-  pub clauses_are : clauses_of state ≡ map ground_of ground_set.clauses.items ++ more
+  pub clauses_are : clauses_of state ≡ ground_set.clauses ++ more
   pub of_equalities : (clause : GroundClause) → Among more clause → IsOfEquality state.derivation.nodes clause
   pub lines : AreIn (clauses_of state) state.places.items all
   pub place : IsPlace state.set (clauses_of state) state.derivation.nodes (branch_of state.trail)
@@ -90,49 +90,49 @@ pub record IsStanding (s : Sequent) (all : List Clause) (state : State) : Type 0
   pub counted : AreCounted s state.set state.derivation.nodes (clauses_of state) (branches_of state)
 
 -- what the lines of the log so far add, and the closed branches leave the trail
-pub record IsSearching (s : Sequent) (all : List Clause) (state : State) : Type 0 where
-  pub standing : IsStanding s all state
+pub record IsSearching (s : Sequent) (rounds : ℕ) (all : List Clause) (state : State) : Type 0 where
+  pub standing : IsStanding s rounds all state
   pub runs : Runs s state.derivation all
   pub leave : AllLeave state.trail.decisions.items (branches_of state)
 
 -- the trail's branch is shut, and the log's last clause says that it is not
-pub record IsFinished (s : Sequent) (front : List Clause) (state : State) (number : ℕ) : Type 0 where
-  pub standing : IsStanding s front state
+pub record IsFinished (s : Sequent) (rounds : ℕ) (front : List Clause) (state : State) (number : ℕ) : Type 0 where
+  pub standing : IsStanding s rounds front state
   pub closed : IsClosed s state.derivation state.trail front number
   pub shut : IsShut state.derivation.nodes (clauses_of state) (branch_of state.trail)
   pub leave : AllLeave state.trail.decisions.items (branches_of state)
 
 -- and the branch may be among the closed ones
-pub record IsCounted (s : Sequent) (front : List Clause) (state : State) (number : ℕ) : Type 0 where
-  pub standing : IsStanding s front state
+pub record IsCounted (s : Sequent) (rounds : ℕ) (front : List Clause) (state : State) (number : ℕ) : Type 0 where
+  pub standing : IsStanding s rounds front state
   pub closed : IsClosed s state.derivation state.trail front number
   pub leave : AllLeaveOr state.trail.decisions.items (branches_of state)
 
-pub record Searches (s : Sequent) (state : State) : Type 0 where
+pub record Searches (s : Sequent) (rounds : ℕ) (state : State) : Type 0 where
   pub all : List Clause
-  pub is : IsSearching s all state
+  pub is : IsSearching s rounds all state
 
-pub record Finishes (s : Sequent) (state : State) (number : ℕ) : Type 0 where
+pub record Finishes (s : Sequent) (rounds : ℕ) (state : State) (number : ℕ) : Type 0 where
   pub front : List Clause
-  pub is : IsFinished s front state number
+  pub is : IsFinished s rounds front state number
 
 abbrev pub Counts : State → State → Type 0
-Counts old new = (s : Sequent) (front : List Clause) (number : ℕ) → IsFinished s front old number → IsCounted s front new number
+Counts old new = (s : Sequent) (rounds : ℕ) (front : List Clause) (number : ℕ) → IsFinished s rounds front old number → IsCounted s rounds front new number
 
 -- what a turn of a search comes to
-abbrev pub Comes : Sequent → ℕ → State → Turn → Type 0
-Comes s steps state turns.On = Searches s state × (length state.closed.items < steps)
-Comes s steps state turns.Proved = Derives s (map step_of state.derivation.lines.items)
-Comes s steps state turns.Spent = AreSpent s steps (branches_of state)
-Comes s steps state (turns.Modelled table) = IsSequent s → HasModel s table
-Comes s steps state turns.Wide = IsTooWide s (branches_of state) (branch_of state.trail)
-Comes s steps state (turns.Many count) = HasManyRows s (branches_of state) (branch_of state.trail) count
+abbrev pub Comes : Sequent → ℕ → ℕ → State → Turn → Type 0
+Comes s steps rounds state turns.On = Searches s rounds state × (length state.closed.items < steps)
+Comes s steps rounds state turns.Proved = Derives s (map step_of state.derivation.lines.items)
+Comes s steps rounds state turns.Spent = AreSpent s steps rounds (branches_of state)
+Comes s steps rounds state (turns.Modelled table) = IsSequent s → HasModel s rounds table
+Comes s steps rounds state turns.Wide = IsTooWide s rounds (branches_of state) (branch_of state.trail)
+Comes s steps rounds state (turns.Many count) = HasManyRows s rounds (branches_of state) (branch_of state.trail) count
 
 abbrev pub Closes : State → ℕ → ℕ → State → Turn → Type 0
-Closes old number steps new turn = (s : Sequent) → Finishes s old number → length old.closed.items < steps → Comes s steps new turn
+Closes old number steps new turn = (s : Sequent) (rounds : ℕ) → Finishes s rounds old number → length old.closed.items < steps → Comes s steps rounds new turn
 
 abbrev pub TurnsTo : State → ℕ → State → Turn → Type 0
-TurnsTo old steps new turn = (s : Sequent) → Searches s old → length old.closed.items < steps → Comes s steps new turn
+TurnsTo old steps new turn = (s : Sequent) (rounds : ℕ) → Searches s rounds old → length old.closed.items < steps → Comes s steps rounds new turn
 
 abbrev pub Tells : State → Leaf → Type 0
 Tells state leaf = TellsLeaf state.set (clauses_of state) state.derivation.nodes (branch_of state.trail) leaf

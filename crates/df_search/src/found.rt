@@ -1,5 +1,7 @@
 //! What a search may use, and what it finds.
 
+ghost use Rattle.std.specs.Prelude.{◌≡◌};
+
 use df_form::{Lit, Step};
 use df_table::Table;
 
@@ -30,7 +32,7 @@ pub enum What {
 pub enum Found {
     /// A log that derives the sequent.
     Proved(Vec<Step>),
-    /// A table model of its ground set.
+    /// A table model of its ground set with all rounds of instances.
     Modelled(Table),
     /// Closed branches, as many as it may close.
     Spent(Vec<Vec<Lit>>),
@@ -40,4 +42,18 @@ pub enum Found {
         branch: Vec<Lit>,
     },
     Many(What),
+}
+
+impl Found {
+    ghost use Rattle.df_search.specs.Found.{is_model};
+
+    /// Whether it is a table model.
+    pub(crate) fn is_model(&self) -> bool
+        ensures { result ≡ is_model self.now }
+    {
+        match self {
+            Found::Modelled(_) => true,
+            Found::Proved(_) | Found::Spent(_) | Found::Wide { .. } | Found::Many(_) => false,
+        }
+    }
 }

@@ -1,9 +1,11 @@
 //! The search for a proof: a log that derives a sequent, or evidence for why it stopped.
 #![tactic(auto)]
 
+mod exhausting;
 mod found;
 mod proposed;
 mod searching;
 
+pub use df_solve::Index;
 pub use found::{Budget, Found, What};
-pub use proposed::search;
+pub use proposed::{search, search_with};

@@ -1,22 +1,25 @@
 //! The search, with the engine's proposals in front of it: what the engine proposes counts where it passes
 //! a check.
 
-ghost use Rattle.std.specs.Prelude.{◌≤◌, ℕ, IfOk, IfSome};
+ghost use Rattle.std.specs.Prelude.{◌≤◌, ℕ, Err, IfOk, IfSome};
+ghost use Rattle.df_form.specs.Sequent.{Sequent as Claim};
 ghost use Rattle.df_form.specs.SequentView.{sequent_of};
+ghost use Rattle.df_trig.specs.Rounds.{Instantiates};
 ghost use Rattle.df_search.specs.Found.{Finds};
 
-use crate::found::{Budget, Found};
-use crate::searching::exhaust;
+use crate::exhausting::exhaust;
+use crate::found::{Budget, Found, What};
+use df_axiom::Written;
 use df_form::{Sequent, Step};
-use df_ground::{Ground, GroundFault};
 use df_kern::{KernFault, check};
-use df_solve::{Proposal, propose};
+use df_solve::{Index, Proposal, propose};
 use df_table::{Table, is_model};
+use df_trig::{TrigFault, instances};
 use std::alloc::{AllocError, Global};
 
 /// The log, if the kernel takes it.
 fn taken(alloc: Global, sequent: &Sequent, log: Vec<Step>) -> Result<Option<Found>, AllocError>
-    ensures { (count : ℕ) → IfOk result (λ found. IfSome found (Finds (sequent_of sequent.now) count)) }
+    ensures { (steps rounds : ℕ) → IfOk result (λ found. IfSome found (Finds (sequent_of sequent.now) steps rounds)) }
 {
     match check(alloc, sequent, log.as_slice()) {
         Ok(_) => Ok(Some(Found::Proved(log))),
@@ -25,14 +28,29 @@ fn taken(alloc: Global, sequent: &Sequent, log: Vec<Step>) -> Result<Option<Foun
     }
 }
 
-/// The table, if it is a model of the ground set.
-fn tested(alloc: Global, sequent: &Sequent, table: Table) -> Result<Option<Found>, AllocError>
-    ensures { (count : ℕ) → IfOk result (λ found. IfSome found (Finds (sequent_of sequent.now) count)) }
+/// What is found in place of a table where there is no ground set that it may be a model of.
+fn without_model(fault: TrigFault) -> Result<Option<Found>, AllocError>
+    ensures { (s : Claim) (steps rounds : ℕ) → Instantiates s rounds (Err fault) → IfOk result (λ found. IfSome found (Finds s steps rounds)) }
 {
-    let set = match Ground::new(alloc, sequent) {
+    match fault {
+        TrigFault::Many(count) => Ok(Some(Found::Many(What::Instances(count)))),
+        TrigFault::Memory => Err(AllocError),
+    }
+}
+
+/// The table, if it is a model of the ground set with so many rounds of instances; or that there are too
+/// many of them.
+fn tested(
+    alloc: Global,
+    sequent: &Sequent,
+    table: Table,
+    rounds: u32,
+) -> Result<Option<Found>, AllocError>
+    ensures { (steps : ℕ) → IfOk result (λ found. IfSome found (Finds (sequent_of sequent.now) steps rounds)) }
+{
+    let set = match instances(alloc, sequent, &Written {}, rounds) {
         Ok(set) => set,
-        Err(GroundFault::Many(_)) => return Ok(None),
-        Err(GroundFault::Memory) => return Err(AllocError),
+        Err(fault) => return without_model(fault),
     };
     if is_model(&set, &table) {
         Ok(Some(Found::Modelled(table)))
@@ -42,24 +60,43 @@ fn tested(alloc: Global, sequent: &Sequent, table: Table) -> Result<Option<Found
 }
 
 /// What the engine proposes, if it passes its check.
-fn proposed(alloc: Global, sequent: &Sequent, budget: Budget) -> Result<Option<Found>, AllocError>
-    ensures { (count : ℕ) → IfOk result (λ found. IfSome found (Finds (sequent_of sequent.now) count)) }
+fn proposed(
+    alloc: Global,
+    index: &mut Index,
+    sequent: &Sequent,
+    budget: Budget,
+) -> Result<Option<Found>, AllocError>
+    ensures { (steps : ℕ) → IfOk result (λ found. IfSome found (Finds (sequent_of sequent.now) steps budget.rounds)) }
 {
-    match propose(alloc, sequent, budget.steps, budget.rounds)? {
+    match propose(alloc, index, sequent, budget.steps, budget.rounds)? {
         Proposal::Proved(log) => taken(alloc, sequent, log),
-        Proposal::Modelled(table) => tested(alloc, sequent, table),
+        Proposal::Modelled(table) => tested(alloc, sequent, table, budget.rounds),
         Proposal::GaveUp => Ok(None),
     }
 }
 
 /// Searches for a log that derives the sequent. Where it stops without one, it gives evidence: a table
-/// model of the ground set, as many closed branches as it may close, a number past 128 bits, or too many
-/// ground clauses or rows.
+/// model of the ground set with all rounds of instances, as many closed branches as it may close, a number
+/// past 128 bits, or too many instances or rows.
 pub fn search(alloc: Global, sequent: &Sequent, budget: Budget) -> Result<Found, AllocError>
     requires steps { 1 ≤ budget.steps }
-    ensures { IfOk result (Finds (sequent_of sequent.now) budget.steps) }
+    ensures { IfOk result (Finds (sequent_of sequent.now) budget.steps budget.rounds) }
 {
-    match proposed(alloc, sequent, budget)? {
+    search_with(alloc, &mut Index::new(alloc), sequent, budget)
+}
+
+/// The same with an index of nodes that it shares with the searches for other sequents, of which each has the nodes of
+/// those before it, as those of one method have.
+pub fn search_with(
+    alloc: Global,
+    index: &mut Index,
+    sequent: &Sequent,
+    budget: Budget,
+) -> Result<Found, AllocError>
+    requires steps { 1 ≤ budget.steps }
+    ensures { IfOk result (Finds (sequent_of sequent.now) budget.steps budget.rounds) }
+{
+    match proposed(alloc, index, sequent, budget)? {
         Some(found) => Ok(found),
         None => exhaust(alloc, sequent, budget),
     }

@@ -8,7 +8,8 @@ ghost use Rattle.df_form.specs.Made.{made};
 ghost use Rattle.df_form.specs.Sequent.{Sequent as Claim, IsSequent};
 ghost use Rattle.df_form.specs.SequentView.{sequent_of};
 ghost use Rattle.df_form.specs.Sorting.{is_well_sorted};
-ghost use Rattle.df_ground.specs.GroundView.{IsGroundOf, Grounds};
+ghost use Rattle.df_trig.specs.Instances.{IsInstances};
+ghost use Rattle.df_trig.specs.Rounds.{Instantiates};
 ghost use Rattle.df_kern.specs.Derivation.{is_free, is_number};
 ghost use Rattle.df_logbuild.specs.Runs.{Runs};
 ghost use Rattle.df_trail.specs.Trail.{branch_of};
@@ -18,14 +19,16 @@ ghost use Rattle.df_search.specs.Searching.{clauses_of, branches_of, Searches, C
 ghost use Rattle.df_search.specs.Moves.{Propagates, Refutes, RefutesBy, Solves, Contradicts, SplitsAt, IsBound, IsDefined, MakesEquality, Equates};
 ghost use Rattle.df_search.specs.Places.{AreWithin, place_in};
 
-use crate::found::{Budget, Found, What};
+use crate::found::{Found, What};
+use df_axiom::Written;
 use df_branch::{Leaf, leaf_at};
+use df_clause::{Ground, GroundClause};
 use df_cong::Reason;
 use df_form::{Combination, Lit, Node, Nodes, Op, Sequent};
-use df_ground::{Ground, GroundClause, GroundFault};
 use df_logbuild::Derivation;
 use df_table::Table;
 use df_trail::{Retreat, Trail};
+use df_trig::{TrigFault, instances};
 use std::alloc::{AllocError, Global};
 
 /// A search so far.
@@ -144,17 +147,18 @@ fn first_numbers(alloc: Global, count: usize) -> Result<Vec<usize>, AllocError>
 impl State {
     /// No decisions yet.
     fn new(alloc: Global, ground: Ground) -> Result<State, AllocError>
-        requires { length ground.clauses.items ≤ length ground.lines.items }
-        ensures begins { IfOk result (λ state. (s : Claim) → IsSequent s → IsGroundOf s ground → Searches s state) }
+        requires { length ground.clauses ≤ length ground.lines.items }
+        ensures begins { IfOk result (λ state. (s : Claim) (rounds : ℕ) → IsSequent s → IsInstances s rounds ground → Searches s rounds state) }
         ensures none { IfOk result (λ state. state.closed.items ≡ []) }
     {
         let nodes = ground.nodes.copy(alloc)?;
         let count = ground.clauses.len();
         let places = first_numbers(alloc, count)?;
+        let clauses = ground.clauses.into_vec(alloc)?;
         Ok(State {
             alloc,
             set: ground.nodes,
-            clauses: ground.clauses,
+            clauses,
             places,
             derivation: Derivation::new(nodes, ground.lines, count),
             trail: Trail::new(alloc),
@@ -432,27 +436,33 @@ impl State {
 }
 
 /// What is found where there is no ground set.
-fn without_ground(fault: GroundFault) -> Result<Found, AllocError>
-    ensures { (s : Claim) (steps : ℕ) → Grounds s (Err fault) → IfOk result (Finds s steps) }
+fn without_ground(fault: TrigFault) -> Result<Found, AllocError>
+    ensures { (s : Claim) (steps rounds : ℕ) → Instantiates s rounds (Err fault) → IfOk result (Finds s steps rounds) }
 {
     match fault {
-        GroundFault::Many(count) => Ok(Found::Many(What::Instances(count))),
-        GroundFault::Memory => Err(AllocError),
+        TrigFault::Many(count) => Ok(Found::Many(What::Instances(count))),
+        TrigFault::Memory => Err(AllocError),
     }
 }
 
-/// Closes branch after branch, until all are closed or one gives evidence.
-pub(crate) fn exhaust(alloc: Global, sequent: &Sequent, budget: Budget) -> Result<Found, AllocError>
-    requires steps { 1 ≤ budget.steps }
-    ensures { IfOk result (Finds (sequent_of sequent.now) budget.steps) }
+/// Closes branch after branch beside the ground set with so many rounds of instances, until all are closed
+/// or one gives evidence.
+pub(crate) fn exhaust_set(
+    alloc: Global,
+    sequent: &Sequent,
+    rounds: u32,
+    steps: u64,
+) -> Result<Found, AllocError>
+    requires steps { 1 ≤ steps }
+    ensures { IfOk result (Finds (sequent_of sequent.now) steps rounds) }
 {
-    let set = match Ground::new(alloc, sequent) {
+    let set = match instances(alloc, sequent, &Written {}, rounds) {
         Ok(set) => set,
         Err(fault) => return without_ground(fault),
     };
     let mut search = State::new(alloc, set)?;
     loop {
-        match search.turn(budget.steps)? {
+        match search.turn(steps)? {
             Turn::On => {}
             Turn::Proved => {
                 let derivation = search.derivation;

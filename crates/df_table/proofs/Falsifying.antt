@@ -1,13 +1,15 @@
 -- A model of the ground set of a sequent makes its hypotheses true and its goal false.
-use Rattle.std.proofs.Common.{◌≡◌, ℕ, zero, suc, ℤ, Bool, true, false, not, ◌||◌, List, [], ◌∷◌, Some, slice_get, refl, sym, subst, true≢false}
+use Rattle.std.proofs.Common.{◌≡◌, ℕ, zero, suc, ℤ, Bool, true, false, not, ◌||◌, List, [], ◌∷◌, Some, None, slice_get, refl, sym, ap, ◌∙◌, subst, true≢false}
 use Rattle.std.specs.List.{list_all}
-use Rattle.std.proofs.lemmas.Option.{same_Some}
+use Rattle.std.specs.Option.{option_map}
+use Rattle.std.proofs.lemmas.Option.{same_Some, slice_get-map}
 use Rattle.std.proofs.lemmas.Bool.{and_from, and_parts}
 use Rattle.df_form.specs.Sequent.{Sequent}
 use Rattle.df_form.specs.Clause.{yes, no, clause_truth}
-use Rattle.df_ground.specs.declared.set.Ground.{Ground}
-use Rattle.df_ground.specs.GroundView.{IsGroundOf, state_of}
-use Rattle.df_ground.proofs.Clauses.{hypothesis_stands, goal_stands}
+use Rattle.df_clause.specs.declared.ground.Ground.{Ground}
+use Rattle.df_clause.specs.GroundClause.{GroundClause}
+use Rattle.df_clause.specs.Among.{Among}
+use Rattle.df_clause.specs.GroundView.{IsGround, literals_of, state_of}
 use Rattle.df_table.specs.TableModel.{is_true, IsTableModel}
 
 passes_at : {A : Type 0} (test : A → Bool) (xs : List A) (i : ℕ) (x : A) → list_all test xs ≡ true → slice_get xs i ≡ Some x → test x ≡ true
@@ -27,13 +29,17 @@ not_true : (b : Bool) → (not b || false) ≡ true → b ≡ false
 not_true true e = absurd (true≢false (sym e))
 not_true false e = refl
 
-module _ (s : Sequent) (g : Ground) (table : List ℤ) (is : IsGroundOf s g) (model : IsTableModel (state_of g) table) where
+module _ (s : Sequent) (g : Ground) (table : List ℤ) (is : IsGround s g) (model : IsTableModel (state_of g) table) where
+  -- the literals of a ground clause are a clause of the state
+  stands : (clause : GroundClause) → Among g.clauses clause → Among (state_of g).clauses clause.literals
+  stands clause there = (there.0, slice_get-map literals_of g.clauses there.0 ∙ ap (option_map literals_of) there.1)
+
   pub hypotheses_true : list_all (is_true table) s.hypotheses ≡ true
   hypotheses_true = each_passes (is_true table) s.hypotheses (λ i h at.
-      (let stands = hypothesis_stands s g is i h at in
-      one_true (is_true table h) (passes_at (clause_truth (is_true table)) (state_of g).clauses stands.0 (yes h ∷ []) model.clauses stands.1)))
+      (let there = stands (record { literals = yes h ∷ []; bound = None }) (is.hypotheses i h at) in
+      one_true (is_true table h) (passes_at (clause_truth (is_true table)) (state_of g).clauses there.0 (yes h ∷ []) model.clauses there.1)))
 
   pub goal_false : is_true table s.goal ≡ false
   goal_false =
-      let stands = goal_stands s g is in
-      not_true (is_true table s.goal) (passes_at (clause_truth (is_true table)) (state_of g).clauses stands.0 (no s.goal ∷ []) model.clauses stands.1)
+      let there = stands (record { literals = no s.goal ∷ []; bound = None }) is.goal in
+      not_true (is_true table s.goal) (passes_at (clause_truth (is_true table)) (state_of g).clauses there.0 (no s.goal ∷ []) model.clauses there.1)

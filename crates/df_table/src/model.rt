@@ -4,15 +4,15 @@ ghost use Rattle.std.specs.Prelude.{◌≡◌, ◌==◌, ◌&&◌, length};
 ghost use Rattle.std.specs.Bool.{Decides};
 ghost use Rattle.std.specs.List.{list_all};
 ghost use Rattle.df_form.specs.Clause.{literal_truth, clause_truth};
-ghost use Rattle.df_ground.specs.GroundView.{state_of};
+ghost use Rattle.df_clause.specs.GroundView.{state_of};
 ghost use Rattle.df_table.specs.TableModel.{is_true, IsTableModel};
 ghost use Rattle.df_table.specs.Testing.{is_congruent, are_exact};
 
 use crate::congruence::is_congruent;
 use crate::exactness::are_exact;
 use crate::table::Table;
+use df_clause::{ClauseSet, Ground, GroundClause};
 use df_form::Lit;
-use df_ground::{Ground, GroundClause};
 
 fn is_literal_true(table: &Table, literal: Lit) -> bool
     ensures { result ≡ literal_truth (is_true table.now) literal }
@@ -40,13 +40,19 @@ fn are_true(table: &Table, clauses: &[GroundClause]) -> bool
         .all(|clause| is_clause_true(table, clause.literals.as_slice()))
 }
 
+fn is_set_true(table: &Table, set: &ClauseSet) -> bool
+    ensures { result ≡ list_all (λ clause. clause_truth (is_true table.now) clause.literals) set.now }
+{
+    are_true(table, set.as_slice())
+}
+
 /// Whether the table passes each test.
 fn passes(ground: &Ground, table: &Table) -> bool
-    ensures { result ≡ (length table.now == length ground.now.nodes && (is_congruent ground.now.nodes table.now && (are_exact ground.now.nodes table.now && list_all (λ clause. clause_truth (is_true table.now) clause.literals.items) ground.now.clauses.items))) }
+    ensures { result ≡ (length table.now == length ground.now.nodes && (is_congruent ground.now.nodes table.now && (are_exact ground.now.nodes table.now && list_all (λ clause. clause_truth (is_true table.now) clause.literals) ground.now.clauses))) }
 {
     table.len() == ground.nodes.len()
         && (is_congruent(&ground.nodes, table)
-            && (are_exact(&ground.nodes, table) && are_true(table, &ground.clauses)))
+            && (are_exact(&ground.nodes, table) && is_set_true(table, &ground.clauses)))
 }
 
 /// Whether a table is a model of a ground set: each node has a number; equal arguments of one operation

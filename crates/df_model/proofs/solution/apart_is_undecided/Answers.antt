@@ -1,4 +1,4 @@
-use Rattle.df_ground.proofs.Running.{grown_from}
+use Rattle.df_clause.proofs.Running.{grown_from}
 use Rattle.df_model.proofs.SolvedTables.{front_sorted}
 use Rattle.df_model.proofs.UndecidedTerms.{undecided}
 use Rattle.df_model.proofs.solution.apart_is_undecided.Goals as goal

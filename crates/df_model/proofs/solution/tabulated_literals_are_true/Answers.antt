@@ -1,4 +1,4 @@
-use Rattle.df_ground.proofs.Running.{grown_from}
+use Rattle.df_clause.proofs.Running.{grown_from}
 use Rattle.df_model.proofs.SolvedTables.{front_sorted, solved_first}
 use Rattle.df_model.proofs.solution.tabulated_literals_are_true.Goals as goal
 

@@ -23,7 +23,7 @@ returns-clause-contradicts c =
     let conclusion : c.in_ok-conclusion.conclusion.items ≡ clause = c.in_ok-conclusion.ensures ∙ ap (λ (ls : List Lit). map negation ls) c.deref.ensures.value in
     let log = c.congruence.new.self in
     if_ok c.refute_by.result _ _ c.refute_by.ensures.refutes
-    (λ number refutes s facts searches is.
+    (λ number refutes s rounds facts searches is.
     let all = searches.all in
     let line : congruence_line nodes c.in_ok-conclusion.conclusion.items pairs ≡ Some c.in_ok-conclusion.conclusion.items =
     ap (λ (ls : Clause). congruence_line nodes ls pairs) conclusion ∙ is_line nodes clause pairs is.is_reason.line ∙ ap (λ (ls : Clause). Some ls) (sym conclusion) in
@@ -31,7 +31,7 @@ returns-clause-contradicts c =
     let number_is : c.in_ok-number.number ≡ length all = c.in_ok-number.ensures.number ∙ sym searches.is.runs.count in
     record {
       front = all ++ clause ∷ [];
-      is = refutes s (all ++ clause ∷ []) is.learned clause (one_more_clause s all old searches.is log c.congruence.ensures.nodes clause runs)
+      is = refutes s rounds (all ++ clause ∷ []) is.learned clause (one_more_clause s rounds all old searches.is log c.congruence.ensures.nodes clause runs)
           (subst (λ ns. IsShut ns (clauses_of old) branch) (sym c.congruence.ensures.nodes) (incongruent_shut (clauses_of old) nodes branch facts c.args.reasons.now reason is))
           is.closed (ap (slice_get (all ++ clause ∷ [])) number_is ∙ get_last all clause) (incongruent_left (clauses_of old) nodes branch facts c.args.reasons.now reason is);
     })

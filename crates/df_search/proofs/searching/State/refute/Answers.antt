@@ -14,7 +14,7 @@ returns-clause-refutes c =
     let nodes = old.derivation.nodes in
     let branch = branch_of old.trail in
     if_ok c.propagate.result _ _ c.propagate.ensures.propagates
-    (λ number propagates s searches is.
+    (λ number propagates s rounds searches is.
     let standing = searches.is.standing in
     let line = ap (λ (ns : List ℕ). propagation_line nodes searches.all ns (map negation branch)) c.in_ok-placed.ensures ∙ refuted_line nodes (clauses_of old) old.places.items searches.all branch c.args.numbers.now standing.lines standing.place.formulas is in
-    record { front = searches.all; is = propagates s searches.all searches.is (by_clauses c.args.numbers.now is) line })
+    record { front = searches.all; is = propagates s rounds searches.all searches.is (by_clauses c.args.numbers.now is) line })

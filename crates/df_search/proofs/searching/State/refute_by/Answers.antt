@@ -13,7 +13,7 @@ returns-clause-refutes c =
     let nodes = old.derivation.nodes in
     let branch = branch_of old.trail in
     if_ok c.propagate.result _ _ c.propagate.ensures.propagates
-    (λ number propagates s all learned clause is shut closed there empty.
+    (λ number propagates s rounds all learned clause is shut closed there empty.
     let numbers = c.in_ok-push.ensures.items ∙ ap (λ (ns : List ℕ). ns ++ c.args.last ∷ []) c.in_ok-numbers.ensures in
     let line = closed_line nodes (clauses_of old) old.places.items all branch c.args.reasons.now learned c.args.last clause is.standing.lines is.standing.place.formulas closed there empty in
-    propagates s all is shut (ap (λ (ns : List ℕ). propagation_line nodes all ns (map negation branch)) numbers ∙ line))
+    propagates s rounds all is shut (ap (λ (ns : List ℕ). propagation_line nodes all ns (map negation branch)) numbers ∙ line))

@@ -22,7 +22,7 @@ returns-clause-solves c =
     let combinations = map combination_of c.args.combinations.items in
     let clause = map negation facts in
     if_ok c.refute_by.result _ _ c.refute_by.ensures.refutes
-    (λ number refutes s rows searches is refuted.
+    (λ number refutes s rounds rows searches is refuted.
     let all = searches.all in
     let line : linear_line nodes c.in_ok-conclusion.conclusion.items combinations ≡ Some c.in_ok-conclusion.conclusion.items =
     ap (λ (ls : Clause). linear_line nodes ls combinations) conclusion ∙ linear_is nodes facts rows combinations is.formulas is.rows_are (refuted (length nodes)) ∙ ap (λ (ls : Clause). Some ls) (sym conclusion) in
@@ -30,7 +30,7 @@ returns-clause-solves c =
     let number_is : c.in_ok-number.number ≡ length all = c.in_ok-number.ensures.number ∙ sym searches.is.runs.count in
     record {
       front = all ++ clause ∷ [];
-      is = refutes s (all ++ clause ∷ []) is.learned clause (one_more_clause s all old searches.is log c.refute.ensures.nodes clause runs)
+      is = refutes s rounds (all ++ clause ∷ []) is.learned clause (one_more_clause s rounds all old searches.is log c.refute.ensures.nodes clause runs)
           (subst (λ ns. IsShut ns (clauses_of old) branch) (sym c.refute.ensures.nodes) (unsolvable_shut (clauses_of old) nodes branch facts c.args.reasons.now rows is))
           is.closed (ap (slice_get (all ++ clause ∷ [])) number_is ∙ get_last all clause) (unsolvable_left (clauses_of old) nodes branch facts c.args.reasons.now rows is);
     })

@@ -32,16 +32,16 @@ returns-in-Unsolvable-clause-turns c =
     let old = c.args.self.now in
     let tells = subst (Tells old) c.in-Unsolvable.is c.in_ok-numbers.ensures in
     if_ok c.close-in-Unsolvable.result _ _ c.close-in-Unsolvable.ensures.closes
-    (λ turn closes s searches few.
+    (λ turn closes s rounds searches few.
     let of_reasons = subst (λ (ns : List ℕ). IsUnsolvable (clauses_of old) old.derivation.nodes (branch_of old.trail) ns c.in-Unsolvable.facts.items tells.0) (sym c.deref-in-Unsolvable.ensures.value) tells.1 in
     let is = subst (λ (facts : List Lit). IsUnsolvable (clauses_of old) old.derivation.nodes (branch_of old.trail) c.deref-in-Unsolvable.result.now facts tells.0) (sym c.deref-in-Unsolvable-2.ensures.value) of_reasons in
-    let finishes : Finishes s c.solve.new.self c.in_ok-number-in-Unsolvable.number = c.in_ok-number-in-Unsolvable.ensures.solves s tells.0 searches is tells.2 in
+    let finishes : Finishes s rounds c.solve.new.self c.in_ok-number-in-Unsolvable.number = c.in_ok-number-in-Unsolvable.ensures.solves s rounds tells.0 searches is tells.2 in
     let still_few : length c.solve.new.self.closed.items < c.args.steps = omega (arith, ap length c.solve.ensures.closed, few) in
-    closes s finishes still_few)
+    closes s rounds finishes still_few)
 
 pub returns-in-Open-clause-turns : goal.returns-in-Open-clause-turns
-returns-in-Open-clause-turns c = λ s searches few.
-    (record { all = searches.all; is = open_decides s searches.all c.args.self.now searches.is c.in-Open.literal (subst (Tells c.args.self.now) c.in-Open.is c.in_ok-numbers.ensures) c.decide.new.self c.in_ok-decide-in-Open.ensures.decides }, few)
+returns-in-Open-clause-turns c = λ s rounds searches few.
+    (record { all = searches.all; is = open_decides s rounds searches.all c.args.self.now searches.is c.in-Open.literal (subst (Tells c.args.self.now) c.in-Open.is c.in_ok-numbers.ensures) c.decide.new.self c.in_ok-decide-in-Open.ensures.decides }, few)
 
 pub split-requires : goal.split-requires
 split-requires c = let is = subst (Tells c.args.self.now) c.in-Between.is c.in_ok-numbers.ensures in is.of_number
@@ -53,10 +53,10 @@ pub equate-requires-clause-right : goal.equate-requires-clause-right
 equate-requires-clause-right c = let is = subst (Tells c.args.self.now) c.in-Apart.is c.in_ok-numbers.ensures in is.right_number
 
 pub returns-in-Modelled-clause-turns : goal.returns-in-Modelled-clause-turns
-returns-in-Modelled-clause-turns c = λ s searches few. modelled s searches.all c.args.self.now searches.is c.in-Modelled.table (subst (Tells c.args.self.now) c.in-Modelled.is c.in_ok-numbers.ensures)
+returns-in-Modelled-clause-turns c = λ s rounds searches few. modelled s rounds searches.all c.args.self.now searches.is c.in-Modelled.table (subst (Tells c.args.self.now) c.in-Modelled.is c.in_ok-numbers.ensures)
 
 pub returns-in-Wide-clause-turns : goal.returns-in-Wide-clause-turns
-returns-in-Wide-clause-turns c = λ s searches few. too_wide s searches.all c.args.self.now searches.is (subst (Tells c.args.self.now) c.in-Wide.is c.in_ok-numbers.ensures)
+returns-in-Wide-clause-turns c = λ s rounds searches few. too_wide s rounds searches.all c.args.self.now searches.is (subst (Tells c.args.self.now) c.in-Wide.is c.in_ok-numbers.ensures)
 
 pub returns-clause-turns : goal.returns-clause-turns
-returns-clause-turns c = λ s searches few. many_rows s searches.all c.args.self.now searches.is c.in-Many.count (subst (Tells c.args.self.now) c.in-Many.is c.in_ok-numbers.ensures)
+returns-clause-turns c = λ s rounds searches few. many_rows s rounds searches.all c.args.self.now searches.is c.in-Many.count (subst (Tells c.args.self.now) c.in-Many.is c.in_ok-numbers.ensures)

@@ -1,0 +1,10 @@
+pub use Rattle.df_kern.specs.Derivation
+pub mod Among
+pub mod Comparing
+pub mod GroundClause
+pub mod Counting
+pub mod Lines
+pub mod Adding
+pub mod GroundSet
+pub mod GroundView
+pub mod Keeping

@@ -1,0 +1,12 @@
+pub mod Ending
+pub mod Grounds
+pub mod Indexed
+pub mod Instancing
+pub mod Matching
+pub mod Pairs
+pub mod PatternLines
+pub mod Reaching
+pub mod Rounding
+pub mod Settled
+pub mod Skipping
+pub mod Templates
