@@ -1,6 +1,6 @@
 //! Where all columns are whole: a counterexample, or what the numbers of operations break.
 
-use crate::engine::Engine;
+use crate::candidate::Candidate;
 use crate::modelling::Tabled;
 use crate::refining::Comparison;
 use crate::searching::{Search, Turn};
@@ -19,7 +19,7 @@ struct Key {
 impl<'a> Search<'a> {
     /// Has a counterexample, or learns of operations. The levels after this one only looked for numbers.
     pub fn conclude(&mut self, level: usize) -> Result<Turn, AllocError> {
-        self.table = self.engine.counterexample(self.sequent)?;
+        self.table = Candidate::of(&self.engine).counterexample(self.sequent)?;
         if self.table.is_some() {
             return Ok(Turn::Complete);
         }
@@ -28,18 +28,18 @@ impl<'a> Search<'a> {
         }
         let cost = self.engine.terms.len().saturating_mul(4);
         self.engine.spend(cost);
-        if let Some(pair) = self.engine.unequal_operations()? {
+        if let Some(pair) = Candidate::of(&self.engine).unequal_operations()? {
             if self.equate(level, pair)? {
                 return Ok(Turn::On);
             }
         }
-        let substitutions = self.engine.substitutions()?;
+        let substitutions = self.substitutions()?;
         if !substitutions.is_empty() {
-            if let Some(turn) = self.multiply(&substitutions)? {
+            if let Some(turn) = self.multiply_all(&substitutions)? {
                 return Ok(turn);
             }
         }
-        let comparisons = self.engine.comparisons()?;
+        let comparisons = self.comparisons()?;
         if !comparisons.is_empty() {
             return self.refine(&comparisons);
         }
@@ -47,15 +47,15 @@ impl<'a> Search<'a> {
     }
 
     /// Has products with sums in place of factors be known, if they may be.
-    fn multiply(&mut self, pairs: &[Pair]) -> Result<Option<Turn>, AllocError> {
+    fn multiply_all(&mut self, pairs: &[Pair]) -> Result<Option<Turn>, AllocError> {
         let mut is_new = false;
         for pair in pairs {
-            if self.engine.may_multiply(*pair) {
+            if self.may_multiply(*pair) {
                 if !is_new {
                     self.engine.cancel(0)?;
                     is_new = true;
                 }
-                self.engine.multiply(*pair)?;
+                self.multiply(*pair)?;
             }
         }
         if !is_new {
@@ -70,7 +70,7 @@ impl<'a> Search<'a> {
         self.engine.cancel(0)?;
         let mut is_new = false;
         for comparison in comparisons {
-            if self.engine.compare(*comparison)? {
+            if self.compare(*comparison)? {
                 is_new = true;
             }
         }
@@ -96,7 +96,7 @@ impl<'a> Search<'a> {
 
     /// Has a table of what operations are, or decides an equality.
     fn tabulate(&mut self, level: usize) -> Result<Turn, AllocError> {
-        match self.engine.tabled(self.sequent)? {
+        match Candidate::of(&self.engine).tabled(self.sequent)? {
             Tabled::Table(table) => {
                 self.table = Some(table);
                 Ok(Turn::Complete)
@@ -124,7 +124,7 @@ fn number_of(op: Op) -> Option<u8> {
     }
 }
 
-impl<'a> Engine<'a> {
+impl<'a> Candidate<'a> {
     fn key(&self, node: usize) -> Option<Key> {
         let op = number_of(self.terms.op(node)?)?;
         let first = self.theory.value(self.terms.part(node, 0)?)?;

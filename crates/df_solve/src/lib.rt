@@ -4,22 +4,15 @@
 //! be tested as a model.
 #![tactic(auto)]
 
-mod analyzing;
-mod classing;
+mod candidate;
 mod completing;
 mod concluding;
-mod defining;
-mod engine;
-mod explaining;
-mod instances;
-mod instantiating;
+mod grounding;
 mod modelling;
-mod normalizing;
 mod probing;
-mod propagating;
 mod proposing;
 mod refining;
 mod searching;
-mod units;
 
+pub use df_theory::Index;
 pub use proposing::{Proposal, propose};

@@ -1,13 +1,16 @@
 //! Tables: the numbers of all nodes, where the free terms are what the engine has found, or where all
 //! operations have the numbers that it gave them.
 
-use crate::engine::Engine;
-use df_form::{Lit, Op, Pair, Sequent, Sort};
-use df_ground::{Ground, GroundFault};
+use crate::candidate::Candidate;
+use crate::grounding::term_at;
+use df_axiom::Written;
+use df_clause::Ground;
+use df_form::{Lit, Nodes, Op, Pair, Sequent, Sort};
 use df_kern::Known;
 use df_model::{Tabulation, Valuation, tabulate, valuation};
 use df_table::Table;
 use df_theory::Column;
+use df_trig::{TrigFault, instances};
 use std::alloc::{AllocError, Global};
 use std::collections::{BTreeMap, BTreeSet};
 
@@ -22,7 +25,7 @@ pub(crate) enum Tabled {
 
 /// Whether the hypotheses are true and the goal is false.
 fn is_counterexample(sequent: &Sequent, table: &Table) -> bool {
-    for hypothesis in sequent.hypotheses.iter() {
+    for hypothesis in sequent.hypotheses.as_slice().iter() {
         if !table.is_true(*hypothesis) {
             return false;
         }
@@ -30,12 +33,12 @@ fn is_counterexample(sequent: &Sequent, table: &Table) -> bool {
     !table.is_true(sequent.goal)
 }
 
-/// The ground set, if it has not too many clauses.
-fn ground_of(alloc: Global, sequent: &Sequent) -> Result<Option<Ground>, AllocError> {
-    match Ground::new(alloc, sequent) {
+/// The ground set with so many rounds of instances, if these are not too many.
+fn ground_of(alloc: Global, sequent: &Sequent, rounds: u32) -> Result<Option<Ground>, AllocError> {
+    match instances(alloc, sequent, &Written {}, rounds) {
         Ok(ground) => Ok(Some(ground)),
-        Err(GroundFault::Many(_)) => Ok(None),
-        Err(GroundFault::Memory) => Err(AllocError),
+        Err(TrigFault::Many(_)) => Ok(None),
+        Err(TrigFault::Memory) => Err(AllocError),
     }
 }
 
@@ -76,8 +79,9 @@ impl Codes {
     }
 }
 
-impl<'a> Engine<'a> {
-    fn label(&self, node: usize) -> usize {
+impl<'a> Candidate<'a> {
+    /// The label of a term's class.
+    pub fn label(&self, node: usize) -> usize {
         self.graph.labels().get(node).copied().unwrap_or(node)
     }
 
@@ -126,7 +130,7 @@ impl<'a> Engine<'a> {
     /// The same, with the codes of free characters.
     fn numbers_and_codes(&self, sequent: &Sequent) -> Result<Vec<i128>, AllocError> {
         let mut numbers = self.numbers(sequent.nodes.len())?;
-        if !self.has_classes {
+        if !self.terms.has_operations {
             return Ok(numbers);
         }
         let mut codes = self.codes()?;
@@ -147,7 +151,7 @@ impl<'a> Engine<'a> {
         for variable in 0..self.variables.len() {
             if let (Some(node), Some(assignment)) = (
                 self.variables.node(variable),
-                self.solver.trail.assignment(variable),
+                self.trail.assignment(variable),
             ) {
                 facts.push(Lit {
                     positive: assignment.positive,
@@ -168,20 +172,21 @@ impl<'a> Engine<'a> {
         Ok(known)
     }
 
-    /// The table where all operations are what their parts make them, if it is a counterexample.
+    /// The table where all operations are what their parts make them, if it is a counterexample. It is of
+    /// the nodes of instances, too, unless these are too many.
     pub fn counterexample(&self, sequent: &Sequent) -> Result<Option<Table>, AllocError> {
         let numbers = self.numbers_and_codes(sequent)?;
         let known = self.known()?;
         let world = sequent.world;
-        let is_found = match valuation(self.alloc, world, &sequent.nodes, &numbers, &known)? {
-            Valuation::Table(table) => is_counterexample(sequent, &table),
-            Valuation::Wide => false,
+        let own = match valuation(self.alloc, world, &sequent.nodes, &numbers, &known)? {
+            Valuation::Table(table) => table,
+            Valuation::Wide => return Ok(None),
         };
-        if !is_found {
+        if !is_counterexample(sequent, &own) {
             return Ok(None);
         }
-        let Some(ground) = ground_of(self.alloc, sequent)? else {
-            return Ok(None);
+        let Some(ground) = ground_of(self.alloc, sequent, self.instances.rounds)? else {
+            return Ok(Some(own));
         };
         match valuation(self.alloc, world, &ground.nodes, &numbers, &known)? {
             Valuation::Table(table) => Ok(Some(table)),
@@ -189,20 +194,51 @@ impl<'a> Engine<'a> {
         }
     }
 
-    /// The table where operations have the numbers that the engine gave them.
-    pub fn tabled(&self, sequent: &Sequent) -> Result<Tabled, AllocError> {
-        let Some(ground) = ground_of(self.alloc, sequent)? else {
-            return Ok(Tabled::Nothing);
-        };
-        let numbers = self.numbers(sequent.nodes.len())?;
-        let facts = self.valued()?;
-        let labels = self.graph.labels();
-        match tabulate(self.alloc, &ground.nodes, &numbers, labels, &facts)? {
+    /// The formulas of the sequent that have a value.
+    fn valued_in(&self, own: usize) -> Result<Vec<Lit>, AllocError> {
+        let mut facts = Vec::new(self.alloc);
+        let all = self.valued()?;
+        for fact in all.iter() {
+            if fact.node < own {
+                facts.push(*fact)?;
+            }
+        }
+        Ok(facts)
+    }
+
+    /// The table of these nodes, of which the sequent's are the first, where operations have the numbers
+    /// that the engine gave them.
+    fn table_of(&self, sequent: &Sequent, nodes: &Nodes) -> Result<Tabled, AllocError> {
+        let own = sequent.nodes.len();
+        let terms = self.terms_like(nodes, own)?;
+        let numbers = self.numbers_of(nodes, &terms)?;
+        let labels = self.labels_of(&terms)?;
+        let facts = self.valued_in(own)?;
+        match tabulate(self.alloc, nodes, &numbers, &labels, &facts)? {
             Tabulation::Table(table) if is_counterexample(sequent, &table) => {
                 Ok(Tabled::Table(table))
             }
             Tabulation::Table(_) | Tabulation::Wide => Ok(Tabled::Nothing),
-            Tabulation::Apart { left, right } => Ok(Tabled::Apart(Pair { left, right })),
+            Tabulation::Apart { left, right } => {
+                match (term_at(&terms, left), term_at(&terms, right)) {
+                    (Some(left), Some(right)) => Ok(Tabled::Apart(Pair { left, right })),
+                    (None, _) | (Some(_), None) => Ok(Tabled::Nothing),
+                }
+            }
+        }
+    }
+
+    /// The table where operations have the numbers that the engine gave them, and the nodes of instances
+    /// those that their parts give: first of the sequent's own nodes.
+    pub fn tabled(&self, sequent: &Sequent) -> Result<Tabled, AllocError> {
+        match self.table_of(sequent, &sequent.nodes)? {
+            Tabled::Table(_) => {}
+            Tabled::Apart(pair) => return Ok(Tabled::Apart(pair)),
+            Tabled::Nothing => return Ok(Tabled::Nothing),
+        }
+        match ground_of(self.alloc, sequent, self.instances.rounds)? {
+            Some(ground) => self.table_of(sequent, &ground.nodes),
+            None => Ok(Tabled::Nothing),
         }
     }
 }

@@ -1,7 +1,6 @@
 //! Bounds are tried out before the first decision: where a column cannot be past the weakest bound that
 //! an atom gives, it has this bound from there on.
 
-use crate::engine::Engine;
 use crate::searching::{Search, Turn};
 use df_clauses::Literal;
 use df_simplex::Side;
@@ -39,7 +38,7 @@ impl<'a> Search<'a> {
         let reach = self.reach;
         if reach == Reach::Clauses {
             self.reserve = self.engine.fuel / 2;
-            self.engine.define_equalities()?;
+            self.define_equalities()?;
         }
         let before = self.engine.solver.trail.len();
         let turn = self.probe_all(reach)?;
@@ -62,7 +61,7 @@ impl<'a> Search<'a> {
 
     fn probe_column(&mut self, column: usize, reach: Reach) -> Result<Turn, AllocError> {
         for side in [Side::Lower, Side::Upper] {
-            if let Some(literal) = self.engine.weakest(column, side) {
+            if let Some(literal) = self.weakest(column, side) {
                 let turn = self.try_out(literal.negation(), reach)?;
                 if turn != Turn::On {
                     return Ok(turn);
@@ -75,7 +74,7 @@ impl<'a> Search<'a> {
     /// Decides a literal, and takes that back; where there is a conflict its clause is learned.
     fn try_out(&mut self, literal: Literal, reach: Reach) -> Result<Turn, AllocError> {
         self.engine.decide(literal)?;
-        match self.engine.follow(reach)? {
+        match self.follow(reach)? {
             None => {
                 self.engine.cancel(0)?;
                 Ok(Turn::On)
@@ -89,31 +88,29 @@ impl<'a> Search<'a> {
         if turn != Turn::On {
             return Ok(turn);
         }
-        match self.engine.follow(reach)? {
+        match self.follow(reach)? {
             Some(clause) => self.learn(clause),
             None => Ok(Turn::On),
         }
     }
-}
 
-impl<'a> Engine<'a> {
     /// Propagates as far as bounds are followed. A clause that is false, if one is.
     fn follow(&mut self, reach: Reach) -> Result<Option<usize>, AllocError> {
         match reach {
-            Reach::Clauses => self.propagate_literals(),
-            Reach::Rows(_) | Reach::Nowhere => self.propagate(),
+            Reach::Clauses => self.engine.propagate_literals(),
+            Reach::Rows(_) | Reach::Nowhere => self.engine.propagate(),
         }
     }
 
     /// Has the comparisons stand that equalities without a value are of.
     fn define_equalities(&mut self) -> Result<(), AllocError> {
-        for variable in 0..self.variables.len() {
-            let Some(node) = self.variables.node(variable) else {
+        for variable in 0..self.engine.variables.len() {
+            let Some(node) = self.engine.variables.node(variable) else {
                 break;
             };
-            if let Shape::Equal(_, _) = self.terms.shape(node) {
-                if self.solver.trail.assignment(variable).is_none() {
-                    self.define(Literal {
+            if let Shape::Equal(_, _) = self.engine.terms.shape(node) {
+                if self.engine.solver.trail.assignment(variable).is_none() {
+                    self.engine.define(Literal {
                         variable,
                         positive: true,
                     })?;
@@ -127,14 +124,14 @@ impl<'a> Engine<'a> {
     fn weakest(&self, column: usize, side: Side) -> Option<Literal> {
         let mut weakest = None;
         let mut most = i128::MIN;
-        for place in 0..self.theory.speaker_count(column) {
-            let variable = self.theory.speaker(column, place)?;
-            let Meaning::Atom(atom) = self.variables.meaning(variable) else {
+        for place in 0..self.engine.theory.speaker_count(column) {
+            let variable = self.engine.theory.speaker(column, place)?;
+            let Meaning::Atom(atom) = self.engine.variables.meaning(variable) else {
                 continue;
             };
             let positive = atom.side == side;
             let (_, constant) = atom.bound(positive);
-            if most <= constant && self.solver.trail.assignment(variable).is_none() {
+            if most <= constant && self.engine.solver.trail.assignment(variable).is_none() {
                 weakest = Some(Literal { variable, positive });
                 most = constant;
             }

@@ -4,6 +4,7 @@ use crate::searching::{Search, Turn};
 use df_form::{Sequent, Step};
 use df_record::{Recorder, log_of};
 use df_table::Table;
+use df_theory::Index;
 use std::alloc::{AllocError, Global};
 
 /// A proof or a counterexample, to be checked.
@@ -23,15 +24,29 @@ const WORK: u64 = 1_000;
 const BASE: u64 = 10_000_000;
 
 /// Looks for a log that derives the sequent, or for a table model of its ground set. Nothing is promised
-/// of either. The more steps, the longer it looks; so many rounds of instances may follow from one another.
+/// of either. The more steps, the longer it looks; so many rounds of instances may follow from one another. The index
+/// serves sequents of which each has the nodes of those before it.
 pub fn propose(
     alloc: Global,
+    index: &mut Index,
     sequent: &Sequent,
     steps: u64,
     rounds: u32,
 ) -> Result<Proposal, AllocError> {
+    index.meet(&sequent.nodes)?;
     let fuel = steps.saturating_mul(WORK).saturating_add(BASE);
-    let mut search = Search::new(alloc, sequent, fuel, rounds)?;
+    look(alloc, index, sequent, fuel, rounds)
+}
+
+/// The same over an index that has met the nodes of the sequent.
+fn look<'a>(
+    alloc: Global,
+    index: &'a Index,
+    sequent: &'a Sequent<'a>,
+    fuel: u64,
+    rounds: u32,
+) -> Result<Proposal, AllocError> {
+    let mut search = Search::new(alloc, sequent, index, fuel, rounds);
     let mut turn = search.begin()?;
     for _ in 0..fuel {
         if turn != Turn::On {

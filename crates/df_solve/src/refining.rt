@@ -1,7 +1,8 @@
 //! Products that are not what their factors make them: which comparisons of products exclude that.
 
-use crate::engine::Engine;
-use crate::instantiating::PRODUCTS_COMPARE;
+use crate::candidate::Candidate;
+use crate::searching::Search;
+use df_deduce::PRODUCTS_COMPARE;
 use df_form::{Op, Pair};
 use df_simplex::Side;
 use df_theory::{Made, Shape};
@@ -165,7 +166,7 @@ impl View {
     }
 }
 
-impl<'a> Engine<'a> {
+impl<'a> Candidate<'a> {
     /// The products, with their numbers.
     fn products(&self) -> Result<Vec<Product>, AllocError> {
         let mut products = Vec::new(self.alloc);
@@ -191,21 +192,6 @@ impl<'a> Engine<'a> {
             right_number: self.theory.value(right)?,
             number: self.theory.value(node)?,
         })
-    }
-
-    /// Comparisons that exclude the numbers that products have.
-    pub fn comparisons(&mut self) -> Result<Vec<Comparison>, AllocError> {
-        let products = self.products()?;
-        self.spend(products.len().saturating_mul(products.len()));
-        let mut comparisons = Vec::new(self.alloc);
-        for product in products.iter() {
-            if !product.is_right() {
-                if let Some(comparison) = self.comparison(product, &products) {
-                    comparisons.push(comparison)?;
-                }
-            }
-        }
-        Ok(comparisons)
     }
 
     fn comparison(&self, product: &Product, products: &[Product]) -> Option<Comparison> {
@@ -253,11 +239,30 @@ impl<'a> Engine<'a> {
             },
         }
     }
+}
+
+impl<'a> Search<'a> {
+    /// Comparisons that exclude the numbers that products have.
+    pub fn comparisons(&mut self) -> Result<Vec<Comparison>, AllocError> {
+        let products = Candidate::of(&self.engine).products()?;
+        self.engine
+            .spend(products.len().saturating_mul(products.len()));
+        let mut comparisons = Vec::new(self.engine.alloc);
+        for product in products.iter() {
+            if !product.is_right() {
+                let candidate = Candidate::of(&self.engine);
+                if let Some(comparison) = candidate.comparison(product, &products) {
+                    comparisons.push(comparison)?;
+                }
+            }
+        }
+        Ok(comparisons)
+    }
 
     /// Products, each of a term of one that is not right and of a sum that is equal to its other factor.
     pub fn substitutions(&mut self) -> Result<Vec<Pair>, AllocError> {
-        let products = self.products()?;
-        let mut found = Vec::new(self.alloc);
+        let products = Candidate::of(&self.engine).products()?;
+        let mut found = Vec::new(self.engine.alloc);
         for product in products.iter() {
             if !product.is_right() {
                 self.substitute(product.left, product.right, &mut found)?;
@@ -276,13 +281,22 @@ impl<'a> Engine<'a> {
     ) -> Result<(), AllocError> {
         let mut sum = factor;
         for _ in 0..SUMS {
-            sum = self.graph.next(sum);
+            sum = self.engine.graph.next(sum);
             if sum == factor {
                 break;
             }
-            self.spend(1);
-            let is_sum = matches!(self.terms.shape(sum), Shape::Sum(..) | Shape::Multiple(..));
-            if is_sum && self.terms.find(Made::Two(Op::Times, other, sum)).is_none() {
+            self.engine.spend(1);
+            let is_sum = matches!(
+                self.engine.terms.shape(sum),
+                Shape::Sum(..) | Shape::Multiple(..)
+            );
+            if is_sum
+                && self
+                    .engine
+                    .terms
+                    .find(Made::Two(Op::Times, other, sum))
+                    .is_none()
+            {
                 found.push(Pair {
                     left: other,
                     right: sum,
@@ -293,23 +307,25 @@ impl<'a> Engine<'a> {
     }
 
     fn round_of_pair(&self, pair: Pair) -> u32 {
-        let left = self.instances.round(pair.left);
-        left.max(self.instances.round(pair.right))
+        let left = self.engine.instances.round(pair.left);
+        left.max(self.engine.instances.round(pair.right))
     }
 
     /// Whether a product of two terms may be made.
     pub fn may_multiply(&self, pair: Pair) -> bool {
-        self.instances.is_within(self.round_of_pair(pair))
+        self.engine.instances.is_within(self.round_of_pair(pair))
     }
 
     /// Has a product be known, of which a factor is equal to a factor of another.
     pub fn multiply(&mut self, pair: Pair) -> Result<(), AllocError> {
         let round = self.round_of_pair(pair);
         let Pair { left, right } = pair;
-        let node = self.terms.add_two(Op::Times, left, right)?;
-        self.instances.set_round(node, round.saturating_add(1))?;
-        self.meet(node)?;
-        self.normalize(node)?;
+        let node = self.engine.terms.add_two(Op::Times, left, right)?;
+        self.engine
+            .instances
+            .set_round(node, round.saturating_add(1))?;
+        self.engine.meet(node)?;
+        self.engine.normalize(node)?;
         Ok(())
     }
 
@@ -317,18 +333,18 @@ impl<'a> Engine<'a> {
     fn operand(&mut self, operand: Operand) -> Result<usize, AllocError> {
         match operand {
             Operand::Term(term) => Ok(term),
-            Operand::Number(number) => self.terms.add_number(number),
+            Operand::Number(number) => self.engine.terms.add_number(number),
             Operand::Next(term) => {
-                let one = self.terms.add_number(1)?;
-                self.two(Op::Plus, term, one)
+                let one = self.engine.terms.add_number(1)?;
+                self.engine.two(Op::Plus, term, one)
             }
         }
     }
 
     fn factor(&mut self, factor: Factor) -> Result<usize, AllocError> {
         if factor.is_opposite {
-            let sign = self.terms.add_number(-1)?;
-            self.two(Op::Times, sign, factor.term)
+            let sign = self.engine.terms.add_number(-1)?;
+            self.engine.two(Op::Times, sign, factor.term)
         } else {
             Ok(factor.term)
         }
@@ -339,10 +355,10 @@ impl<'a> Engine<'a> {
         let low = self.operand(comparison.low)?;
         let high = self.operand(comparison.high)?;
         let factor = self.factor(comparison.factor)?;
-        let low = self.two(Op::Times, low, factor)?;
-        let high = self.two(Op::Times, high, factor)?;
-        self.normalize(low)?;
-        self.normalize(high)?;
-        self.instantiate(PRODUCTS_COMPARE, 0, &[low, high])
+        let low = self.engine.two(Op::Times, low, factor)?;
+        let high = self.engine.two(Op::Times, high, factor)?;
+        self.engine.normalize(low)?;
+        self.engine.normalize(high)?;
+        self.engine.instantiate(PRODUCTS_COMPARE, 0, &[low, high])
     }
 }

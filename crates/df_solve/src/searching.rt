@@ -1,13 +1,12 @@
 //! The search: it takes hypotheses in, tries bounds out, decides, learns from conflicts and restarts.
 
-use crate::analyzing::Lesson;
-use crate::engine::Engine;
 use crate::probing::Reach;
 use df_clauses::{Literal, Origin};
+use df_deduce::{Engine, Lesson};
 use df_form::Sequent;
 use df_simplex::Check;
 use df_table::Table;
-use df_theory::Meaning;
+use df_theory::{Index, Meaning};
 use std::alloc::{AllocError, Global};
 
 /// How many conflicts come before the first restart.
@@ -66,21 +65,22 @@ impl<'a> Search<'a> {
     pub fn new(
         alloc: Global,
         sequent: &'a Sequent<'a>,
+        index: &'a Index,
         fuel: u64,
         rounds: u32,
-    ) -> Result<Search<'a>, AllocError> {
-        Ok(Search {
-            engine: Engine::new(alloc, sequent, fuel, rounds)?,
+    ) -> Search<'a> {
+        Search {
+            engine: Engine::new(alloc, sequent, index, fuel, rounds),
             sequent,
             table: None,
             first: 0,
-            end: sequent.hypotheses.len(),
+            end: sequent.hypotheses.as_slice().len(),
             chunk: 4,
             reach: Reach::Clauses,
             reserve: 0,
             restarts: 1,
             conflicts: RESTART,
-        })
+        }
     }
 
     /// Takes the negated goal in.
@@ -171,7 +171,7 @@ impl<'a> Search<'a> {
 
     /// Takes a hypothesis in. Its clause, where that is false.
     fn assume(&mut self, number: usize) -> Result<Option<usize>, AllocError> {
-        let Some(formula) = self.sequent.hypotheses.get(number).copied() else {
+        let Some(formula) = self.sequent.hypotheses.as_slice().get(number).copied() else {
             return Ok(None);
         };
         let literal = self.engine.literal(formula, true)?;
@@ -192,22 +192,20 @@ impl<'a> Search<'a> {
                 break;
             };
             if self.engine.solver.trail.assignment(variable).is_none() {
-                let positive = self.engine.phase(variable);
+                let positive = self.phase(variable);
                 self.engine.decide(Literal { variable, positive })?;
                 return Ok(Turn::On);
             }
         }
         self.complete()
     }
-}
 
-impl<'a> Engine<'a> {
     /// What a variable is decided to be: an atom what it is at the tableau's values.
     fn phase(&self, variable: usize) -> bool {
-        match self.variables.meaning(variable) {
-            Meaning::Atom(atom) => self.theory.holds(&atom),
+        match self.engine.variables.meaning(variable) {
+            Meaning::Atom(atom) => self.engine.theory.holds(&atom),
             Meaning::Constant(positive) => positive,
-            Meaning::Nothing => self.solver.order.phase(variable),
+            Meaning::Nothing => self.engine.solver.order.phase(variable),
         }
     }
 }

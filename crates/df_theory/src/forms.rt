@@ -89,10 +89,8 @@ impl Forms {
 
     /// What a number is as a sum of multiples of columns, where that is known.
     pub fn linear(&self, node: usize) -> Option<&Linear> {
-        match self.linear_of.get(&node) {
-            Some(place) => self.linears.get(*place),
-            None => None,
-        }
+        let place = self.linear_of.get(&node)?;
+        self.linears.get(*place)
     }
 
     fn is_known(&self, node: usize) -> bool {

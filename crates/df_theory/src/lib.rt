@@ -13,8 +13,9 @@ mod theory;
 mod variables;
 
 pub use choosing::Facts;
+pub use df_index::{Index, Made};
 pub use explanation::Explained;
 pub use forms::{Atom, Column, Forms, Meaning};
-pub use terms::{Ends, Made, Shape, Terms};
+pub use terms::{Ends, Shape, Terms};
 pub use theory::Theory;
 pub use variables::Variables;

@@ -1,48 +1,10 @@
 //! The nodes of a sequent, and those that clauses make.
 
-use df_form::{Nodes, Op, Sequent, Sort, World};
+use df_form::{Op, Sequent, Sort, World};
+use df_index::{Index, Made};
 use df_lang::Ty;
 use std::alloc::{AllocError, Global};
 use std::collections::HashMap;
-
-/// A node that clauses may make.
-#[derive(Clone, Copy, Debug, PartialEq, Eq, Hash)]
-pub enum Made {
-    Number(i128),
-    One(Op, usize),
-    Two(Op, usize, usize),
-}
-
-impl Made {
-    /// The node `a <= b`.
-    pub fn at_most(a: usize, b: usize) -> Made {
-        Made::Two(Op::AtMost, a, b)
-    }
-
-    pub fn op(self) -> Op {
-        match self {
-            Made::Number(number) => Op::Number(number),
-            Made::One(op, _) | Made::Two(op, _, _) => op,
-        }
-    }
-
-    pub fn part(self, place: usize) -> Option<usize> {
-        match (self, place) {
-            (Made::One(_, part), 0) => Some(part),
-            (Made::Two(_, left, _), 0) => Some(left),
-            (Made::Two(_, _, right), 1) => Some(right),
-            _ => None,
-        }
-    }
-
-    pub fn part_count(self) -> usize {
-        match self {
-            Made::Number(_) => 0,
-            Made::One(..) => 1,
-            Made::Two(..) => 2,
-        }
-    }
-}
 
 /// The ends of the numbers that are values of a type, where it has any: an end on one side, on both, or on
 /// none. A type of other values has none.
@@ -142,65 +104,11 @@ fn type_test(world: World, ty: Ty, part: usize) -> Shape {
     }
 }
 
-/// The node of a number, where clauses could make one like it: a number or a comparison, and where there
-/// are operations any application.
-fn made_like(nodes: &Nodes, number: usize, has_operations: bool) -> Option<Made> {
-    let node = nodes.get(number)?;
-    match (node.op, node.parts.as_slice()) {
-        (Op::Number(number), _) => Some(Made::Number(number)),
-        (Op::AtMost, [a, b]) => Some(Made::at_most(*a, *b)),
-        (op, [a]) if has_operations => Some(Made::One(op, *a)),
-        (op, [a, b]) if has_operations => Some(Made::Two(op, *a, *b)),
-        _ => None,
-    }
-}
-
-fn is_literal(nodes: &Nodes, number: usize) -> bool {
-    match nodes.get(number) {
-        Some(node) => matches!(node.op, Op::Number(_)),
-        None => false,
-    }
-}
-
-/// Whether the node is a product, a quotient, a remainder or a character, or the code of one.
-fn is_operation(nodes: &Nodes, number: usize) -> bool {
-    let Some(node) = nodes.get(number) else {
-        return false;
-    };
-    match (node.op, node.parts.as_slice()) {
-        (Op::Times, [factor, _]) => !is_literal(nodes, *factor),
-        (Op::Times | Op::Div | Op::Mod | Op::Code | Op::Chr, _) => true,
-        (op, _) => op.sort() == Sort::Character,
-    }
-}
-
-/// Nodes by what they are: numbers and comparisons. Whether there are operations.
-fn enter_comparisons(nodes: &Nodes, places: &mut HashMap<Made, usize>) -> Result<bool, AllocError> {
-    let mut has_operations = false;
-    for number in 0..nodes.len() {
-        if let Some(made) = made_like(nodes, number, false) {
-            places.insert(made, number)?;
-        } else if is_operation(nodes, number) {
-            has_operations = true;
-        }
-    }
-    Ok(has_operations)
-}
-
-/// Nodes by what they are.
-fn enter_all(nodes: &Nodes, places: &mut HashMap<Made, usize>) -> Result<(), AllocError> {
-    for number in 0..nodes.len() {
-        if let Some(made) = made_like(nodes, number, true) {
-            places.insert(made, number)?;
-        }
-    }
-    Ok(())
-}
-
 /// The nodes of a sequent by their numbers, and after them those that clauses make.
 #[derive(Drop)]
 pub struct Terms<'a> {
     sequent: &'a Sequent<'a>,
+    index: &'a Index,
     made: Vec<Made>,
     places: HashMap<Made, usize>,
     /// Whether the sequent has products, quotients, remainders or characters.
@@ -208,18 +116,15 @@ pub struct Terms<'a> {
 }
 
 impl<'a> Terms<'a> {
-    pub fn new(alloc: Global, sequent: &'a Sequent<'a>) -> Result<Terms<'a>, AllocError> {
-        let mut places = HashMap::new(alloc);
-        let has_operations = enter_comparisons(&sequent.nodes, &mut places)?;
-        if has_operations {
-            enter_all(&sequent.nodes, &mut places)?;
-        }
-        Ok(Terms {
+    /// The nodes of a sequent that the index has met.
+    pub fn new(alloc: Global, sequent: &'a Sequent<'a>, index: &'a Index) -> Terms<'a> {
+        Terms {
             sequent,
+            index,
             made: Vec::new(alloc),
-            places,
-            has_operations,
-        })
+            places: HashMap::new(alloc),
+            has_operations: index.has_operations(sequent.nodes.len()),
+        }
     }
 
     pub fn world(&self) -> World<'a> {
@@ -336,13 +241,16 @@ impl<'a> Terms<'a> {
 
     /// The node that is like this one, if one stands.
     pub fn find(&self, made: Made) -> Option<usize> {
-        self.places.get(&made).copied()
+        match self.places.get(&made) {
+            Some(node) => Some(*node),
+            None => self.index.find(made, self.sequent.nodes.len()),
+        }
     }
 
     /// The node, which is made where it does not stand yet.
     pub fn add(&mut self, made: Made) -> Result<usize, AllocError> {
-        if let Some(node) = self.places.get(&made) {
-            return Ok(*node);
+        if let Some(node) = self.find(made) {
+            return Ok(node);
         }
         let node = self.len();
         self.made.push(made)?;

@@ -57,10 +57,7 @@ impl Variables {
     }
 
     pub fn node(&self, variable: usize) -> Option<usize> {
-        match self.all.get(variable) {
-            Some(found) => Some(found.node),
-            None => None,
-        }
+        Some(self.all.get(variable)?.node)
     }
 
     pub fn meaning(&self, variable: usize) -> Meaning {

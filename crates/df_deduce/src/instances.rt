@@ -17,13 +17,13 @@ const MOST: usize = 20_000;
 
 /// The operations that were met, and the instances that were asked for.
 #[derive(Drop)]
-pub(crate) struct Instances {
+pub struct Instances {
     /// How many rounds of instances may follow from one another.
-    rounds: u32,
+    pub rounds: u32,
     /// Operations in the order in which they were met.
     operations: Vec<usize>,
     /// So many of them were looked at.
-    pub seen: usize,
+    pub(crate) seen: usize,
     asked: BTreeSet<Asked>,
     /// The rounds of terms that instances made.
     made_in: HashMap<usize, u32>,
@@ -34,7 +34,7 @@ pub(crate) struct Instances {
 }
 
 impl Instances {
-    pub fn new(alloc: Global, rounds: u32) -> Instances {
+    pub(crate) fn new(alloc: Global, rounds: u32) -> Instances {
         Instances {
             rounds,
             operations: Vec::new(alloc),
@@ -47,7 +47,7 @@ impl Instances {
     }
 
     /// An operation is met.
-    pub fn meet(&mut self, node: usize) -> Result<(), AllocError> {
+    pub(crate) fn meet(&mut self, node: usize) -> Result<(), AllocError> {
         self.operations.push(node)?;
         Ok(())
     }
@@ -82,18 +82,18 @@ impl Instances {
     }
 
     /// Asks for an instance. Whether it is new, and there may be more.
-    pub fn ask(&mut self, asked: Asked) -> Result<bool, AllocError> {
+    pub(crate) fn ask(&mut self, asked: Asked) -> Result<bool, AllocError> {
         if self.asked.len() >= MOST {
             return Ok(false);
         }
         Ok(self.asked.insert(asked)?)
     }
 
-    pub fn normal(&self, node: usize) -> Option<usize> {
+    pub(crate) fn normal(&self, node: usize) -> Option<usize> {
         self.normal.get(&node).copied()
     }
 
-    pub fn set_normal(&mut self, node: usize, normal: usize) -> Result<(), AllocError> {
+    pub(crate) fn set_normal(&mut self, node: usize, normal: usize) -> Result<(), AllocError> {
         self.normal.insert(node, normal)?;
         Ok(())
     }

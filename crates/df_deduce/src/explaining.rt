@@ -55,7 +55,7 @@ impl<'a> Engine<'a> {
     }
 
     /// The clause by which a bound implies a literal.
-    pub fn explain_bound(
+    pub(crate) fn explain_bound(
         &mut self,
         literal: Literal,
         number: usize,
@@ -66,7 +66,10 @@ impl<'a> Engine<'a> {
     }
 
     /// The clause that says that a literal that compares constants is true.
-    pub fn explain_constant(&mut self, literal: Literal) -> Result<Option<usize>, AllocError> {
+    pub(crate) fn explain_constant(
+        &mut self,
+        literal: Literal,
+    ) -> Result<Option<usize>, AllocError> {
         let members = vec![in self.alloc; Multiple { factor: 1, row: 0 }]?;
         let combination = Combination {
             divisor: 1,

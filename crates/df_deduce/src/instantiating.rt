@@ -25,7 +25,7 @@ pub(crate) const FACTOR_GOES_IN: u8 = 7;
 
 pub(crate) const LITERAL_COMES_FIRST: u8 = 8;
 
-pub(crate) const PRODUCTS_COMPARE: u8 = 10;
+pub const PRODUCTS_COMPARE: u8 = 10;
 
 pub(crate) const CODES: u8 = 109;
 
@@ -199,7 +199,7 @@ impl<'a> Engine<'a> {
     }
 
     /// Keeps a clause that is false.
-    pub fn note(&mut self, conflict: Option<usize>) {
+    pub(crate) fn note(&mut self, conflict: Option<usize>) {
         if self.instances.conflict.is_none() {
             self.instances.conflict = conflict;
         }

@@ -17,7 +17,7 @@ fn is_operation(op: Op) -> bool {
 
 impl<'a> Engine<'a> {
     /// Has terms in classes, with their parts.
-    pub fn meet_all(&mut self, nodes: &[usize]) -> Result<(), AllocError> {
+    pub(crate) fn meet_all(&mut self, nodes: &[usize]) -> Result<(), AllocError> {
         if self.has_classes {
             for node in nodes {
                 self.meet(*node)?;
@@ -75,7 +75,12 @@ impl<'a> Engine<'a> {
     }
 
     /// Has the sides of an equality in classes, and hears where they become equal.
-    pub fn meet_equality(&mut self, node: usize, a: usize, b: usize) -> Result<(), AllocError> {
+    pub(crate) fn meet_equality(
+        &mut self,
+        node: usize,
+        a: usize,
+        b: usize,
+    ) -> Result<(), AllocError> {
         if !self.has_classes {
             return Ok(());
         }
@@ -99,7 +104,10 @@ impl<'a> Engine<'a> {
     }
 
     /// Has classes know an equality. A clause that is false, if one is.
-    pub fn assert_equality(&mut self, literal: Literal) -> Result<Option<usize>, AllocError> {
+    pub(crate) fn assert_equality(
+        &mut self,
+        literal: Literal,
+    ) -> Result<Option<usize>, AllocError> {
         if !self.has_classes {
             return Ok(None);
         }
@@ -118,7 +126,7 @@ impl<'a> Engine<'a> {
     }
 
     /// Closes the classes, and has the rest know what follows. A clause that is false, if one is.
-    pub fn propagate_classes(&mut self) -> Result<Option<usize>, AllocError> {
+    pub(crate) fn propagate_classes(&mut self) -> Result<Option<usize>, AllocError> {
         self.graph.close(STEPS)?;
         let work = self.graph.take_work();
         self.spend(work);
@@ -170,7 +178,10 @@ impl<'a> Engine<'a> {
     }
 
     /// The clause that says that an equality is true, since its sides are in one class.
-    pub fn explain_equality(&mut self, literal: Literal) -> Result<Option<usize>, AllocError> {
+    pub(crate) fn explain_equality(
+        &mut self,
+        literal: Literal,
+    ) -> Result<Option<usize>, AllocError> {
         let node = self.variables.node(literal.variable).unwrap_or(0);
         match self.sides(node) {
             Some(pair) => self.explain_equal(&[pair], Some(literal)),

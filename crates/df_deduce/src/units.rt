@@ -6,7 +6,7 @@ use std::alloc::AllocError;
 
 impl<'a> Engine<'a> {
     /// The clause that says what a variable of the lowest level is.
-    pub fn unit(&mut self, variable: usize) -> Result<Option<usize>, AllocError> {
+    pub(crate) fn unit(&mut self, variable: usize) -> Result<Option<usize>, AllocError> {
         let mut waiting = vec![in self.alloc; variable]?;
         for _ in 0..usize::MAX {
             let Some(top) = waiting.last().copied() else {

@@ -5,7 +5,7 @@ use df_clauses::{Literal, Origin, Reason, Solver};
 use df_egraph::Graph;
 use df_form::Sequent;
 use df_simplex::{Cause, Check, Need, Side};
-use df_theory::{Atom, Meaning, Shape, Terms, Theory, Variables};
+use df_theory::{Atom, Index, Meaning, Shape, Terms, Theory, Variables};
 use std::alloc::{AllocError, Global};
 
 /// How many pivots a check of the tableau may take.
@@ -13,7 +13,7 @@ const PIVOTS: usize = 2_000;
 
 /// The state of the engine.
 #[derive(Drop)]
-pub(crate) struct Engine<'a> {
+pub struct Engine<'a> {
     pub alloc: Global,
     pub terms: Terms<'a>,
     pub variables: Variables,
@@ -26,19 +26,20 @@ pub(crate) struct Engine<'a> {
     /// How much work is left to do.
     pub fuel: u64,
     /// A number of an explanation is past 128 bits.
-    pub is_lost: bool,
+    pub(crate) is_lost: bool,
 }
 
 impl<'a> Engine<'a> {
     pub fn new(
         alloc: Global,
         sequent: &'a Sequent<'a>,
+        index: &'a Index,
         fuel: u64,
         rounds: u32,
-    ) -> Result<Engine<'a>, AllocError> {
-        let terms = Terms::new(alloc, sequent)?;
+    ) -> Engine<'a> {
+        let terms = Terms::new(alloc, sequent, index);
         let has_classes = terms.has_operations;
-        Ok(Engine {
+        Engine {
             alloc,
             terms,
             variables: Variables::new(alloc),
@@ -49,7 +50,7 @@ impl<'a> Engine<'a> {
             instances: Instances::new(alloc, rounds),
             fuel,
             is_lost: false,
-        })
+        }
     }
 
     /// Uses fuel.
@@ -142,7 +143,7 @@ impl<'a> Engine<'a> {
 
     /// Gives a column a bound, if it is tighter than those so far. The clause that is false then, if
     /// one is.
-    pub fn tighten(
+    pub(crate) fn tighten(
         &mut self,
         column: usize,
         side: Side,

@@ -7,7 +7,7 @@ use std::alloc::AllocError;
 
 /// What a conflict comes to.
 #[derive(Clone, Copy, PartialEq, Eq)]
-pub(crate) enum Lesson {
+pub enum Lesson {
     /// A clause is learned, which gives a literal now.
     Learned,
     /// The empty clause is learned, and has this number.
@@ -74,7 +74,7 @@ impl<'a> Engine<'a> {
     }
 
     /// The clause that gave a literal its value.
-    pub fn reason(&mut self, literal: Literal) -> Result<Option<usize>, AllocError> {
+    pub(crate) fn reason(&mut self, literal: Literal) -> Result<Option<usize>, AllocError> {
         let Some(assignment) = self.solver.trail.assignment(literal.variable) else {
             return Ok(None);
         };

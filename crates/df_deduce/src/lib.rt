@@ -1,0 +1,20 @@
+//! What the engine knows, and what follows from it: the state that clauses, bounds of columns, classes and
+//! instances of schemas make together, propagation through all of them, and what a conflict teaches. Nothing
+//! is proved of it but that it is safe and ends.
+#![tactic(auto)]
+
+mod analyzing;
+mod classing;
+mod defining;
+mod engine;
+mod explaining;
+mod instances;
+mod instantiating;
+mod normalizing;
+mod propagating;
+mod units;
+
+pub use analyzing::Lesson;
+pub use engine::Engine;
+pub use instances::Instances;
+pub use instantiating::PRODUCTS_COMPARE;

@@ -1,0 +1,62 @@
+//! Where the nodes of sequents stand.
+
+use crate::made::{Made, is_operation, made_like};
+use df_form::Nodes;
+use std::alloc::{AllocError, Global};
+use std::collections::HashMap;
+
+/// Nodes by what they are, as far as they were met. It serves sequents of which each has the nodes of those before it, as
+/// those of one method do: each node is met once.
+#[derive(Drop)]
+pub struct Index {
+    places: HashMap<Made, usize>,
+    /// How many nodes were met.
+    count: usize,
+    /// The first product, quotient, remainder or character.
+    first_operation: Option<usize>,
+}
+
+impl Index {
+    pub fn new(alloc: Global) -> Index {
+        Index {
+            places: HashMap::new(alloc),
+            count: 0,
+            first_operation: None,
+        }
+    }
+
+    /// Meets the nodes that were not met yet.
+    pub fn meet(&mut self, nodes: &Nodes) -> Result<(), AllocError> {
+        for number in self.count..nodes.len() {
+            self.meet_node(nodes, number)?;
+            self.count = number.saturating_add(1);
+        }
+        Ok(())
+    }
+
+    fn meet_node(&mut self, nodes: &Nodes, number: usize) -> Result<(), AllocError> {
+        if self.first_operation.is_none() && is_operation(nodes, number) {
+            self.first_operation = Some(number);
+        }
+        if let Some(made) = made_like(nodes, number) {
+            self.places.insert(made, number)?;
+        }
+        Ok(())
+    }
+
+    /// The node that is like this one, if it is one of so many first ones.
+    pub fn find(&self, made: Made, count: usize) -> Option<usize> {
+        match self.places.get(&made) {
+            Some(node) if *node < count => Some(*node),
+            _ => None,
+        }
+    }
+
+    /// Whether there is a product, a quotient, a remainder or a character among so many first nodes.
+    pub fn has_operations(&self, count: usize) -> bool {
+        match self.first_operation {
+            Some(first) => first < count,
+            None => false,
+        }
+    }
+}

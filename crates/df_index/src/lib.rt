@@ -1,0 +1,8 @@
+//! Where nodes stand: those of sequents, which are met once for all that share them, and those that clauses may make.
+#![tactic(auto)]
+
+mod index;
+mod made;
+
+pub use index::Index;
+pub use made::Made;
