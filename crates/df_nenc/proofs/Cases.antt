@@ -1,17 +1,5 @@
 -- An expression from its first operand: its term and conditions, and then what is made over them.
-use Rattle.std.proofs.Common.{◌≡◌, ℕ, List, [], ◌++◌, Option, sym, ap, ◌∙◌, subst, true}
-use Rattle.df_lang.specs.Expr.{Expr}
-use Rattle.df_form.specs.Node.{Node}
-use Rattle.df_lang.specs.declared.ty.Ty.{Ty}
-use Rattle.df_lang.specs.Program.{Program}
-use Rattle.df_lang.specs.Typing.{is_expr}
-use Rattle.df_nterm.specs.Term.{Term, Sort, sort_of_type}
-use Rattle.df_nterm.specs.Expressions.{Environment, Condition, term_of, conditions_under}
-use Rattle.df_nenc.specs.declared.condition.Condition as declared
-use Rattle.df_nenc.specs.Tree.{tree_at, trees_in, path_in}
-use Rattle.df_nenc.specs.Growing.{Grows}
-use Rattle.df_nenc.specs.Standing.{IsTerm, Stands, IsPath, HasTerm, AreLocals}
-use Rattle.df_nenc.specs.Encoding.{Gives, Encodes, IsOver}
+use Rattle.df_nenc.proofs.Words.{◌≡◌, ℕ, List, [], ◌++◌, Option, sym, ap, ◌∙◌, subst, true, Expr, Node, Ty, Program, is_expr, Term, Sort, sort_of_type, Environment, Condition, term_of, conditions_under, tree_at, trees_in, path_in, Grows, IsTerm, Stands, IsPath, HasTerm, AreLocals, Gives, Encodes, IsOver, DeclaredCondition}
 use Rattle.df_nenc.proofs.Growing.{grows_not, path_same, locals_same, is_term}
 use Rattle.df_nenc.proofs.Adding.{gives_as, gives_then, gives_alone, gives_over}
 use Rattle.df_nenc.proofs.Parts.{Part, local_tree, env_sorted}
@@ -22,10 +10,10 @@ pub over_seen : {nodes : List Node} {terms : List ℕ} {whole seen : Expr} → I
 over_seen {nodes = nodes} {terms = terms} over is = subst (IsOver nodes terms) is over
 
 -- the operand's term has the sort that is asked for
-pub operand_term : (sort : Sort) (old new : List Node) (terms : List ℕ) (path : Option ℕ) (e : Expr) (n : ℕ) (before after : List declared.Condition) → Part sort old terms e → Encodes old new terms path e n before after → IsTerm sort new n
+pub operand_term : (sort : Sort) (old new : List Node) (terms : List ℕ) (path : Option ℕ) (e : Expr) (n : ℕ) (before after : List DeclaredCondition) → Part sort old terms e → Encodes old new terms path e n before after → IsTerm sort new n
 operand_term sort old new terms path e n before after part g = is_term new sort (term_of (trees_in old terms) e) n g.stands part.is
 
-module _ (old middle new : List Node) (terms : List ℕ) (path : Option ℕ) (e whole : Expr) (m n : ℕ) (before between after : List declared.Condition) where
+module _ (old middle new : List Node) (terms : List ℕ) (path : Option ℕ) (e whole : Expr) (m n : ℕ) (before between after : List DeclaredCondition) where
   -- what is made over an operand, with conditions of its own
   pub then_encodes : (f : Environment → Term → Term) (d : Environment → Option Term → Term → List Condition)
       → IsOver old terms whole → IsPath old path → Encodes old middle terms path e m before between
@@ -43,7 +31,7 @@ module _ (old middle new : List Node) (terms : List ℕ) (path : Option ℕ) (e 
   over_encodes f g grows s = gives_over _ (f (term_of (trees_in old terms) e)) _ old middle new m n before after g grows (record { below = s.below; tree_is = s.tree_is ∙ ap f g.stands.tree_is })
 
 -- the term of a local
-pub local_encodes : (nodes : List Node) (terms : List ℕ) (local n : ℕ) (sort : Sort) (cs : List declared.Condition) → (t : HasTerm sort nodes terms local) → n ≡ t.number → Gives (trees_in nodes terms local) [] nodes nodes n cs cs
+pub local_encodes : (nodes : List Node) (terms : List ℕ) (local n : ℕ) (sort : Sort) (cs : List DeclaredCondition) → (t : HasTerm sort nodes terms local) → n ≡ t.number → Gives (trees_in nodes terms local) [] nodes nodes n cs cs
 local_encodes nodes terms local n sort cs t e =
     gives_alone (trees_in nodes terms local) nodes nodes n cs (grows_not nodes) (subst (λ k. Stands nodes (trees_in nodes terms local) k) (sym e) (record { below = t.is_term.below; tree_is = sym (local_tree nodes terms local t.number t.at) }))
 

@@ -1,23 +1,14 @@
 -- Different nodes stand for different trees.
-use Rattle.std.proofs.Common.{◌≡◌, ℕ, zero, suc, ◌<◌, ◌≤◌, true, List, [], ◌∷◌, map, length, nat_lt, Some, slice_get, refl, sym, ap, ◌∙◌, arith, ltb-true}
-use Rattle.std.specs.List.{list_all}
-use Rattle.std.proofs.lemmas.Bool.{and_parts}
-use Rattle.df_lemmas.proofs.Lists.{get_below, head_same, tail_same}
+use Rattle.df_nenc.proofs.Words.{◌≡◌, ℕ, zero, suc, ◌<◌, ◌≤◌, true, List, [], ◌∷◌, map, length, nat_lt, Some, slice_get, refl, sym, ap, ◌∙◌, arith, ltb-true, list_all, and_parts, get_below, head_same, tail_same, Op, Node, IsTable, AreSorted, parts_below, Term, Terms, node, no_term, term, terms_of, op_of, sort_of, tree_at}
 use Rattle.df_form.specs.declared.node.Sort.{Sort}
 use Rattle.df_form.specs.declared.node.Sort.TheVariants as sorts
-use Rattle.df_form.specs.declared.node.Op.{Op}
 use Rattle.df_form.specs.declared.node.Op.TheVariants as ops
-use Rattle.df_form.specs.Node.{Node}
-use Rattle.df_form.specs.Sorting.{IsTable}
-use Rattle.df_form.proofs.Values.{AreSorted, parts_below}
-use Rattle.df_nterm.specs.Term.{Term, Terms, node, no_term, term, terms_of}
 use Rattle.df_nterm.specs.Term as trees
-use Rattle.df_nenc.specs.Tree.{op_of, sort_of, tree_at}
 use Rattle.df_nenc.proofs.Trees.{tree_of}
 
 -- ---- back from a tree
 
-abbrev sort_back : trees.Sort → Sort
+abbrev pub sort_back : trees.Sort → Sort
 sort_back trees.Numbers = sorts.Number
 sort_back trees.Truths = sorts.Truth
 sort_back trees.Characters = sorts.Character
@@ -40,7 +31,7 @@ op_back trees.Or = ops.Or
 op_back trees.Implies = ops.Implies
 op_back trees.Iff = ops.Iff
 
-sort_again : (s : Sort) → sort_back (sort_of s) ≡ s
+pub sort_again : (s : Sort) → sort_back (sort_of s) ≡ s
 sort_again sorts.Number = refl
 sort_again sorts.Truth = refl
 sort_again sorts.Character = refl
@@ -79,10 +70,10 @@ parts_in (node op parts) = parts
 
 -- ---- equal trees
 
-same_op : (a b : Op) (p q : Terms) → node (op_of a) p ≡ node (op_of b) q → a ≡ b
+pub same_op : (a b : Op) (p q : Terms) → node (op_of a) p ≡ node (op_of b) q → a ≡ b
 same_op a b p q e = sym (op_again a) ∙ ap (λ t. op_back (op_in t)) e ∙ op_again b
 
-same_parts : (a b : trees.Op) (p q : List Term) → node a (terms_of p) ≡ node b (terms_of q) → p ≡ q
+pub same_parts : (a b : trees.Op) (p q : List Term) → node a (terms_of p) ≡ node b (terms_of q) → p ≡ q
 same_parts a b p q e = sym (list_again p) ∙ ap (λ t. list_of (parts_in t)) e ∙ list_again q
 
 -- all numbers below one are told apart by their trees

@@ -1,13 +1,5 @@
 -- Tables that grow keep what numbers stand for.
-use Rattle.std.proofs.Common.{◌≡◌, ℕ, ◌<◌, List, [], ◌∷◌, ◌++◌, length, Option, None, Some, refl, sym, ap, ◌∙◌, arith, append_assoc}
-use Rattle.std.specs.List.{AllByRecursion}
-use Rattle.std.proofs.lemmas.List.{length-append, append-nil}
-use Rattle.df_lang.specs.declared.ty.Ty.{Ty}
-use Rattle.df_form.specs.Node.{Node}
-use Rattle.df_nterm.specs.Term.{Term, Sort, Truths, sort_of_type}
-use Rattle.df_nenc.specs.Tree.{sort_of_term, tree_at, trees_at, trees_in, path_in, tree_among}
-use Rattle.df_nenc.specs.Growing.{Grows}
-use Rattle.df_nenc.specs.Standing.{IsTerm, Stands, IsPath, HasTerm, AreLocals}
+use Rattle.df_nenc.proofs.Words.{◌≡◌, ℕ, ◌<◌, List, [], ◌∷◌, ◌++◌, length, Option, None, Some, refl, sym, ap, ◌∙◌, arith, append_assoc, AllByRecursion, length-append, append-nil, Ty, Node, Term, Sort, Truths, sort_of_type, sort_of_term, tree_at, trees_at, trees_in, path_in, tree_among, Grows, IsTerm, Stands, IsPath, HasTerm, AreLocals}
 use Rattle.df_nenc.proofs.Trees.{grown_tree}
 
 pub grows_not : (nodes : List Node) → Grows nodes nodes

@@ -1,14 +1,5 @@
 -- Lists of terms that are made one after another.
-use Rattle.std.proofs.Common.{◌≡◌, ℕ, List, [], ◌∷◌, ◌++◌, refl, ap, ◌∙◌}
-use Rattle.std.specs.List.{AllByRecursion}
-use Rattle.std.proofs.lemmas.List.{map-append}
-use Rattle.df_lemmas.proofs.Alls.{all_joined}
-use Rattle.df_form.specs.Node.{Node}
-use Rattle.df_nterm.specs.Term.{Term, Terms, no_term, term, terms_of, implies, Truths}
-use Rattle.df_nenc.specs.Tree.{tree_at, trees_at}
-use Rattle.df_nenc.specs.Growing.{Grows}
-use Rattle.df_nenc.specs.Standing.{IsTerm}
-use Rattle.df_nenc.specs.Siblings.{implied_by}
+use Rattle.df_nenc.proofs.Words.{◌≡◌, ℕ, List, [], ◌∷◌, ◌++◌, refl, ap, ◌∙◌, AllByRecursion, map-append, all_joined, Node, Term, Terms, no_term, term, terms_of, implies, Truths, tree_at, trees_at, Grows, IsTerm, implied_by}
 use Rattle.df_nenc.proofs.Growing.{all_same, all_stay, terms_below}
 
 -- these terms in front of others

@@ -1,27 +1,73 @@
--- Going over the members of a junction, an implication or an equivalence.
-use Rattle.std.proofs.Common.{ℕ, List, [], ◌∷◌, ◌++◌, Option, Some, refl, sym, ap}
-use Rattle.std.specs.List.{AllByRecursion}
-use Rattle.df_base.specs.declared.pos.Pos.{Pos}
-use Rattle.df_lang.specs.declared.expr.Junction.{Junction as JunctionKind}
-use Rattle.df_lang.specs.Expr.{Expr, Members, no_member, member}
-use Rattle.df_form.specs.Node.{Node}
-use Rattle.df_nterm.specs.Term.{Truths, term, terms_of, iff}
-use Rattle.df_nterm.specs.Expressions.{members_of, implication_of, equivalence_of, joined, goes_on, narrowed_path, conditions_of_junction, conditions_of_implication, conditions_of_members}
-use Rattle.df_nenc.specs.declared.condition.Condition as declared
-use Rattle.df_nenc.specs.Tree.{tree_at, trees_at, trees_in, path_in}
-use Rattle.df_nenc.specs.Growing.{Grows, IsFront}
-use Rattle.df_nenc.specs.Standing.{IsTerm, Stands, IsPath}
-use Rattle.df_nenc.specs.Encoding.{Gives, Encodes}
-use Rattle.df_nenc.specs.Siblings.{AreMembersOver, implied_by}
-use Rattle.df_nenc.proofs.Fronts.{front_not, front_then, adds_front}
-use Rattle.df_nenc.proofs.Growing.{grows_not, grows_then, is_term, term_stays, locals_same, path_same, stands}
-use Rattle.df_nenc.proofs.Parts.{Part}
-use Rattle.df_nenc.proofs.Siblings.{members_left}
-use Rattle.df_nenc.proofs.Joining.{terms_with, with_none, all_next}
-use Rattle.df_nenc.proofs.Reaching.{Reached, reached_first, reached_grown, reached_last}
-use Rattle.df_nenc.proofs.Members.{junction_next, implication_next, equivalence_next}
+-- Junctions, implications and equivalences: one more member, and what their loops have so far.
+use Rattle.df_nenc.proofs.Words.{◌≡◌, ℕ, List, [], ◌∷◌, ◌++◌, Option, Some, refl, sym, ap, ◌∙◌, AllByRecursion, Pos, JunctionKind, Expr, Members, member, Node, Term, Truths, iff, term, Environment, Condition, term_of, members_of, implication_of, equivalence_of, joined, goes_on, narrowed_path, conditions_under, conditions_of_junction, conditions_of_implication, conditions_of_members, tree_at, trees_at, trees_in, path_in, Grows, IsFront, IsTerm, Stands, IsPath, Encodes, implied_by, AreMembersOver, DeclaredCondition}
+use Rattle.df_nenc.proofs.Growing.{tree_stays, path_same, grows_then, stays}
+use Rattle.df_nenc.proofs.Adding.{adds_as}
+use Rattle.df_nenc.proofs.Joining.{terms_with, with_next, implied_next, trees_next}
+use Rattle.df_nenc.proofs.Reaching.{Reached, reached_next, reached_grown}
 
-pub record Junctioning (old now : List Node) (terms : List ℕ) (path on : Option ℕ) (j : JunctionKind) (first last : ℕ) (formulas : List ℕ) (before after : List declared.Condition) (all rest : Members) : Type 0 where
+module _ (tree : Term) (conditions : List Condition) (old now : List Node) (terms : List ℕ) (path : Option ℕ) (env : Environment) (before after : List DeclaredCondition) (at : Pos) (e : Expr) (rest : Members) where
+  -- the member's operand, at a place whose formula is known
+  operand_next : (middle next : List Node) (inner : Option ℕ) (on : Option Term) (operand : ℕ) (between : List DeclaredCondition) (rest_tree next_tree : Term) (rest_conditions next_conditions : List Condition)
+      → trees_in middle terms ≡ env → path_in middle inner ≡ on
+      → Reached tree conditions old now before after rest_tree rest_conditions → Grows now middle → Encodes middle next terms inner e operand after between
+      → next_tree ≡ rest_tree → rest_conditions ≡ conditions_under env on e ++ next_conditions
+      → Reached tree conditions old next before between next_tree next_conditions
+  operand_next middle next inner on operand between rest_tree next_tree rest_conditions next_conditions same_env same_path r g h same is =
+      let first : conditions_under (trees_in middle terms) (path_in middle inner) e ≡ conditions_under env on e = λ i. conditions_under (same_env i) (same_path i) e in
+      reached_next tree conditions old now next before after between rest_tree next_tree (conditions_under env on e) rest_conditions next_conditions r (grows_then now middle next g h.grows)
+      (adds_as next _ (conditions_under env on e) after between first h.adds) same is
+
+  pub junction_next : (j : JunctionKind) (n1 n2 next : List Node) (formulas : List ℕ) (last guard p operand : ℕ) (between : List DeclaredCondition)
+      → trees_in n2 terms ≡ env
+      → Reached tree conditions old now before after (joined j (terms_with (trees_at now formulas) (members_of env (member at e rest)))) (conditions_of_junction env (path_in now path) j (tree_at now last) (member at e rest))
+      → AllByRecursion (IsTerm Truths now) formulas → IsPath now path
+      → Grows now n1 → Stands n1 (goes_on j (tree_at now last)) guard → Grows n1 n2 → Stands n2 (narrowed_path (path_in n1 path) (tree_at n1 guard)) p
+      → Encodes n2 next terms (Some p) e operand after between
+      → Reached tree conditions old next before between (joined j (terms_with (trees_at next (formulas ++ operand ∷ [])) (members_of env rest))) (conditions_of_junction env (path_in next (Some p)) j (tree_at next operand) rest)
+  junction_next j n1 n2 next formulas last guard p operand between same_env r all is_path g1 guard_is g2 path_is h =
+      let on : Term = narrowed_path (path_in now path) (goes_on j (tree_at now last)) in
+      let outer = path_same now n1 path g1 is_path in
+      let inner : tree_at n2 p ≡ on = path_is.tree_is ∙ (λ i. narrowed_path (outer i) (guard_is.tree_is i)) in
+      let later : tree_at next p ≡ on = (stays n2 next on p h.grows (record { below = path_is.below; tree_is = inner })).tree_is in
+      let made : tree_at next operand ≡ term_of env e = h.stands.tree_is ∙ ap (λ (v : Environment). term_of v e) same_env in
+      let trees = trees_next now next formulas operand (term_of env e) (grows_then now n1 next g1 (grows_then n1 n2 next g2 h.grows)) all made in
+      operand_next n2 next (Some p) (Some on) operand between _ _ _ (conditions_of_junction env (path_in next (Some p)) j (tree_at next operand) rest) same_env (ap Some inner) r (grows_then now n1 n2 g1 g2) h
+      (ap (λ z. joined j (terms_with z (members_of env rest))) trees ∙ ap (joined j) (with_next (trees_at now formulas) (term_of env e) (members_of env rest)))
+      (λ i. conditions_under env (Some on) e ++ conditions_of_junction env (Some (sym later i)) j (sym made i) rest)
+
+  pub implication_next : (n1 next : List Node) (premises : List ℕ) (last p operand : ℕ) (between : List DeclaredCondition)
+      → trees_in n1 terms ≡ env
+      → Reached tree conditions old now before after (implied_by (trees_at now premises) (implication_of env (tree_at now last) (member at e rest))) (conditions_of_implication env (path_in now path) (tree_at now last) (member at e rest))
+      → AllByRecursion (IsTerm Truths now) premises → IsTerm Truths now last
+      → Grows now n1 → Stands n1 (narrowed_path (path_in now path) (tree_at now last)) p
+      → Encodes n1 next terms (Some p) e operand after between
+      → Reached tree conditions old next before between (implied_by (trees_at next (premises ++ last ∷ [])) (implication_of env (tree_at next operand) rest)) (conditions_of_implication env (path_in next (Some p)) (tree_at next operand) rest)
+  implication_next n1 next premises last p operand between same_env r all is_last g path_is h =
+      let on : Term = narrowed_path (path_in now path) (tree_at now last) in
+      let later : tree_at next p ≡ on = (stays n1 next on p h.grows path_is).tree_is in
+      let made : tree_at next operand ≡ term_of env e = h.stands.tree_is ∙ ap (λ (v : Environment). term_of v e) same_env in
+      let grows = grows_then now n1 next g h.grows in
+      let trees = trees_next now next premises last (tree_at now last) grows all (tree_stays Truths now next last grows is_last) in
+      operand_next n1 next (Some p) (Some on) operand between _ _ _ (conditions_of_implication env (path_in next (Some p)) (tree_at next operand) rest) same_env (ap Some path_is.tree_is) r g h
+      ((λ i. implied_by (trees i) (implication_of env (made i) rest)) ∙ implied_next (trees_at now premises) (tree_at now last) (implication_of env (term_of env e) rest))
+      (λ i. conditions_under env (Some on) e ++ conditions_of_implication env (Some (sym later i)) (sym made i) rest)
+
+  pub equivalence_next : (n1 next : List Node) (on : Option Term) (formula operand n : ℕ) (between : List DeclaredCondition)
+      → trees_in now terms ≡ env → path_in now path ≡ on
+      → Reached tree conditions old now before after (equivalence_of env (tree_at now formula) (member at e rest)) (conditions_of_members env on (member at e rest))
+      → IsTerm Truths now formula
+      → Encodes now n1 terms path e operand after between → Grows n1 next → Stands next (iff (tree_at n1 formula) (tree_at n1 operand)) n
+      → Reached tree conditions old next before between (equivalence_of env (tree_at next n) rest) (conditions_of_members env on rest)
+  equivalence_next n1 next on formula operand n between same_env same_path r is_formula h g made =
+      let kept = tree_stays Truths now n1 formula h.grows is_formula in
+      let right : tree_at n1 operand ≡ term_of env e = h.stands.tree_is ∙ ap (λ (v : Environment). term_of v e) same_env in
+      let a : Term = iff (tree_at now formula) (term_of env e) in
+      let is : tree_at next n ≡ a = made.tree_is ∙ (λ i. iff (kept i) (right i)) in
+      let first : conditions_under (trees_in now terms) (path_in now path) e ≡ conditions_under env on e = λ i. conditions_under (same_env i) (same_path i) e in
+      let after_operand = reached_next tree conditions old now n1 before after between _ (equivalence_of env a rest) (conditions_under env on e) _ (conditions_of_members env on rest) r h.grows (adds_as n1 _ (conditions_under env on e) after between first h.adds) refl refl in
+      reached_grown tree conditions old n1 next before between (equivalence_of env a rest) (equivalence_of env (tree_at next n) rest) (conditions_of_members env on rest) (conditions_of_members env on rest) after_operand g (ap (λ z. equivalence_of env z rest) is) refl
+
+pub record Junctioning (old now : List Node) (terms : List ℕ) (path on : Option ℕ) (j : JunctionKind) (first last : ℕ) (formulas : List ℕ) (before after : List DeclaredCondition) (all rest : Members) : Type 0 where
   pub grows : Grows old now
   pub begins : IsFront before after
   pub over : AreMembersOver now terms rest
@@ -31,7 +77,7 @@ pub record Junctioning (old now : List Node) (terms : List ℕ) (path on : Optio
   pub reached : Reached (joined j (term (tree_at old first) (members_of (trees_in old terms) all))) (conditions_of_junction (trees_in old terms) (path_in old path) j (tree_at old first) all) old now before after
       (joined j (terms_with (trees_at now formulas) (members_of (trees_in old terms) rest))) (conditions_of_junction (trees_in old terms) (path_in now on) j (tree_at now last) rest)
 
-pub record Implying (old now : List Node) (terms : List ℕ) (path on : Option ℕ) (first last : ℕ) (premises : List ℕ) (before after : List declared.Condition) (all rest : Members) : Type 0 where
+pub record Implying (old now : List Node) (terms : List ℕ) (path on : Option ℕ) (first last : ℕ) (premises : List ℕ) (before after : List DeclaredCondition) (all rest : Members) : Type 0 where
   pub grows : Grows old now
   pub begins : IsFront before after
   pub over : AreMembersOver now terms rest
@@ -41,87 +87,10 @@ pub record Implying (old now : List Node) (terms : List ℕ) (path on : Option �
   pub reached : Reached (implication_of (trees_in old terms) (tree_at old first) all) (conditions_of_implication (trees_in old terms) (path_in old path) (tree_at old first) all) old now before after
       (implied_by (trees_at now premises) (implication_of (trees_in old terms) (tree_at now last) rest)) (conditions_of_implication (trees_in old terms) (path_in now on) (tree_at now last) rest)
 
-pub record Equating (old now : List Node) (terms : List ℕ) (path : Option ℕ) (first formula : ℕ) (before after : List declared.Condition) (all rest : Members) : Type 0 where
+pub record Equating (old now : List Node) (terms : List ℕ) (path : Option ℕ) (first formula : ℕ) (before after : List DeclaredCondition) (all rest : Members) : Type 0 where
   pub grows : Grows old now
   pub begins : IsFront before after
   pub over : AreMembersOver now terms rest
   pub formula_is : IsTerm Truths now formula
   pub reached : Reached (equivalence_of (trees_in old terms) (tree_at old first) all) (conditions_of_members (trees_in old terms) (path_in old path) all) old now before after
       (equivalence_of (trees_in old terms) (tree_at now formula) rest) (conditions_of_members (trees_in old terms) (path_in old path) rest)
-
--- the table grows, and the formulas so far keep their trees
-module _ (old : List Node) (terms : List ℕ) (path : Option ℕ) (first : ℕ) (before : List declared.Condition) where
-  pub junction_begins : (j : JunctionKind) (all : Members) → AreMembersOver old terms all → IsPath old path → IsTerm Truths old first → Junctioning old old terms path path j first first (first ∷ []) before before all all
-  junction_begins j all over is_path is = record { grows = grows_not old; begins = front_not before; over = over; last_is = is; formulas_are = (is, tt); path_is = is_path; reached = reached_first _ _ old before }
-
-  pub implication_begins : (all : Members) → AreMembersOver old terms all → IsPath old path → IsTerm Truths old first → Implying old old terms path path first first [] before before all all
-  implication_begins all over is_path is = record { grows = grows_not old; begins = front_not before; over = over; last_is = is; premises_are = tt; path_is = is_path; reached = reached_first _ _ old before }
-
-  pub equivalence_begins : (all : Members) → AreMembersOver old terms all → IsTerm Truths old first → Equating old old terms path first first before before all all
-  equivalence_begins all over is = record { grows = grows_not old; begins = front_not before; over = over; formula_is = is; reached = reached_first _ _ old before }
-
-  pub junction_goes : (j : JunctionKind) (now n1 n2 next : List Node) (on : Option ℕ) (last guard p operand : ℕ) (formulas : List ℕ) (after between : List declared.Condition) (all : Members) (at : Pos) (e : Expr) (rest : Members)
-      → AreMembersOver old terms all → Junctioning old now terms path on j first last formulas before after all (member at e rest)
-      → Grows now n1 → Stands n1 (goes_on j (tree_at now last)) guard → Grows n1 n2 → Stands n2 (narrowed_path (path_in n1 on) (tree_at n1 guard)) p
-      → Part Truths n2 terms e → IsPath n2 (Some p) → Encodes n2 next terms (Some p) e operand after between
-      → Junctioning old next terms path (Some p) j first operand (formulas ++ operand ∷ []) before between all rest
-  junction_goes j now n1 n2 next on last guard p operand formulas after between all at e rest over s g1 guard_is g2 path_is part is_path h =
-      let to2 = grows_then now n1 n2 g1 g2 in
-      let to = grows_then now n2 next to2 h.grows in
-      let operand_is = is_term next Truths _ operand h.stands part.is in
-      record {
-        grows = grows_then old now next s.grows to;
-        begins = front_then before after between s.begins (adds_front next _ after between h.adds);
-        over = members_left now next terms to at e rest s.over;
-        last_is = operand_is;
-        formulas_are = all_next now next formulas operand to s.formulas_are operand_is;
-        path_is = term_stays Truths n2 next p h.grows is_path;
-        reached = junction_next _ _ old now terms on (trees_in old terms) before after at e rest j n1 n2 next formulas last guard p operand between (locals_same old n2 over.types terms (grows_then old now n2 s.grows to2) over.locals) s.reached s.formulas_are s.path_is g1 guard_is g2 path_is h;
-      }
-
-  pub implication_goes : (now n1 next : List Node) (on : Option ℕ) (last p operand : ℕ) (premises : List ℕ) (after between : List declared.Condition) (all : Members) (at : Pos) (e : Expr) (rest : Members)
-      → AreMembersOver old terms all → Implying old now terms path on first last premises before after all (member at e rest)
-      → Grows now n1 → Stands n1 (narrowed_path (path_in now on) (tree_at now last)) p
-      → Part Truths n1 terms e → IsPath n1 (Some p) → Encodes n1 next terms (Some p) e operand after between
-      → Implying old next terms path (Some p) first operand (premises ++ last ∷ []) before between all rest
-  implication_goes now n1 next on last p operand premises after between all at e rest over s g path_is part is_path h =
-      let to = grows_then now n1 next g h.grows in
-      record {
-        grows = grows_then old now next s.grows to;
-        begins = front_then before after between s.begins (adds_front next _ after between h.adds);
-        over = members_left now next terms to at e rest s.over;
-        last_is = is_term next Truths _ operand h.stands part.is;
-        premises_are = all_next now next premises last to s.premises_are (term_stays Truths now next last to s.last_is);
-        path_is = term_stays Truths n1 next p h.grows is_path;
-        reached = implication_next _ _ old now terms on (trees_in old terms) before after at e rest n1 next premises last p operand between (locals_same old n1 over.types terms (grows_then old now n1 s.grows g) over.locals) s.reached s.premises_are s.last_is g path_is h;
-      }
-
-  pub equivalence_goes : (now n1 next : List Node) (formula operand n : ℕ) (after between : List declared.Condition) (all : Members) (at : Pos) (e : Expr) (rest : Members)
-      → AreMembersOver old terms all → IsPath old path → Equating old now terms path first formula before after all (member at e rest)
-      → Encodes now n1 terms path e operand after between → Grows n1 next → Stands next (iff (tree_at n1 formula) (tree_at n1 operand)) n
-      → Equating old next terms path first n before between all rest
-  equivalence_goes now n1 next formula operand n after between all at e rest over is_path s h g made = record {
-    grows = grows_then old now next s.grows (grows_then now n1 next h.grows g);
-    begins = front_then before after between s.begins (adds_front n1 _ after between h.adds);
-    over = members_left now next terms (grows_then now n1 next h.grows g) at e rest s.over;
-    formula_is = is_term next Truths _ n made refl;
-    reached = equivalence_next _ _ old now terms path (trees_in old terms) before after at e rest n1 next (path_in old path) formula operand n between (locals_same old now over.types terms s.grows over.locals) (path_same old now path s.grows is_path) s.reached s.formula_is h g made;
-  }
-
-  pub junction_ends : (j : JunctionKind) (now new : List Node) (on : Option ℕ) (last n : ℕ) (formulas : List ℕ) (after : List declared.Condition) (all : Members)
-      → Junctioning old now terms path on j first last formulas before after all no_member → Grows now new → Stands new (joined j (terms_of (trees_at now formulas))) n
-      → Gives (joined j (term (tree_at old first) (members_of (trees_in old terms) all))) (conditions_of_junction (trees_in old terms) (path_in old path) j (tree_at old first) all) old new n before after
-  junction_ends j now new on last n formulas after all s g made =
-      let r = reached_grown _ _ old now new before after _ (joined j (terms_of (trees_at now formulas))) [] [] s.reached g (ap (joined j) (sym (with_none (trees_at now formulas)))) refl in
-      reached_last _ _ old new before after (joined j (terms_of (trees_at now formulas))) n r made
-
-  pub implication_ends : (now new : List Node) (on : Option ℕ) (last n : ℕ) (premises : List ℕ) (after : List declared.Condition) (all : Members)
-      → Implying old now terms path on first last premises before after all no_member → Grows now new → Stands new (implied_by (trees_at now premises) (tree_at now last)) n
-      → Gives (implication_of (trees_in old terms) (tree_at old first) all) (conditions_of_implication (trees_in old terms) (path_in old path) (tree_at old first) all) old new n before after
-  implication_ends now new on last n premises after all s g made =
-      let r = reached_grown _ _ old now new before after _ (implied_by (trees_at now premises) (tree_at now last)) [] [] s.reached g refl refl in
-      reached_last _ _ old new before after (implied_by (trees_at now premises) (tree_at now last)) n r made
-
-  pub equivalence_ends : (now : List Node) (formula : ℕ) (after : List declared.Condition) (all : Members) → Equating old now terms path first formula before after all no_member
-      → Gives (equivalence_of (trees_in old terms) (tree_at old first) all) (conditions_of_members (trees_in old terms) (path_in old path) all) old now formula before after
-  equivalence_ends now formula after all s = reached_last _ _ old now before after _ formula s.reached (stands Truths now formula s.formula_is)

@@ -1,18 +1,9 @@
 -- What is asked of a value at a place of another type.
-use Rattle.std.proofs.Common.{◌≡◌, true, false, List, [], Result, Ok, Err, OnOk, refl}
-use Rattle.std.specs.declared.alloc.AllocError.{AllocError}
-use Rattle.df_base.specs.declared.pos.Pos.{Pos}
-use Rattle.df_lang.specs.declared.ty.Ty.{Ty}
+use Rattle.df_nenc.proofs.Words.{◌≡◌, true, false, List, [], Result, Ok, Err, OnOk, refl, AllocError, Pos, Ty, Node, Term, Numbers, sort_of_type, Condition, in_range, narrowing, narrows, Adds, DeclaredCondition}
 use Rattle.df_lang.specs.declared.ty.Ty.TheVariants as types
-use Rattle.df_form.specs.Node.{Node}
-use Rattle.df_nterm.specs.Term.{Term, Numbers, sort_of_type}
-use Rattle.df_nterm.specs.Expressions.{Condition, in_range, narrowing}
-use Rattle.df_nenc.specs.declared.condition.Condition as declared
-use Rattle.df_nenc.specs.Standing.{narrows}
-use Rattle.df_nenc.specs.Encoding.{Adds}
 use Rattle.df_nenc.proofs.Adding.{adds_as}
 
-pub owed_as : (r : Result (Unit {0}) AllocError) (nodes : List Node) (C D : List Condition) (before after : List declared.Condition) → C ≡ D → OnOk r (Adds nodes C before after) → OnOk r (Adds nodes D before after)
+pub owed_as : (r : Result (Unit {0}) AllocError) (nodes : List Node) (C D : List Condition) (before after : List DeclaredCondition) → C ≡ D → OnOk r (Adds nodes C before after) → OnOk r (Adds nodes D before after)
 owed_as (Ok u) nodes C D before after e h = adds_as nodes C D before after e h
 owed_as (Err x) nodes C D before after e h = tt
 

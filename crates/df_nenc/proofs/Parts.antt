@@ -1,25 +1,7 @@
 -- Parts of a well-typed expression are well typed, and their terms have the sorts that are asked for.
-use Rattle.std.proofs.Common.{◌≡◌, ℕ, zero, suc, Bool, true, false, ◌&&◌, List, [], ◌∷◌, slice_get, Option, None, Some, refl, ap, ◌∙◌}
-use Rattle.std.specs.Option.{option_map_or}
-use Rattle.std.proofs.lemmas.Option.{same_Some}
-use Rattle.df_base.specs.declared.pos.Pos.{Pos}
-use Rattle.df_lang.specs.declared.ty.Ty.{Ty}
+use Rattle.df_nenc.proofs.Words.{◌≡◌, ℕ, zero, suc, Bool, true, false, ◌&&◌, List, [], ◌∷◌, slice_get, Option, None, Some, refl, ap, ◌∙◌, option_map_or, same_Some, Pos, Ty, JunctionKind, Expr, Local, Negate, Not, Sum, Product, Junction, Implies, Iff, Chain, As, Convert, Addends, Factors, Members, Links, Program, same_type, is_arithmetic, casts, converts, is_expr, are_addends, are_factors, are_members, are_links, Node, both, three, four, Sort, Numbers, Truths, Term, sort_of_type, term_of, integer_sort, arithmetic_integer, tree_at, trees_in, Grows, HasTerm, AreLocals, counts_as_number, IsOver, AreAddendsOver, AreFactorsOver, AreMembersOver, AreLinksOver}
 use Rattle.df_lang.specs.declared.ty.Ty.TheVariants as types
-use Rattle.df_lang.specs.declared.expr.Junction.{Junction as JunctionKind}
 use Rattle.df_lang.specs.declared.expr.Arrow.{Arrow}
-use Rattle.df_lang.specs.Expr.{Expr, Local, Negate, Not, Sum, Product, Junction, Implies, Iff, Chain, As, Convert, Addends, Factors, Members, Links}
-use Rattle.df_lang.specs.Program.{Program}
-use Rattle.df_lang.specs.Typing.{same_type, is_arithmetic, casts, converts, is_expr, are_addends, are_factors, are_members, are_links}
-use Rattle.df_form.specs.Node.{Node}
-use Rattle.df_meaning.proofs.Cases.{both, three, four}
-use Rattle.df_nterm.specs.Term.{Sort, Numbers, Truths, Term, sort_of_type}
-use Rattle.df_nterm.specs.Expressions.{term_of}
-use Rattle.df_nterm.proofs.Sorted.{integer_sort, arithmetic_integer}
-use Rattle.df_nenc.specs.Tree.{tree_at, trees_in}
-use Rattle.df_nenc.specs.Growing.{Grows}
-use Rattle.df_nenc.specs.Standing.{HasTerm, AreLocals, counts_as_number}
-use Rattle.df_nenc.specs.Encoding.{IsOver}
-use Rattle.df_nenc.specs.Siblings.{AreAddendsOver, AreFactorsOver, AreMembersOver, AreLinksOver}
 use Rattle.df_nenc.proofs.Growing.{locals_stay}
 use Rattle.df_nenc.proofs.Typed.{Is, AreSorted, term_is}
 

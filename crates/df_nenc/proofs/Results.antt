@@ -1,23 +1,9 @@
 -- What a call answers, as its caller names it.
-use Rattle.std.proofs.Common.{◌≡◌, ◌≤◌, ℕ, true, arith, length, List, [], ◌∷◌, ◌++◌, map, Option, None, Some, Result, Ok, Err, IfOk, OnErr, refl, sym, ◌∙◌}
-use Rattle.std.specs.declared.alloc.AllocError.{AllocError}
-use Rattle.std.proofs.lemmas.List.{length-map}
-use Rattle.df_base.specs.declared.pos.Pos.{Pos}
+use Rattle.df_nenc.proofs.Words.{◌≡◌, ◌≤◌, ℕ, true, arith, length, List, [], ◌∷◌, ◌++◌, map, Option, None, Some, Result, Ok, Err, IfOk, OnErr, refl, sym, ◌∙◌, AllocError, length-map, Pos, Op, Node, IsTable, is_well_sorted, made, Term, Truths, node, terms_of, of_one, of_two, conjunction, disjunction, Condition, condition, under, on_path, narrowed_path, op_of, tree_at, trees_at, path_in, sort_of_term, Grows, Stands, IsPath, Adds, Gives, DeclaredCondition}
 use Rattle.df_meaning.specs.declared.kind.Kind.{Kind}
-use Rattle.df_form.specs.declared.node.Op.{Op}
-use Rattle.df_form.specs.Node.{Node}
-use Rattle.df_form.specs.Sorting.{IsTable, is_well_sorted}
-use Rattle.df_form.specs.Made.{made}
-use Rattle.df_nterm.specs.Term.{Term, Truths, node, terms_of, of_one, of_two, conjunction, disjunction}
 use Rattle.df_nterm.specs.Term as trees
-use Rattle.df_nterm.specs.Expressions.{Condition, condition, under, on_path, narrowed_path}
-use Rattle.df_nenc.specs.declared.condition.Condition as declared
-use Rattle.df_nenc.specs.Tree.{op_of, tree_at, trees_at, path_in, sort_of_term}
-use Rattle.df_nenc.specs.Growing.{Grows}
-use Rattle.df_nenc.specs.Standing.{Stands, IsPath}
-use Rattle.df_nenc.specs.Encoding.{Adds, Gives}
 use Rattle.df_nenc.proofs.Growing.{grows_same, is_term, path_same}
-use Rattle.df_nenc.proofs.Made.{makes, makes_grow}
+use Rattle.df_nenc.proofs.Trees.{makes, makes_grow}
 use Rattle.df_nenc.proofs.Adding.{adds_as, gives_owing}
 
 pub if_ok : {A E : Type 0} (r : Result A E) (P Q : A → Type 0) → IfOk r P → ((x : A) → P x → Q x) → IfOk r Q
@@ -55,7 +41,7 @@ path_term None a is = is
 path_term (Some path) a is = refl
 
 -- one condition is pushed
-pub pushed : (nodes : List Node) (at : Pos) (kind : Kind) (path : Option Term) (a : Term) (n : ℕ) (before after : List declared.Condition) → sort_of_term a ≡ Truths → Stands nodes (on_path path a) n
+pub pushed : (nodes : List Node) (at : Pos) (kind : Kind) (path : Option Term) (a : Term) (n : ℕ) (before after : List DeclaredCondition) → sort_of_term a ≡ Truths → Stands nodes (on_path path a) n
     → after ≡ before ++ record { pos = at; kind = kind; formula = n } ∷ [] → Adds nodes (under path (condition at kind a)) before after
 pushed nodes at kind path a n before after is s e = record {
   more = record { pos = at; kind = kind; formula = n } ∷ [];
@@ -65,7 +51,7 @@ pushed nodes at kind path a n before after is s e = record {
 }
 
 -- what is owed of a term that was made before, at a path of the first table
-pub owing : (old middle new : List Node) (path : Option ℕ) (a : Term) (d : Option Term → Term → List Condition) (n : ℕ) (before after : List declared.Condition)
+pub owing : (old middle new : List Node) (path : Option ℕ) (a : Term) (d : Option Term → Term → List Condition) (n : ℕ) (before after : List DeclaredCondition)
     → Grows old middle → IsPath old path → Stands middle a n → Grows middle new → Adds new (d (path_in middle path) (tree_at middle n)) before after
     → Gives a (d (path_in old path) a) old new n before after
 owing old middle new path a d n before after g is_path s h adds =

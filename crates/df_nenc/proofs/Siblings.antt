@@ -1,22 +1,9 @@
--- Operands of one level are well typed, and so is each of them.
-use Rattle.std.proofs.Common.{◌≡◌, ℕ, true, ◌<◌, ◌+◌, suc, List, ◌∷◌, length, drop, get_or, add-one, drop-cons, refl, sym, ap}
-use Rattle.df_base.specs.declared.pos.Pos.{Pos}
-use Rattle.df_lang.specs.declared.ty.Ty.{Ty}
+-- Operands of one level are well typed, and so is each of them, as a part of its list is seen.
+use Rattle.df_nenc.proofs.Words.{◌≡◌, ℕ, true, ◌<◌, ◌+◌, suc, List, ◌∷◌, length, drop, get_or, add-one, drop-cons, refl, sym, ap, ◌≤◌, map, ◌∙◌, rules, drop_all, Pos, Ty, AddendOperator, FactorOperator, Comparison, Expr, Addends, addend, Factors, factor, Members, member, Links, link, no_addend, no_factor, no_link, no_member, Program, compares, is_expr, are_addends, are_factors, are_members, are_links, the_lemmas, expr_of, Addend, Factor, Link, Member, addends_of, factors_of, links_of, DeclaredAddend, DeclaredFactor, DeclaredMember, DeclaredLink, Node, both, three, Numbers, Truths, sort_of_type, integer_sort, arithmetic_integer, Grows, may_compare, AreAddendsOver, AreFactorsOver, AreMembersOver, AreLinksOver, addend_of, factor_of, member_of, link_of}
 use Rattle.df_lang.specs.declared.ty.Ty.TheVariants as types
-use Rattle.df_lang.specs.declared.expr.AddendOperator.{AddendOperator}
-use Rattle.df_lang.specs.declared.expr.FactorOperator.{FactorOperator}
-use Rattle.df_lang.specs.declared.expr.Comparison.{Comparison}
 use Rattle.df_lang.specs.declared.expr.Comparison.TheVariants as comparisons
-use Rattle.df_lang.specs.Expr.{Expr, Addends, addend, Factors, factor, Members, member, Links, link}
-use Rattle.df_lang.specs.Program.{Program}
-use Rattle.df_lang.specs.Typing.{compares, is_expr, are_addends, are_factors, are_members, are_links}
-use Rattle.df_form.specs.Node.{Node}
-use Rattle.df_meaning.proofs.Cases.{both, three}
-use Rattle.df_nterm.specs.Term.{Numbers, Truths, sort_of_type}
-use Rattle.df_nterm.proofs.Sorted.{integer_sort, arithmetic_integer}
-use Rattle.df_nenc.specs.Growing.{Grows}
-use Rattle.df_nenc.specs.Standing.{may_compare}
-use Rattle.df_nenc.specs.Siblings.{AreAddendsOver, AreFactorsOver, AreMembersOver, AreLinksOver}
+use Rattle.df_lang.specs.ExprView.{members_of}
+use Rattle.df_nenc.specs.Views.{addends_in, factors_in, members_in, links_in}
 use Rattle.df_nenc.proofs.Growing.{locals_stay}
 use Rattle.df_nenc.proofs.Parts.{Part, part}
 
@@ -96,3 +83,71 @@ module _ (before now : List Node) (terms : List ℕ) (g : Grows before now) wher
 
   pub links_stay : (ty : Ty) (rest : Links) → AreLinksOver before terms ty rest → AreLinksOver now terms ty rest
   links_stay ty rest h = record { program = h.program; types = h.types; typed = h.typed; locals = locals_stay before now h.types terms g h.locals }
+
+abbrev pub seen_addend : DeclaredAddend → Addend
+seen_addend o = record { operator = o.operator; pos = o.pos; operand = expr_of o.operand }
+
+abbrev pub seen_factor : DeclaredFactor → Factor
+seen_factor o = record { operator = o.operator; pos = o.pos; operand = expr_of o.operand }
+
+abbrev pub seen_member : DeclaredMember → Member
+seen_member o = record { pos = o.pos; operand = expr_of o.operand }
+
+abbrev pub seen_link : DeclaredLink → Link
+seen_link o = record { comparison = o.comparison; pos = o.pos; operand = expr_of o.operand }
+
+pub addend_seen : (o : DeclaredAddend) → addend_of o ≡ seen_addend o
+addend_seen o = search (rules, the_lemmas)
+
+pub factor_seen : (o : DeclaredFactor) → factor_of o ≡ seen_factor o
+factor_seen o = search (rules, the_lemmas)
+
+pub member_seen : (o : DeclaredMember) → member_of o ≡ seen_member o
+member_seen o = search (rules, the_lemmas)
+
+pub link_seen : (o : DeclaredLink) → link_of o ≡ seen_link o
+link_seen o = search (rules, the_lemmas)
+
+-- ---- what is left of a level, from an operand on
+
+pub addends_next : (xs : List DeclaredAddend) (i : ℕ) (x : DeclaredAddend) → x ≡ get_or xs i x → i < length xs → addends_in (drop i xs) ≡ addend x.operator x.pos (expr_of x.operand) (addends_in (drop (i + 1) xs))
+unfolding addends_in
+addends_next xs i x is less =
+    let seen = addend_seen x in
+    ap addends_in (drop_next xs i x is less) ∙ (λ k. addends_of (seen k ∷ map addend_of (drop (i + 1) xs)))
+
+pub factors_next : (xs : List DeclaredFactor) (i : ℕ) (x : DeclaredFactor) → x ≡ get_or xs i x → i < length xs → factors_in (drop i xs) ≡ factor x.operator x.pos (expr_of x.operand) (factors_in (drop (i + 1) xs))
+unfolding factors_in
+factors_next xs i x is less =
+    let seen = factor_seen x in
+    ap factors_in (drop_next xs i x is less) ∙ (λ k. factors_of (seen k ∷ map factor_of (drop (i + 1) xs)))
+
+pub members_next : (xs : List DeclaredMember) (i : ℕ) (x : DeclaredMember) → x ≡ get_or xs i x → i < length xs → members_in (drop i xs) ≡ member x.pos (expr_of x.operand) (members_in (drop (i + 1) xs))
+unfolding members_in
+members_next xs i x is less =
+    let seen = member_seen x in
+    ap members_in (drop_next xs i x is less) ∙ (λ k. members_of (seen k ∷ map member_of (drop (i + 1) xs)))
+
+pub links_next : (xs : List DeclaredLink) (i : ℕ) (x : DeclaredLink) → x ≡ get_or xs i x → i < length xs → links_in (drop i xs) ≡ link x.comparison x.pos (expr_of x.operand) (links_in (drop (i + 1) xs))
+unfolding links_in
+links_next xs i x is less =
+    let seen = link_seen x in
+    ap links_in (drop_next xs i x is less) ∙ (λ k. links_of (seen k ∷ map link_of (drop (i + 1) xs)))
+
+-- ---- its end
+
+pub addends_done : (xs : List DeclaredAddend) (i : ℕ) → length xs ≤ i → addends_in (drop i xs) ≡ no_addend
+unfolding addends_in
+addends_done xs i all = ap addends_in (drop_all i xs all)
+
+pub factors_done : (xs : List DeclaredFactor) (i : ℕ) → length xs ≤ i → factors_in (drop i xs) ≡ no_factor
+unfolding factors_in
+factors_done xs i all = ap factors_in (drop_all i xs all)
+
+pub members_done : (xs : List DeclaredMember) (i : ℕ) → length xs ≤ i → members_in (drop i xs) ≡ no_member
+unfolding members_in
+members_done xs i all = ap members_in (drop_all i xs all)
+
+pub links_done : (xs : List DeclaredLink) (i : ℕ) → length xs ≤ i → links_in (drop i xs) ≡ no_link
+unfolding links_in
+links_done xs i all = ap links_in (drop_all i xs all)

@@ -1,20 +1,12 @@
 -- Operations take parts whose trees are of their sorts.
-use Rattle.std.proofs.Common.{◌≡◌, ◌⊎◌, inl, inr, ℕ, ◌<◌, true, ◌&&◌, List, [], ◌∷◌, map, length, nat_lt, refl, sym, ap, ◌∙◌}
-use Rattle.std.specs.List.{AllByRecursion, list_all}
-use Rattle.std.proofs.lemmas.Bool.{lt-ltb, and_from}
-use Rattle.df_lang.specs.declared.ty.Ty.{Ty}
+use Rattle.df_nenc.proofs.Words.{◌≡◌, ◌⊎◌, inl, inr, ℕ, ◌<◌, true, ◌&&◌, List, [], ◌∷◌, map, length, nat_lt, refl, sym, ap, ◌∙◌, AllByRecursion, list_all, lt-ltb, and_from, Ty, Op, Node, same_sort, is_well_sorted, sort_at, takes, counts_as_number, Numbers, Truths, sort_of_type, sort_of, sort_of_term, tree_at, IsTerm}
 use Rattle.df_lang.specs.declared.ty.Ty.TheVariants as types
 use Rattle.df_form.specs.declared.node.Sort.{Sort}
 use Rattle.df_form.specs.declared.node.Sort.TheVariants as sorts
-use Rattle.df_form.specs.declared.node.Op.{Op}
 use Rattle.df_form.specs.declared.node.Op.TheVariants as ops
-use Rattle.df_form.specs.Node.{Node, same_sort}
-use Rattle.df_form.specs.Sorting.{is_well_sorted, sort_at, takes}
+use Rattle.df_form.specs.Sorting.{is_tested}
 use Rattle.df_form.specs.Types as form
 use Rattle.df_form.proofs.Same.{values_from}
-use Rattle.df_nterm.specs.Term.{Numbers, Truths, sort_of_type}
-use Rattle.df_nenc.specs.Tree.{sort_of, sort_of_term, tree_at}
-use Rattle.df_nenc.specs.Standing.{IsTerm}
 use Rattle.df_nenc.proofs.Trees.{tree_sort}
 
 same : (a b : Sort) → sort_of a ≡ sort_of b → a ≡ b
@@ -63,11 +55,6 @@ takes_two op sort nodes a b e t u =
     let parts : sort_at nodes a ∷ sort_at nodes b ∷ [] ≡ sort ∷ sort ∷ [] = λ i. one i ∷ other i ∷ [] in
     takes_parts op nodes a b t.below u.below (ap (takes op) parts ∙ e)
 
-same_itself : (s : Sort) → same_sort s s ≡ true
-same_itself sorts.Number = refl
-same_itself sorts.Truth = refl
-same_itself sorts.Character = refl
-
 pub takes_alike : (nodes : List Node) (a b : ℕ) → a < length nodes → b < length nodes → sort_of_term (tree_at nodes a) ≡ sort_of_term (tree_at nodes b) → (sort_of_term (tree_at nodes a) ≡ Truths → ⊥)
     → is_well_sorted nodes (record { op = ops.Equal; parts = a ∷ b ∷ [] }) ≡ true
 takes_alike nodes a b at_a at_b e other =
@@ -87,9 +74,17 @@ no_truths_of types.Bool (inr (inl n)) e = cc
 no_truths_of types.Bool (inr (inr (inl n))) e = cc
 no_truths_of types.Bool (inr (inr (inr n))) e = cc
 
+-- a number or a character is tested for its type
+is_tested_one : (ty : Ty) → counts_as_number ty ≡ true → is_tested ty (form.sort_of_type ty ∷ []) ≡ true
+is_tested_one (types.Newtype id) e = refl
+is_tested_one types.Int e = refl
+is_tested_one types.Nat e = refl
+is_tested_one types.Char e = refl
+is_tested_one types.Bool e = e
+
 -- that a value is of a type
-pub takes_typed : (ty : Ty) (nodes : List Node) (a : ℕ) → IsTerm (sort_of_type ty) nodes a → is_well_sorted nodes (record { op = ops.Is ty; parts = a ∷ [] }) ≡ true
-takes_typed ty nodes a t = takes_one (ops.Is ty) (form.sort_of_type ty) nodes a (same_itself (form.sort_of_type ty)) (record { below = t.below; sort_is = t.sort_is ∙ sym (type_sort ty) })
+pub takes_typed : (ty : Ty) (nodes : List Node) (a : ℕ) → counts_as_number ty ≡ true → IsTerm (sort_of_type ty) nodes a → is_well_sorted nodes (record { op = ops.Is ty; parts = a ∷ [] }) ≡ true
+takes_typed ty nodes a typed t = takes_one (ops.Is ty) (form.sort_of_type ty) nodes a (is_tested_one ty typed) (record { below = t.below; sort_is = t.sort_is ∙ sym (type_sort ty) })
 
 -- ---- any number of formulas
 

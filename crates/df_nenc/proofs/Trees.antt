@@ -1,18 +1,11 @@
--- The trees of nodes: each is that of its operation over those of its parts, and more nodes change none.
-use Rattle.std.proofs.Common.{◌≡◌, ℕ, suc, ◌<◌, ◌≤◌, List, [], ◌∷◌, ◌++◌, map, take, drop, length, Some, slice_get, nat_lt, refl, sym, ap, ◌∙◌, arith, append_assoc, ltb-true}
-use Rattle.std.specs.Option.{option_map_or}
-use Rattle.std.proofs.lemmas.List.{get_or_append_left, get_or_at, length-take-le, append-nil}
-use Rattle.std.proofs.lemmas.Option.{slice_get_within}
-use Rattle.df_lemmas.proofs.Lists.{get_below, get_split, map_agree}
+-- Trees of nodes, and the trees of those that are made.
+use Rattle.df_nenc.proofs.Words.{◌≡◌, ℕ, suc, ◌<◌, ◌≤◌, List, [], ◌∷◌, ◌++◌, map, take, drop, length, Some, slice_get, nat_lt, refl, sym, ap, ◌∙◌, arith, append_assoc, ltb-true, true, subst, option_map_or, list_all, get_or_append_left, get_or_at, length-take-le, append-nil, slice_get_within, and_parts, get_below, get_split, map_agree, Op, Node, IsTable, is_well_sorted, sort_at, takes, Made, made, AreSorted, parts_below, Term, node, terms_of, op_of, sort_of, sort_of_op, sort_of_term, tree_among, tree_over, trees_after, Grows, Stands}
 use Rattle.df_form.specs.declared.node.Sort.TheVariants as sorts
-use Rattle.df_form.specs.declared.node.Op.{Op}
 use Rattle.df_form.specs.declared.node.Op.TheVariants as ops
-use Rattle.df_form.specs.Node.{Node}
 use Rattle.df_form.specs.Sorting as sorting
-use Rattle.df_form.proofs.Values.{AreSorted, parts_below}
-use Rattle.df_nterm.specs.Term.{Term, node, terms_of}
-use Rattle.df_nenc.specs.Tree.{op_of, sort_of, sort_of_op, sort_of_term, tree_among, tree_over, trees_after, tree_at}
-use Rattle.df_nenc.specs.Growing.{Grows}
+use Rattle.df_form.proofs.Making.{made_stands}
+use Rattle.df_nenc.specs.Tree.{tree_at}
+use Rattle.df_nenc.specs.Laws.{MakesTree}
 
 onto : (known : List Term) (nodes : List Node) → (rest : List Term) × (trees_after known nodes ≡ known ++ rest) × (length rest ≡ length nodes)
 onto known [] = ([], sym (append-nil known), refl)
@@ -95,3 +88,26 @@ tree_sort nodes n lt =
     let one = at.0 in
     let is : slice_get nodes n ≡ Some one = at.1 in
     ap (λ o. sort_of (option_map_or (λ (node : Node). sorting.sort_of node.op) o sorts.Number)) is ∙ op_sort one.op ∙ sym (ap sort_of_term (tree_here nodes n one is))
+
+pub made_tree : (nodes : List Node) (one : Node) → IsTable nodes → is_well_sorted nodes one ≡ true → MakesTree nodes one
+made_tree nodes one table sorted =
+    let all : AreSorted nodes = record { sorted = table.sorted } in
+    let m = made nodes one in
+    let made = made_stands nodes one all sorted in
+    let grows : Grows nodes m.nodes = record { more = made.grows.more; is = made.grows.is } in
+    let parts = and_parts (list_all (λ part. nat_lt part (length nodes)) one.parts) (takes one.op (map (sort_at nodes) one.parts)) sorted in
+    let same : map (tree_at m.nodes) one.parts ≡ map (tree_at nodes) one.parts = map_agree (λ part. nat_lt part (length nodes)) (tree_at m.nodes) (tree_at nodes) one.parts
+    (λ part below. grown_tree nodes m.nodes grows part (ltb-true part (length nodes) below)) parts.0 in
+    record {
+      grows = grows;
+      stands = record {
+        below = slice_get_within m.nodes m.number one made.there;
+        tree_is = tree_of m.nodes m.number one made.sorted made.there ∙ ap (λ z. node (op_of one.op) (terms_of z)) same;
+      };
+    }
+
+pub makes : (nodes after : List Node) (one : Node) (n : ℕ) → IsTable nodes → is_well_sorted nodes one ≡ true → made nodes one ≡ record { nodes = after; number = n } → Stands after (node (op_of one.op) (terms_of (map (tree_at nodes) one.parts))) n
+makes nodes after one n table sorted e = subst (λ (m : Made). Stands m.nodes (node (op_of one.op) (terms_of (map (tree_at nodes) one.parts))) m.number) e (made_tree nodes one table sorted).stands
+
+pub makes_grow : (nodes after : List Node) (one : Node) (n : ℕ) → IsTable nodes → is_well_sorted nodes one ≡ true → made nodes one ≡ record { nodes = after; number = n } → Grows nodes after
+makes_grow nodes after one n table sorted e = subst (λ (m : Made). Grows nodes m.nodes) e (made_tree nodes one table sorted).grows

@@ -1,26 +1,11 @@
 -- The term of a well-typed expression has the sort of its type.
-use Rattle.std.proofs.Common.{◌≡◌, ℕ, nat_lt, Bool, true, false, ◌&&◌, List, slice_get, Option, None, Some, refl, sym, ap, ◌∙◌}
-use Rattle.std.specs.Option.{option_map_or}
-use Rattle.df_lang.specs.declared.ty.Ty.{Ty}
+use Rattle.df_nenc.proofs.Words.{◌≡◌, ℕ, nat_lt, Bool, true, false, ◌&&◌, List, slice_get, Option, None, Some, refl, sym, ap, ◌∙◌, option_map_or, Ty, AddendOperator, FactorOperator, JunctionKind, Comparison, Expr, Number, Truth, Character, Local, Negate, Not, Sum, Product, Junction, Implies, Iff, Chain, As, Convert, Addends, no_addend, addend, Factors, no_factor, factor, Members, no_member, member, Links, no_link, link, Program, same_type, is_integer, is_arithmetic, casts, converts, is_expr, are_addends, are_factors, are_members, are_links, both, three, four, Sort, Numbers, Truths, Term, term, conjunction, truth_term, sort_of_type, Environment, term_of, sum_of, product_of, members_of, implication_of, equivalence_of, comparisons_of, summed, multiplied, number_in, value_in, compared, joined, goes_on, integer_sort, arithmetic_integer, converted_sort, sort_of_term, counts_as_number}
 use Rattle.df_lang.specs.declared.ty.Ty.TheVariants as types
-use Rattle.df_lang.specs.declared.expr.AddendOperator.{AddendOperator}
 use Rattle.df_lang.specs.declared.expr.AddendOperator.TheVariants as addends
-use Rattle.df_lang.specs.declared.expr.FactorOperator.{FactorOperator}
 use Rattle.df_lang.specs.declared.expr.FactorOperator.TheVariants as factors
-use Rattle.df_lang.specs.declared.expr.Junction.{Junction as JunctionKind}
 use Rattle.df_lang.specs.declared.expr.Junction.TheVariants as junctions
-use Rattle.df_lang.specs.declared.expr.Comparison.{Comparison}
 use Rattle.df_lang.specs.declared.expr.Comparison.TheVariants as comparisons
-use Rattle.df_lang.specs.Expr.{Expr, Number, Truth, Character, Local, Negate, Not, Sum, Product, Junction, Implies, Iff, Chain, As, Convert, Addends, no_addend, addend, Factors, no_factor, factor, Members, no_member, member, Links, no_link, link}
-use Rattle.df_lang.specs.Program.{Program}
-use Rattle.df_lang.specs.Typing.{same_type, is_integer, is_arithmetic, casts, converts, is_expr, are_addends, are_factors, are_members, are_links}
-use Rattle.df_meaning.proofs.Cases.{both, three, four}
 use Rattle.df_meaning.proofs.Types.{same_type_equal}
-use Rattle.df_nterm.specs.Term.{Sort, Numbers, Truths, Term, term, conjunction, truth_term, sort_of_type}
-use Rattle.df_nterm.specs.Expressions.{Environment, term_of, sum_of, product_of, members_of, implication_of, equivalence_of, comparisons_of, summed, multiplied, number_in, value_in, compared, joined, goes_on}
-use Rattle.df_nterm.proofs.Sorted.{integer_sort, arithmetic_integer, converted_sort}
-use Rattle.df_nenc.specs.Tree.{sort_of_term}
-use Rattle.df_nenc.specs.Standing.{counts_as_number}
 
 -- the term is of the sort
 abbrev pub Is : Sort → Term → Type 0

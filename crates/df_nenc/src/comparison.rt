@@ -1,5 +1,5 @@
 //! Comparisons of terms.
-#![tactic(auto, using(crate::proofs::Growing::grows_not, crate::proofs::Growing::grows_then))]
+#![tactic(auto, using(crate::proofs::Growing::grows_not, crate::proofs::Growing::grows_then, crate::proofs::Growing::term_stays, crate::proofs::Growing::path_stays))]
 
 ghost use Rattle.std.specs.Prelude.{◌≡◌, ◌<◌, length, true, IfOk};
 ghost use Rattle.df_nterm.specs.Term.{Numbers, Truths, sort_of_type};

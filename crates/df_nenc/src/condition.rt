@@ -1,7 +1,7 @@
 //! Conditions under which expressions have values.
-#![tactic(auto, using(crate::proofs::Growing::grows_not, crate::proofs::Growing::grows_then, crate::proofs::Fronts::front_not, crate::proofs::Fronts::front_then))]
+#![tactic(auto, using(crate::proofs::Growing::grows_not, crate::proofs::Growing::grows_then, crate::proofs::Reaching::front_not, crate::proofs::Reaching::front_then, crate::proofs::Growing::term_stays, crate::proofs::Growing::path_stays))]
 
-ghost use Rattle.std.specs.Prelude.{◌≡◌, pos, IfOk, OnOk};
+ghost use Rattle.std.specs.Prelude.{◌≡◌, pos, true, IfOk, OnOk};
 ghost use Rattle.df_lang.specs.declared.ty.Ty.TheVariants as types;
 ghost use Rattle.df_lang.specs.declared.expr.FactorOperator.TheVariants as factors;
 ghost use Rattle.df_meaning.specs.declared.kind.Kind.TheVariants as kinds;
@@ -10,7 +10,7 @@ ghost use Rattle.df_nterm.specs.Term as trees;
 ghost use Rattle.df_nterm.specs.Expressions as expressions;
 ghost use Rattle.df_nenc.specs.Tree.{tree_at, path_in};
 ghost use Rattle.df_nenc.specs.Growing.{Grows, IsFront};
-ghost use Rattle.df_nenc.specs.Standing.{IsTerm, Stands, IsPath, narrows};
+ghost use Rattle.df_nenc.specs.Standing.{IsTerm, Stands, IsPath, counts_as_number, narrows};
 ghost use Rattle.df_nenc.specs.Encoding.{Adds};
 
 use crate::comparison::{at_most, equal};
@@ -98,7 +98,7 @@ fn is_code(alloc: Global, nodes: &mut Nodes, number: Term) -> Result<Formula, Al
     both(alloc, nodes, is_from_first, is_to_last)
 }
 
-/// Adds that a value is one of the type.
+/// Adds that a value is one of the type, which is not `bool`.
 fn owe_type(
     alloc: Global,
     nodes: &mut Nodes,
@@ -108,6 +108,7 @@ fn owe_type(
     value: Term,
     out: &mut Vec<Condition>,
 ) -> Result<(), AllocError>
+    requires typed { counts_as_number ty ≡ true }
     requires path { IsPath nodes.old path }
     requires value { IsTerm (sort_of_type ty) nodes.old value }
     ensures adds { OnOk result (Adds nodes.new (expressions.under (path_in nodes.old path) (expressions.condition pos kinds.Range (trees.of_one (trees.Is ty) (tree_at nodes.old value)))) out.old.items out.new.items) }

@@ -1,5 +1,5 @@
 //! The walk over an expression: its term, and its conditions in the order of evaluation.
-#![tactic(auto, using(crate::proofs::Growing::grows_not, crate::proofs::Growing::grows_then, crate::proofs::Fronts::front_not, crate::proofs::Fronts::front_then))]
+#![tactic(auto, using(crate::proofs::Growing::grows_not, crate::proofs::Growing::grows_then, crate::proofs::Reaching::front_not, crate::proofs::Reaching::front_then, crate::proofs::Growing::term_stays, crate::proofs::Growing::path_stays))]
 
 ghost use Rattle.std.specs.Prelude.{IfOk};
 ghost use Rattle.df_lang.specs.ExprView.{expr_of};

@@ -1,5 +1,5 @@
 //! Nodes by their operations.
-#![tactic(auto, using(crate::proofs::Growing::grows_not, crate::proofs::Growing::grows_then))]
+#![tactic(auto, using(crate::proofs::Growing::grows_not, crate::proofs::Growing::grows_then, crate::proofs::Growing::term_stays, crate::proofs::Growing::path_stays))]
 
 ghost use Rattle.std.specs.Prelude.{◌≡◌, true, [], ◌∷◌, map, IfOk};
 ghost use Rattle.df_form.specs.Sorting.{is_well_sorted};

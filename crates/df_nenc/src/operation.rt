@@ -1,14 +1,14 @@
 //! Terms by their operations.
-#![tactic(auto, using(crate::proofs::Growing::grows_not, crate::proofs::Growing::grows_then))]
+#![tactic(auto, using(crate::proofs::Growing::grows_not, crate::proofs::Growing::grows_then, crate::proofs::Growing::term_stays, crate::proofs::Growing::path_stays))]
 
-ghost use Rattle.std.specs.Prelude.{pos, IfOk};
+ghost use Rattle.std.specs.Prelude.{◌≡◌, pos, true, IfOk};
 ghost use Rattle.std.specs.List.{AllByRecursion};
 ghost use Rattle.df_nterm.specs.Term.{Numbers, Truths, sort_of_type};
 ghost use Rattle.df_nterm.specs.Term as trees;
 ghost use Rattle.df_nterm.specs.Expressions as expressions;
 ghost use Rattle.df_nenc.specs.Tree.{sort_of, tree_at, trees_at};
 ghost use Rattle.df_nenc.specs.Growing.{Grows};
-ghost use Rattle.df_nenc.specs.Standing.{IsTerm, Stands};
+ghost use Rattle.df_nenc.specs.Standing.{IsTerm, Stands, counts_as_number};
 
 use crate::making::{make, none, one, two};
 use df_form::{Formula, Free, Nodes, Op, Sort, Term};
@@ -43,9 +43,10 @@ pub fn free(alloc: Global, nodes: &mut Nodes, number: usize, sort: Sort) -> Resu
     none(alloc, nodes, Op::Free(Free { number, sort }))
 }
 
-/// That a value is one of the type.
+/// That a value is one of the type, which is not `bool`.
 pub fn is_of(alloc: Global, nodes: &mut Nodes, ty: Ty, value: Term) -> Result<Formula, AllocError>
-    requires { IsTerm (sort_of_type ty) nodes.old value }
+    requires typed { counts_as_number ty ≡ true }
+    requires value { IsTerm (sort_of_type ty) nodes.old value }
     ensures stands { IfOk result (λ n. Stands nodes.new (trees.of_one (trees.Is ty) (tree_at nodes.old value)) n) }
     ensures grows { Grows nodes.old nodes.new }
 {

@@ -1,8 +1,7 @@
 //! What operators do with the terms of their operands, with what these ask for.
-#![tactic(auto, using(crate::proofs::Growing::grows_not, crate::proofs::Growing::grows_then, crate::proofs::Fronts::front_not, crate::proofs::Fronts::front_then))]
+#![tactic(auto, using(crate::proofs::Growing::grows_not, crate::proofs::Growing::grows_then, crate::proofs::Reaching::front_not, crate::proofs::Reaching::front_then, crate::proofs::Growing::term_stays, crate::proofs::Growing::path_stays))]
 
-ghost use Rattle.std.specs.Prelude.{◌≡◌, true, map, IfOk};
-ghost use Rattle.std.specs.Option.{option_map};
+ghost use Rattle.std.specs.Prelude.{◌≡◌, true, IfOk};
 ghost use Rattle.std.specs.List.{AllByRecursion};
 ghost use Rattle.df_nterm.specs.Term.{Numbers, Truths, sort_of_type};
 ghost use Rattle.df_nterm.specs.Term as trees;

@@ -1,25 +1,6 @@
 -- Ways that arrive have the terms that are to be joined.
-use Rattle.std.proofs.Common.{◌≡◌, ℕ, zero, suc, ◌+◌, ◌<◌, List, [], ◌∷◌, map, drop, get_or, length, refl, sym, ap, ◌∙◌, arith, subst}
-use Rattle.std.proofs.lemmas.List.{length-map}
-use Rattle.std.proofs.lemmas.Option.{slice_get-get_or}
-use Rattle.df_lang.specs.declared.ty.Ty.{Ty}
-use Rattle.df_form.specs.Node.{Node}
-use Rattle.df_meaning.specs.Modular.{Changed}
-use Rattle.df_nterm.specs.Term.{Sort, sort_of_type}
-use Rattle.df_nterm.specs.Expressions.{Environment, equal_in}
-use Rattle.df_nenc.specs.Growing.{Grows}
-use Rattle.df_nenc.specs.Standing.{IsTerm, Stands}
-use Rattle.df_nenc.specs.Tree.{sort_of_term, tree_at, path_in}
-use Rattle.df_nenc.proofs.Growing.{path_same, grows_then, tree_stays}
-use Rattle.df_nenc.proofs.Siblings.{drop_next}
-use Rattle.df_npass.specs.Rules.{Way, assume}
-use Rattle.df_nflow.specs.Ways.{Arrival, arrival, IsSortedWay, AreSortedWays, Arrive}
-use Rattle.df_nflow.specs.Branches.{Ended, AreEnded}
-use Rattle.df_nflow.specs.Joining.{term_at, IsThere, AreThere, AllThere}
-use Rattle.df_nflow.specs.Views.{IsArrived, AreArrived, arrival_in, arrivals_in}
-use Rattle.df_nflow.specs.declared.way.Arrived as declared
-use Rattle.df_nflow.proofs.Joining.{rest_behind, term_there}
-use Rattle.df_nflow.proofs.Places.{below_at, path_is}
+use Rattle.df_nflow.proofs.Words.{assume_there, ◌≡◌, ℕ, zero, suc, ◌+◌, ◌<◌, List, [], ◌∷◌, map, drop, get_or, length, refl, sym, ap, ◌∙◌, arith, subst, length-map, slice_get-get_or, Ty, Node, Changed, Sort, sort_of_type, Environment, Grows, IsTerm, sort_of_term, tree_at, path_in, path_same, tree_stays, drop_next, Way, Arrival, arrival, IsSortedWay, AreSortedWays, Arrive, Ended, AreEnded, term_at, IsThere, AreThere, AllThere, IsArrived, AreArrived, arrival_in, arrivals_in, DeclaredArrived, below_at, path_is}
+use Rattle.df_nflow.proofs.Changes.{rest_behind, term_there}
 use Rattle.df_nflow.proofs.Terms.{tree_of}
 
 -- a place with something behind it is within
@@ -67,7 +48,7 @@ module _ (whole : List Changed) where
 
 -- ---- the numbers of the terms that are joined
 
-module _ (nodes : List Node) (types : List Ty) (way : declared.Arrived) (place : ℕ) (sort : Sort) (there : IsThere place sort (arrival_in nodes way)) where
+module _ (nodes : List Node) (types : List Ty) (way : DeclaredArrived) (place : ℕ) (sort : Sort) (there : IsThere place sort (arrival_in nodes way)) where
   pub joined_within : place < length way.terms.items
   joined_within = let less = there.within in let long = length-map way.terms.items (tree_at nodes) in omega (arith, less, long)
 
@@ -81,22 +62,21 @@ module _ (nodes : List Node) (types : List Ty) (way : declared.Arrived) (place :
   }
 
 -- the first of the ways that are left, and the others
-pub joined_next : (nodes : List Node) (types : List Ty) (place : ℕ) (sort : Sort) (ways : List declared.Arrived) (i : ℕ) (way : declared.Arrived) → way ≡ get_or ways i way → i < length ways → AreArrived nodes types (drop i ways) → AreThere place sort (arrivals_in nodes (drop i ways))
+pub joined_next : (nodes : List Node) (types : List Ty) (place : ℕ) (sort : Sort) (ways : List DeclaredArrived) (i : ℕ) (way : DeclaredArrived) → way ≡ get_or ways i way → i < length ways → AreArrived nodes types (drop i ways) → AreThere place sort (arrivals_in nodes (drop i ways))
     → IsArrived nodes types way × IsThere place sort (arrival_in nodes way) × AreArrived nodes types (drop (i + 1) ways) × AreThere place sort (arrivals_in nodes (drop (i + 1) ways))
 joined_next nodes types place sort ways i way e lt are there =
     let is = drop_next ways i way e lt in
     let are = subst (AreArrived nodes types) is are in
-    let there = subst (λ (left : List declared.Arrived). AreThere place sort (arrivals_in nodes left)) is there in
+    let there = subst (λ (left : List DeclaredArrived). AreThere place sort (arrivals_in nodes left)) is there in
     (are.0, there.0, are.1, there.1)
 
--- what is said of one way, in tables that have grown
-pub said_joined : (old here mid : List Node) (types : List Ty) (way : declared.Arrived) (ty : Ty) (place a m n : ℕ) → Grows old here → Grows here mid → IsArrived old types way → IsThere place (sort_of_type ty) (arrival_in old way) → IsTerm (sort_of_type ty) old a
-    → m ≡ get_or way.terms.items place m → Stands mid (equal_in ty (tree_at here a) (tree_at here m)) n
-    → assume (path_in mid way.path) (tree_at mid n) ≡ assume (path_in old way.path) (equal_in ty (tree_at old a) (term_at (arrival_in old way) place))
-said_joined old here mid types way ty place a m n g h arrived there is e stands =
+-- what is said of one way, in a table that has grown
+pub said_joined : (old here : List Node) (types : List Ty) (way : DeclaredArrived) (ty : Ty) (place a m : ℕ) → Grows old here → IsArrived old types way → IsThere place (sort_of_type ty) (arrival_in old way) → IsTerm (sort_of_type ty) old a
+    → m ≡ get_or way.terms.items place m
+    → assume_there ty (tree_at here a) (path_in here way.path) (tree_at here m) ≡ assume_there ty (tree_at old a) (path_in old way.path) (term_at (arrival_in old way) place)
+said_joined old here types way ty place a m g arrived there is e =
     let sort = sort_of_type ty in
-    let path = path_same old mid way.path (grows_then old here mid g h) (path_is old way.path arrived.path) in
+    let path = path_same old here way.path g (path_is old way.path arrived.path) in
     let first = tree_stays sort old here a g is in
     let second = tree_stays sort old here m g (subst (IsTerm sort old) (sym e) (term_joined old types way place sort there m arrived)) ∙ ap (tree_at old) e ∙ tree_joined old types way place sort there m in
-    let tree = stands.tree_is ∙ (λ i. equal_in ty (first i) (second i)) in
-    λ i. assume (path i) (tree i)
+    λ i. assume_there ty (first i) (path i) (second i)

@@ -1,18 +1,9 @@
 -- Locals that have again the terms that they had.
-use Rattle.std.proofs.Common.{◌≡◌, ◌⊎◌, inl, inr, ℕ, List, [], ◌∷◌, ◌++◌, refl, sym, ap}
-use Rattle.std.proofs.lemmas.Bool.{eq-eqb, ne_eqb}
-use Rattle.df_meaning.proofs.Stating.{is_or_not}
-use Rattle.df_nterm.specs.Term.{Term}
-use Rattle.df_nterm.specs.Expressions.{Environment}
-use Rattle.df_npass.specs.Rules.{with_term}
-use Rattle.df_nflow.specs.Ways.{Kept, back}
+use Rattle.df_nflow.proofs.Words.{◌≡◌, ◌⊎◌, inl, inr, ℕ, List, [], ◌∷◌, ◌++◌, refl, sym, ap, eq-eqb, ne_eqb, is_or_not, Term, Environment, with_term, Kept, back}
 
 pub back_append : (xs ys : List Kept) (env : Environment) → back (xs ++ ys) env ≡ back xs (back ys env)
 back_append [] ys env = refl
 back_append (x ∷ xs) ys env = ap (λ (e : Environment). with_term e x.local x.term) (back_append xs ys env)
-
-pub with_here : (env : Environment) (k : ℕ) (a : Term) → with_term env k a k ≡ a
-with_here env k a = rw (eq-eqb k k refl) refl
 
 pub with_other : (env : Environment) (k n : ℕ) (a : Term) → (n ≡ k → ⊥) → with_term env k a n ≡ env n
 with_other env k n a h = rw (ne_eqb n k h) refl

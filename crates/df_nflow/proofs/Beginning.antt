@@ -1,9 +1,5 @@
 -- Where a method begins: its arguments, and a term for each other local.
-use Rattle.std.proofs.Common.{◌≡◌, ℕ, zero, suc, pos, List, [], ◌∷◌, ◌++◌, map, drop, length, slice_index_or, refl, sym, ap, ◌∙◌}
-use Rattle.df_lang.specs.declared.ty.Ty.{Ty}
-use Rattle.df_nterm.specs.Term.{Term, literal, sort_of_type}
-use Rattle.df_nterm.specs.Expressions.{Environment}
-use Rattle.df_npass.specs.Methods.{some_term, unset}
+use Rattle.df_nflow.proofs.Words.{◌≡◌, ℕ, zero, suc, pos, List, [], ◌∷◌, ◌++◌, map, drop, length, slice_index_or, refl, sym, ap, ◌∙◌, Ty, Term, literal, sort_of_type, Environment, some_term, unset}
 
 abbrev some : Ty → Term
 some ty = some_term (sort_of_type ty)

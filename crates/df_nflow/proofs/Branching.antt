@@ -1,25 +1,9 @@
 -- Branches one after the other, and where they come together.
-use Rattle.std.proofs.Common.{◌≡◌, ℕ, Bool, true, false, ◌||◌, if◌then◌else◌, List, [], ◌∷◌, ◌++◌, map, length, take, drop, Option, refl, sym, ap, ◌∙◌, subst, append-nil}
-use Rattle.std.specs.List.{AllZip}
-use Rattle.df_lemmas.proofs.Alls.{all_joined}
-use Rattle.df_lang.specs.declared.ty.Ty.{Ty}
-use Rattle.df_form.specs.Node.{Node}
-use Rattle.df_nenc.specs.Growing.{Grows}
-use Rattle.df_meaning.specs.Modular.{Changed}
-use Rattle.df_nterm.specs.Term.{Term}
-use Rattle.df_nterm.specs.Expressions.{Environment}
-use Rattle.df_npass.specs.Rules.{Said, Way, Joined, join_branches, paths_of, any_path}
-use Rattle.df_npass.specs.Statements.{Flow, Parted, ways_of, last_of, first_of, path_behind, rejoined}
-use Rattle.df_nflow.specs.Ways.{Kept, back, Arrival, arrival, IsSortedWay}
-use Rattle.df_nflow.specs.Standing.{Standing, also, at_path, over_terms, way_if, Passes, Joins}
-use Rattle.df_nflow.specs.Branches.{Ended, IsEnded, AreEnded, Parts}
-use Rattle.df_nflow.specs.Joining.{paths_in}
-use Rattle.df_nflow.specs.Views.{arrival_in, arrivals_in, ended_in, all_ended_in, AreArrived}
-use Rattle.df_nflow.specs.declared.way.Arrived as declared
-use Rattle.df_nflow.proofs.Growing.{arrival_same, all_kept_same}
+use Rattle.df_nflow.proofs.Words.{◌≡◌, ℕ, Bool, true, false, ◌||◌, if◌then◌else◌, List, [], ◌∷◌, ◌++◌, map, length, take, drop, Option, refl, sym, ap, ◌∙◌, subst, append-nil, AllZip, all_joined, Ty, Node, Grows, Changed, Term, Environment, Said, Way, Joined, join_branches, paths_of, any_path, Flow, Parted, ways_of, last_of, first_of, path_behind, rejoined, Kept, back, Arrival, arrival, IsSortedWay, Standing, also, at_path, over_terms, way_if, Passes, Joins, Ended, IsEnded, AreEnded, Parts, paths_in, arrival_in, arrivals_in, ended_in, all_ended_in, AreArrived, DeclaredArrived}
+use Rattle.df_nflow.proofs.Waiting.{arrival_same, all_kept_same}
 use Rattle.df_nflow.proofs.Arriving.{ended_arrive}
-use Rattle.df_nflow.proofs.Joining.{paths_joined}
-use Rattle.df_nflow.proofs.Flowing.{ends_join, ends_mapped}
+use Rattle.df_nflow.proofs.Changes.{paths_joined}
+use Rattle.df_nflow.proofs.Flowing.{ends_join, ends_mapped, same_or}
 use Rattle.df_nflow.proofs.Trailing.{taken, dropped}
 
 pub zip_joined : {A B : Type 0} (R : A → B → Type 0) (xs zs : List A) (ys ws : List B) → AllZip R xs ys → AllZip R zs ws → AllZip R (xs ++ zs) (ys ++ ws)
@@ -28,19 +12,16 @@ zip_joined R [] zs (y ∷ ys) ws h k = absurd h
 zip_joined R (x ∷ xs) zs [] ws h k = absurd h
 zip_joined R (x ∷ xs) zs (y ∷ ys) ws h k = (h.0, zip_joined R xs zs ys ws h.1 k)
 
-same_or : (a b c d : Bool) → a ≡ c → b ≡ d → (a || b) ≡ (c || d)
-same_or a b c d e f = ap (λ x. x || b) e ∙ ap (λ y. c || y) f
-
 -- the way at the end of a branch, if runs go on there
 abbrev pub ended_if : Bool → Ended → List Ended
 ended_if on ended = if on then ended ∷ [] else []
 
-pub all_ended_if : (nodes : List Node) (on : Bool) (a : declared.Arrived) (arrived : List declared.Arrived) → arrived ≡ (if on then a ∷ [] else []) → all_ended_in nodes arrived ≡ ended_if on (ended_in nodes a)
+pub all_ended_if : (nodes : List Node) (on : Bool) (a : DeclaredArrived) (arrived : List DeclaredArrived) → arrived ≡ (if on then a ∷ [] else []) → all_ended_in nodes arrived ≡ ended_if on (ended_in nodes a)
 all_ended_if nodes true a arrived e = ap (all_ended_in nodes) e
 all_ended_if nodes false a arrived e = ap (all_ended_in nodes) e
 
 -- in a table that has grown, ways at the ends of branches are what they were
-pub all_ended_same : (before now : List Node) (types : List Ty) → Grows before now → (arrived : List declared.Arrived) → AreArrived before types arrived → all_ended_in now arrived ≡ all_ended_in before arrived
+pub all_ended_same : (before now : List Node) (types : List Ty) → Grows before now → (arrived : List DeclaredArrived) → AreArrived before types arrived → all_ended_in now arrived ≡ all_ended_in before arrived
 all_ended_same before now types g [] are = refl
 all_ended_same before now types g (a ∷ others) are =
     let one = arrival_same before now g types a are.0 in
@@ -48,7 +29,7 @@ all_ended_same before now types g (a ∷ others) are =
     let rest = all_ended_same before now types g others are.1 in
     λ i. record { arrival = one i; ahead = ahead i } ∷ rest i
 
-pub arrivals_ended : (nodes : List Node) (arrived : List declared.Arrived) → arrivals_in nodes arrived ≡ map (λ (e : Ended). e.arrival) (all_ended_in nodes arrived)
+pub arrivals_ended : (nodes : List Node) (arrived : List DeclaredArrived) → arrivals_in nodes arrived ≡ map (λ (e : Ended). e.arrival) (all_ended_in nodes arrived)
 arrivals_ended nodes [] = refl
 arrivals_ended nodes (a ∷ others) = ap (λ (rest : List Arrival). arrival_in nodes a ∷ rest) (arrivals_ended nodes others)
 

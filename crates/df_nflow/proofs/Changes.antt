@@ -1,21 +1,9 @@
--- Locals that are changed: those of the types, one after the other.
-use Rattle.std.proofs.Common.{◌≡◌, ℕ, true, List, [], ◌∷◌, slice_get, Some, sym, ap, ◌∙◌, subst, append-nil}
-use Rattle.std.specs.List.{list_all}
-use Rattle.std.proofs.lemmas.Bool.{and_parts}
-use Rattle.std.proofs.lemmas.Option.{same_Some, slice_get_within}
-use Rattle.df_lang.specs.declared.ty.Ty.{Ty}
-use Rattle.df_form.specs.Node.{Node}
-use Rattle.df_meaning.specs.Modular.{Changed}
-use Rattle.df_nterm.specs.Term.{Term, sort_of_type}
-use Rattle.df_nenc.specs.Standing.{IsTerm}
-use Rattle.df_npass.specs.Rules.{Said, over, with_term}
-use Rattle.df_npass.specs.Statements.{saying}
+-- What statements change, and the locals that come together.
+use Rattle.df_nflow.proofs.Words.{◌≡◌, ℕ, true, List, [], ◌∷◌, slice_get, Some, sym, ap, ◌∙◌, subst, append-nil, zero, suc, pos, Bool, ◌&&◌, ◌++◌, map, drop, slice_index_or, Option, refl, list_all, and_parts, same_Some, slice_get_within, Ty, Node, Changed, Term, sort_of_type, literal, same_term, Environment, IsTerm, Said, over, with_term, Way, Moved, either_path, paths_of, assume_there, free_of, are_same, assume_joined, join_locals, saying, Standing, Moves, is_at, are_at, IsKept, arrival, term_at, are_same_at, assume_joined_at, join_locals_from, paths_in, head_same, tail_same}
 use Rattle.df_npass.proofs.Turns.{type_there}
-use Rattle.df_nflow.specs.Standing.{Standing, Moves}
-use Rattle.df_nflow.specs.Typed.{is_at, are_at}
-use Rattle.df_nflow.specs.Views.{IsKept}
 use Rattle.df_nflow.proofs.Flowing.{moves_then}
 use Rattle.df_nflow.proofs.Standings.{also_fresh, moves_with}
+use Rattle.df_nflow.proofs.Once.{same_when}
 
 pub at_first : (types : List Ty) (c : Changed) (others : List Changed) → are_at types (c ∷ others) ≡ true → is_at types c.local c.ty ≡ true
 at_first types c others is = (and_parts (is_at types c.local c.ty) (list_all (λ (d : Changed). is_at types d.local d.ty) others) is).0
@@ -45,3 +33,60 @@ module _ (here mid next : Standing) (said : List Said) (fresh local : ℕ) (a b 
       let r = subst (λ (t : Term). Moves (also_fresh said fresh here) (saying [] fresh (over (with_term here.way.env local t) here.way)) next) same q in
       subst (λ (all : List Said). Moves here (saying all fresh (over (with_term here.way.env local b) here.way)) next) (append-nil said)
       (moves_then here (also_fresh said fresh here) next (saying said fresh here.way) (saying [] fresh (over (with_term here.way.env local b) here.way)) (moves_with here said fresh) r)
+
+-- what stands behind a place
+pub rest_behind : {A : Type 0} (xs : List A) (n : ℕ) (x : A) (others : List A) → drop n xs ≡ x ∷ others → drop (suc n) xs ≡ others
+rest_behind [] zero x others e = absurd cc
+rest_behind [] (suc n) x others e = absurd cc
+rest_behind (y ∷ ys) zero x others e = tail_same y x ys others e
+rest_behind (y ∷ ys) (suc n) x others e = rest_behind ys n x others e
+
+pub mapped_there : {A : Type 0} (f : A → Term) (xs : List A) (n : ℕ) (x : A) (others : List A) (d : Term) → drop n xs ≡ x ∷ others → slice_index_or (map f xs) n d ≡ f x
+mapped_there f [] zero x others d e = absurd cc
+mapped_there f [] (suc n) x others d e = absurd cc
+mapped_there f (y ∷ ys) zero x others d e = ap f (head_same y x ys others e)
+mapped_there f (y ∷ ys) (suc n) x others d e = mapped_there f ys n x others d e
+
+module _ (whole : List Changed) (place : ℕ) (c : Changed) (others : List Changed) (is : drop place whole ≡ c ∷ others) where
+  pub term_there : (way : Way) → term_at (arrival whole way) place ≡ way.env c.local
+  term_there way = mapped_there (λ (c : Changed). way.env c.local) whole place c others (literal (pos 0)) is
+
+  pub same_there : (a : Term) (ways : List Way) → are_same_at a place (map (arrival whole) ways) ≡ are_same a ways c.local
+  same_there a [] = refl
+  same_there a (way ∷ ways) =
+      ap (λ (t : Term). same_term a t && are_same_at a place (map (arrival whole) ways)) (term_there way)
+      ∙ ap (λ (b : Bool). same_term a (way.env c.local) && b) (same_there a ways)
+
+  pub joined_there : (ty : Ty) (a : Term) (ways : List Way) → assume_joined_at ty place a (map (arrival whole) ways) ≡ assume_joined ty c.local a ways
+  joined_there ty a [] = refl
+  joined_there ty a (way ∷ ways) =
+      ap (λ (t : Term). assume_there ty a way.path t ++ assume_joined_at ty place a (map (arrival whole) ways)) (term_there way)
+      ∙ ap (λ (said : List Said). assume_there ty a way.path (way.env c.local) ++ said) (joined_there ty a ways)
+
+abbrev behind : List Said → Moved → Moved
+behind said more = record { said = said ++ more.said; fresh = more.fresh; way = more.way }
+
+module _ (whole : List Changed) (ways : List Way) where
+  pub locals_from : (place : ℕ) (left : List Changed) (fresh : ℕ) (env : Environment) (path : Option Term) → drop place whole ≡ left
+      → join_locals_from place left (map (arrival whole) ways) fresh env path ≡ join_locals left ways fresh env path
+  locals_from place [] fresh env path e = refl
+  locals_from place (c ∷ others) fresh env path e =
+      let rest = rest_behind whole place c others e in
+      let free = free_of fresh c.ty in
+      same_when (are_same_at (env c.local) place (map (arrival whole) ways)) (are_same (env c.local) ways c.local)
+      (join_locals_from (suc place) others (map (arrival whole) ways) fresh env path)
+      (behind (assume_joined_at c.ty place free (map (arrival whole) ways)) (join_locals_from (suc place) others (map (arrival whole) ways) (suc fresh) (with_term env c.local free) path))
+      (join_locals others ways fresh env path)
+      (behind (assume_joined c.ty c.local free ways) (join_locals others ways (suc fresh) (with_term env c.local free) path))
+      (same_there whole place c others e (env c.local) ways)
+      (locals_from (suc place) others fresh env path rest)
+      (ap (λ (said : List Said). behind said (join_locals_from (suc place) others (map (arrival whole) ways) (suc fresh) (with_term env c.local free) path)) (joined_there whole place c others e c.ty free ways)
+      ∙ ap (behind (assume_joined c.ty c.local free ways)) (locals_from (suc place) others (suc fresh) (with_term env c.local free) path rest))
+
+  -- locals of several ways
+  pub locals_joined : (fresh : ℕ) (env : Environment) (path : Option Term) → join_locals_from 0 whole (map (arrival whole) ways) fresh env path ≡ join_locals whole ways fresh env path
+  locals_joined fresh env path = locals_from 0 whole fresh env path refl
+
+pub paths_joined : (whole : List Changed) (ways : List Way) → paths_in (map (arrival whole) ways) ≡ paths_of ways
+paths_joined whole [] = refl
+paths_joined whole (way ∷ ways) = ap (either_path way.path) (paths_joined whole ways)

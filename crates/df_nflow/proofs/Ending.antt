@@ -1,16 +1,7 @@
 -- What is said at the end of a method, where its ways out come together.
-use Rattle.std.proofs.Common.{◌≡◌, Bool, true, false, List, [], ◌++◌, map, Option, sym, ap, ◌∙◌, subst, append_assoc}
-use Rattle.std.proofs.lemmas.List.{map-append}
-use Rattle.df_lemmas.proofs.Alls.{all_joined}
-use Rattle.df_lang.specs.Stmt.{Clause}
-use Rattle.df_meaning.specs.Modular.{Changed}
-use Rattle.df_npass.specs.Rules.{Said, Way, Joined, paths_of, any_path, join}
-use Rattle.df_npass.specs.Statements.{Flow, ways_of}
-use Rattle.df_nflow.specs.Methods.{also_returns, at_end, owed_at, ended_over}
-use Rattle.df_nflow.specs.Standing.{Standing, also, way_if, Passes, Joins}
-use Rattle.df_nflow.specs.Ways.{Kept, back, Arrival, arrival, IsSortedWay, AreSortedWays, Arrive}
+use Rattle.df_nflow.proofs.Words.{◌≡◌, Bool, true, false, List, [], ◌++◌, map, Option, sym, ap, ◌∙◌, subst, append_assoc, map-append, all_joined, Clause, Changed, Said, Way, Joined, paths_of, any_path, join, Flow, ways_of, also_returns, at_end, owed_at, ended_over, Standing, also, way_if, Passes, Joins, Kept, back, Arrival, arrival, IsSortedWay, AreSortedWays, Arrive}
 
-in_order : (a b c d : List Said) → ((a ++ b) ++ c) ++ d ≡ a ++ (b ++ (c ++ d))
+pub in_order : (a b c d : List Said) → ((a ++ b) ++ c) ++ d ≡ a ++ (b ++ (c ++ d))
 in_order a b c d = simp append_assoc
 
 module _ (changed : List Changed) where

@@ -1,36 +1,7 @@
 -- The locals of a method have terms where it begins.
-use Rattle.std.proofs.Common.{◌&&◌, ◌≡◌, ◌⊎◌, inl, inr, ◌+◌, ◌<◌, ◌≤◌, ℕ, true, false, zero, suc, pos, List, [], ◌∷◌, ◌++◌, map, drop, length, slice_get, slice_index_or, Option, None, Some, refl, sym, ap, ◌∙◌, subst, arith}
-use Rattle.std.specs.List.{list_all, AllByRecursion}
-use Rattle.std.specs.Option.{option_map_or}
-use Rattle.std.proofs.lemmas.Bool.{and_from, and_parts, cases_lt}
-use Rattle.std.proofs.lemmas.List.{length-append, length-drop, length-map, map-append}
-use Rattle.std.proofs.lemmas.Option.{same_Some, slice_get_within}
-use Rattle.df_lemmas.proofs.Lists.{get_below}
-use Rattle.df_lang.specs.declared.ty.Ty.{Ty}
-use Rattle.df_lang.specs.Program.{Param, Method, Program, types_of}
-use Rattle.df_lang.specs.Typing.{same_type, is_type, are_clauses, are_measures, are_stmts, is_method}
-use Rattle.df_meaning.specs.Modular.{Changed}
-use Rattle.df_meaning.proofs.Stating.{same_self, Within, before_all, within_front}
-use Rattle.df_form.specs.Node.{Node}
-use Rattle.df_nterm.specs.Term.{Sort, Numbers, Truths, Characters, Term, literal, sort_of_type}
-use Rattle.df_nterm.specs.Expressions.{Environment}
-use Rattle.df_nenc.specs.Standing.{AreLocals}
-use Rattle.df_nenc.specs.Tree.{path_in, sort_of_term, tree_at, tree_among, trees_at, trees_in}
-use Rattle.df_nenc.proofs.Parts.{local_tree}
-use Rattle.df_nmeas.specs.Measuring.{IsMethodOver}
-use Rattle.df_npass.specs.Statements.{Given, any_values}
-use Rattle.df_npass.specs.Methods.{locals_from, locals_of, some_term, unset, way_in}
-use Rattle.df_nflow.specs.declared.ledger.Ledger as declared_ledger
-use Rattle.df_nflow.specs.Calls.{Gives}
-use Rattle.df_nflow.specs.Clauses.{AreClauses}
-use Rattle.df_nflow.specs.Ledger.{ledger_of}
-use Rattle.df_nflow.specs.Methods.{IsTypedMethod}
-use Rattle.df_nflow.specs.Typed.{is_at, are_at, are_over}
-use Rattle.df_nflow.specs.Views.{HaveTerms}
+use Rattle.df_nflow.proofs.Words.{◌&&◌, ◌≡◌, ◌⊎◌, inl, inr, ◌+◌, ◌<◌, ◌≤◌, ℕ, true, false, zero, suc, pos, List, [], ◌∷◌, ◌++◌, map, drop, length, slice_get, slice_index_or, Option, None, Some, refl, sym, ap, ◌∙◌, subst, arith, list_all, AllByRecursion, option_map_or, and_from, and_parts, cases_lt, length-append, length-drop, length-map, map-append, same_Some, slice_get_within, get_below, Ty, Param, Method, Program, types_of, same_type, is_type, are_clauses, are_measures, are_stmts, is_method, Changed, same_self, Within, before_all, within_front, Node, Sort, Numbers, Truths, Characters, Term, literal, sort_of_type, Environment, AreLocals, path_in, sort_of_term, tree_at, tree_among, trees_at, trees_in, local_tree, IsMethodOver, Given, any_values, locals_from, locals_of, some_term, unset, way_in, Gives, AreClauses, ledger_of, DeclaredLedger, IsTypedMethod, is_at, are_at, are_over, HaveTerms, method_parts, any_long}
 use Rattle.df_nflow.proofs.Beginning.{begins}
-use Rattle.df_nflow.proofs.Calling.{method_parts}
-use Rattle.df_nflow.proofs.Giving.{any_long}
-use Rattle.df_nflow.proofs.Places.{locals_are}
+use Rattle.df_nflow.proofs.Terms.{locals_are}
 use Rattle.df_nflow.proofs.Placing.{all_lift}
 
 some_sorted : (sort : Sort) → sort_of_term (some_term sort) ≡ sort
@@ -144,7 +115,7 @@ pub record Enters (m : Method) (nodes : List Node) (terms : List ℕ) : Type 0 w
   pub env : trees_in nodes terms ≡ (way_in m).env
   pub terms_are : HaveTerms nodes (locals_of m) terms
 
-module _ (m : Method) (l0 l1 : declared_ledger.Ledger) (ps : List Param) (new : ledger_of l0 ≡ record { said = []; fresh = 0; path = None }) (parameters : ps ≡ m.parameters) where
+module _ (m : Method) (l0 l1 : DeclaredLedger) (ps : List Param) (new : ledger_of l0 ≡ record { said = []; fresh = 0; path = None }) (parameters : ps ≡ m.parameters) where
   same_given : any_values (path_in l0.nodes l0.path) ps (length l0.frees.items) ≡ any_values None m.parameters 0
   same_given = λ i. any_values (new i).path (parameters i) (new i).fresh
 

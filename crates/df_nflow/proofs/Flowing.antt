@@ -1,14 +1,5 @@
 -- Flows one after the other.
-use Rattle.std.proofs.Common.{◌≡◌, ℕ, Bool, true, false, ◌||◌, List, [], ◌∷◌, ◌++◌, map, Option, None, refl, sym, ap, ◌∙◌, subst, append_assoc, append-nil}
-use Rattle.std.proofs.lemmas.List.{map-append}
-use Rattle.std.proofs.lemmas.Option.{same_Some}
-use Rattle.std.specs.Option.{option_map_or}
-use Rattle.df_lemmas.proofs.Alls.{all_joined}
-use Rattle.df_meaning.specs.Modular.{Changed}
-use Rattle.df_npass.specs.Rules.{Said, Way, Moved}
-use Rattle.df_npass.specs.Statements.{Flow, goes_on, saying, behind, followed_by, then_next, moved_behind}
-use Rattle.df_nflow.specs.Ways.{back, Arrival, arrival, IsSortedWay}
-use Rattle.df_nflow.specs.Standing.{Standing, also, Passes, Moves}
+use Rattle.df_nflow.proofs.Words.{◌≡◌, ℕ, Bool, true, false, ◌||◌, List, [], ◌∷◌, ◌++◌, map, Option, None, refl, sym, ap, ◌∙◌, subst, append_assoc, append-nil, map-append, same_Some, option_map_or, all_joined, Changed, Said, Way, Moved, Flow, goes_on, saying, behind, followed_by, then_next, moved_behind, back, Arrival, arrival, IsSortedWay, Standing, also, Passes, Moves}
 use Rattle.df_nflow.proofs.Backing.{back_append}
 
 -- what stands at the end of each of two lists stands at the end of both
@@ -18,26 +9,8 @@ ends_join a b c xs ys e f = f ∙ ap (λ zs. zs ++ ys) e ∙ append_assoc a xs y
 pub ends_mapped : {A B : Type 0} (g : A → B) (a b c : List B) (xs ys : List A) → b ≡ a ++ map g xs → c ≡ b ++ map g ys → c ≡ a ++ map g (xs ++ ys)
 ends_mapped g a b c xs ys e f = ends_join a b c (map g xs) (map g ys) e f ∙ ap (λ zs. a ++ zs) (sym (map-append g xs ys))
 
-same_or : (a b c d : Bool) → a ≡ c → b ≡ d → (a || b) ≡ (c || d)
+pub same_or : (a b c d : Bool) → a ≡ c → b ≡ d → (a || b) ≡ (c || d)
 same_or a b c d e f = ap (λ x. x || b) e ∙ ap (λ y. c || y) f
-
--- nothing is said where nothing is passed
-pub passes_none : (s : Standing) → Moves s (saying [] s.fresh s.way) s
-passes_none s = record {
-  types = refl;
-  entry = refl;
-  said = sym (append-nil s.said);
-  fresh = refl;
-  way = refl;
-  loses = refl;
-  kept = [];
-  trail = sym (append-nil s.trail);
-  back = refl;
-  breaks = sym (append-nil s.breaks);
-  returns = sym (append-nil s.returns);
-  sorted_breaks = tt;
-  sorted_returns = tt;
-}
 
 -- what is said where the way stays as it is
 pub passes_also : (s : Standing) (said : List Said) → Moves s (saying said s.fresh s.way) (also said s)
@@ -56,6 +29,11 @@ passes_also s said = record {
   sorted_breaks = tt;
   sorted_returns = tt;
 }
+
+-- nothing is said where nothing is passed
+pub passes_none : (s : Standing) → Moves s (saying [] s.fresh s.way) s
+passes_none s =
+    subst (λ (t : Standing). Moves s (saying [] s.fresh s.way) t) (λ i. record { types = s.types; entry = s.entry; said = append-nil s.said i; fresh = s.fresh; way = s.way; trail = s.trail; breaks = s.breaks; returns = s.returns }) (passes_also s [])
 
 module _ (in_loop in_method : List Changed) where
   -- where no run leaves, it is all the same where exits lead to

@@ -1,20 +1,11 @@
 -- What goes on from what is done completes the whole.
-use Rattle.std.proofs.Common.{◌≡◌, ℕ, suc, Bool, true, false, ◌||◌, List, [], ◌∷◌, ◌++◌, Option, refl, sym, subst, append_assoc}
+use Rattle.df_nflow.proofs.Words.{◌≡◌, ℕ, suc, Bool, true, false, ◌||◌, List, [], ◌∷◌, ◌++◌, Option, refl, sym, subst, append_assoc, Target, Changed, Term, Said, Way, Moved, havoc, Flow, goes_on, saying, then_next, Taken, give_all, Parted, last_of, first_of, Arrival, Standing, also, at_path, Passes, Moves, Ended, Parts, join_locals_from}
 use Rattle.std.proofs.Math.Bool.{or_assoc}
-use Rattle.df_lang.specs.Stmt.{Target}
-use Rattle.df_meaning.specs.Modular.{Changed}
-use Rattle.df_nterm.specs.Term.{Term}
-use Rattle.df_npass.specs.Rules.{Said, Way, Moved, havoc}
-use Rattle.df_npass.specs.Statements.{Flow, goes_on, saying, then_next, Taken, give_all, Parted, last_of, first_of}
-use Rattle.df_nflow.specs.Ways.{Arrival}
-use Rattle.df_nflow.specs.Standing.{Standing, also, at_path, Passes, Moves}
-use Rattle.df_nflow.specs.Branches.{Ended, Parts}
-use Rattle.df_nflow.specs.Joining.{join_locals_from}
 use Rattle.df_nflow.proofs.Flowing.{passes_none, moves_pass, passes_next}
 use Rattle.df_nflow.proofs.Branching.{parts_first}
 use Rattle.df_nflow.proofs.Stepping.{one_havoc, havoc_step, one_give, give_step, join_step}
 
-or_none : (b : Bool) → (b || false) ≡ b
+pub or_none : (b : Bool) → (b || false) ≡ b
 or_none true = refl
 or_none false = refl
 
@@ -63,9 +54,6 @@ module _ (in_loop in_method : List Changed) where
   module _ (changed : List Changed) where
     pub record Parting (first : Standing) (whole : Parted) (here : Standing) (left : Parted) (ended : List Ended) (lost : Bool) : Type 0 where
       pub by : (last : Standing) (more : List Ended) (l : Bool) → Parts changed in_loop in_method here left last more l → Parts changed in_loop in_method first whole last (ended ++ more) (lost || l)
-
-    pub parting_from : (a : Standing) (whole : Parted) → Parting a whole a whole [] false
-    parting_from a whole = record { by = λ last more l p. p }
 
     pub parting_on : (first here next : Standing) (whole : Parted) (asked : List Said) (inside past : Option Term) (flow : Flow) (rest : ℕ → Parted) (ended one : List Ended) (lost l : Bool)
         → Parting first whole here (first_of asked flow rest) ended lost → Parts changed in_loop in_method (at_path inside (also asked here)) (last_of flow) next one l

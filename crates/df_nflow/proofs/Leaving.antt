@@ -1,21 +1,22 @@
--- Ways that leave a loop or a method.
-use Rattle.std.proofs.Common.{◌≡◌, ℕ, Bool, true, false, List, [], ◌∷◌, ◌++◌, map, None, refl, sym, ap, ◌∙◌, subst, append-nil}
-use Rattle.std.proofs.lemmas.List.{map-append}
-use Rattle.df_lang.specs.declared.ty.Ty.{Ty}
-use Rattle.df_form.specs.Node.{Node}
-use Rattle.df_meaning.specs.Modular.{Changed}
-use Rattle.df_nenc.specs.Tree.{sort_of_term, trees_in}
-use Rattle.df_nenc.proofs.Parts.{env_sorted}
-use Rattle.df_nterm.specs.Expressions.{Environment}
-use Rattle.df_npass.specs.Rules.{Way}
-use Rattle.df_npass.specs.Statements.{Flow}
-use Rattle.df_nflow.specs.Standing.{Standing, Passes}
-use Rattle.df_nflow.specs.Typed.{are_at}
-use Rattle.df_nflow.specs.Views.{HaveTerms, arrival_in, arrivals_in}
-use Rattle.df_nflow.specs.Ways.{Arrival, arrival, IsSortedWay, AreSortedWays}
-use Rattle.df_nflow.specs.declared.way.Arrived as declared
+-- Ways that lead out of a loop or a method.
+use Rattle.df_nflow.proofs.Words.{◌≡◌, ℕ, suc, ◌+◌, List, [], ◌∷◌, ◌++◌, length, refl, sym, ap, ◌∙◌, arith, Bool, true, false, map, None, subst, append-nil, length-map, map-append, Param, Ty, Changed, locals_from, Way, Flow, changed_of, changed_in, HaveTerms, arrival_in, arrivals_in, DeclaredChanged, Standing, Passes, are_at, Arrival, arrival, IsSortedWay, AreSortedWays, DeclaredArrived, Node, sort_of_term, trees_in, env_sorted, Environment}
 use Rattle.df_nflow.proofs.Changes.{at_first, at_rest, type_at}
-use Rattle.df_nflow.proofs.Places.{locals_are}
+use Rattle.df_nflow.proofs.Terms.{locals_are}
+
+locals_joined : (first second : List Param) (k n : ℕ) → n ≡ k + length first → locals_from k (first ++ second) ≡ locals_from k first ++ locals_from n second
+locals_joined [] second k n e = ap (λ (m : ℕ). locals_from m second) (let same : k ≡ n = omega arith in same)
+locals_joined (p ∷ first) second k n e = ap (λ (cs : List Changed). record { local = k; ty = p.ty } ∷ cs) (locals_joined first second (suc k) n (omega arith))
+
+many : (params : List Param) (k : ℕ) → length (locals_from k params) ≡ length params
+many [] k = refl
+many (p ∷ params) k = ap suc (many params (suc k))
+
+pub exits_are : (first second : List Param) (none one two : List DeclaredChanged) → none ≡ [] → changed_in one ≡ changed_in none ++ locals_from (length none) first → changed_in two ≡ changed_in one ++ locals_from (length one) second
+    → changed_in two ≡ locals_from 0 (first ++ second)
+exits_are first second none one two e f g =
+    let front : changed_in one ≡ locals_from 0 first = f ∙ ap (λ (ds : List DeclaredChanged). changed_in ds ++ locals_from (length ds) first) e in
+    let long : length one ≡ 0 + length first = omega (arith, length-map one changed_of, ap (λ (cs : List Changed). length cs) front, many first 0) in
+    g ∙ ap (λ (cs : List Changed). cs ++ locals_from (length one) second) front ∙ sym (locals_joined first second 0 (length one) long)
 
 pub sorted_way : (nodes : List Node) (types : List Ty) (terms : List ℕ) (way : Way) (changed : List Changed) → way.env ≡ trees_in nodes terms → HaveTerms nodes types terms → are_at types changed ≡ true → IsSortedWay changed way
 sorted_way nodes types terms way [] e h at = tt
@@ -25,7 +26,7 @@ sorted_way nodes types terms way (c ∷ others) e h at = (
 )
 
 -- one way more waits
-pub one_more : (nodes : List Node) (before after : List declared.Arrived) (one : declared.Arrived) (arrived : Arrival) → after ≡ before ++ one ∷ [] → arrival_in nodes one ≡ arrived → arrivals_in nodes after ≡ arrivals_in nodes before ++ arrived ∷ []
+pub one_more : (nodes : List Node) (before after : List DeclaredArrived) (one : DeclaredArrived) (arrived : Arrival) → after ≡ before ++ one ∷ [] → arrival_in nodes one ≡ arrived → arrivals_in nodes after ≡ arrivals_in nodes before ++ arrived ∷ []
 one_more nodes before after one arrived e same =
     ap (arrivals_in nodes) e ∙ map-append (arrival_in nodes) before (one ∷ []) ∙ ap (λ (a : Arrival). arrivals_in nodes before ++ a ∷ []) same
 

@@ -1,14 +1,6 @@
 -- What is well typed over locals is so over those of the whole method.
-use Rattle.std.proofs.Common.{◌≡◌, ℕ, Bool, true, false, ◌&&◌, List, [], ◌∷◌, slice_get, Option, None, Some, refl, ap, ◌∙◌}
-use Rattle.std.specs.Option.{option_map_or}
-use Rattle.std.proofs.lemmas.Bool.{and_parts, and_from}
-use Rattle.df_lang.specs.declared.ty.Ty.{Ty}
+use Rattle.df_nflow.proofs.Words.{◌≡◌, ℕ, Bool, true, false, ◌&&◌, List, [], ◌∷◌, slice_get, Option, None, Some, refl, ap, ◌∙◌, option_map_or, and_parts, and_from, Ty, Expr, Number, Truth, Character, Local, Negate, Not, Sum, Product, Junction, Implies, Iff, Chain, As, Convert, Addends, no_addend, addend, Factors, no_factor, factor, Members, no_member, member, Links, no_link, link, Clause, Measure, Program, same_type, is_type, is_arithmetic, converts, casts, compares, is_expr, are_addends, are_factors, are_members, are_links, are_exprs, are_clauses, are_measures, Within, all_weaker}
 use Rattle.df_lang.specs.declared.ty.Ty.TheVariants as types
-use Rattle.df_lang.specs.Expr.{Expr, Number, Truth, Character, Local, Negate, Not, Sum, Product, Junction, Implies, Iff, Chain, As, Convert, Addends, no_addend, addend, Factors, no_factor, factor, Members, no_member, member, Links, no_link, link}
-use Rattle.df_lang.specs.Stmt.{Clause, Measure}
-use Rattle.df_lang.specs.Program.{Program}
-use Rattle.df_lang.specs.Typing.{same_type, is_type, is_arithmetic, converts, casts, compares, is_expr, are_addends, are_factors, are_members, are_links, are_exprs, are_clauses, are_measures}
-use Rattle.df_meaning.proofs.Stating.{Within}
 
 -- the second part of two truths is replaced
 last_one : (a b c : Bool) → (b ≡ true → c ≡ true) → (a && b) ≡ true → (a && c) ≡ true
@@ -87,13 +79,10 @@ module _ (program : Program) (locals all : List Ty) (within : Within locals all)
       two_more (is_expr program locals ty e) (are_exprs program locals more others) (is_expr program all ty e) (are_exprs program all more others) (expr_lifts ty e) (exprs_lift more others) is
 
   pub clauses_lift : (clauses : List Clause) → are_clauses program locals clauses ≡ true → are_clauses program all clauses ≡ true
-  clauses_lift [] is = refl
-  clauses_lift (clause ∷ others) is =
-      two_more (is_expr program locals types.Bool clause.condition) (are_clauses program locals others) (is_expr program all types.Bool clause.condition) (are_clauses program all others) (expr_lifts types.Bool clause.condition) (clauses_lift others) is
+  clauses_lift clauses is = all_weaker (λ (c : Clause). is_expr program locals types.Bool c.condition) (λ (c : Clause). is_expr program all types.Bool c.condition) clauses (λ c e. expr_lifts types.Bool c.condition e) is
 
   pub measures_lift : (decreases : Option (List Measure)) → are_measures program locals decreases ≡ true → are_measures program all decreases ≡ true
   measures_lift None is = refl
-  measures_lift (Some []) is = refl
-  measures_lift (Some (measure ∷ others)) is =
-      two_more (is_type program measure.ty && is_expr program locals measure.ty measure.value) (are_measures program locals (Some others)) (is_type program measure.ty && is_expr program all measure.ty measure.value) (are_measures program all (Some others))
-      (last_one (is_type program measure.ty) (is_expr program locals measure.ty measure.value) (is_expr program all measure.ty measure.value) (expr_lifts measure.ty measure.value)) (measures_lift (Some others)) is
+  measures_lift (Some measures) is =
+      all_weaker (λ (m : Measure). is_type program m.ty && is_expr program locals m.ty m.value) (λ (m : Measure). is_type program m.ty && is_expr program all m.ty m.value) measures
+      (λ m e. last_one (is_type program m.ty) (is_expr program locals m.ty m.value) (is_expr program all m.ty m.value) (expr_lifts m.ty m.value) e) is

@@ -1,35 +1,11 @@
 -- Loops: what is said before the body, the body, and what leads on behind the loop.
-use Rattle.std.proofs.Common.{◌≡◌, ℕ, Bool, true, false, List, [], ◌∷◌, ◌++◌, Option, Some, refl, sym, ap, ◌∙◌, subst, append_assoc, append-nil, suc, map, ◌≤◌, length, take, drop, arith, ◌&&◌}
-use Rattle.std.proofs.lemmas.Option.{same_Some}
-use Rattle.std.specs.Option.{option_map_or}
-use Rattle.df_base.specs.declared.pos.Pos.{Pos}
-use Rattle.df_lang.specs.Expr.{Expr}
-use Rattle.df_lang.specs.Stmt.{Clause, Measure, Stmts, While}
-use Rattle.df_lang.specs.declared.ty.Ty.{Ty}
+use Rattle.df_nflow.proofs.Words.{◌≡◌, ℕ, Bool, true, false, List, [], ◌∷◌, ◌++◌, Option, Some, refl, sym, ap, ◌∙◌, subst, append_assoc, append-nil, suc, map, ◌≤◌, length, take, drop, arith, ◌&&◌, same_Some, option_map_or, Pos, Expr, Clause, Measure, Stmts, While, Ty, Program, is_expr, are_clauses, are_measures, Changed, Term, negation, term_of, Measured, measured, Said, Way, Joined, havoc, narrowed, narrowed_path, join, paths_of, any_path, Flow, behind, assert_turn, behind_loop, at_clause, assert_clauses, assume_clauses, assert_expr, assert_measure, Setting, changed_outside, pass_all, pass_stmt, any_turn, loop_head, loop_past, turned_if, past_loop, join_past, AllThere, and_parts, length-append, length-map, loop_measure, are_at, is_over, are_over, Kept, back, Arrival, arrival, IsSortedWay, Arrive, Standing, also, at_path, way_if, Passes, Moves, Joins}
 use Rattle.df_lang.specs.declared.ty.Ty.TheVariants as tys
-use Rattle.df_lang.specs.Program.{Program}
-use Rattle.df_lang.specs.Typing.{is_expr, are_clauses, are_measures}
 use Rattle.df_meaning.specs.declared.kind.Kind.TheVariants as kinds
-use Rattle.df_meaning.specs.Modular.{Changed}
-use Rattle.df_nterm.specs.Term.{Term, negation}
-use Rattle.df_nterm.specs.Expressions.{term_of}
-use Rattle.df_nterm.specs.Measuring.{Measured, measured}
-use Rattle.df_npass.specs.Rules.{Said, Way, Joined, havoc, narrowed, narrowed_path, join, paths_of, any_path}
-use Rattle.df_npass.specs.Statements.{Flow, behind, assert_turn, behind_loop, at_clause, assert_clauses, assume_clauses, assert_expr, assert_measure, Setting, changed_outside, pass_all, pass_stmt}
-use Rattle.df_nflow.specs.Loops.{any_turn, loop_head, loop_past, turned_if, past_loop, join_past}
-use Rattle.df_nflow.specs.Joining.{AllThere}
-use Rattle.std.proofs.lemmas.Bool.{and_parts}
-use Rattle.std.proofs.lemmas.List.{length-append, length-map}
-use Rattle.df_lang.specs.Measures.{loop_measure}
 use Rattle.df_nflow.proofs.Trailing.{taken, dropped}
-use Rattle.df_nflow.specs.Typed.{are_at, is_over, are_over}
-use Rattle.df_nflow.specs.Ways.{Kept, back, Arrival, arrival, IsSortedWay, Arrive}
-use Rattle.df_nflow.specs.Standing.{Standing, also, at_path, way_if, Passes, Moves, Joins}
 use Rattle.df_nflow.proofs.Arriving.{all_there}
 use Rattle.df_nflow.proofs.Flowing.{ends_join, passes_behind}
-
-in_order : (old owed any known : List Said) → ((old ++ owed) ++ any) ++ known ≡ old ++ (owed ++ (any ++ known))
-in_order old owed any known = simp append_assoc
+use Rattle.df_nflow.proofs.Ending.{in_order}
 
 asked_in_order : (old owed any known asked all : List Said) → ((old ++ (owed ++ (any ++ known))) ++ asked) ++ all ≡ old ++ (owed ++ (any ++ (known ++ (asked ++ all))))
 asked_in_order old owed any known asked all = simp append_assoc

@@ -1,11 +1,6 @@
 -- All that is said of a method is what passing over it says.
-use Rattle.std.proofs.Common.{◌≡◌, ℕ, List, ◌++◌, None, ◌∙◌, append_assoc}
-use Rattle.df_lang.specs.Measures.{method_measure}
-use Rattle.df_lang.specs.Program.{Method, Program}
-use Rattle.df_npass.specs.Rules.{Said}
-use Rattle.df_npass.specs.Statements.{Flow, any_values, assert_measure, pass_all}
-use Rattle.df_npass.specs.Methods.{locals_from, way_in, require_all, setting_of, pass_method}
-use Rattle.df_nflow.specs.Methods.{begun, ended_over}
+use Rattle.df_nflow.proofs.Words.{◌≡◌, ℕ, List, ◌++◌, None, ◌∙◌, append_assoc, method_measure, Method, Program, Said, Flow, any_values, assert_measure, pass_all, locals_from, way_in, require_all, pass_method, begun, ended_over}
+use Rattle.df_npass.specs.Methods.{setting_of}
 
 in_order : (a r m f e : List Said) → ((a ++ r) ++ m) ++ (f ++ e) ≡ a ++ (r ++ (m ++ (f ++ e)))
 in_order a r m f e = simp append_assoc

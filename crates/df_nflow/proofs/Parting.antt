@@ -1,45 +1,17 @@
 -- Branches one after the other: each is passed where its guard is true, and what is left where it is false.
-use Rattle.std.proofs.Common.{◌≡◌, ℕ, Bool, ◌||◌, ◌+◌, ◌<◌, true, List, ◌++◌, Some, drop, get_or, length, sym, ap, ◌∙◌, subst, rules}
-use Rattle.std.proofs.lemmas.List.{map-append}
-use Rattle.df_base.specs.declared.pos.Pos.{Pos}
-use Rattle.df_groups.specs.Parts.{branch_of, stmts_in, branches_in}
-use Rattle.df_lang.specs.declared.stmt.Branch as declared
-use Rattle.df_lang.specs.declared.stmt.Stmt.{the_lemmas}
-use Rattle.df_lang.specs.declared.ty.Ty.{Ty}
-use Rattle.df_lang.specs.Expr.{Expr}
-use Rattle.df_lang.specs.ExprView.{expr_of}
-use Rattle.df_lang.specs.Program.{Program}
-use Rattle.df_lang.specs.Stmt.{Stmts, Branches, no_branch, branch}
-use Rattle.df_lang.specs.StmtView.{Branch}
-use Rattle.df_lang.specs.Typing.{is_expr}
+use Rattle.df_nflow.proofs.Words.{◌≡◌, ℕ, Bool, ◌||◌, ◌+◌, ◌<◌, true, List, ◌++◌, Some, drop, get_or, length, sym, ap, ◌∙◌, subst, rules, map-append, Pos, branch_of, stmts_in, branches_in, the_lemmas, Ty, Expr, expr_of, Program, Stmts, Branches, no_branch, branch, Branch, is_expr, all_joined, Node, Grows, Changed, drop_next, Environment, term_of, Measured, Term, negation, Way, narrowed, narrowed_path, Setting, Parted, last_of, assert_expr, pass_all, pass_branches, Ended, AreEnded, Parts, AllThere, Arrival, Arrive, Standing, also, at_path, are_over, are_branches_over, IsArrived, AreArrived, arrivals_in, ended_in, all_ended_in, DeclaredArrived}
 use Rattle.df_lang.specs.declared.ty.Ty.TheVariants as tys
-use Rattle.df_lemmas.proofs.Alls.{all_joined}
+use Rattle.df_lang.specs.declared.stmt.Branch.{Branch as DeclaredBranch}
 use Rattle.df_lemmas.proofs.Truths.{three}
-use Rattle.df_form.specs.Node.{Node}
-use Rattle.df_nenc.specs.Growing.{Grows}
-use Rattle.df_meaning.specs.Modular.{Changed}
-use Rattle.df_nenc.proofs.Siblings.{drop_next}
-use Rattle.df_nterm.specs.Expressions.{Environment, term_of}
-use Rattle.df_nterm.specs.Measuring.{Measured}
-use Rattle.df_nterm.specs.Term.{Term, negation}
-use Rattle.df_npass.specs.Rules.{Way, narrowed, narrowed_path}
-use Rattle.df_npass.specs.Statements.{Setting, Parted, last_of, assert_expr, pass_all, pass_branches}
-use Rattle.df_nflow.specs.Branches.{Ended, AreEnded, Parts}
-use Rattle.df_nflow.specs.Joining.{AllThere}
-use Rattle.df_nflow.specs.Ways.{Arrival, Arrive}
-use Rattle.df_nflow.specs.Standing.{Standing, also, at_path}
-use Rattle.df_nflow.specs.Typed.{are_over, are_branches_over}
-use Rattle.df_nflow.specs.Views.{IsArrived, AreArrived, arrivals_in, ended_in, all_ended_in}
-use Rattle.df_nflow.specs.declared.way.Arrived as declared_way
 use Rattle.df_nflow.proofs.Arriving.{all_there, ended_arrive}
 use Rattle.df_nflow.proofs.Branching.{all_ended_same, arrivals_ended}
 use Rattle.df_nflow.proofs.Going.{Parting, parting_on}
-use Rattle.df_nflow.proofs.Growing.{all_arrived_stay}
+use Rattle.df_nflow.proofs.Waiting.{all_arrived_stay}
 
-pub branch_seen : (b : declared.Branch) → branch_of b ≡ record { pos = b.pos; guard = expr_of b.guard; body = stmts_in b.body.items }
+pub branch_seen : (b : DeclaredBranch) → branch_of b ≡ record { pos = b.pos; guard = expr_of b.guard; body = stmts_in b.body.items }
 branch_seen b = search (rules, the_lemmas)
 
-module _ (bs : List declared.Branch) (i : ℕ) (b : declared.Branch) (e : b ≡ get_or bs i b) (lt : i < length bs) where
+module _ (bs : List DeclaredBranch) (i : ℕ) (b : DeclaredBranch) (e : b ≡ get_or bs i b) (lt : i < length bs) where
   pub branch_next : branches_in (drop i bs) ≡ branch b.pos (expr_of b.guard) (stmts_in b.body.items) (branches_in (drop (i + 1) bs))
   branch_next = ap branches_in (drop_next bs i b e lt) ∙ ap (λ (x : Branch). branch x.pos x.guard x.body (branches_in (drop (i + 1) bs))) (branch_seen b)
 
@@ -49,7 +21,7 @@ module _ (bs : List declared.Branch) (i : ℕ) (b : declared.Branch) (e : b ≡ 
       three (is_expr program types tys.Bool (expr_of b.guard)) (are_over program types (stmts_in b.body.items)) (are_branches_over program types (branches_in (drop (i + 1) bs))) (sym (ap (are_branches_over program types) branch_next) ∙ is)
 
 -- the ways at the ends of one branch more
-module _ (old new : List Node) (types now : List Ty) (g : Grows old new) (same : now ≡ types) (before one more : List declared_way.Arrived) (e : more ≡ before ++ one) (are : AreArrived old types before) where
+module _ (old new : List Node) (types now : List Ty) (g : Grows old new) (same : now ≡ types) (before one more : List DeclaredArrived) (e : more ≡ before ++ one) (are : AreArrived old types before) where
   pub arrived_more : AreArrived new now one → AreArrived new now more
   arrived_more all = subst (AreArrived new now) (sym e) (all_joined (IsArrived new now) before one (subst (λ (ts : List Ty). AreArrived new ts before) (sym same) (all_arrived_stay old new g types before are)) all)
 
@@ -57,7 +29,7 @@ module _ (old new : List Node) (types now : List Ty) (g : Grows old new) (same :
   ended_more = ap (all_ended_in new) e ∙ map-append (ended_in new) before one ∙ ap (λ (es : List Ended). es ++ all_ended_in new one) (all_ended_same old new types g before are)
 
 -- and where they come together
-pub ended_there : (nodes : List Node) (changed : List Changed) (env : Environment) (all : List declared_way.Arrived) (ways : List Way) → AreEnded changed env (all_ended_in nodes all) ways → AllThere 0 changed (arrivals_in nodes all)
+pub ended_there : (nodes : List Node) (changed : List Changed) (env : Environment) (all : List DeclaredArrived) (ways : List Way) → AreEnded changed env (all_ended_in nodes all) ways → AllThere 0 changed (arrivals_in nodes all)
 ended_there nodes changed env all ways are = all_there changed (arrivals_in nodes all) ways (subst (λ (arrivals : List Arrival). Arrive changed arrivals ways) (sym (arrivals_ended nodes all)) (ended_arrive changed env (all_ended_in nodes all) ways are))
 
 module _ (in_loop in_method changed : List Changed) (of_entry : List Measured → Setting) (otherwise : Stmts) (first here : Standing) (whole left : Branches) (ended : List Ended) (lost : Bool) where

@@ -1,19 +1,12 @@
 -- Where passing stands once its ledger has gone on.
-use Rattle.std.proofs.Common.{◌≡◌, ℕ, List, sym, ap, ◌∙◌, subst}
-use Rattle.df_nenc.specs.Growing.{Grows}
-use Rattle.df_nenc.specs.Standing.{AreLocals}
-use Rattle.df_npass.specs.Rules.{Said}
-use Rattle.df_nflow.specs.Ledger.{ledger_of, way_of, saying, with_fresh}
-use Rattle.df_nflow.specs.PassedView.{standing_of}
-use Rattle.df_nflow.specs.Standing.{Standing, also}
-use Rattle.df_nflow.specs.Views.{IsPassed}
-use Rattle.df_nflow.specs.declared.ledger.Ledger as declared_ledger
-use Rattle.df_nflow.specs.declared.passed.Passed as declared
-use Rattle.df_nflow.proofs.Growing.{passed_stays}
-use Rattle.df_nflow.proofs.Places.{locals_are}
+use Rattle.df_nflow.proofs.Words.{◌≡◌, ℕ, List, sym, ap, ◌∙◌, subst, Grows, AreLocals, Said, ledger_of, way_of, with_fresh, DeclaredLedger, standing_of, Standing, also, IsPassed}
+use Rattle.df_nledger.specs.Ledger.{saying}
+use Rattle.df_nflow.specs.declared.passed.Passed.{Passed as DeclaredPassed}
+use Rattle.df_nflow.proofs.Waiting.{passed_stays}
+use Rattle.df_nflow.proofs.Terms.{locals_are}
 use Rattle.df_nflow.proofs.Standings.{standing, also_fresh, standing_also, standing_keeps, standing_with}
 
-module _ (s : declared.Passed) (l : declared_ledger.Ledger) (grows : Grows s.ledger.nodes l.nodes) where
+module _ (s : DeclaredPassed) (l : DeclaredLedger) (grows : Grows s.ledger.nodes l.nodes) where
   pub is_passed : IsPassed l.nodes s.types.items s.terms.items s.entry.items s.trail.items s.breaks.items s.returns.items
   is_passed = passed_stays s.ledger.nodes l.nodes grows s.types.items s.terms.items s.entry.items s.trail.items s.breaks.items s.returns.items s.is_passed
 

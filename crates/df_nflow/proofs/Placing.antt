@@ -1,30 +1,16 @@
 -- Well-typed statements are so over the locals of the whole method.
-use Rattle.std.proofs.Common.{◌≡◌, Bool, true, false, ◌&&◌, List, [], ◌∷◌, ◌++◌, map, nat_le, length, slice_get, Option, None, Some, refl}
-use Rattle.std.specs.Option.{option_map_or}
-use Rattle.std.specs.List.{list_all, flat_map}
-use Rattle.std.proofs.lemmas.Bool.{and_parts, and_from}
-use Rattle.df_lang.specs.declared.ty.Ty.{Ty}
+use Rattle.df_nflow.proofs.Words.{◌≡◌, Bool, true, false, ◌&&◌, List, ◌++◌, map, nat_le, length, slice_get, Option, None, Some, refl, option_map_or, list_all, flat_map, and_parts, and_from, Ty, Expr, Operand, Text, Value, Target, Call, Source, Single, Results, Update, Measure, Stmt, Block, Var, Assign, CallOf, If, While, Break, Return, Assert, Print, Stmts, done, next, Branches, no_branch, branch, Method, Program, method_at, types_of, same_type, are_same_types, is_type, is_expr, are_exprs, are_clauses, are_measures, is_operand, is_call, are_results, is_source, source_types, is_target, is_update, may_update, are_numbered, variable_numbers, variable_types, locals_after, locals_after_all, locals_after_branches, is_measured, is_stmt, are_stmts, are_branches, plain_meaning, Within, before_all, before_branches, return_updates, changed_outside, changed_outside_if, are_at, is_operand_over, is_target_over, is_update_over, may_update_over, is_over, are_over, are_branches_over, is_call_over, is_source_over, all_weaker}
 use Rattle.df_lang.specs.declared.ty.Ty.TheVariants as types
-use Rattle.df_lang.specs.Expr.{Expr}
-use Rattle.df_lang.specs.Stmt.{Operand, Text, Value, Target, Call, Source, Single, Results, Update, Measure, Stmt, Block, Var, Assign, CallOf, If, While, Break, Return, Assert, Print, Stmts, done, next, Branches, no_branch, branch}
-use Rattle.df_lang.specs.Program.{Method, Program, method_at, types_of}
-use Rattle.df_lang.specs.Typing.{same_type, are_same_types, is_type, is_expr, are_exprs, are_clauses, are_measures, is_operand, is_call, are_results, is_source, source_types, is_target, is_update, may_update, are_numbered, variable_numbers, variable_types, locals_after, locals_after_all, locals_after_branches, is_measured, is_stmt, are_stmts, are_branches}
-use Rattle.df_meaning.specs.Modular.{plain_meaning}
 use Rattle.df_meaning.proofs.Assigning.{place}
 use Rattle.df_meaning.proofs.Cases.{both, three, four}
 use Rattle.df_meaning.proofs.Changing.{stmt_there}
-use Rattle.df_meaning.proofs.Stating.{Within, before_all, before_branches, return_updates}
-use Rattle.df_npass.specs.Statements.{changed_outside, changed_outside_if}
 use Rattle.df_npass.proofs.Altering.{outside_there, if_there}
-use Rattle.df_nflow.specs.Typed.{are_at, is_operand_over, is_call_over, is_source_over, is_target_over, is_update_over, may_update_over, is_over, are_over, are_branches_over}
 use Rattle.df_nflow.proofs.Lifting.{same_lookup, expr_lifts, exprs_lift, clauses_lift, measures_lift}
+use Rattle.df_lemmas.proofs.Truths.{three_true}
 
 by_method : (test better : Method → Bool) (o : Option Method) → ((m : Method) → test m ≡ true → better m ≡ true) → option_map_or test o false ≡ true → option_map_or better o false ≡ true
 by_method test better None f e = e
 by_method test better (Some m) f e = f m e
-
-and_three : (a b c : Bool) → a ≡ true → b ≡ true → c ≡ true → (a && b && c) ≡ true
-and_three a b c e f g = and_from (a && b) c (and_from a b e f) g
 
 measured_some : (program : Program) (locals : List Ty) (own : Method) (in_loop : Bool) (guard : Expr) (decreases : Option (List Measure)) → is_measured (place program locals own in_loop) guard decreases ≡ true → are_measures program locals decreases ≡ true
 measured_some program locals own in_loop guard None is = refl
@@ -32,13 +18,9 @@ measured_some program locals own in_loop guard (Some measures) is = is
 
 module _ (program : Program) (own : Method) (all : List Ty) where
   module _ (locals : List Ty) (in_loop : Bool) (within : Within locals all) where
-    operands_lift : (operands : List Operand) → list_all (is_operand (place program locals own in_loop)) operands ≡ true → list_all (is_operand_over program all) operands ≡ true
-    operands_lift [] is = refl
-    operands_lift (Text characters ∷ others) is = operands_lift others (and_parts (is_operand (place program locals own in_loop) (Text characters)) (list_all (is_operand (place program locals own in_loop)) others) is).1
-    operands_lift (Value ty value ∷ others) is =
-        let is = and_parts (is_operand (place program locals own in_loop) (Value ty value)) (list_all (is_operand (place program locals own in_loop)) others) is in
-        and_from (is_expr program all ty value) (list_all (is_operand_over program all) others)
-        (expr_lifts program locals all within ty value (and_parts (is_type program ty) (is_expr program locals ty value) is.0).1) (operands_lift others is.1)
+    operand_lifts : (operand : Operand) → is_operand (place program locals own in_loop) operand ≡ true → is_operand_over program all operand ≡ true
+    operand_lifts (Text characters) is = refl
+    operand_lifts (Value ty value) is = expr_lifts program locals all within ty value (and_parts (is_type program ty) (is_expr program locals ty value) is).1
 
     call_lifts : (call : Call) → is_call (place program locals own in_loop) call ≡ true → is_call_over program all call ≡ true
     call_lifts call is =
@@ -51,24 +33,16 @@ module _ (program : Program) (own : Method) (all : List Ty) where
         let is = and_parts (is_call (place program locals own in_loop) call) (are_results program call results) is in
         and_from (is_call_over program all call) (are_results program call results) (call_lifts call is.0) is.1
 
-    sources_lift : (sources : List Source) → list_all (is_source (place program locals own in_loop)) sources ≡ true → list_all (is_source_over program all) sources ≡ true
-    sources_lift [] is = refl
-    sources_lift (source ∷ others) is =
-        let is = and_parts (is_source (place program locals own in_loop) source) (list_all (is_source (place program locals own in_loop)) others) is in
-        and_from (is_source_over program all source) (list_all (is_source_over program all) others) (source_lifts source is.0) (sources_lift others is.1)
-
-    targets_lift : (targets : List Target) → list_all (is_target (place program locals own in_loop)) targets ≡ true → list_all (is_target_over all) targets ≡ true
-    targets_lift [] is = refl
-    targets_lift (target ∷ others) is =
-        let is = and_parts (is_target (place program locals own in_loop) target) (list_all (is_target (place program locals own in_loop)) others) is in
-        let at = (and_parts (nat_le (length own.parameters) target.local) (option_map_or (same_type target.ty) (slice_get locals target.local) false) is.0).1 in
-        and_from (is_target_over all target) (list_all (is_target_over all) others) (same_lookup (same_type target.ty) locals all target.local within at) (targets_lift others is.1)
+    target_lifts : (target : Target) → is_target (place program locals own in_loop) target ≡ true → is_target_over all target ≡ true
+    target_lifts target is =
+        same_lookup (same_type target.ty) locals all target.local within (and_parts (nat_le (length own.parameters) target.local) (option_map_or (same_type target.ty) (slice_get locals target.local) false) is).1
 
     update_lifts : (update : Update) → is_update (place program locals own in_loop) update ≡ true → is_update_over program all update ≡ true
     update_lifts update is =
         let types_are = are_same_types (flat_map source_types update.sources) (map (λ (target : Target). target.ty) update.targets) in
         let is = three (list_all (is_target (place program locals own in_loop)) update.targets) (list_all (is_source (place program locals own in_loop)) update.sources) types_are is in
-        and_three (list_all (is_target_over all) update.targets) (list_all (is_source_over program all) update.sources) types_are (targets_lift update.targets is.0) (sources_lift update.sources is.1) is.2
+        three_true (list_all (is_target_over all) update.targets) (list_all (is_source_over program all) update.sources) types_are (all_weaker (is_target (place program locals own in_loop)) (is_target_over all) update.targets target_lifts is.0)
+        (all_weaker (is_source (place program locals own in_loop)) (is_source_over program all) update.sources source_lifts is.1) is.2
 
     may_lift : (update : Option Update) → may_update (place program locals own in_loop) update ≡ true → may_update_over program all update ≡ true
     may_lift None is = refl
@@ -85,7 +59,7 @@ module _ (program : Program) (own : Method) (all : List Ty) where
     stmt_lifts (If branches otherwise) locals in_loop within is =
         let there = if_there all branches otherwise (stmt_there (plain_meaning program) own (If branches otherwise) locals all in_loop within is) in
         let is = both (are_branches (place program locals own in_loop) branches) (are_stmts (place program (locals_after_branches locals branches) own in_loop) otherwise) is in
-        and_three (are_at all (changed_outside_if branches otherwise)) (are_branches_over program all branches) (are_over program all otherwise) there
+        three_true (are_at all (changed_outside_if branches otherwise)) (are_branches_over program all branches) (are_over program all otherwise) there
         (branches_lift branches locals in_loop (before_all (locals_after_branches locals branches) all otherwise within) is.0)
         (all_lift otherwise (locals_after_branches locals branches) in_loop within is.1)
     stmt_lifts (While at guard invariants decreases body) locals in_loop within is =
@@ -95,13 +69,13 @@ module _ (program : Program) (own : Method) (all : List Ty) where
         let measured = measures_lift program locals all here decreases (measured_some program locals own in_loop guard decreases is.2) in
         and_from (are_at all (changed_outside body) && is_expr program all types.Bool guard && are_clauses program all invariants && are_measures program all decreases) (are_over program all body)
         (and_from (are_at all (changed_outside body) && is_expr program all types.Bool guard && are_clauses program all invariants) (are_measures program all decreases)
-        (and_three (are_at all (changed_outside body)) (is_expr program all types.Bool guard) (are_clauses program all invariants) there (expr_lifts program locals all here types.Bool guard is.0) (clauses_lift program locals all here invariants is.1))
+        (three_true (are_at all (changed_outside body)) (is_expr program all types.Bool guard) (are_clauses program all invariants) there (expr_lifts program locals all here types.Bool guard is.0) (clauses_lift program locals all here invariants is.1))
         measured)
         (all_lift body locals true within is.3)
     stmt_lifts (Break at) locals in_loop within is = refl
     stmt_lifts (Return at update) locals in_loop within is = may_lift locals in_loop within update (return_updates (plain_meaning program) locals own in_loop update is)
     stmt_lifts (Assert at condition) locals in_loop within is = expr_lifts program locals all within types.Bool condition is
-    stmt_lifts (Print at operands) locals in_loop within is = operands_lift locals in_loop within operands is
+    stmt_lifts (Print at operands) locals in_loop within is = all_weaker (is_operand (place program locals own in_loop)) (is_operand_over program all) operands (operand_lifts locals in_loop within) is
 
     pub all_lift : (stmts : Stmts) (locals : List Ty) (in_loop : Bool) → Within (locals_after_all locals stmts) all → are_stmts (place program locals own in_loop) stmts ≡ true → are_over program all stmts ≡ true
     all_lift done locals in_loop within is = refl
@@ -115,6 +89,6 @@ module _ (program : Program) (own : Method) (all : List Ty) where
     branches_lift (branch at guard body rest) locals in_loop within is =
         let is = three (is_expr program locals types.Bool guard) (are_stmts (place program locals own in_loop) body) (are_branches (place program (locals_after_all locals body) own in_loop) rest) is in
         let inside = before_branches (locals_after_all locals body) all rest within in
-        and_three (is_expr program all types.Bool guard) (are_over program all body) (are_branches_over program all rest)
+        three_true (is_expr program all types.Bool guard) (are_over program all body) (are_branches_over program all rest)
         (expr_lifts program locals all (before_all locals all body inside) types.Bool guard is.0)
         (all_lift body locals in_loop inside is.1) (branches_lift rest (locals_after_all locals body) in_loop within is.2)

@@ -1,26 +1,13 @@
 -- Where passing stands, over ledgers in which more is said.
-use Rattle.std.proofs.Common.{◌≡◌, ℕ, List, [], ◌++◌, length, refl, sym, ap, ◌∙◌, subst, append-nil, append_assoc}
-use Rattle.df_lang.specs.declared.ty.Ty.{Ty}
-use Rattle.df_nenc.specs.Growing.{Grows}
-use Rattle.df_nenc.proofs.Growing.{locals_same}
-use Rattle.df_nmeas.specs.Measuring.{measured_in}
-use Rattle.df_nmeas.specs.declared.measured.Measured as members
-use Rattle.df_npass.specs.Rules.{Said}
-use Rattle.df_npass.specs.Statements.{saying}
-use Rattle.df_nflow.specs.declared.ledger.Ledger as declared_ledger
-use Rattle.df_nflow.specs.declared.way.Kept as declared_kept
-use Rattle.df_nflow.specs.declared.way.Arrived as declared_arrived
-use Rattle.df_nflow.specs.Ledger.{ledger_of, with_fresh}
-use Rattle.df_nflow.specs.Ledger as ledgers
-use Rattle.df_nflow.specs.Said.{said_in}
-use Rattle.df_nflow.specs.Standing.{Standing, also, Moves}
-use Rattle.df_nflow.specs.Views.{IsPassed, way_over, all_kept_in, arrivals_in}
+use Rattle.df_nflow.proofs.Words.{◌≡◌, ℕ, List, [], ◌++◌, length, refl, sym, ap, ◌∙◌, subst, append-nil, append_assoc, Ty, Grows, locals_same, measured_in, DeclaredMeasured, Said, saying, ledger_of, with_fresh, way_over, DeclaredLedger, Standing, also, Moves, IsPassed, all_kept_in, arrivals_in, DeclaredKept, DeclaredArrived, measured_same}
+use Rattle.df_nledger.specs.Ledger as ledgers
+use Rattle.df_nledger.specs.Said.{said_in}
 use Rattle.df_nflow.proofs.Flowing.{passes_also}
-use Rattle.df_nflow.proofs.Growing.{all_kept_same, arrivals_same, measured_same}
-use Rattle.df_nflow.proofs.Places.{locals_are}
+use Rattle.df_nflow.proofs.Waiting.{all_kept_same, arrivals_same}
+use Rattle.df_nflow.proofs.Terms.{locals_are}
 
 -- over a ledger, with these locals
-abbrev pub standing : declared_ledger.Ledger → List Ty → List ℕ → List members.Measured → List declared_kept.Kept → List declared_arrived.Arrived → List declared_arrived.Arrived → Standing
+abbrev pub standing : DeclaredLedger → List Ty → List ℕ → List DeclaredMeasured → List DeclaredKept → List DeclaredArrived → List DeclaredArrived → Standing
 standing l types terms entry trail breaks returns = record {
   types = types;
   entry = measured_in l.nodes entry;
@@ -36,7 +23,7 @@ standing l types terms entry trail breaks returns = record {
 abbrev pub also_fresh : List Said → ℕ → Standing → Standing
 also_fresh said fresh s = record { types = s.types; entry = s.entry; said = s.said ++ said; fresh = fresh; way = s.way; trail = s.trail; breaks = s.breaks; returns = s.returns }
 
-module _ (before now : declared_ledger.Ledger) (types : List Ty) (terms : List ℕ) (entry : List members.Measured) (trail : List declared_kept.Kept) (breaks returns : List declared_arrived.Arrived) (grows : Grows before.nodes now.nodes)
+module _ (before now : DeclaredLedger) (types : List Ty) (terms : List ℕ) (entry : List DeclaredMeasured) (trail : List DeclaredKept) (breaks returns : List DeclaredArrived) (grows : Grows before.nodes now.nodes)
     (is : IsPassed before.nodes types terms entry trail breaks returns) where
   pub standing_with : (said : List Said) (fresh : ℕ) → ledger_of now ≡ with_fresh said fresh (ledger_of before) → standing now types terms entry trail breaks returns ≡ also_fresh said fresh (standing before types terms entry trail breaks returns)
   standing_with said fresh step =

@@ -1,13 +1,5 @@
 -- Locals one after the other: havoc, updates and joins.
-use Rattle.std.proofs.Common.{◌≡◌, ℕ, suc, Bool, true, false, if◌then◌else◌, List, [], ◌∷◌, ◌++◌, subst, append-nil}
-use Rattle.df_lang.specs.Stmt.{Target}
-use Rattle.df_meaning.specs.Modular.{Changed}
-use Rattle.df_nterm.specs.Term.{Term}
-use Rattle.df_npass.specs.Rules.{Said, Way, Moved, over, with_term, free_of, assume_type, havoc}
-use Rattle.df_npass.specs.Statements.{saying, Taken, taken_by, assert_equal, give_all}
-use Rattle.df_nflow.specs.Ways.{Arrival}
-use Rattle.df_nflow.specs.Standing.{Standing, Moves}
-use Rattle.df_nflow.specs.Joining.{are_same_at, assume_joined_at, join_locals_from}
+use Rattle.df_nflow.proofs.Words.{◌≡◌, ℕ, suc, Bool, true, false, if◌then◌else◌, List, [], ◌∷◌, ◌++◌, subst, append-nil, Target, Changed, Term, Said, Way, Moved, over, with_term, free_of, assume_type, havoc, saying, Taken, taken_by, assert_equal, give_all, Arrival, Standing, Moves, are_same_at, assume_joined_at, join_locals_from}
 use Rattle.df_nflow.proofs.Flowing.{moves_on}
 
 -- one local takes any value of its type

@@ -1,40 +1,19 @@
 -- Places that take terms, one after the other.
-use Rattle.std.proofs.Common.{◌≡◌, ◌+◌, ◌<◌, ℕ, ◌==◌, Bool, true, false, ◌&&◌, ◌||◌, cond, not, if◌then◌else◌, List, [], ◌∷◌, map, drop, get_or, length, refl, sym, ap, ◌∙◌, subst, arith}
-use Rattle.std.specs.List.{flat_map, list_all}
-use Rattle.std.proofs.lemmas.Bool.{and_parts}
-use Rattle.std.proofs.lemmas.List.{get_or_default, length-drop}
-use Rattle.std.proofs.lemmas.Option.{same_Some}
-use Rattle.df_lang.specs.declared.stmt.Target as declared_target
-use Rattle.df_lang.specs.declared.ty.Ty.{Ty}
-use Rattle.df_lang.specs.Stmt.{Target, Update}
-use Rattle.df_lang.specs.Program.{Program}
-use Rattle.df_lang.specs.StmtView.{target_of}
-use Rattle.df_lang.specs.Typing.{are_same_types, source_types}
-use Rattle.df_form.specs.Node.{Node}
+use Rattle.df_nflow.proofs.Words.{◌≡◌, ◌+◌, ◌<◌, ℕ, ◌==◌, Bool, true, false, ◌&&◌, ◌||◌, not, if◌then◌else◌, List, [], ◌∷◌, map, drop, get_or, length, sym, ap, ◌∙◌, subst, arith, flat_map, list_all, and_parts, get_or_default, length-drop, same_Some, Ty, Target, Update, Program, target_of, are_same_types, source_types, DeclaredTarget, Node, Term, sort_of_type, equal_in, IsTerm, AreLocals, tree_at, trees_at, drop_next, Said, Way, Moved, over, with_term, assert, saying, moved_behind, Taken, taken_by, assert_equal, give_all, Given, Standing, Moves, is_target_over, are_targets_over, target_types, is_update_over, is_source_over, locals_first, locals_rest}
 use Rattle.df_meaning.specs.declared.kind.Kind.TheVariants as kinds
-use Rattle.df_nterm.specs.Term.{Term, sort_of_type}
-use Rattle.df_nterm.specs.Expressions.{equal_in}
-use Rattle.df_nenc.specs.Standing.{IsTerm, AreLocals}
-use Rattle.df_nenc.specs.Tree.{tree_at, trees_at}
-use Rattle.df_nenc.proofs.Siblings.{drop_next}
 use Rattle.df_nmeas.proofs.Parameters.{locals_long}
-use Rattle.df_npass.specs.Rules.{Said, Way, Moved, over, with_term, assert}
-use Rattle.df_npass.specs.Statements.{saying, moved_behind, Taken, taken_by, assert_equal, give_all, Given}
 use Rattle.df_npass.proofs.Arguments.{same_types_are}
-use Rattle.df_nflow.specs.Standing.{Standing, Moves}
-use Rattle.df_nflow.specs.Typed.{is_target_over, are_targets_over, target_types, is_source_over, is_update_over}
 use Rattle.df_nflow.proofs.Flowing.{moves_then}
 use Rattle.df_nflow.proofs.Going.{Moving, moving_give}
-use Rattle.df_nflow.proofs.Meeting.{is_met, Meets}
+use Rattle.df_nflow.proofs.Once.{is_met, Meets, either_of}
 use Rattle.df_nflow.proofs.Standings.{also_fresh, moves_with}
 use Rattle.df_nflow.proofs.Updating.{AreLast, is_named, last_none, last_more, named_again}
-use Rattle.df_nflow.proofs.Values.{locals_first, locals_rest}
 
-abbrev targets_from : ℕ → List declared_target.Target → List Target
+abbrev targets_from : ℕ → List DeclaredTarget → List Target
 targets_from i xs = map target_of (drop i xs)
 
 -- a place, its term, and what is left
-pub record Turn (nodes : List Node) (types : List Ty) (xs : List declared_target.Target) (ns : List ℕ) (i : ℕ) (x : declared_target.Target) : Type 0 where
+pub record Turn (nodes : List Node) (types : List Ty) (xs : List DeclaredTarget) (ns : List ℕ) (i : ℕ) (x : DeclaredTarget) : Type 0 where
   pub less : i < length ns
   pub places : map target_of (drop i xs) ≡ target_of x ∷ map target_of (drop (i + 1) xs)
   pub terms : drop i ns ≡ get_or ns i 0 ∷ drop (i + 1) ns
@@ -43,8 +22,8 @@ pub record Turn (nodes : List Node) (types : List Ty) (xs : List declared_target
   pub over : are_targets_over types (map target_of (drop (i + 1) xs)) ≡ true
   pub locals : AreLocals nodes (target_types (map target_of (drop (i + 1) xs))) (drop (i + 1) ns)
 
-module _ (nodes : List Node) (types : List Ty) (xs : List declared_target.Target) (ns : List ℕ) (i : ℕ) (less : i < length xs) where
-  turn_of : (x : declared_target.Target) → x ≡ get_or xs i x → are_targets_over types (targets_from i xs) ≡ true → AreLocals nodes (target_types (targets_from i xs)) (drop i ns) → Turn nodes types xs ns i x
+module _ (nodes : List Node) (types : List Ty) (xs : List DeclaredTarget) (ns : List ℕ) (i : ℕ) (less : i < length xs) where
+  turn_of : (x : DeclaredTarget) → x ≡ get_or xs i x → are_targets_over types (targets_from i xs) ≡ true → AreLocals nodes (target_types (targets_from i xs)) (drop i ns) → Turn nodes types xs ns i x
   turn_of x e over locals =
       let next = targets_from (i + 1) xs in
       let is : targets_from i xs ≡ target_of x ∷ next = ap (map target_of) (drop_next xs i x e less) in
@@ -65,7 +44,7 @@ module _ (nodes : List Node) (types : List Ty) (xs : List declared_target.Target
         locals = locals_rest nodes x.ty n (target_types next) (drop (i + 1) ns) all;
       }
 
-  pub turn : (d : declared_target.Target) → are_targets_over types (map target_of (drop i xs)) ≡ true → AreLocals nodes (target_types (map target_of (drop i xs))) (drop i ns) → Turn nodes types xs ns i (get_or xs i d)
+  pub turn : (d : DeclaredTarget) → are_targets_over types (map target_of (drop i xs)) ≡ true → AreLocals nodes (target_types (map target_of (drop i xs))) (drop i ns) → Turn nodes types xs ns i (get_or xs i d)
   turn d over locals = let x = get_or xs i d in turn_of x (get_or_default xs i d x less) over locals
 
 -- what goes on with the places that are left goes on with all
@@ -78,10 +57,6 @@ pub record Giving (first : Standing) (whole : Moved) (here : Standing) (targets 
 asked_again : (is_new met named : Bool) (asked : List Said) → is_new ≡ not met → met ≡ named → (if is_new then [] else asked) ≡ (if named then asked else [])
 asked_again is_new true named asked e f = ap (λ (b : Bool). if b then [] else asked) e ∙ ap (λ (b : Bool). if b then asked else []) f
 asked_again is_new false named asked e f = ap (λ (b : Bool). if b then [] else asked) e ∙ ap (λ (b : Bool). if b then asked else []) f
-
-either_is : (a b : Bool) → cond a true b ≡ (a || b)
-either_is true b = refl
-either_is false b = refl
 
 module _ (first here next : Standing) (whole : Moved) (t : Target) (ts : List Target) (x : Term) (xs : List Term) (keys more : List ℕ) (is_new : Bool) where
   pub giving_next : Giving first whole here (t ∷ ts) (x ∷ xs) keys → is_new ≡ not (is_met keys t.local) → Meets keys t.local more
@@ -96,7 +71,7 @@ module _ (first here next : Standing) (whole : Moved) (t : Target) (ts : List Ta
       record {
         earlier = record { local = t.local; value = x } ∷ g.earlier;
         last = subst (λ (w : Way). AreLast w.env (record { local = t.local; value = x } ∷ g.earlier)) way (last_more here.way.env t.local x g.earlier g.last);
-        named = λ q. meets q ∙ either_is (t.local == q) (is_met keys q) ∙ ap (λ (b : Bool). (t.local == q) || b) (g.named q);
+        named = λ q. meets q ∙ either_of (t.local == q) (is_met keys q) ∙ ap (λ (b : Bool). (t.local == q) || b) (g.named q);
         moving = moving_give first here next whole g.earlier t ts x xs g.moving moved;
       }
 
@@ -104,7 +79,7 @@ pub giving_from : (s : Standing) (targets : List Target) (terms : List Term) (ke
 giving_from s targets terms keys none = record { earlier = []; last = last_none s.way.env; named = none; moving = record { by = λ last p. p } }
 
 -- where the table grows meanwhile
-pub giving_turn : (old here : List Node) (types : List Ty) (xs : List declared_target.Target) (ns : List ℕ) (i : ℕ) (x : declared_target.Target) (first s next : Standing) (whole : Moved) (keys more : List ℕ) (is_new : Bool)
+pub giving_turn : (old here : List Node) (types : List Ty) (xs : List DeclaredTarget) (ns : List ℕ) (i : ℕ) (x : DeclaredTarget) (first s next : Standing) (whole : Moved) (keys more : List ℕ) (is_new : Bool)
     → Turn here types xs ns i x → tree_at here (get_or ns i 0) ≡ tree_at old (get_or ns i 0)
     → Giving first whole s (map target_of (drop i xs)) (trees_at old (drop i ns)) keys → is_new ≡ not (is_met keys x.local) → Meets keys x.local more
     → Moves s (saying (if is_new then [] else assert s.way.path x.pos kinds.Distinct (equal_in x.ty (tree_at here (get_or ns i 0)) (s.way.env x.local))) s.fresh (over (with_term s.way.env x.local (tree_at here (get_or ns i 0))) s.way)) next

@@ -1,22 +1,7 @@
--- A local is given another term.
-use Rattle.std.proofs.Common.{◌≡◌, ◌⊎◌, inl, inr, ℕ, zero, suc, ◌<◌, List, [], ◌∷◌, ◌++◌, map, length, get_or, set, slice_get, Some, refl, sym, ap, ◌∙◌, arith}
-use Rattle.std.specs.List.{AllByRecursion}
-use Rattle.std.proofs.lemmas.Bool.{eq-eqb, ne_eqb}
-use Rattle.std.proofs.lemmas.List.{append-nil, length-set}
-use Rattle.std.proofs.lemmas.Option.{same_Some, slice_get-get_or}
-use Rattle.df_lang.specs.declared.ty.Ty.{Ty}
-use Rattle.df_form.specs.Node.{Node}
-use Rattle.df_meaning.proofs.Stating.{is_or_not}
-use Rattle.df_nterm.specs.Term.{Term, sort_of_type}
-use Rattle.df_nenc.specs.Tree.{sort_of_term, tree_at, trees_in}
-use Rattle.df_nterm.specs.Expressions.{Environment}
-use Rattle.df_npass.specs.Rules.{over, with_term}
-use Rattle.df_npass.specs.Statements.{saying}
-use Rattle.df_nflow.specs.Standing.{Standing, over_terms, Moves}
-use Rattle.df_nflow.specs.Views.{HaveTerms, IsKept}
-use Rattle.df_nflow.specs.Ways.{Kept}
+-- The terms of locals, over tables of nodes.
+use Rattle.df_nflow.proofs.Words.{◌≡◌, ◌⊎◌, inl, inr, ℕ, zero, suc, ◌<◌, List, [], ◌∷◌, ◌++◌, map, length, get_or, set, slice_get, Some, refl, sym, ap, ◌∙◌, arith, AllByRecursion, eq-eqb, ne_eqb, length-set, same_Some, slice_get-get_or, Ty, Node, is_or_not, Term, sort_of_type, Environment, sort_of_term, tree_at, trees_in, Grows, HasTerm, AreLocals, all_below, grown_tree, over, with_term, saying, Standing, over_terms, Moves, HaveTerms, IsKept, Kept, below_at}
+use Rattle.std.proofs.lemmas.List.{append-nil}
 use Rattle.df_nflow.proofs.Backing.{with_again}
-use Rattle.df_nflow.proofs.Places.{below_at}
 
 got : (terms : List ℕ) (local n place m : ℕ) → slice_get (set terms local n) place ≡ Some m → ((place ≡ local) × (n ≡ m)) ⊎ (slice_get terms place ≡ Some m)
 got [] local n place m e = inr e
@@ -98,4 +83,34 @@ gives s local a env trail e t = record {
   returns = sym (append-nil s.returns);
   sorted_breaks = tt;
   sorted_returns = tt;
+}
+
+pub terms_stay : (before now : List Node) (types : List Ty) (terms : List ℕ) → Grows before now → HaveTerms before types terms → HaveTerms now types terms
+terms_stay before now types terms g h = record {
+  many = h.many;
+  below = all_below before now terms g h.below;
+  sorted = λ local n ty e f. ap sort_of_term (grown_tree before now g n (below_at (length before) terms local n h.below f)) ∙ h.sorted local n ty e f;
+}
+
+there_is : (types : List Ty) (terms : List ℕ) (local : ℕ) (ty : Ty) → length terms ≡ length types → slice_get types local ≡ Some ty → (n : ℕ) × (slice_get terms local ≡ Some n)
+there_is [] terms local ty many e = absurd cc
+there_is (t ∷ types) [] local ty many e = absurd (omega arith)
+there_is (t ∷ types) (n ∷ terms) zero ty many e = (n, refl)
+there_is (t ∷ types) (n ∷ terms) (suc k) ty many e = there_is types terms k ty (omega arith) e
+
+pub locals_are : (nodes : List Node) (types : List Ty) (terms : List ℕ) → HaveTerms nodes types terms → AreLocals nodes types terms
+locals_are nodes types terms h = record {
+  below = h.below;
+  sorted = λ local ty e. found local ty e (there_is types terms local ty h.many e);
+}
+  where
+    found : (local : ℕ) (ty : Ty) → slice_get types local ≡ Some ty → (n : ℕ) × (slice_get terms local ≡ Some n) → HasTerm (sort_of_type ty) nodes terms local
+    found local ty e there = record { number = there.0; at = there.1; is_term = record { below = below_at (length nodes) terms local there.0 h.below there.1; sort_is = h.sorted local there.0 ty e there.1 } }
+
+-- the locals have terms, and are as many
+pub have_terms : (nodes : List Node) (types : List Ty) (terms : List ℕ) → length terms ≡ length types → AreLocals nodes types terms → HaveTerms nodes types terms
+have_terms nodes types terms many h = record {
+  many = many;
+  below = h.below;
+  sorted = λ local n ty e f. let t = h.sorted local ty e in ap (λ (m : ℕ). sort_of_term (tree_at nodes m)) (same_Some n t.number (sym f ∙ t.at)) ∙ t.is_term.sort_is;
 }

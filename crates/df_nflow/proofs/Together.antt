@@ -1,31 +1,16 @@
 -- Locals that are joined, or taken of one way, one after the other.
-use Rattle.std.proofs.Common.{◌≡◌, ℕ, ◌+◌, ◌<◌, true, List, [], ◌∷◌, drop, get_or, length, Option, Some, sym, ap, ◌∙◌, subst, add-one}
-use Rattle.std.proofs.lemmas.List.{get_or_default}
-use Rattle.std.proofs.lemmas.Option.{same_Some}
-use Rattle.df_lang.specs.declared.ty.Ty.{Ty}
+use Rattle.df_nflow.proofs.Words.{◌≡◌, ℕ, ◌+◌, ◌<◌, true, List, [], ◌∷◌, drop, get_or, length, Option, Some, sym, ap, ◌∙◌, subst, add-one, get_or_default, same_Some, Ty, Changed, Term, sort_of_type, Environment, drop_next, Way, Moved, over, with_term, saying, AreThere, AllThere, join_locals_from, take_all, Standing, at_path, Moves, is_at, are_at, changed_of, changed_in, Arrival, DeclaredChanged}
 use Rattle.df_lang.specs.declared.ty.Ty.TheVariants as tys
-use Rattle.df_meaning.specs.Modular.{Changed}
-use Rattle.df_nterm.specs.Term.{Term, sort_of_type}
-use Rattle.df_nterm.specs.Expressions.{Environment}
-use Rattle.df_nenc.proofs.Siblings.{drop_next}
-use Rattle.df_npass.specs.Rules.{Way, Moved, over, with_term}
-use Rattle.df_npass.specs.Statements.{saying}
-use Rattle.df_nflow.specs.Joining.{AreThere, AllThere, join_locals_from, take_all}
-use Rattle.df_nflow.specs.Standing.{Standing, at_path, Moves}
-use Rattle.df_nflow.specs.Typed.{is_at, are_at}
-use Rattle.df_nflow.specs.Views.{changed_of, changed_in}
-use Rattle.df_nflow.specs.Ways.{Arrival}
-use Rattle.df_nflow.specs.declared.way.Changed as declared
 use Rattle.df_nflow.proofs.Changes.{at_first, at_rest}
 use Rattle.df_nflow.proofs.Flowing.{moves_on}
 use Rattle.df_nflow.proofs.Going.{Moving, moving_join}
 
 -- what is read beside a list of locals
-abbrev pub no_change : declared.Changed
+abbrev pub no_change : DeclaredChanged
 no_change = record { local = 0; ty = tys.Newtype 0 }
 
-module _ (xs : List declared.Changed) (i : ℕ) (lt : i < length xs) where
-  abbrev pub here_changed : declared.Changed
+module _ (xs : List DeclaredChanged) (i : ℕ) (lt : i < length xs) where
+  abbrev pub here_changed : DeclaredChanged
   here_changed = get_or xs i no_change
 
   abbrev pub behind_changed : List Changed

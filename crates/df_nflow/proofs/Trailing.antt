@@ -1,55 +1,34 @@
 -- Trails, and what stands at the end of a list.
-use Rattle.std.proofs.Common.{◌≡◌, ℕ, ◌+◌, ◌-◌, ◌<◌, ◌≤◌, List, [], ◌∷◌, ◌++◌, length, take, drop, set, refl, sym, ap, ◌∙◌, subst, arith}
-use Rattle.std.proofs.lemmas.List.{drop-drop, drop-take, length-append, length-map, map-append, take-append-drop, take-take}
-use Rattle.df_lemmas.proofs.Alls.{all_there, all_joined}
-use Rattle.df_lang.specs.declared.ty.Ty.{Ty}
-use Rattle.df_form.specs.Node.{Node}
-use Rattle.df_nterm.specs.Term.{Term}
-use Rattle.df_nterm.specs.Expressions.{Environment}
-use Rattle.df_nenc.specs.Tree.{tree_at, trees_in}
-use Rattle.df_npass.specs.Rules.{Way, over, with_term}
-use Rattle.df_npass.specs.Statements.{saying}
-use Rattle.df_nflow.specs.declared.way.Kept as declared
-use Rattle.df_nflow.specs.Standing.{Standing, over_terms, Moves}
-use Rattle.df_nflow.specs.Views.{AreKept, IsKept, kept_in, all_kept_in}
-use Rattle.df_nflow.specs.Ways.{Kept, back}
+use Rattle.df_nflow.proofs.Words.{◌≡◌, ℕ, ◌+◌, ◌-◌, ◌<◌, ◌≤◌, List, [], ◌∷◌, ◌++◌, length, take, drop, set, refl, sym, ap, ◌∙◌, subst, arith, take_at, drop_at, drop-drop, drop-take, length-append, length-map, map-append, take-append-drop, take-take, all_there, all_joined, Ty, Node, Term, Environment, tree_at, trees_in, Way, over, with_term, saying, Standing, over_terms, Moves, AreKept, IsKept, kept_in, all_kept_in, Kept, back, DeclaredKept}
 use Rattle.df_nflow.proofs.Backing.{back_append, with_again}
 use Rattle.df_nflow.proofs.Flowing.{moves_on}
 use Rattle.df_nflow.proofs.Terms.{trees_set}
 
-pub take_front : {A : Type 0} (xs ys : List A) → take (length xs) (xs ++ ys) ≡ xs
-take_front [] ys = refl
-take_front (x ∷ xs) ys = ap (λ zs. x ∷ zs) (take_front xs ys)
-
-pub drop_front : {A : Type 0} (xs ys : List A) → drop (length xs) (xs ++ ys) ≡ ys
-drop_front [] ys = refl
-drop_front (x ∷ xs) ys = drop_front xs ys
-
 -- what has been put behind a list
 pub taken : {A : Type 0} (n : ℕ) (before after more : List A) → n ≡ length before → after ≡ before ++ more → take n after ≡ before
-taken n before after more e f = ap (λ k. take k after) e ∙ ap (take (length before)) f ∙ take_front before more
+taken n before after more e f = ap (λ k. take k after) e ∙ ap (take (length before)) f ∙ take_at before more (length before) refl
 
 pub dropped : {A : Type 0} (n : ℕ) (before after more : List A) → n ≡ length before → after ≡ before ++ more → drop n after ≡ more
-dropped n before after more e f = ap (λ k. drop k after) e ∙ ap (drop (length before)) f ∙ drop_front before more
+dropped n before after more e f = ap (λ k. drop k after) e ∙ ap (drop (length before)) f ∙ drop_at before more (length before) refl
 
 -- ---- one step back
 
-module _ (nodes : List Node) (terms : List ℕ) (before : List declared.Kept) (k : declared.Kept) (trail : List declared.Kept) (e : trail ≡ before ++ k ∷ []) where
+module _ (nodes : List Node) (terms : List ℕ) (before : List DeclaredKept) (k : DeclaredKept) (trail : List DeclaredKept) (e : trail ≡ before ++ k ∷ []) where
   pub last_kept : (types : List Ty) → AreKept nodes types trail → IsKept nodes types k.local k.term
-  last_kept types are = all_there (λ (x : declared.Kept). IsKept nodes types x.local x.term) before [] k (subst (AreKept nodes types) e are)
+  last_kept types are = all_there (λ (x : DeclaredKept). IsKept nodes types x.local x.term) before [] k (subst (AreKept nodes types) e are)
 
   pub stepped : (s : Standing) → s.trail ≡ all_kept_in nodes trail → s.way.env ≡ trees_in nodes terms → k.local < length terms
       → over_terms (trees_in nodes (set terms k.local k.term)) (all_kept_in nodes before) s ≡ over_terms (back (drop (length trail - 1) s.trail) s.way.env) (take (length trail - 1) s.trail) s
   stepped s is same lt =
       let n = length trail - 1 in
-      let long : n ≡ length (all_kept_in nodes before) = omega (arith, ap (λ (ks : List declared.Kept). length ks) e, length-append before (k ∷ []), length-map before (kept_in nodes)) in
+      let long : n ≡ length (all_kept_in nodes before) = omega (arith, ap (λ (ks : List DeclaredKept). length ks) e, length-append before (k ∷ []), length-map before (kept_in nodes)) in
       let kept : s.trail ≡ all_kept_in nodes before ++ kept_in nodes k ∷ [] = is ∙ ap (all_kept_in nodes) e ∙ map-append (kept_in nodes) before (k ∷ []) in
       let env = trees_set nodes terms k.local k.term lt ∙ ap (λ (d : Environment). with_term d k.local (tree_at nodes k.term)) (sym same) ∙ ap (λ (ks : List Kept). back ks s.way.env) (sym (dropped n (all_kept_in nodes before) s.trail (kept_in nodes k ∷ []) long kept)) in
       let rest = sym (taken n (all_kept_in nodes before) s.trail (kept_in nodes k ∷ []) long kept) in
       λ i. over_terms (env i) (rest i) s
 
 -- what leads back to the step has one more
-module _ (nodes : List Node) (ahead more : List declared.Kept) (one : declared.Kept) (e : more ≡ ahead ++ one ∷ []) where
+module _ (nodes : List Node) (ahead more : List DeclaredKept) (one : DeclaredKept) (e : more ≡ ahead ++ one ∷ []) where
   pub ahead_back : (terms : List ℕ) (n : ℕ) → one.local < length terms → tree_at nodes one.term ≡ trees_in nodes terms one.local
       → back (all_kept_in nodes more) (trees_in nodes (set terms one.local n)) ≡ back (all_kept_in nodes ahead) (trees_in nodes terms)
   ahead_back terms n lt tree =
@@ -60,7 +39,7 @@ module _ (nodes : List Node) (ahead more : List declared.Kept) (one : declared.K
       ∙ ap (back (all_kept_in nodes ahead)) (with_again (trees_in nodes terms) one.local (tree_at nodes n))
 
   pub ahead_kept : (types : List Ty) → AreKept nodes types ahead → IsKept nodes types one.local one.term → AreKept nodes types more
-  ahead_kept types are is = subst (AreKept nodes types) (sym e) (all_joined (λ (x : declared.Kept). IsKept nodes types x.local x.term) ahead (one ∷ []) are (is, tt))
+  ahead_kept types are is = subst (AreKept nodes types) (sym e) (all_joined (λ (x : DeclaredKept). IsKept nodes types x.local x.term) ahead (one ∷ []) are (is, tt))
 
 -- ---- several steps back
 

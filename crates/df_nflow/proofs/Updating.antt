@@ -1,14 +1,6 @@
 -- A place that is named again was given last what it has.
-use Rattle.std.proofs.Common.{◌≡◌, ◌⊎◌, inl, inr, ℕ, ◌==◌, Bool, true, if◌then◌else◌, List, [], ◌∷◌, Option, refl, sym, ap, subst}
-use Rattle.std.proofs.lemmas.Bool.{eq-eqb, ne_eqb}
-use Rattle.std.specs.List.{list_any}
-use Rattle.df_lang.specs.Stmt.{Target}
-use Rattle.df_meaning.proofs.Stating.{is_or_not}
+use Rattle.df_nflow.proofs.Words.{◌≡◌, ◌⊎◌, inl, inr, ℕ, ◌==◌, Bool, true, if◌then◌else◌, List, [], ◌∷◌, Option, refl, sym, ap, subst, eq-eqb, ne_eqb, list_any, Target, is_or_not, Term, Environment, equal_in, with_term, assert, Taken, taken_by, assert_equal}
 use Rattle.df_meaning.specs.declared.kind.Kind.TheVariants as kinds
-use Rattle.df_nterm.specs.Term.{Term}
-use Rattle.df_nterm.specs.Expressions.{Environment, equal_in}
-use Rattle.df_npass.specs.Rules.{with_term, assert}
-use Rattle.df_npass.specs.Statements.{Taken, taken_by, assert_equal}
 use Rattle.df_nflow.proofs.Backing.{with_other}
 
 -- the first of the list, if there is one, is this

@@ -1,13 +1,13 @@
 -- Where ways come together, by the terms that are kept of them.
-use Rattle.std.specs.Prelude.{◌≡◌, ◌<◌, ℕ, suc, pos, Bool, Option, Some, if◌then◌else◌, List, [], ◌∷◌, ◌++◌, map, length, slice_index_or}
-use Rattle.std.specs.List.{list_all, AllByRecursion}
+use Rattle.std.specs.Prelude.{◌≡◌, ◌<◌, ℕ, suc, pos, Bool, Option, Some, if◌then◌else◌, List, [], ◌∷◌, ◌++◌, length, slice_index_or}
+use Rattle.std.specs.List.{list_all, flat_map, AllByRecursion}
 use Rattle.df_lang.specs.declared.ty.Ty.{Ty}
 use Rattle.df_meaning.specs.Modular.{Changed}
 use Rattle.df_nterm.specs.Term.{Sort, Term, literal, sort_of_type}
 use Rattle.df_nterm.specs.Same.{same_term}
-use Rattle.df_nterm.specs.Expressions.{Environment, equal_in}
+use Rattle.df_nterm.specs.Expressions.{Environment}
 use Rattle.df_nenc.specs.Tree.{sort_of_term}
-use Rattle.df_npass.specs.Rules.{Said, Known, Moved, either_path, with_term, free_of}
+use Rattle.df_npass.specs.Rules.{Said, Moved, either_path, with_term, free_of}
 use Rattle.df_npass.specs.Rules as rules
 use Rattle.df_nflow.specs.Ways.{Arrival}
 
@@ -19,7 +19,7 @@ abbrev pub are_same_at : Term → ℕ → List Arrival → Bool
 are_same_at a place arrivals = list_all (λ (one : Arrival). same_term a (term_at one place)) arrivals
 
 abbrev pub assume_joined_at : Ty → ℕ → Term → List Arrival → List Said
-assume_joined_at ty place a arrivals = map (λ (one : Arrival). Known (rules.on_path one.path (equal_in ty a (term_at one place)))) arrivals
+assume_joined_at ty place a arrivals = flat_map (λ (one : Arrival). rules.assume_there ty a one.path (term_at one place)) arrivals
 
 -- the locals from a place on
 abbrev pub join_locals_from : ℕ → List Changed → List Arrival → ℕ → Environment → Option Term → Moved

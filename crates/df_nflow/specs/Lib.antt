@@ -1,13 +1,9 @@
-pub mod Said
 pub mod Ways
 pub mod Standing
 pub mod Branches
 pub mod Joining
 pub mod Typed
 pub mod Views
-pub mod Clauses
-pub mod Ledger
-pub mod Calls
 pub mod Loops
 pub mod Methods
 pub mod PassedView

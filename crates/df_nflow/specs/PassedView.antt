@@ -1,8 +1,9 @@
 -- Where the code stands, as trees.
 use Rattle.std.specs.Prelude.{length}
 use Rattle.df_nmeas.specs.Measuring.{measured_in}
-use Rattle.df_nflow.specs.Said.{said_in}
-use Rattle.df_nflow.specs.Views.{way_over, all_kept_in, arrivals_in}
+use Rattle.df_nledger.specs.Said.{said_in}
+use Rattle.df_nledger.specs.Ledger.{way_over}
+use Rattle.df_nflow.specs.Views.{all_kept_in, arrivals_in}
 use Rattle.df_nflow.specs.Standing.{Standing}
 use Rattle.df_nflow.specs.declared.passed.Passed as declared
 

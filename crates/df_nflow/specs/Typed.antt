@@ -4,11 +4,12 @@ use Rattle.std.specs.Option.{option_map_or}
 use Rattle.std.specs.List.{list_all, flat_map}
 use Rattle.df_lang.specs.declared.ty.Ty.{Ty}
 use Rattle.df_lang.specs.declared.ty.Ty.TheVariants as types
-use Rattle.df_lang.specs.Stmt.{Operand, Text, Value, Target, Call, Source, Single, Results, Update, Stmt, Block, Var, Assign, CallOf, If, While, Break, Return, Assert, Print, Stmts, done, next, Branches, no_branch, branch}
-use Rattle.df_lang.specs.Program.{Method, Program, method_at, types_of}
-use Rattle.df_lang.specs.Typing.{same_type, are_same_types, is_expr, are_exprs, are_clauses, are_measures, are_results, source_types}
+use Rattle.df_lang.specs.Stmt.{Operand, Text, Value, Target, Update, Stmt, Block, Var, Assign, CallOf, If, While, Break, Return, Assert, Print, Stmts, done, next, Branches, no_branch, branch}
+use Rattle.df_lang.specs.Program.{Program}
+use Rattle.df_lang.specs.Typing.{same_type, are_same_types, is_expr, are_clauses, are_measures, source_types}
 use Rattle.df_meaning.specs.Modular.{Changed}
 use Rattle.df_npass.specs.Statements.{changed_outside, changed_outside_if}
+use Rattle.df_nledger.specs.Calls.{is_call_over, is_source_over}
 
 -- the local is of the type
 abbrev pub is_at : List Ty → ℕ → Ty → Bool
@@ -20,13 +21,6 @@ are_at all changed = list_all (λ (c : Changed). is_at all c.local c.ty) changed
 abbrev pub is_operand_over : Program → List Ty → Operand → Bool
 is_operand_over program all (Text characters) = true
 is_operand_over program all (Value ty value) = is_expr program all ty value
-
-abbrev pub is_call_over : Program → List Ty → Call → Bool
-is_call_over program all call = option_map_or (λ (method : Method). are_exprs program all (types_of method.parameters) call.arguments) (method_at program call.callee) false
-
-abbrev pub is_source_over : Program → List Ty → Source → Bool
-is_source_over program all (Single ty value) = is_expr program all ty value
-is_source_over program all (Results call results) = is_call_over program all call && are_results program call results
 
 abbrev pub is_target_over : List Ty → Target → Bool
 is_target_over all target = is_at all target.local target.ty

@@ -1,38 +1,25 @@
 -- The code's records, as trees.
-use Rattle.std.specs.Prelude.{◌≡◌, ◌<◌, ℕ, List, length, map, slice_get, Option, Some}
+use Rattle.std.specs.Prelude.{◌≡◌, ◌<◌, ℕ, List, length, map, slice_get, Some}
 use Rattle.std.specs.List.{AllByRecursion}
 use Rattle.df_lang.specs.declared.ty.Ty.{Ty}
-use Rattle.df_lang.specs.View.{program_of}
 use Rattle.df_meaning.specs.Modular.{Changed}
 use Rattle.df_form.specs.Node.{Node}
 use Rattle.df_nterm.specs.Term.{sort_of_type}
-use Rattle.df_nterm.specs.Measuring.{Measured}
-use Rattle.df_nenc.specs.Tree.{sort_of_term, tree_at, trees_at, trees_in, path_in}
+use Rattle.df_nenc.specs.Tree.{sort_of_term, tree_at, trees_at, path_in}
 use Rattle.df_nmeas.specs.Measuring.{AreMembers}
 use Rattle.df_nmeas.specs.declared.measured.Measured as members
-use Rattle.df_npass.specs.Rules.{Way}
-use Rattle.df_npass.specs.Statements.{Setting}
-use Rattle.df_nflow.specs.Said.{HasPath}
+use Rattle.df_nledger.specs.Said.{HasPath}
 use Rattle.df_nflow.specs.Ways.{Kept, Arrival}
 use Rattle.df_nflow.specs.Branches.{Ended}
-use Rattle.df_nflow.specs.declared.setting.Setting as declared_setting
 use Rattle.df_nflow.specs.declared.way.Changed as declared_changed
 use Rattle.df_nflow.specs.declared.way.Kept as declared_kept
 use Rattle.df_nflow.specs.declared.way.Arrived as declared_arrived
-
--- what is passed over, by the measure on entry
-abbrev pub setting_of : declared_setting.Setting → List Measured → Setting
-setting_of s entry = record { program = program_of s.program.now; groups = s.groups.now; number = s.number; entry = entry }
 
 abbrev pub changed_of : declared_changed.Changed → Changed
 changed_of c = record { local = c.local; ty = c.ty }
 
 abbrev pub changed_in : List declared_changed.Changed → List Changed
 changed_in all = map changed_of all
-
--- a way over terms of locals
-abbrev pub way_over : List Node → Option ℕ → List ℕ → Way
-way_over nodes path terms = record { env = trees_in nodes terms; path = path_in nodes path }
 
 abbrev pub kept_in : List Node → declared_kept.Kept → Kept
 kept_in nodes k = record { local = k.local; term = tree_at nodes k.term }

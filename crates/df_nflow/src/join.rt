@@ -1,5 +1,5 @@
 //! Where ways come together.
-#![tactic(auto, using(df_nenc::proofs::Growing::grows_not, df_nenc::proofs::Growing::grows_then))]
+#![tactic(auto, using(df_nenc::proofs::Growing::grows_not, df_nenc::proofs::Growing::grows_then, df_nenc::proofs::Growing::term_stays, df_nledger::proofs::Growing::ledger_stays, crate::proofs::Waiting::passed_stays, crate::proofs::Passing::is_passed, df_nledger::proofs::Growing::measured_stay))]
 
 ghost use Rattle.std.specs.Prelude.{◌≡◌, ◌==◌, ◌∷◌, [], List, true, false, slice_get, OnOk, IfOk};
 ghost use Rattle.std.specs.List.{list_all};
@@ -8,10 +8,10 @@ ghost use Rattle.df_nenc.specs.Growing.{Grows};
 ghost use Rattle.df_nenc.specs.Standing.{IsTerm};
 ghost use Rattle.df_nenc.specs.Tree.{path_in, tree_at};
 ghost use Rattle.df_nflow.specs.Branches.{AreEnded};
-ghost use Rattle.df_nflow.specs.Joining.{are_same_at, assume_joined_at, join_locals_from, paths_in, take_all, AreThere, AllThere};
-ghost use Rattle.df_nflow.specs.Ledger.{ledger_of};
+ghost use Rattle.df_nflow.specs.Joining.{assume_joined_at, join_locals_from, paths_in, take_all, AreThere, AllThere};
+ghost use Rattle.df_nledger.specs.Ledger.{ledger_of};
 ghost use Rattle.df_nflow.specs.PassedView.{standing_of};
-ghost use Rattle.df_nflow.specs.Said.{HasPath};
+ghost use Rattle.df_nledger.specs.Said.{HasPath};
 ghost use Rattle.df_nflow.specs.Standing.{also, Moves, Joins};
 ghost use Rattle.df_nflow.specs.Typed.{is_at, are_at};
 ghost use Rattle.df_nflow.specs.Views.{AreArrived, ArePaths, IsArrived, arrival_in, arrivals_in, all_ended_in, changed_in, changed_of};
@@ -20,12 +20,12 @@ ghost use Rattle.df_npass.specs.Rules.{Way, any_path as any_of, paths_of, join a
 ghost use Rattle.df_npass.specs.Statements.{saying};
 ghost use Rattle.df_nterm.specs.Term.{sort_of_type};
 
-use crate::ledger::Ledger;
 use crate::passed::Passed;
 use crate::way::{Arrived, Changed};
 use df_form::{Formula, Term};
 use df_lang::Ty;
-use df_nenc::{equal_in, one_of};
+use df_nenc::one_of;
+use df_nledger::Ledger;
 use std::alloc::{AllocError, Global};
 
 /// Whether this term stands at a place.
@@ -73,7 +73,7 @@ pub(crate) fn any_path(
 }
 
 impl Passed {
-    /// On each way the term is that of the local there.
+    /// On each way the term is that of the local there, if it has a value.
     fn assume_joined(
         &mut self,
         alloc: Global,
@@ -89,8 +89,8 @@ impl Passed {
         ensures grows { Grows self.old.ledger.nodes self.new.ledger.nodes }
     {
         for way in arrived {
-            let equal = equal_in(alloc, &mut self.ledger.nodes, ty, term, way.terms[place])?;
-            self.ledger.assume_on(alloc, way.path, equal)?;
+            self.ledger
+                .assume_there(alloc, ty, term, way.path, way.terms[place])?;
         }
         Ok(())
     }

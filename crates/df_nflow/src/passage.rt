@@ -1,5 +1,5 @@
 //! Passing over methods.
-#![tactic(auto, using(df_nenc::proofs::Growing::grows_not, df_nenc::proofs::Growing::grows_then))]
+#![tactic(auto, using(df_nenc::proofs::Growing::grows_not, df_nenc::proofs::Growing::grows_then, df_nenc::proofs::Growing::term_stays, df_nledger::proofs::Growing::ledger_stays, crate::proofs::Waiting::passed_stays, crate::proofs::Passing::is_passed, df_nledger::proofs::Growing::measured_stay))]
 
 ghost use Rattle.std.proofs.Props.{props};
 ghost use Rattle.std.specs.Prelude.{◌≡◌, ◌++◌, [], List, true, map, Some, OnOk, IfOk};
@@ -14,19 +14,17 @@ ghost use Rattle.df_nflow.specs.Standing.{Standing, also, way_if, Passes, Joins}
 ghost use Rattle.df_nflow.specs.Typed.{are_at};
 ghost use Rattle.df_nflow.specs.Views.{AreArrived, arrivals_in, changed_in};
 ghost use Rattle.df_nflow.specs.Ways.{Arrive, arrival};
-ghost use Rattle.df_nflow.specs.Said.{said_in, AreSaid};
+ghost use Rattle.df_nledger.specs.Said.{said_in, AreSaid};
 ghost use Rattle.df_npass.specs.Methods.{locals_of, locals_from, pass_method};
 ghost use Rattle.df_npass.specs.Rules.{Way, paths_of, any_path as any_of, join as joined};
 ghost use Rattle.df_npass.specs.Statements.{Flow, ways_of};
 
-use crate::ledger::Ledger;
 use crate::locals::{exits, locals};
 use crate::passed::Passed;
-use crate::said::Said;
-use crate::setting::Setting;
 use crate::way::{Arrived, Changed, Exits, Onward};
 use df_form::{Kind, Nodes};
 use df_lang::{DeclId, Method, Program};
+use df_nledger::{Ledger, Said, Setting};
 use std::alloc::{AllocError, Global};
 use std::mem;
 

@@ -1,13 +1,13 @@
 //! Where the passing stands.
-#![tactic(auto, using(df_nenc::proofs::Growing::grows_not, df_nenc::proofs::Growing::grows_then))]
+#![tactic(auto, using(df_nenc::proofs::Growing::grows_not, df_nenc::proofs::Growing::grows_then, df_nenc::proofs::Growing::term_stays, df_nledger::proofs::Growing::ledger_stays, crate::proofs::Waiting::passed_stays, crate::proofs::Passing::is_passed, df_nledger::proofs::Growing::measured_stay))]
 
 ghost use Rattle.std.proofs.Props.{props};
 ghost use Rattle.df_nflow.specs.Views.{IsPassed};
 
-use crate::ledger::Ledger;
 use crate::way::{Arrived, Changed, Kept};
 use df_form::Term;
 use df_lang::Ty;
+use df_nledger::Ledger;
 use df_nmeas::Measured;
 use std::alloc::{AllocError, Global};
 
@@ -29,7 +29,7 @@ pub(crate) struct Passed {
 }
 
 impl Passed {
-    ghost use Rattle.std.specs.Prelude.{◌≡◌, ◌≤◌, ◌-◌, ◌∷◌, [], true, length, take, drop, OnOk, IfOk};
+    ghost use Rattle.std.specs.Prelude.{◌≡◌, ◌≤◌, ◌-◌, [], true, length, take, drop, OnOk, IfOk};
     ghost use Rattle.df_nenc.specs.Tree.{tree_at};
     ghost use Rattle.df_nflow.specs.PassedView.{standing_of};
     ghost use Rattle.df_nflow.specs.Standing.{over_terms, Moves};

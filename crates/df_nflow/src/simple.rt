@@ -1,5 +1,5 @@
 //! Calls and returns as statements.
-#![tactic(auto, using(df_nenc::proofs::Growing::grows_not, df_nenc::proofs::Growing::grows_then))]
+#![tactic(auto, using(df_nenc::proofs::Growing::grows_not, df_nenc::proofs::Growing::grows_then, df_nenc::proofs::Growing::term_stays, df_nledger::proofs::Growing::ledger_stays, crate::proofs::Waiting::passed_stays, crate::proofs::Passing::is_passed, df_nledger::proofs::Growing::measured_stay))]
 
 ghost use Rattle.std.specs.Prelude.{◌≡◌, ◌∷◌, [], true, None, OnOk, IfOk};
 ghost use Rattle.std.specs.Option.{option_map};
@@ -8,14 +8,16 @@ ghost use Rattle.df_lang.specs.View.{program_of};
 ghost use Rattle.df_nenc.specs.Growing.{Grows};
 ghost use Rattle.df_nflow.specs.PassedView.{standing_of};
 ghost use Rattle.df_nflow.specs.Standing.{Moves, Passes};
-ghost use Rattle.df_nflow.specs.Typed.{are_at, is_call_over, may_update_over};
-ghost use Rattle.df_nflow.specs.Views.{changed_in, setting_of};
+ghost use Rattle.df_nflow.specs.Typed.{are_at, may_update_over};
+ghost use Rattle.df_nledger.specs.Calls.{is_call_over};
+ghost use Rattle.df_nflow.specs.Views.{changed_in};
+ghost use Rattle.df_nledger.specs.Setting.{setting_of};
 ghost use Rattle.df_npass.specs.Statements as pure;
 
 use crate::passed::Passed;
-use crate::setting::Setting;
 use crate::way::{Exits, Onward};
 use df_lang::{Call, Update};
+use df_nledger::Setting;
 use std::alloc::AllocError;
 
 impl Passed {

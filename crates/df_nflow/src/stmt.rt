@@ -1,5 +1,5 @@
 //! Passing over statements.
-#![tactic(auto, using(df_nenc::proofs::Growing::grows_not, df_nenc::proofs::Growing::grows_then))]
+#![tactic(auto, using(df_nenc::proofs::Growing::grows_not, df_nenc::proofs::Growing::grows_then, df_nenc::proofs::Growing::term_stays, df_nledger::proofs::Growing::ledger_stays, crate::proofs::Waiting::passed_stays, crate::proofs::Passing::is_passed, df_nledger::proofs::Growing::measured_stay))]
 
 ghost use Rattle.std.specs.Prelude.{◌≡◌, Bool, ◌≤◌, ◌++◌, ◌||◌, ◌∷◌, [], List, true, false, if◌then◌else◌, length, map, drop, None, Some, OnOk, IfOk};
 ghost use Rattle.std.specs.List.{flat_map, list_all};
@@ -18,13 +18,14 @@ ghost use Rattle.df_nenc.specs.Standing.{IsTerm, Stands};
 ghost use Rattle.df_nenc.specs.Tree.{path_in, tree_at};
 ghost use Rattle.df_nflow.specs.Branches.{Ended, Parts};
 ghost use Rattle.df_nflow.specs.Joining.{AllThere, paths_in};
-ghost use Rattle.df_nflow.specs.Ledger.{ledger_of};
+ghost use Rattle.df_nledger.specs.Ledger.{ledger_of};
 ghost use Rattle.df_nflow.specs.Loops.{any_turn, loop_head, loop_past, turned_if, past_loop, join_past};
 ghost use Rattle.df_nflow.specs.PassedView.{standing_of};
-ghost use Rattle.df_nflow.specs.Said.{HasPath};
+ghost use Rattle.df_nledger.specs.Said.{HasPath};
 ghost use Rattle.df_nflow.specs.Standing.{Standing, also, at_path, Moves, Passes, Joins};
 ghost use Rattle.df_nflow.specs.Typed.{are_at, is_operand_over, is_over, are_over, are_branches_over};
-ghost use Rattle.df_nflow.specs.Views.{AreArrived, ArePaths, arrivals_in, all_ended_in, changed_in, setting_of};
+ghost use Rattle.df_nflow.specs.Views.{AreArrived, ArePaths, arrivals_in, all_ended_in, changed_in};
+ghost use Rattle.df_nledger.specs.Setting.{setting_of};
 ghost use Rattle.df_nflow.specs.Ways.{Arrive, arrival};
 ghost use Rattle.df_nmeas.specs.Measuring.{AreMembers, decreases_in, measured_in};
 ghost use Rattle.df_npass.specs.Rules as rules;
@@ -36,14 +37,13 @@ ghost use Rattle.df_nterm.specs.Term.{Truths, negation as negated};
 
 use crate::changed::{outside, outside_if};
 use crate::join::any_path;
-use crate::ledger::Ledger;
 use crate::passed::Passed;
-use crate::setting::Setting;
 use crate::way::{Arrived, Changed, Exits, Onward};
 use df_base::Pos;
 use df_form::{Formula, Kind};
 use df_lang::{Branch, Clause, Expr, Measure, Operand, Stmt};
 use df_nenc::negation;
+use df_nledger::{Ledger, Setting};
 use df_nmeas::Measured;
 use std::alloc::{AllocError, Global};
 

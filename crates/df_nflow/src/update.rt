@@ -1,5 +1,5 @@
 //! Updates: terms go to their places.
-#![tactic(auto, using(df_nenc::proofs::Growing::grows_not, df_nenc::proofs::Growing::grows_then))]
+#![tactic(auto, using(df_nenc::proofs::Growing::grows_not, df_nenc::proofs::Growing::grows_then, df_nenc::proofs::Growing::term_stays, df_nledger::proofs::Growing::ledger_stays, crate::proofs::Waiting::passed_stays, crate::proofs::Passing::is_passed, df_nledger::proofs::Growing::measured_stay))]
 
 ghost use Rattle.std.specs.Prelude.{◌≡◌, [], true, if◌then◌else◌, map, OnOk};
 ghost use Rattle.std.specs.Option.{option_map};
@@ -11,7 +11,7 @@ ghost use Rattle.df_nenc.specs.Tree.{tree_at, trees_at};
 ghost use Rattle.df_nflow.specs.PassedView.{standing_of};
 ghost use Rattle.df_nflow.specs.Standing.{also, Moves};
 ghost use Rattle.df_nflow.specs.Typed.{is_target_over, are_targets_over, target_types, is_update_over, may_update_over};
-ghost use Rattle.df_nflow.specs.Views.{setting_of};
+ghost use Rattle.df_nledger.specs.Setting.{setting_of};
 ghost use Rattle.df_meaning.specs.declared.kind.Kind.TheVariants as kinds;
 ghost use Rattle.df_npass.specs.Rules.{assert, over, with_term};
 ghost use Rattle.df_nterm.specs.Term.{sort_of_type};
@@ -19,10 +19,10 @@ ghost use Rattle.df_npass.specs.Statements as pure;
 ghost use Rattle.df_nterm.specs.Expressions.{equal_in as equal_trees};
 
 use crate::passed::Passed;
-use crate::setting::Setting;
 use df_form::{Kind, Term};
 use df_lang::{Target, Update};
 use df_nenc::equal_in;
+use df_nledger::Setting;
 use indexmap::IndexSet;
 use std::alloc::{AllocError, Global};
 

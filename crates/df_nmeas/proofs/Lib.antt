@@ -1,8 +1,6 @@
-pub mod Members
-pub mod Pairs
-pub mod Sides
+pub mod Words
 pub mod Over
 pub mod Parameters
-pub mod Distance
-pub mod Fronts
+pub mod Pairs
 pub mod Guards
+pub mod Sides

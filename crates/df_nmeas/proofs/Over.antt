@@ -1,24 +1,7 @@
 -- Members of a measure are well typed over locals that have terms.
-use Rattle.std.proofs.Common.{◌≡◌, ℕ, true, ◌&&◌, List, [], ◌∷◌, ◌++◌, Some, refl}
+use Rattle.df_nmeas.proofs.Words.{◌≡◌, ℕ, true, ◌&&◌, List, [], ◌∷◌, ◌++◌, Some, refl, and_parts, Ty, Measure, Program, is_type, is_expr, are_measures, Node, sort_of_type, term_of, conditions_of, trees_in, Grows, Gives, DeclaredCondition, locals_stay, locals_same, is_term, gives_as, Part, part, AreOver, DeclaredMeasured}
 use Rattle.std.specs.List.{list_all}
-use Rattle.std.proofs.lemmas.Bool.{and_parts}
-use Rattle.df_lang.specs.declared.ty.Ty.{Ty}
-use Rattle.df_lang.specs.Stmt.{Measure}
-use Rattle.df_lang.specs.Program.{Program}
-use Rattle.df_lang.specs.Typing.{is_type, is_expr, are_measures}
-use Rattle.df_form.specs.Node.{Node}
-use Rattle.df_nterm.specs.Term.{sort_of_type}
-use Rattle.df_nterm.specs.Expressions.{term_of, conditions_of}
-use Rattle.df_nenc.specs.declared.condition.Condition as declared_condition
-use Rattle.df_nenc.specs.Tree.{trees_in}
-use Rattle.df_nenc.specs.Growing.{Grows}
-use Rattle.df_nenc.specs.Encoding.{Gives}
-use Rattle.df_nenc.proofs.Growing.{locals_stay, locals_same, is_term}
-use Rattle.df_nenc.proofs.Adding.{gives_as}
-use Rattle.df_nenc.proofs.Parts.{Part, part}
-use Rattle.df_nmeas.specs.declared.measured.Measured as declared
-use Rattle.df_nmeas.specs.Measuring.{AreOver}
-use Rattle.df_nmeas.proofs.Members.{Measuring, measure_goes}
+use Rattle.df_nmeas.proofs.Pairs.{Measuring, measure_goes}
 
 module _ (terms : List ℕ) (m : Measure) (rest : List Measure) where
   typed_parts : (p : Program) (types : List Ty) → are_measures p types (Some (m ∷ rest)) ≡ true → ((is_type p m.ty && is_expr p types m.ty m.value) ≡ true) × (are_measures p types (Some rest) ≡ true)
@@ -32,7 +15,7 @@ module _ (terms : List ℕ) (m : Measure) (rest : List Measure) where
   pub members_left : (before now : List Node) → Grows before now → AreOver before terms (m ∷ rest) → AreOver now terms rest
   members_left before now g h = record { program = h.program; types = h.types; typed = (typed_parts h.program h.types h.typed).1; locals = locals_stay before now h.types terms g h.locals }
 
-  pub measure_next : (old now next : List Node) (members : List declared.Measured) (before after then : List declared_condition.Condition) (all : List Measure) (n : ℕ)
+  pub measure_next : (old now next : List Node) (members : List DeclaredMeasured) (before after then : List DeclaredCondition) (all : List Measure) (n : ℕ)
       → AreOver old terms all → AreOver now terms (m ∷ rest) → Measuring (trees_in old terms) old now members before after all (m ∷ rest)
       → Gives (term_of (trees_in now terms) m.value) (conditions_of (trees_in now terms) m.value) now next n after then
       → Measuring (trees_in old terms) old next (members ++ record { ty = m.ty; value = n } ∷ []) before then all rest

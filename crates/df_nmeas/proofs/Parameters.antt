@@ -1,25 +1,6 @@
 -- Parameters in order, as members of a measure.
-use Rattle.std.proofs.Common.{◌≡◌, ℕ, zero, suc, ◌+◌, ◌≤◌, List, [], ◌∷◌, map, length, slice_get, slice_index_or, Some, refl, sym, ap, ◌∙◌, subst, arith}
-use Rattle.std.proofs.lemmas.List.{length-map}
+use Rattle.df_nmeas.proofs.Words.{◌≡◌, ℕ, zero, suc, ◌+◌, ◌≤◌, List, [], ◌∷◌, map, length, slice_get, slice_index_or, Some, refl, sym, ap, ◌∙◌, subst, arith, length-map, Ty, param_of, parameters_from, Param, types_of, Measure, DeclaredParam, Node, Sort, sort_of_type, Environment, conditions_of_measure, measured, tree_at, trees_in, IsTerm, HasTerm, AreLocals, DeclaredCondition, adds_none, adds_as, grows_not, local_tree, measured_in, AreMembers, Measures, MakesMeasure, members_from, DeclaredMeasured}
 use Rattle.std.proofs.lemmas.Option.{same_Some}
-use Rattle.df_lang.specs.declared.decl.Param as declared_param
-use Rattle.df_lang.specs.declared.ty.Ty.{Ty}
-use Rattle.df_lang.specs.DeclView.{param_of}
-use Rattle.df_lang.specs.Measures.{parameters_from}
-use Rattle.df_lang.specs.Program.{Param, types_of}
-use Rattle.df_lang.specs.Stmt.{Measure}
-use Rattle.df_form.specs.Node.{Node}
-use Rattle.df_nterm.specs.Term.{Sort, sort_of_type}
-use Rattle.df_nterm.specs.Expressions.{Environment}
-use Rattle.df_nterm.specs.Measuring as trees
-use Rattle.df_nenc.specs.declared.condition.Condition as declared_condition
-use Rattle.df_nenc.specs.Tree.{tree_at, trees_in}
-use Rattle.df_nenc.specs.Standing.{IsTerm, HasTerm, AreLocals}
-use Rattle.df_nenc.proofs.Adding.{adds_none, adds_as}
-use Rattle.df_nenc.proofs.Growing.{grows_not}
-use Rattle.df_nenc.proofs.Parts.{local_tree}
-use Rattle.df_nmeas.specs.declared.measured.Measured as declared
-use Rattle.df_nmeas.specs.Measuring.{measured_in, AreMembers, Measures, MakesMeasure, members_from}
 
 -- there are no more locals than terms
 locals_left : (nodes : List Node) (ty : Ty) (types : List Ty) (t : ℕ) (terms : List ℕ) → AreLocals nodes (ty ∷ types) (t ∷ terms) → AreLocals nodes types terms
@@ -59,7 +40,7 @@ module _ (nodes : List Node) (terms : List ℕ) where
   members_there [] from h = tt
   members_there (p ∷ params) from h = (is_there (sort_of_type p.ty) from (are_first from p params h), members_there params (suc from) (are_after from p params h))
 
-  members_are_parameters : (params : List Param) (from : ℕ) → AreFrom from params → measured_in nodes (members_from from params terms) ≡ trees.measured (trees_in nodes terms) (parameters_from from params)
+  members_are_parameters : (params : List Param) (from : ℕ) → AreFrom from params → measured_in nodes (members_from from params terms) ≡ measured (trees_in nodes terms) (parameters_from from params)
   members_are_parameters [] from h = refl
   members_are_parameters (p ∷ params) from h =
       let tree = tree_there (sort_of_type p.ty) from (are_first from p params h) in
@@ -67,12 +48,12 @@ module _ (nodes : List Node) (terms : List ℕ) where
       λ i. record { ty = p.ty; value = tree i } ∷ others i
 
 -- parameters ask for nothing
-nothing_asked : (env : Environment) (params : List Param) (from : ℕ) → trees.conditions_of_measure env (parameters_from from params) ≡ []
+nothing_asked : (env : Environment) (params : List Param) (from : ℕ) → conditions_of_measure env (parameters_from from params) ≡ []
 nothing_asked env [] from = refl
 nothing_asked env (p ∷ params) from = nothing_asked env params (suc from)
 
-pub parameters_made : (nodes : List Node) (terms : List ℕ) (params : List Param) (cs : List declared_condition.Condition) → AreLocals nodes (types_of params) terms
-    → Measures (trees.measured (trees_in nodes terms) (parameters_from 0 params)) (trees.conditions_of_measure (trees_in nodes terms) (parameters_from 0 params)) nodes nodes (members_from 0 params terms) cs cs
+pub parameters_made : (nodes : List Node) (terms : List ℕ) (params : List Param) (cs : List DeclaredCondition) → AreLocals nodes (types_of params) terms
+    → Measures (measured (trees_in nodes terms) (parameters_from 0 params)) (conditions_of_measure (trees_in nodes terms) (parameters_from 0 params)) nodes nodes (members_from 0 params terms) cs cs
 parameters_made nodes terms params cs h =
     let from : (local at : ℕ) (ty : Ty) → at ≡ 0 + local → slice_get (types_of params) local ≡ Some ty → HasTerm (sort_of_type ty) nodes terms at = λ local at ty e there. subst (HasTerm (sort_of_type ty) nodes terms) (let same : local ≡ at = omega arith in same) (h.sorted local ty there) in
     record {
@@ -82,11 +63,11 @@ parameters_made nodes terms params cs h =
       adds = adds_as nodes [] _ cs cs (sym (nothing_asked (trees_in nodes terms) params 0)) (adds_none nodes cs);
     }
 
-module _ (nodes : List Node) (terms : List ℕ) (params : List declared_param.Param) where
+module _ (nodes : List Node) (terms : List ℕ) (params : List DeclaredParam) where
   pub parameters_long : AreLocals nodes (types_of (map param_of params)) terms → length params ≤ length terms
   parameters_long h = let long = locals_long nodes (types_of (map param_of params)) terms h in omega (arith, length-map (map param_of params) (λ (p : Param). p.ty), length-map params param_of)
 
-  pub parameters_make : (made : List declared.Measured) (measures : List Measure) (cs : List declared_condition.Condition) → measures ≡ parameters_from 0 (map param_of params) → made ≡ members_from 0 (map param_of params) terms
+  pub parameters_make : (made : List DeclaredMeasured) (measures : List Measure) (cs : List DeclaredCondition) → measures ≡ parameters_from 0 (map param_of params) → made ≡ members_from 0 (map param_of params) terms
       → AreLocals nodes (types_of (map param_of params)) terms → MakesMeasure nodes nodes terms measures made cs cs
   parameters_make made measures cs e f h =
       subst (λ ms. MakesMeasure nodes nodes terms ms made cs cs) (sym e)

@@ -1,5 +1,5 @@
 //! The members of measures, with the conditions under which they have values.
-#![tactic(auto, using(df_nenc::proofs::Growing::grows_not, df_nenc::proofs::Growing::grows_then, df_nenc::proofs::Fronts::front_not, df_nenc::proofs::Fronts::front_then))]
+#![tactic(auto, using(df_nenc::proofs::Growing::grows_not, df_nenc::proofs::Growing::grows_then, df_nenc::proofs::Reaching::front_not, df_nenc::proofs::Reaching::front_then, df_nenc::proofs::Growing::term_stays))]
 
 ghost use Rattle.std.specs.Prelude.{◌≡◌, ◌≤◌, ◌++◌, map, length, IfOk};
 ghost use Rattle.df_base.specs.declared.pos.Pos.{Pos};

@@ -1,9 +1,11 @@
-mod Same
-mod Knowing
-mod Flags
+pub mod Words
 mod Values
 mod Meaning
 mod Visits
 mod Stacks
-mod Assuming
 mod Parameters
+mod Fronts
+mod Places
+mod Knowing
+mod Anew
+mod Cutting

@@ -1,29 +1,18 @@
 -- Formulas of a table are true exactly where their trees are.
-use Rattle.std.proofs.Common.{◌≡◌, ℕ, zero, suc, true, List, [], ◌∷◌, ◌++◌, map, refl, sym, ap, ◌∙◌}
-use Rattle.std.proofs.lemmas.List.{map-append}
-use Rattle.std.specs.List.{AllByRecursion}
-use Rattle.df_lang.specs.Program.{Program}
-use Rattle.df_meaning.specs.Value as logic
-use Rattle.df_form.specs.declared.node.Sort.{Sort}
-use Rattle.df_form.specs.declared.node.Sort.TheVariants as sorts
-use Rattle.df_form.specs.declared.node.Free.{Free}
-use Rattle.df_form.specs.World.{World, of_program}
-use Rattle.df_form.specs.Node.{Node}
+use Rattle.df_nowed.proofs.Words.{◌≡◌, ℕ, zero, suc, true, List, [], ◌∷◌, ◌++◌, map, refl, sym, ap, ◌∙◌, map-append, AllByRecursion, Program, Free, World, of_program, Node, Term, terms_of, Interpretation, has_sort, value, values, truth, sort_of, tree_among, tree_over, trees_after, trees_at, sort_again, sort_back, obligation_of, ValidSequentsAreValidObligations, RefutedSequentsAreRefutedObligations}
 use Rattle.df_form.specs.Truth as formulas
-use Rattle.df_form.specs.Sequent as form
-use Rattle.df_nterm.specs.Term.{Term, terms_of}
+use Rattle.df_form.specs.Sequent.{IsValid}
 use Rattle.df_nterm.specs.Term as trees
-use Rattle.df_nterm.specs.Meaning.{Interpretation, has_sort, value, values, truth}
-use Rattle.df_nenc.specs.Tree.{sort_of, tree_among, tree_over, trees_after, tree_at, trees_at}
+use Rattle.df_nenc.specs.Tree.{tree_at}
 use Rattle.df_npass.specs.Laws as obligations
-use Rattle.df_nowed.specs.Laws.{obligation_of, ValidSequentsAreValidObligations, RefutedSequentsAreRefutedObligations}
 use Rattle.df_nowed.proofs.Values.{as_logic, from_logic, logic_again, truth_same, sorted_same, Agrees, free_in, apply_same}
+use Rattle.df_meaning.specs.Value.{Value, truth_of}
 
 module _ (depth : ℕ) (i : Interpretation) (a : formulas.Assignment) (agrees : Agrees i a) where
   abbrev world : World
   world = of_program i.program
 
-  abbrev worth : Term → logic.Value
+  abbrev worth : Term → Value
   worth t = as_logic (value i t)
 
   among : (known : List Term) (n : ℕ) → formulas.value_at (map worth known) n ≡ worth (tree_among known n)
@@ -44,14 +33,14 @@ module _ (depth : ℕ) (i : Interpretation) (a : formulas.Assignment) (agrees : 
   after_same known [] = refl
   after_same known (one ∷ nodes) =
       let more : map worth known ++ formulas.apply depth world a one.op (map (formulas.value_at (map worth known)) one.parts) ∷ [] ≡ map worth (known ++ tree_over known one ∷ []) =
-      ap (λ (v : logic.Value). map worth known ++ v ∷ []) (over_same known one) ∙ sym (map-append worth known (tree_over known one ∷ [])) in
-      ap (λ (vs : List logic.Value). formulas.values_after depth world a vs nodes) more ∙ after_same (known ++ tree_over known one ∷ []) nodes
+      ap (λ (v : Value). map worth known ++ v ∷ []) (over_same known one) ∙ sym (map-append worth known (tree_over known one ∷ [])) in
+      ap (λ (vs : List Value). formulas.values_after depth world a vs nodes) more ∙ after_same (known ++ tree_over known one ∷ []) nodes
 
   formula_same : (nodes : List Node) (n : ℕ) → formulas.truth depth world a nodes n ≡ truth i (tree_at nodes n)
   unfolding tree_at
   formula_same nodes n =
-      ap (λ (vs : List logic.Value). formulas.truth_at vs n) (after_same [] nodes)
-      ∙ ap logic.truth_of (among (trees_after [] nodes) n)
+      ap (λ (vs : List Value). formulas.truth_at vs n) (after_same [] nodes)
+      ∙ ap truth_of (among (trees_after [] nodes) n)
       ∙ truth_same (value i (tree_among (trees_after [] nodes) n))
 
   -- in a world that is that of its program
@@ -74,16 +63,6 @@ assignment_of i = record { value = λ free. as_logic (i.value (free_in free)); s
 
 assigned : (i : Interpretation) → Agrees i (assignment_of i)
 assigned i = record { by = λ free. refl }
-
-abbrev pub sort_back : trees.Sort → Sort
-sort_back trees.Numbers = sorts.Number
-sort_back trees.Truths = sorts.Truth
-sort_back trees.Characters = sorts.Character
-
-pub sort_again : (sort : Sort) → sort_back (sort_of sort) ≡ sort
-sort_again sorts.Number = refl
-sort_again sorts.Truth = refl
-sort_again sorts.Character = refl
 
 sort_there : (sort : trees.Sort) → sort_of (sort_back sort) ≡ sort
 sort_there trees.Numbers = refl
@@ -114,13 +93,13 @@ interpreted program a = record { by = λ free. ap a.value (sym (free_again free)
 pub same_validity : ValidSequentsAreValidObligations
 same_validity program declaration place kind s over = (valid, valid_back)
   where
-    valid : form.IsValid s → obligations.IsValid program (obligation_of declaration place kind s)
+    valid : IsValid s → obligations.IsValid program (obligation_of declaration place kind s)
     valid h i e all =
         let world : s.world ≡ of_program i.program = over ∙ ap of_program (sym e) in
         sym (in_world 0 i (assignment_of i) (assigned i) s.world world s.nodes s.goal)
         ∙ h 0 (assignment_of i) (formulas_true 0 i (assignment_of i) (assigned i) s.world world s.nodes s.hypotheses all)
 
-    valid_back : obligations.IsValid program (obligation_of declaration place kind s) → form.IsValid s
+    valid_back : obligations.IsValid program (obligation_of declaration place kind s) → IsValid s
     valid_back h depth a all =
         in_world depth (interpretation_of program a) a (interpreted program a) s.world over s.nodes s.goal
         ∙ h (interpretation_of program a) refl (trees_true depth (interpretation_of program a) a (interpreted program a) s.world over s.nodes s.hypotheses all)

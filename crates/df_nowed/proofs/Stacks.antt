@@ -1,37 +1,13 @@
 -- An operation in place of the terms that lie on top.
-use Rattle.std.proofs.Common.{◌≡◌, ◌⊎◌, inl, inr, ℕ, zero, suc, ◌≤◌, ◌+◌, ◌-◌, true, List, [], ◌∷◌, ◌++◌, map, take, drop, length, nat_lt, slice_get, slice_set, slice_index_or, replicate, Option, None, Some, refl, sym, ap, ◌∙◌, arith, subst, ltb-true}
-use Rattle.std.specs.List.{list_all}
-use Rattle.std.proofs.lemmas.Bool.{and_parts, and_from, lt-ltb}
-use Rattle.std.proofs.lemmas.List.{map-append, length-map, length-append, drop-map, take-append-drop, length-set, length-replicate, get_or_at}
-use Rattle.std.proofs.lemmas.Option.{same_Some, slice_get_within}
+use Rattle.df_nowed.proofs.Words.{◌≡◌, ◌⊎◌, inl, inr, ℕ, zero, suc, ◌≤◌, ◌+◌, ◌-◌, true, List, [], ◌∷◌, ◌++◌, map, take, drop, length, nat_lt, slice_get, slice_set, slice_index_or, replicate, Option, None, Some, refl, sym, ap, ◌∙◌, arith, subst, ltb-true, list_all, and_parts, and_from, lt-ltb, map-append, length-map, length-append, drop-map, take-append-drop, length-set, length-replicate, get_or_at, take-map, same_Some, slice_get_within, all_parts, all_weaker, head_same, tail_same, map_agree, is_or_not, Sort, Node, IsTable, is_well_sorted, sort_at, takes, AreSorted, parts_below, parts_taken, Term, node, terms_of, op_of, sort_of, sort_of_term, tree_at, trees_at, Grows, Stands, grown_tree, tree_of, tree_sort, made_tree, sort_again, sort_back, AreTerms}
 use Rattle.std.proofs.Math.Seq.{take-append_seam, drop-append_seam}
-use Rattle.df_lemmas.proofs.Lists.{all_parts, all_weaker, head_same, tail_same, map_agree}
-use Rattle.df_meaning.proofs.Stating.{is_or_not}
-use Rattle.df_form.specs.declared.node.Sort.{Sort}
-use Rattle.df_form.specs.Node.{Node}
-use Rattle.df_form.specs.Sorting.{IsTable, is_well_sorted, sort_at, takes}
 use Rattle.df_form.specs.Made.{made}
 use Rattle.df_form.specs.Draft.{last_terms, other_terms, node_on}
-use Rattle.df_form.proofs.Values.{AreSorted, parts_below, parts_taken}
-use Rattle.df_nterm.specs.Term.{Term, node, terms_of}
-use Rattle.df_nenc.specs.Tree.{op_of, sort_of, sort_of_term, tree_at, trees_at}
-use Rattle.df_nenc.specs.Growing.{Grows}
-use Rattle.df_nenc.specs.Standing.{Stands}
 use Rattle.df_nenc.specs.Laws.{MakesTree}
-use Rattle.df_nenc.proofs.Trees.{grown_tree, tree_of, tree_sort}
 use Rattle.df_nenc.proofs.Growing.{stays}
-use Rattle.df_nenc.proofs.Made.{made_tree}
-use Rattle.df_nowed.specs.Renumbering.{AreTerms}
-use Rattle.df_nowed.proofs.Meaning.{sort_back, sort_again}
 
 pub sort_same : (a b : Sort) → sort_of a ≡ sort_of b → a ≡ b
 sort_same a b e = sym (sort_again a) ∙ ap sort_back e ∙ sort_again b
-
-take-map : {A B : Type 0} (f : A → B) (k : ℕ) (xs : List A) → take k (map f xs) ≡ map f (take k xs)
-take-map f zero [] = refl
-take-map f (suc k) [] = refl
-take-map f zero (x ∷ xs) = refl
-take-map f (suc k) (x ∷ xs) = ap (λ ys. f x ∷ ys) (take-map f k xs)
 
 -- one that was met once more
 pub again_on : (table nodes after : List Node) (stack later : List ℕ) (n m : ℕ) → tree_at nodes m ≡ tree_at table n → after ≡ nodes → later ≡ stack ++ m ∷ [] → trees_at after later ≡ trees_at nodes stack ++ tree_at table n ∷ []
@@ -60,19 +36,19 @@ sorts_same table nodes (m ∷ ms) (n ∷ ns) all others e =
 
 -- ---- the terms of nodes that were met
 
-get_set_same : {A : Type 0} (xs : List A) (n : ℕ) (x y : A) → slice_get (slice_set xs n x) n ≡ Some y → x ≡ y
+pub get_set_same : {A : Type 0} (xs : List A) (n : ℕ) (x y : A) → slice_get (slice_set xs n x) n ≡ Some y → x ≡ y
 get_set_same [] n x y e = absurd cc
 get_set_same (z ∷ xs) zero x y e = same_Some x y e
 get_set_same (z ∷ xs) (suc n) x y e = get_set_same xs n x y e
 
-get_set_other : {A : Type 0} (xs : List A) (n k : ℕ) (x y : A) → (k ≡ n → ⊥) → slice_get (slice_set xs n x) k ≡ Some y → slice_get xs k ≡ Some y
+pub get_set_other : {A : Type 0} (xs : List A) (n k : ℕ) (x y : A) → (k ≡ n → ⊥) → slice_get (slice_set xs n x) k ≡ Some y → slice_get xs k ≡ Some y
 get_set_other [] n k x y h e = e
 get_set_other (z ∷ xs) zero zero x y h e = absurd (h refl)
 get_set_other (z ∷ xs) zero (suc k) x y h e = e
 get_set_other (z ∷ xs) (suc n) zero x y h e = e
 get_set_other (z ∷ xs) (suc n) (suc k) x y h e = get_set_other xs n k x y (λ same. h (ap suc same)) e
 
-none_there : (size k m : ℕ) → slice_get (replicate size None) k ≡ Some (Some m) → ⊥
+pub none_there : (size k m : ℕ) → slice_get (replicate size None) k ≡ Some (Some m) → ⊥
 none_there zero k m e = cc
 none_there (suc size) zero m e = cc
 none_there (suc size) (suc k) m e = none_there size k m e

@@ -1,26 +1,18 @@
 -- Values of terms as values of formulas, and what operations make of them.
-use Rattle.std.proofs.Common.{◌≡◌, ℕ, zero, suc, ℤ, pos, negsuc, Bool, true, false, ◌&&◌, ◌||◌, if◌then◌else◌, not, ◌+ℤ◌, ◌*ℤ◌, List, [], ◌∷◌, map, slice_get, slice_index_or, nat_lt, int_le, refl, ap, ◌∙◌, arith}
+use Rattle.df_nowed.proofs.Words.{◌≡◌, ℕ, zero, suc, ℤ, pos, negsuc, Bool, true, false, ◌&&◌, ◌||◌, if◌then◌else◌, not, ◌+ℤ◌, ◌*ℤ◌, List, [], ◌∷◌, map, slice_get, slice_index_or, nat_lt, int_le, refl, ap, ◌∙◌, arith, option_map_or, option_and_then, list_all, list_any, Decl, NewtypeDecl, MethodDecl, Program, as_newtype, Sort, Free, Ends, is_within, of_program, ends_of_decl, Interpretation, has_sort, number_at, truth_at, is_code, character_of, apply, sort_of, op_of}
 use Rattle.std.proofs.lemmas.Bool.Decides.{nat_tests}
-use Rattle.std.specs.Option.{option_map_or, option_and_then}
-use Rattle.std.specs.List.{list_all, list_any}
 use Rattle.df_lang.specs.declared.ty.Ty.{Ty}
 use Rattle.df_lang.specs.declared.ty.Ty.TheVariants as types
 use Rattle.df_lang.specs.Newtype.{Newtype}
-use Rattle.df_lang.specs.Program.{Decl, NewtypeDecl, MethodDecl, Program, as_newtype}
 use Rattle.df_meaning.specs.Value as logic
 use Rattle.df_meaning.specs.Value.{Value, Truth, Character, Number, Text, number_of, truth_of, same_truth, same_value}
 use Rattle.df_meaning.specs.Types.{holds, has_type}
-use Rattle.df_form.specs.declared.node.Sort.{Sort}
 use Rattle.df_form.specs.declared.node.Sort.TheVariants as sorts
-use Rattle.df_form.specs.declared.node.Free.{Free}
 use Rattle.df_form.specs.declared.node.Op.{Op}
 use Rattle.df_form.specs.declared.node.Op.TheVariants as ops
-use Rattle.df_form.specs.World.{Ends, is_within, of_program, ends_of_decl}
 use Rattle.df_form.specs.Types as formula_types
 use Rattle.df_form.specs.Truth as formulas
 use Rattle.df_nterm.specs.Term as trees
-use Rattle.df_nterm.specs.Meaning.{Interpretation, has_sort, number_at, truth_at, is_code, character_of, apply}
-use Rattle.df_nenc.specs.Tree.{sort_of, op_of}
 
 -- ---- the same values
 

@@ -1,30 +1,13 @@
 -- Visits of the nodes of a table: what is left of a walk, step by step.
-use Rattle.std.proofs.Common.{◌≡◌, ℕ, zero, suc, ◌<◌, ◌+◌, List, [], ◌∷◌, ◌++◌, take, drop, length, reverse, slice_get, slice_index_or, Option, None, Some, refl, sym, ap, ◌∙◌, arith, append_assoc, append-nil}
-use Rattle.std.specs.Option.{option_map_or}
-use Rattle.std.proofs.lemmas.List.{map-append, reverse-append}
-use Rattle.std.proofs.lemmas.Option.{same_Some, slice_get_within}
-use Rattle.df_lemmas.proofs.Lists.{get_below}
-use Rattle.df_form.specs.Node.{Node}
-use Rattle.df_form.specs.Sorting.{IsTable}
-use Rattle.df_form.proofs.Values.{AreSorted}
+use Rattle.df_nowed.proofs.Words.{◌≡◌, ℕ, zero, suc, ◌<◌, List, [], ◌∷◌, ◌++◌, take, length, reverse, slice_get, slice_index_or, Option, None, Some, refl, sym, ap, ◌∙◌, arith, append_assoc, append-nil, true, nat_lt, ltb-true, and_parts, list_all, parts_below, option_map_or, map-append, reverse-append, same_Some, slice_get_within, get_below, Node, IsTable, AreSorted, Term, terms_of, tree_at, trees_at, tree_of, Visit, parts_at, Leads, steps_of, steps_of_all, steps_left}
 use Rattle.df_form.proofs.Worlds.{got}
-use Rattle.df_nterm.specs.Term.{Term, terms_of}
-use Rattle.df_nenc.specs.Tree.{tree_at, trees_at}
-use Rattle.df_nenc.proofs.Trees.{tree_of}
-use Rattle.df_nowed.specs.declared.sequent.Visit.{Visit}
-use Rattle.df_nowed.specs.Renumbering.{parts_at, Leads, steps_of, steps_of_all, steps_left}
 
 -- ---- lists by places
 
-take_more : {A : Type 0} (xs : List A) (k : ℕ) (x : A) → slice_get xs k ≡ Some x → take (suc k) xs ≡ take k xs ++ x ∷ []
+pub take_more : {A : Type 0} (xs : List A) (k : ℕ) (x : A) → slice_get xs k ≡ Some x → take (suc k) xs ≡ take k xs ++ x ∷ []
 take_more [] k x e = absurd cc
 take_more (y ∷ ys) zero x e = ap (λ z. z ∷ []) (same_Some y x e)
 take_more (y ∷ ys) (suc k) x e = ap (λ zs. y ∷ zs) (take_more ys k x e)
-
-pub drop_here : {A : Type 0} (xs : List A) (k : ℕ) (x : A) → slice_get xs k ≡ Some x → drop k xs ≡ x ∷ drop (suc k) xs
-drop_here [] k x e = absurd cc
-drop_here (y ∷ ys) zero x e = ap (λ z. z ∷ ys) (same_Some y x e)
-drop_here (y ∷ ys) (suc k) x e = drop_here ys k x e
 
 take_all : {A : Type 0} (xs : List A) (k : ℕ) → slice_get xs k ≡ None → take k xs ≡ xs
 take_all [] zero e = refl
@@ -82,10 +65,17 @@ module _ (table : List Node) where
       ap (λ (parts : List ℕ). suc (steps_of_all (terms_of (trees_at table parts)))) (parts_there table n found.0 found.1)
       ∙ sym (ap steps_of (tree_of table n found.0 sorted found.1))
 
-  pub steps_next : (v : Visit) (m part : ℕ) → m ≡ suc v.parts → slice_get (parts_at table v.node) v.parts ≡ Some part
-      → steps_left table v ≡ suc (steps_of (tree_at table part) + steps_left table (record { node = v.node; parts = m }))
-  steps_next v m part e at =
-      let parts = parts_at table v.node in
-      let there = ap (λ (ns : List ℕ). suc (steps_of_all (terms_of (trees_at table ns)))) (drop_here parts v.parts part at) in
-      let same = ap (λ (k : ℕ). steps_of_all (terms_of (trees_at table (drop k parts)))) e in
-      omega (arith, there, same)
+-- ---- parts stand before their node
+
+part_there : (bound : ℕ) (parts : List ℕ) (k part : ℕ) → list_all (λ n. nat_lt n bound) parts ≡ true → slice_get parts k ≡ Some part → part < bound
+part_there bound [] k part all at = absurd cc
+part_there bound (n ∷ others) zero part all at =
+    let below = ltb-true n bound (and_parts (nat_lt n bound) (list_all (λ m. nat_lt m bound) others) all).0 in
+    omega (arith, below, same_Some n part at)
+part_there bound (n ∷ others) (suc k) part all at = part_there bound others k part (and_parts (nat_lt n bound) (list_all (λ m. nat_lt m bound) others) all).1 at
+
+pub part_below : (table : List Node) → IsTable table → (n : ℕ) (one : Node) → slice_get table n ≡ Some one → (k part : ℕ) → slice_get one.parts k ≡ Some part → part < length table
+part_below table is n one at k part there =
+    let less = slice_get_within table n one at in
+    let before = part_there n one.parts k part (parts_below table n one (record { sorted = is.sorted }) at) there in
+    omega (arith, less, before)

@@ -2,3 +2,5 @@ pub mod Obligation
 pub mod Laws
 pub mod Listing
 pub mod Renumbering
+pub mod Counts
+pub mod Owed

@@ -1,5 +1,5 @@
 -- Obligations of the code, as trees.
-use Rattle.std.specs.Prelude.{ℕ, List, map, take}
+use Rattle.std.specs.Prelude.{ℕ, List, map, take, slice_index}
 use Rattle.std.specs.List.{flat_map}
 use Rattle.df_form.specs.Node.{Node}
 use Rattle.df_nenc.specs.Tree.{tree_at, trees_at}
@@ -18,8 +18,12 @@ obligation_in number nodes known o = record {
   goal = tree_at nodes o.goal;
 }
 
+-- with the goal that stands at its place
+abbrev pub with_goal : List ℕ → declared_obligation.Obligation → declared_obligation.Obligation
+with_goal known o = record { pos = o.pos; kind = o.kind; hypothesis_count = o.hypothesis_count; goal = slice_index known o.place; place = o.place }
+
 abbrev pub obligations_in : declared_method.MethodObligations → List Obligation
-obligations_in m = map (obligation_in m.declaration m.nodes m.known.items) m.obligations.items
+obligations_in m = map (obligation_in m.declaration m.nodes m.known) m.obligations.items
 
 abbrev pub obligations_of : declared.Obligations → List Obligation
 obligations_of os = flat_map obligations_in os.methods.items

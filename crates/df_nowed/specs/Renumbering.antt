@@ -6,8 +6,8 @@ use Rattle.df_form.specs.Sorting.{IsTable}
 use Rattle.df_nterm.specs.Term.{Term, Terms, node, no_term, term, terms_of}
 use Rattle.df_nenc.specs.Tree.{tree_at, trees_at}
 use Rattle.df_nenc.specs.Standing.{Stands}
-use Rattle.df_nowed.specs.declared.sequent.Visit.{Visit}
-use Rattle.df_nowed.specs.declared.sequent.Renumbering as declared
+use Rattle.df_nowed.specs.declared.numbering.Visit.{Visit}
+use Rattle.df_nowed.specs.declared.numbering.Renumbering as declared
 
 -- the terms on the stack, and the hypotheses
 abbrev pub stack_of : declared.Renumbering → List Term

@@ -3,6 +3,7 @@
 
 mod law;
 mod listing;
+mod numbering;
 mod obligation;
 mod sequent;
 

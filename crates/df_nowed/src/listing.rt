@@ -1,78 +1,139 @@
 //! The obligations of declarations and programs.
 
 ghost use Rattle.std.proofs.Props.{props};
-ghost use Rattle.std.specs.Prelude.{◌≡◌, ◌<◌, ◌++◌, [], Some, flat_map, length, map, slice_get, IfOk, OnOk};
+ghost use Rattle.std.specs.Prelude.{◌≡◌, ◌<◌, ◌≤◌, ◌++◌, ℕ, [], Some, flat_map, length, map, slice_get, IfOk, OnOk};
+ghost use Rattle.std.specs.List.{AllByRecursion};
 ghost use Rattle.df_lang.specs.DeclView.{decl_of, method_of};
 ghost use Rattle.df_lang.specs.Program.{method_at};
 ghost use Rattle.df_lang.specs.View.{program_of};
-ghost use Rattle.df_nflow.specs.Said.{said_in};
+ghost use Rattle.df_nledger.specs.Said.{said_in};
 ghost use Rattle.df_npass.specs.Methods.{obligations as all_of, obligations_of as from_said, obligations_of_decl, obligations_of_method as of_method};
-ghost use Rattle.df_nowed.specs.Listing.{AreFlags, known_once, group_of_decl, all_groups};
-ghost use Rattle.df_nowed.specs.Obligation.{obligations_in, obligations_of, grouped_in, methods_of};
+ghost use Rattle.df_nowed.specs.Listing.{ArePlaces, known_once, group_of_decl, all_groups};
+ghost use Rattle.df_nowed.specs.Owed.{IsOwed};
+ghost use Rattle.df_nowed.specs.Obligation.{with_goal, obligation_in, obligations_in, obligations_of, grouped_in, methods_of};
+ghost use Rattle.df_nenc.specs.Standing.{IsTerm};
+ghost use Rattle.df_nterm.specs.Term.{Truths};
 
+use crate::numbering::{Numbering, numbered};
 use crate::obligation::{MethodObligations, Obligation, Obligations};
-use df_form::Formula;
+use df_form::{Formula, Formulas, Nodes};
 use df_lang::{Decl, DeclId, Method, Program};
-use df_nenc::one_node_for_a_tree;
-use df_nflow::{Passage, Said, method as pass};
+use df_nflow::{Passage, method as pass};
+use df_nledger::Said;
 use std::alloc::{AllocError, Global};
 
-/// Formulas in order, each once: whether a node is among them is kept by its number.
+/// Formulas in order, each once: the place of a node, if it is among them, is kept by its number.
 #[derive(Drop)]
 struct Known {
     formulas: Vec<Formula>,
-    is_known: Vec<bool>,
-    ghost are_flags: { AreFlags is_known.items formulas.items } by { Prim.hlevel props },
+    places: Vec<Option<usize>>,
+    ghost are_places: { ArePlaces places.items formulas.items } by { Prim.hlevel props },
 }
 
 impl Known {
-    /// A formula is known once.
-    fn add(&mut self, formula: Formula) -> Result<(), AllocError>
-        requires { formula < length self.old.is_known.items }
+    /// A formula is known once. Its place.
+    fn add(&mut self, formula: Formula) -> Result<usize, AllocError>
+        requires { formula < length self.old.places.items }
         ensures formulas { OnOk result (self.new.formulas.items ≡ known_once self.old.formulas.items formula) }
-        ensures long { length self.new.is_known.items ≡ length self.old.is_known.items }
+        ensures place { IfOk result (λ place. slice_get self.new.formulas.items place ≡ Some formula) }
+        ensures within { IfOk result (λ place. place ≤ length self.old.formulas.items) }
+        ensures long { length self.new.places.items ≡ length self.old.places.items }
     {
-        if !self.is_known[formula] {
-            self.formulas.push(formula)?;
-            self.is_known[formula] = true;
+        if let Some(place) = self.places[formula] {
+            return Ok(place);
         }
-        Ok(())
+        let place = self.formulas.len();
+        self.formulas.push(formula)?;
+        self.places[formula] = Some(place);
+        Ok(place)
     }
 }
 
-/// The obligations among what was said of a declaration: an obligation, once asked, is known as well.
-fn owed(
-    alloc: Global,
-    declaration: DeclId,
-    passage: Passage,
-) -> Result<MethodObligations, AllocError>
-    ensures owed { IfOk result (λ found. obligations_in found ≡ from_said declaration [] (said_in passage.nodes passage.said.items)) }
-    ensures declaration { IfOk result (λ found. found.declaration ≡ declaration) }
+/// What is owed among what was said of a declaration, over the nodes of its passage.
+#[derive(Drop)]
+struct Listed {
+    nodes: Nodes,
+    known: Vec<Formula>,
+    obligations: Vec<Obligation>,
+    ghost are_known: { AllByRecursion (IsTerm Truths nodes) known.items } by { Prim.hlevel props },
+    ghost are_owed: { AllByRecursion (IsOwed known.items) obligations.items } by { Prim.hlevel props },
+}
+
+/// The obligations among what was said: an obligation, once asked, is known as well.
+fn owed(alloc: Global, passage: Passage) -> Result<Listed, AllocError>
+    ensures { IfOk result (λ listed. (declaration : ℕ) → map (obligation_in declaration listed.nodes listed.known.items) listed.obligations.items ≡ from_said declaration [] (said_in passage.nodes passage.said.items)) }
 {
-    one_node_for_a_tree();
     let mut known = Known {
         formulas: Vec::new(alloc),
-        is_known: vec![in alloc; false; passage.nodes.len()]?,
+        places: vec![in alloc; None; passage.nodes.len()]?,
     };
     let mut obligations = Vec::new(alloc);
     for said in &passage.said {
         match said {
-            Said::Known(formula) => known.add(*formula)?,
+            Said::Known(formula) => {
+                known.add(*formula)?;
+            }
             Said::Owed { pos, kind, formula } => {
+                let hypothesis_count = known.formulas.len();
+                let place = known.add(*formula)?;
                 obligations.push(Obligation {
                     pos: *pos,
                     kind: *kind,
-                    hypothesis_count: known.formulas.len(),
+                    hypothesis_count,
                     goal: *formula,
+                    place,
                 })?;
-                known.add(*formula)?;
             }
         }
     }
-    Ok(MethodObligations {
-        declaration,
+    Ok(Listed {
         nodes: passage.nodes,
         known: known.formulas,
+        obligations,
+    })
+}
+
+/// The same obligations with the goals that stand at their places.
+fn with_goals(
+    alloc: Global,
+    obligations: &[Obligation],
+    known: &[Formula],
+) -> Result<Vec<Obligation>, AllocError>
+    requires { AllByRecursion (λ o. (o.hypothesis_count ≤ length known.now) × (o.place ≤ o.hypothesis_count) × (o.place < length known.now)) obligations.now }
+    ensures owed { IfOk result (λ all. AllByRecursion (IsOwed known.now) all.items) }
+    ensures same { IfOk result (λ all. all.items ≡ map (with_goal known.now) obligations.now) }
+{
+    let mut all = Vec::with_capacity(alloc, obligations.len())?;
+    for obligation in obligations {
+        all.push(Obligation {
+            goal: known[obligation.place],
+            ..*obligation
+        })?;
+    }
+    Ok(all)
+}
+
+/// The same obligations over nodes that are numbered in postorder of first occurrence, and shared.
+fn numbered_anew(
+    alloc: Global,
+    program: &Program,
+    declaration: DeclId,
+    listed: &Listed,
+) -> Result<MethodObligations, AllocError>
+    ensures owed { IfOk result (λ found. obligations_in found ≡ map (obligation_in declaration listed.now.nodes listed.now.known.items) listed.now.obligations.items) }
+    ensures declaration { IfOk result (λ found. found.declaration ≡ declaration) }
+{
+    let Numbering {
+        nodes,
+        formulas,
+        counts,
+    } = numbered(alloc, program, &listed.nodes, &listed.known)?;
+    let obligations = with_goals(alloc, &listed.obligations, &formulas)?;
+    Ok(MethodObligations {
+        declaration,
+        nodes: nodes.shared(alloc)?,
+        known: Formulas::new(alloc, formulas)?,
+        counts,
         obligations,
     })
 }
@@ -90,7 +151,8 @@ pub fn obligations_of_method(
     ensures declaration { IfOk result (λ found. found.declaration ≡ number) }
 {
     let passage = pass(alloc, program, groups, number, method)?;
-    owed(alloc, number, passage)
+    let listed = owed(alloc, passage)?;
+    numbered_anew(alloc, program, number, &listed)
 }
 
 /// Adds the obligations of a declaration, if it is a method.

@@ -1,225 +1,38 @@
 //! Obligations as sequents.
 
-ghost use Rattle.std.specs.Prelude.{◌≡◌, ◌<◌, ◌≤◌, ◌+◌, ◌∷◌, ◌++◌, [], Some, List, length, reverse, slice_get, OnOk, IfOk, IfSome};
-ghost use Rattle.std.specs.List.{AllByRecursion};
-ghost use Rattle.df_form.specs.Node.{node_of};
+ghost use Rattle.std.specs.Prelude.{◌≡◌, IfOk};
 ghost use Rattle.df_form.specs.SequentView.{sequent_of};
 ghost use Rattle.df_form.specs.World.{world_of, of_program};
 ghost use Rattle.df_lang.specs.View.{program_of};
-ghost use Rattle.df_nenc.specs.Growing.{Grows};
-ghost use Rattle.df_nenc.specs.Standing.{IsTerm};
-ghost use Rattle.df_nenc.specs.Tree.{tree_at, trees_at};
-ghost use Rattle.df_nterm.specs.Term.{Truths};
-ghost use Rattle.df_nterm.specs.Term as trees;
 ghost use Rattle.df_nowed.specs.Laws.{obligation_of};
+ghost use Rattle.df_nowed.specs.Owed.{IsOwed};
 ghost use Rattle.df_nowed.specs.Obligation.{obligation_in};
-ghost use Rattle.df_nowed.specs.Renumbering.{AreTerms, Leads, LeadsOn, stack_of, hypotheses_of, steps_of, steps_left, all_steps_left};
 
 use crate::obligation::{MethodObligations, Obligation};
-use df_form::{Draft, Formula, Node, Nodes, Sequent, Term, World};
+use df_form::{Sequent, World};
 use df_lang::Program;
 use std::alloc::{AllocError, Global};
 
-/// A node of which so many parts lie on the stack.
-#[derive(Clone, Copy)]
-struct Visit {
-    node: Term,
-    parts: usize,
-}
-
-/// A sequent that is being built of the formulas of a table.
-#[derive(Drop)]
-struct Renumbering<'a> {
-    draft: Draft<'a>,
-    /// The number in the draft of each node that was met, by its number in the table.
-    terms: Vec<Option<Term>>,
-}
-
-impl<'a> Renumbering<'a> {
-    /// The number in the draft of a node, if it was met.
-    fn met(&self, term: Term) -> Option<Term>
-        ensures { IfSome result (λ met. slice_get self.now.terms.items term ≡ Some (Some met)) }
-    {
-        match self.terms.get(term) {
-            Some(met) => *met,
-            None => None,
-        }
-    }
-
-    /// Puts a term on the stack, or what is to be visited for it.
-    fn meet(&mut self, table: &Nodes, term: Term, visits: &mut Vec<Visit>) -> Result<(), AllocError>
-        requires below { term < length table.now }
-        requires terms { AreTerms table.now self.old.draft.nodes self.old.terms.items }
-        ensures leads { OnOk result (LeadsOn table.now (reverse visits.old.items) (stack_of self.old ++ tree_at table.now term ∷ []) (reverse visits.new.items) (stack_of self.new)) }
-        ensures steps { OnOk result (all_steps_left table.now (reverse visits.new.items) ≤ steps_of (tree_at table.now term) + all_steps_left table.now (reverse visits.old.items)) }
-        ensures nodes { self.new.draft.nodes ≡ self.old.draft.nodes }
-        ensures terms { self.new.terms ≡ self.old.terms }
-        ensures hypotheses { self.new.draft.hypotheses.items ≡ self.old.draft.hypotheses.items }
-        ensures world { self.new.draft.world ≡ self.old.draft.world }
-    {
-        match self.met(term) {
-            Some(met) => {
-                self.draft.again(met)?;
-                Ok(())
-            }
-            None => {
-                visits.push(Visit {
-                    node: term,
-                    parts: 0,
-                })?;
-                Ok(())
-            }
-        }
-    }
-
-    /// Puts a node on the stack in place of its parts.
-    fn apply(&mut self, table: &Nodes, term: Term, node: &Node) -> Result<(), AllocError>
-        requires node { slice_get table.now term ≡ Some (node_of node.now) }
-        requires terms { AreTerms table.now self.old.draft.nodes self.old.terms.items }
-        requires parts { (front : List trees.Term) × (stack_of self.old ≡ front ++ trees_at table.now (node_of node.now).parts) }
-        ensures stack { OnOk result ((front : List trees.Term) → stack_of self.old ≡ front ++ trees_at table.now (node_of node.now).parts → stack_of self.new ≡ front ++ tree_at table.now term ∷ []) }
-        ensures terms { OnOk result (AreTerms table.now self.new.draft.nodes self.new.terms.items) }
-        ensures grows { Grows self.old.draft.nodes self.new.draft.nodes }
-        ensures hypotheses { self.new.draft.hypotheses.items ≡ self.old.draft.hypotheses.items }
-        ensures world { self.new.draft.world ≡ self.old.draft.world }
-    {
-        let count = node.parts.len();
-        self.draft.apply(node.op, count)?;
-        let top = self.draft.stack.len() - 1;
-        self.terms[term] = Some(self.draft.stack[top]);
-        Ok(())
-    }
-
-    /// Goes on with a visit: to the next part, or to the node itself.
-    fn step(
-        &mut self,
-        table: &Nodes,
-        visit: Visit,
-        visits: &mut Vec<Visit>,
-    ) -> Result<(), AllocError>
-        requires terms { AreTerms table.now self.old.draft.nodes self.old.terms.items }
-        requires leads { (after : List trees.Term) × Leads table.now (visit ∷ reverse visits.old.items) (stack_of self.old) after }
-        ensures leads { OnOk result (LeadsOn table.now (visit ∷ reverse visits.old.items) (stack_of self.old) (reverse visits.new.items) (stack_of self.new)) }
-        ensures steps { OnOk result (all_steps_left table.now (reverse visits.new.items) < steps_left table.now visit + all_steps_left table.now (reverse visits.old.items)) }
-        ensures terms { OnOk result (AreTerms table.now self.new.draft.nodes self.new.terms.items) }
-        ensures grows { Grows self.old.draft.nodes self.new.draft.nodes }
-        ensures hypotheses { self.new.draft.hypotheses.items ≡ self.old.draft.hypotheses.items }
-        ensures world { self.new.draft.world ≡ self.old.draft.world }
-    {
-        match table.get(visit.node) {
-            Some(node) => match node.parts.get(visit.parts) {
-                Some(part) => {
-                    visits.push(Visit {
-                        node: visit.node,
-                        parts: visit.parts + 1,
-                    })?;
-                    self.meet(table, *part, visits)?;
-                    Ok(())
-                }
-                None => self.apply(table, visit.node, node),
-            },
-            None => unreachable!(),
-        }
-    }
-
-    /// Puts a term on the empty stack.
-    fn term(&mut self, alloc: Global, table: &Nodes, term: Term) -> Result<(), AllocError>
-        requires below { term < length table.now }
-        requires terms { AreTerms table.now self.old.draft.nodes self.old.terms.items }
-        requires stack { self.old.draft.stack.items ≡ [] }
-        ensures stack { OnOk result (stack_of self.new ≡ tree_at table.now term ∷ []) }
-        ensures terms { OnOk result (AreTerms table.now self.new.draft.nodes self.new.terms.items) }
-        ensures grows { Grows self.old.draft.nodes self.new.draft.nodes }
-        ensures hypotheses { self.new.draft.hypotheses.items ≡ self.old.draft.hypotheses.items }
-        ensures world { self.new.draft.world ≡ self.old.draft.world }
-    {
-        let mut visits = Vec::new(alloc);
-        self.meet(table, term, &mut visits)?;
-        while let Some(visit) = visits.pop() {
-            self.step(table, visit, &mut visits)?;
-        }
-        Ok(())
-    }
-
-    /// A formula is the next hypothesis.
-    fn assume(&mut self, alloc: Global, table: &Nodes, formula: Formula) -> Result<(), AllocError>
-        requires formula { IsTerm Truths table.now formula }
-        requires terms { AreTerms table.now self.old.draft.nodes self.old.terms.items }
-        requires stack { self.old.draft.stack.items ≡ [] }
-        ensures hypotheses { OnOk result (hypotheses_of self.new ≡ hypotheses_of self.old ++ tree_at table.now formula ∷ []) }
-        ensures stack { OnOk result (self.new.draft.stack.items ≡ []) }
-        ensures terms { OnOk result (AreTerms table.now self.new.draft.nodes self.new.terms.items) }
-        ensures world { self.new.draft.world ≡ self.old.draft.world }
-    {
-        self.term(alloc, table, formula)?;
-        self.draft.assume()?;
-        Ok(())
-    }
-
-    /// Formulas are the hypotheses.
-    fn assume_all(
-        &mut self,
-        alloc: Global,
-        table: &Nodes,
-        formulas: &[Formula],
-    ) -> Result<(), AllocError>
-        requires formulas { AllByRecursion (IsTerm Truths table.now) formulas.now }
-        requires terms { AreTerms table.now self.old.draft.nodes self.old.terms.items }
-        requires stack { self.old.draft.stack.items ≡ [] }
-        requires hypotheses { self.old.draft.hypotheses.items ≡ [] }
-        ensures hypotheses { OnOk result (hypotheses_of self.new ≡ trees_at table.now formulas.now) }
-        ensures stack { OnOk result (self.new.draft.stack.items ≡ []) }
-        ensures terms { OnOk result (AreTerms table.now self.new.draft.nodes self.new.terms.items) }
-        ensures world { self.new.draft.world ≡ self.old.draft.world }
-    {
-        for formula in formulas {
-            self.assume(alloc, table, *formula)?;
-        }
-        Ok(())
-    }
-
-    /// The sequent of these hypotheses with a formula as its goal.
-    fn sequent(
-        &mut self,
-        alloc: Global,
-        table: &Nodes,
-        goal: Formula,
-    ) -> Result<Sequent<'a>, AllocError>
-        requires goal { IsTerm Truths table.now goal }
-        requires terms { AreTerms table.now self.old.draft.nodes self.old.terms.items }
-        requires stack { self.old.draft.stack.items ≡ [] }
-        ensures hypotheses { IfOk result (λ sequent. trees_at sequent.nodes sequent.hypotheses.items ≡ hypotheses_of self.old) }
-        ensures goal { IfOk result (λ sequent. tree_at sequent.nodes sequent.goal ≡ tree_at table.now goal) }
-        ensures world { IfOk result (λ sequent. sequent.world ≡ self.old.draft.world) }
-    {
-        self.term(alloc, table, goal)?;
-        let sequent = self.draft.sequent(alloc)?;
-        Ok(sequent)
-    }
-}
-
 impl MethodObligations {
-    /// An obligation as a sequent over the program: that its goal is true where the formulas are that are known there.
+    /// An obligation as a sequent over the program: that its goal is true where the formulas are that are known there. Its
+    /// nodes and hypotheses lie where those of the others do.
     pub fn sequent<'a>(
         &self,
         alloc: Global,
         program: &'a Program,
         obligation: &Obligation,
     ) -> Result<Sequent<'a>, AllocError>
-        requires front { obligation.now.hypothesis_count ≤ length self.now.known.items }
-        requires goal { IsTerm Truths self.now.nodes obligation.now.goal }
+        requires { IsOwed self.now.known obligation.now }
         ensures world { IfOk result (λ sequent. world_of sequent.world ≡ of_program (program_of program.now)) }
-        ensures owed { IfOk result (λ sequent. obligation_of self.now.declaration obligation.now.pos obligation.now.kind (sequent_of sequent) ≡ obligation_in self.now.declaration self.now.nodes self.now.known.items obligation.now) }
+        ensures owed { IfOk result (λ sequent. obligation_of self.now.declaration obligation.now.pos obligation.now.kind (sequent_of sequent) ≡ obligation_in self.now.declaration self.now.nodes self.now.known obligation.now) }
     {
-        let mut renumbering = Renumbering {
-            draft: Draft::new(alloc, World { program }),
-            terms: vec![in alloc; None; self.nodes.len()]?,
-        };
-        renumbering.assume_all(
-            alloc,
-            &self.nodes,
-            &self.known[..obligation.hypothesis_count],
-        )?;
-        renumbering.sequent(alloc, &self.nodes, obligation.goal)
+        let mut nodes = self.nodes.copy(alloc)?;
+        nodes.cut(self.counts[obligation.front()]);
+        Ok(Sequent {
+            world: World { program },
+            nodes,
+            hypotheses: self.known.front(obligation.hypothesis_count)?,
+            goal: obligation.goal,
+        })
     }
 }

@@ -1,5 +1,5 @@
 -- A method begins with its arguments; passing over the whole of it tells of its runs.
-use Rattle.std.proofs.Common.{◌≡◌, ℕ, zero, suc, pos, ◌≤◌, ◌+◌, true, false, List, [], ◌∷◌, ◌++◌, map, length, slice_get, slice_index_or, Option, None, Some, refl, sym, ◌∙◌, subst, length-append, arith}
+use Rattle.std.proofs.Common.{◌≡◌, ℕ, zero, suc, pos, ◌<◌, ◌≤◌, ◌+◌, true, false, List, [], ◌∷◌, ◌++◌, map, length, slice_get, slice_index_or, Option, None, Some, refl, sym, ◌∙◌, subst, length-append, arith}
 use Rattle.std.proofs.lemmas.Bool.{ltb-true, lt-ltb}
 use Rattle.std.proofs.lemmas.List.{length-map}
 use Rattle.std.specs.Option.{option_map_or}
@@ -29,9 +29,9 @@ use Rattle.df_nterm.specs.Expressions.{Environment}
 use Rattle.df_nterm.specs.Measuring.{Measured, measured}
 use Rattle.df_nterm.proofs.Sorted.{IsSorted}
 use Rattle.df_nterm.proofs.Below.{IsBelow}
-use Rattle.df_npass.specs.Rules.{Said, Way}
+use Rattle.df_npass.specs.Rules.{Said, Way, some_term, is_unset}
 use Rattle.df_npass.specs.Statements.{any_values, assert_measure, pass_all}
-use Rattle.df_npass.specs.Methods.{locals_of, some_term, unset, way_in, require_all, ended, setting_of}
+use Rattle.df_npass.specs.Methods.{locals_of, unset, way_in, require_all, ended, setting_of}
 use Rattle.df_npass.proofs.Playing.{some_equal, Mode, is_taking, Play}
 use Rattle.df_npass.proofs.Proper.{EnvBelow, measured_below}
 use Rattle.df_npass.proofs.Leading.{TermsBelow, any_giving}
@@ -79,8 +79,18 @@ over_sorted : (i : Interpretation) (tys : List Ty) (terms : List Term) (at : ℕ
 over_sorted i [] [] at env of within h k ty e = h k ty e
 over_sorted i [] (a ∷ terms) at env of within h k ty e = absurd of
 over_sorted i (t ∷ tys) [] at env of within h k ty e = absurd of
-over_sorted i (t ∷ tys) (a ∷ terms) at env of within h zero ty e = subst (λ (x : Ty). IsSorted x (meanings.value i a)) (some_equal t ty (sym (within 0 t refl) ∙ e)) of.0
+over_sorted i (t ∷ tys) (a ∷ terms) at env of within h zero ty e = subst (λ (x : Ty). IsSorted x (meanings.value i a)) (some_equal t ty (sym (within 0 t refl) ∙ e)) of.0.sorted
 over_sorted i (t ∷ tys) (a ∷ terms) at env of within h (suc k) ty e = over_sorted i tys terms (λ x. at (suc x)) (λ x. env (suc x)) of.1 (λ x u f. within (suc x) u f) (λ x u f. h (suc x) u f) k ty e
+
+no_less : (k : ℕ) → k < 0 → ⊥
+no_less k less = omega (arith, less)
+
+over_set : (i : Interpretation) (tys : List Ty) (terms : List Term) (env : Environment) → AreOf i tys terms → (k : ℕ) → k < length tys → is_unset (slice_index_or terms k (env k)) ≡ false
+over_set i [] [] env of k less = absurd (no_less k less)
+over_set i [] (a ∷ terms) env of k less = absurd of
+over_set i (t ∷ tys) [] env of k less = absurd of
+over_set i (t ∷ tys) (a ∷ terms) env of zero less = of.0.set
+over_set i (t ∷ tys) (a ∷ terms) env of (suc k) less = over_set i tys terms (λ x. env (suc x)) of.1 k (omega (arith, less))
 
 over_value : (i : Interpretation) (terms : List Term) (env : Environment) (k : ℕ) (v : Value) → slice_get (values_at i terms) k ≡ Some v → meanings.value i (slice_index_or terms k (env k)) ≡ v
 over_value i [] env k v e = cc
@@ -137,6 +147,7 @@ module _ (program : Program) (well : is_well_typed program ≡ true) (groups : L
     there = refl;
     sorted = λ k ty e. over_sorted i parameters terms (slice_get all) (unset all) of (λ x u f. within_parameters.at x u f) (unset_sorted i all) k ty e;
     holds = λ k v has e. over_value i terms (unset all) k v e;
+    set = λ k has. over_set i parameters terms (unset all) of k (let less = ltb-true k (few method) has in omega (arith, less, many_parameters));
     present = λ following. begun_assigned (values_at i terms) (store_with text []) (few method) (length-map terms (meanings.value i) ∙ (of_long i parameters terms of ∙ many_parameters));
   }
 

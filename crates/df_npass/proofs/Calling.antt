@@ -43,7 +43,7 @@ use Rattle.df_npass.proofs.Reading.{values_at, AreOf, with_handed, Sits, checked
 use Rattle.df_npass.proofs.Coming.{path_same}
 use Rattle.df_npass.proofs.Taking.{AllSorted, AreResults, returned, results_then}
 use Rattle.df_npass.proofs.Measures.{method_measure_typed}
-use Rattle.df_npass.proofs.Arguments.{of_moves, values_move, of_append, values_append, params_of, begun_sits, within_itself}
+use Rattle.df_npass.proofs.Arguments.{of_moves, values_move, of_append, values_append, any_set, params_of, begun_sits, within_itself}
 
 -- ---- outcomes
 
@@ -195,7 +195,7 @@ module _ (B : Type 0) (program : Program) (well : is_well_typed program ≡ true
           let giving = any_giving way.path method.results n path in
           let whole = terms ++ results.terms in
           let tys = types_of method.parameters ++ types_of method.results in
-          let are_results = params_of j method.results results.terms (subst (λ vs. AllSorted method.results vs) given.are given.sorted) in
+          let are_results = params_of j method.results results.terms (subst (λ vs. AllSorted method.results vs) given.are given.sorted) (any_set way.path method.results n) in
           let are_all = of_append j (types_of method.parameters) (types_of method.results) terms results.terms (of_moves n i j moves.same (types_of method.parameters) terms below are) are_results in
           let here = sym (path_same n i j moves.same way.path path) ∙ there in
           let program_is = sym moves.same.program ∙ begun.program_is in

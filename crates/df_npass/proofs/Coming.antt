@@ -81,6 +81,7 @@ sits_moves a b i j n all way before s moves env path h = record {
   there = sym (path_same n i j moves.same way.path path) ∙ h.there;
   sorted = sorted_moves n i j moves.same all way.env env h.sorted;
   holds = hold_make j way.env before s (holds_reached i way.env before s h.holds) (λ k v has e. sym (value_same n i j moves.same (way.env k) (env k)) ∙ hold_at i way.env before s h.holds k v has e);
+  set = h.set;
   present = λ e. h.present (moves.mode ∙ e);
 }
 
@@ -90,6 +91,7 @@ sits_less mode i all way before after s reached less h = record {
   there = h.there;
   sorted = h.sorted;
   holds = hold_make i way.env after s reached (λ k v has e. hold_at i way.env before s h.holds k v (less k has) e);
+  set = λ k has. h.set k (less k has);
   present = λ e. assigned_make after s reached (λ k has. assigned_at before s (h.present e) k (less k has));
 }
   where

@@ -20,13 +20,14 @@ use Rattle.df_nterm.specs.Meaning as meanings
 use Rattle.df_nterm.specs.Expressions.{Environment}
 use Rattle.df_nterm.proofs.Sorted.{IsSorted, typed_sorted}
 use Rattle.df_nterm.proofs.Below.{SameBelow, value_same}
-use Rattle.df_npass.specs.Rules.{Way, over, with_term, assume_type, free_of, havoc}
+use Rattle.df_npass.specs.Rules.{Way, is_unset, over, with_term, assume_type, free_of, havoc}
 use Rattle.df_npass.proofs.Saying.{AllTrue, path_true, all_appended, all_front, all_rest}
 use Rattle.df_npass.proofs.Playing.{same_itself, same_then, AreKnown, known_append}
 use Rattle.df_npass.proofs.Leading.{free_below, suc_more}
 use Rattle.df_npass.proofs.Staying.{havoc_stays}
 use Rattle.df_npass.proofs.Taking.{taking, takes_program, free_takes, others_stay, type_true, type_said, free_sorted, type_known}
 use Rattle.df_npass.proofs.Turning.{any_typed, all_may}
+use Rattle.df_npass.proofs.Unset.{free_set}
 
 -- the term of a local is the one that it was given last
 pub at_itself : (env : Environment) (k : ℕ) (a : Term) → with_term env k a k ≡ a
@@ -53,6 +54,12 @@ type_of_one all c k ty same h e =
 pub by_bool : {P : Type 0} (b : Bool) → (b ≡ true → P) → (b ≡ false → P) → P
 by_bool true f g = f refl
 by_bool false f g = g refl
+
+pub havoc_set : (k : ℕ) (changed : List Changed) (fresh : ℕ) (way : Way) → is_changed changed k ≡ true → is_unset ((havoc changed fresh way).way.env k) ≡ false
+havoc_set k [] fresh way h = cc
+havoc_set k (c ∷ others) fresh way h =
+    by_bool (is_changed others k) (λ e. havoc_set k others (suc fresh) (over (with_term way.env c.local (free_of fresh c.ty)) way) e) (λ e.
+    subst (λ x. is_unset x ≡ false) (sym (last_free c others fresh way k (one_of c others k h e) e)) (free_set c.ty fresh))
 
 module _ (i : Interpretation) (all : List Ty) (k : ℕ) (ty : Ty) (typed : slice_get all k ≡ Some ty) where
   pub havoc_sorted : (changed : List Changed) (fresh : ℕ) (way : Way) → are_there all changed ≡ true → is_changed changed k ≡ true → IsSorted ty (meanings.value i ((havoc changed fresh way).way.env k))

@@ -18,7 +18,7 @@ use Rattle.df_npass.proofs.Playing.{Following, Taking, apart, all_same, FirstFal
 use Rattle.df_npass.proofs.Leading.{any_giving}
 use Rattle.df_npass.proofs.Reading.{values_at}
 use Rattle.df_npass.proofs.Taking.{AllSorted, take_all, any_known, any_sorted, any_typed}
-use Rattle.df_npass.proofs.Arguments.{params_of}
+use Rattle.df_npass.proofs.Arguments.{any_set, params_of}
 use Rattle.df_npass.proofs.Handing.{by_bool}
 use Rattle.df_npass.proofs.Nesting.{nesting_all}
 use Rattle.df_npass.proofs.Obligations.{first_refuted, refuted_first, of_declaration, of_method_there, there_of_method}
@@ -52,7 +52,7 @@ wrong_is_refuted program groups number method at kind well definite found wrong 
     let start = some_interpretation program in
     let took = take_all start None method.parameters 0 wrong.arguments (subst (λ (p : Program). have_types p (types_of method.parameters) wrong.arguments ≡ true) (sym (some_program program)) wrong.typed) in
     let program_is = sym took.same.program ∙ some_program program in
-    let of = params_of took.to method.parameters arguments.terms (subst (λ vs. AllSorted method.parameters vs) (sym took.are) took.sorted) in
+    let of = params_of took.to method.parameters arguments.terms (subst (λ vs. AllSorted method.parameters vs) (sym took.are) took.sorted) (any_set None method.parameters 0) in
     let play = method_play program well groups number method is (definite number method found) (Taking wrong.store.handed) took.to wrong.depth wrong.store.text program_is of (λ e. absurd (never e)) in
     let first = play.blames at kind (subst (λ vs. modular_run program groups wrong.depth number method vs wrong.store ≡ Wrong at kind) (sym took.are) wrong.wrong) in
     let true_there = all_same arguments.fresh took.to play.to play.same arguments.said giving.said.below took.all in
@@ -74,7 +74,7 @@ refuted_is_wrong program groups number method at kind obligation well definite f
     let both = refuted_first i number (pass_method program groups number method) [] obligation owed.owed refuted.hypotheses refuted.goal in
     let first : FirstFalse i (arguments.said ++ behind) at kind = subst (λ (k : Kind). FirstFalse i (arguments.said ++ behind) at k) owed.kind_is (subst (λ (p : Pos). FirstFalse i (arguments.said ++ behind) p obligation.kind) owed.place both.1) in
     let true_there = known_first i at kind arguments.said behind (any_known None method.parameters 0) first in
-    let of = params_of i method.parameters arguments.terms (any_sorted i None method.parameters 0) in
+    let of = params_of i method.parameters arguments.terms (any_sorted i None method.parameters 0) (any_set None method.parameters 0) in
     let play = method_play program well groups number method is (definite number method found) Following i (nesting_all method.body) [] refuted.program_is of (λ e. le_refl (nesting_all method.body)) in
     record {
       depth = nesting_all method.body;

@@ -20,7 +20,7 @@ use Rattle.df_nterm.specs.Meaning as meanings
 use Rattle.df_nterm.specs.Expressions.{Environment, term_of, equal_in, narrowing}
 use Rattle.df_nterm.specs.Measuring.{measured, are_below}
 use Rattle.df_nterm.proofs.Below.{IsBelow, below, all_below, below_grows, equal_below, disjunction_below, narrowing_below, term_below}
-use Rattle.df_npass.specs.Rules.{Said, Way, narrowed, over, with_term, assume, assert, assert_all, assume_type, free_of, Moved, havoc, assume_joined, join_locals, are_same, either_path, paths_of, any_path, Joined, changed_alone, join, join_branches}
+use Rattle.df_npass.specs.Rules.{Said, Way, narrowed, over, with_term, assume, assert, assert_all, assume_type, free_of, Moved, havoc, is_unset, assume_there, assume_joined, join_locals, are_same, either_path, paths_of, any_path, Joined, changed_alone, join, join_branches}
 use Rattle.df_npass.specs.Statements.{Setting, assert_clauses, assert_exprs, assert_measure, env_of, Given, any_values, assert_decrease, pass_method_call, given_behind, pass_call, assert_conversions, pass_source, pass_sources, Taken, taken_by, assert_equal, give_all, pass_update, pass_optional, ways_of}
 use Rattle.df_npass.proofs.Saying.{path_true, narrowed_false}
 use Rattle.df_npass.proofs.Proper.{PathBelow, EnvBelow, Proper, path_grows, env_grows, proper_grows, nothing_proper, append_proper, narrowed_below, known_proper, owed_proper, asserted_proper, expr_proper, exprs_proper, clauses_proper, handed_proper, measure_proper, MeasureBelow, measured_below, measure_grows, order_below}
@@ -100,11 +100,15 @@ havoc_going (c ∷ others) fresh way env path =
 
 -- ---- joins
 
+there_proper : (n : ℕ) (path : Option Term) (ty : Ty) (a b : Term) (unset : Bool) → IsBelow n a → IsBelow n b → PathBelow n path → Proper n path (if unset then [] else assume path (equal_in ty a b))
+there_proper n path ty a b true g h is = nothing_proper n path
+there_proper n path ty a b false g h is = known_proper n path (equal_in ty a b) is (equal_below n ty a b g h)
+
 joined_proper : (n : ℕ) (path : Option Term) (ty : Ty) (local : ℕ) (a : Term) (ways : List Way) → IsBelow n a → AllLead n path ways → Proper n path (assume_joined ty local a ways)
 joined_proper n path ty local a [] g h = nothing_proper n path
 joined_proper n path ty local a (way ∷ ways) g h =
-    append_proper n path (assume way.path (equal_in ty a (way.env local))) (assume_joined ty local a ways)
-    (farther_proper n path way _ h.0.off (known_proper n way.path (equal_in ty a (way.env local)) h.0.path_is (equal_below n ty a (way.env local) g (h.0.env local)))) (joined_proper n path ty local a ways g h.1)
+    append_proper n path (assume_there ty a way.path (way.env local)) (assume_joined ty local a ways)
+    (farther_proper n path way _ h.0.off (there_proper n way.path ty a (way.env local) (is_unset (way.env local)) g (h.0.env local) h.0.path_is)) (joined_proper n path ty local a ways g h.1)
 
 -- behind the join is a path that is off where the one before is
 pub record Reaches (n : ℕ) (path : Option Term) (after : Option Term) : Type 0 where

@@ -1,6 +1,7 @@
 pub mod Saying
 pub mod Proper
 pub mod Playing
+pub mod Unset
 pub mod Reading
 pub mod Leading
 pub mod Flowing

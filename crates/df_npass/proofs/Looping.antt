@@ -135,7 +135,7 @@ module _ (B : Type 0) (all : List Ty) (back : Assigned) (program : Program) (m :
       let off = narrowed_true i any.path (term_of any.env loop.guard) here ∙ is_false in
       let out = narrowed_true i any.path (negation (term_of any.env loop.guard)) here ∙ negated i (term_of any.env loop.guard) false is_false in
       let run : List Handed → Outcome B = (λ handed. go (flows.Next (with_handed s handed))) in
-      let outside_sits : Sits mode i all outside before s = record { there = out; sorted = sits.sorted; holds = sits.holds; present = sits.present } in
+      let outside_sits : Sits mode i all outside before s = record { there = out; sorted = sits.sorted; holds = sits.holds; set = sits.set; present = sits.present } in
       let off_ways = (λ (xs : List Way) (lead : AllLead flow.fresh inside.path xs). off_lead i flow.fresh inside.path xs lead off) in
       play_behind B mode i n flow.said (turn_said ++ (joined.said ++ more)) run (λ j same. flows_body.said.off j (sym (path_same n i j same inside.path (narrowed_below n any.path (term_of any.env loop.guard) path term_is)) ∙ off))
       (play_later B mode i n flow.fresh (turn_said ++ (joined.said ++ more)) run flows_body.grows

@@ -200,7 +200,7 @@ module _ (B : Type 0) (program : Program) (well : is_well_typed program ≡ true
           (expr_then B mode i n program m m_is program_is locals all here_within before any t here.sits here.env here.path guard types.Bool (counted ++ rest) (λ handed v. after (if truth_of v then modular_turn m loop (with_handed t handed) else Gives (flows.Next (with_handed t handed))) go) parts.0 asks.0 (λ one.
           decide B flows.Flow mode i n (counted ++ rest) (λ handed. modular_turn m loop (with_handed t handed)) (λ handed. Gives (flows.Next (with_handed t handed))) go (truth i g)
           (λ is_true.
-          let sits : Sits mode i all inside before t = record { there = narrowed_true i any.path g here.sits.there ∙ is_true; sorted = here.sits.sorted; holds = here.sits.holds; present = here.sits.present } in
+          let sits : Sits mode i all inside before t = record { there = narrowed_true i any.path g here.sits.there ∙ is_true; sorted = here.sits.sorted; holds = here.sits.holds; set = here.sits.set; present = here.sits.present } in
           let here_inside : Here mode i n inside before t = record { env = here.env; path = inside_leads.path_is; below = here.below; entered_is = here.entered_is; sits = sits } in
           play_as B mode i n _ _ (λ handed. after (measure_values m (with_handed t handed) measures) (λ now. after (execute_all m (with_handed t handed) body) (λ f. after (behind_once m loop now f) go)))
           (λ handed. after_after (measure_values m (with_handed t handed) measures) _ go ∙ then_same (measure_values m (with_handed t handed) measures) _ _ (λ now. after_after (execute_all m (with_handed t handed) body) (behind_once m loop now) go))

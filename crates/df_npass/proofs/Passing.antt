@@ -75,7 +75,7 @@ module _ (B : Type 0) (program : Program) (well : is_well_typed program ≡ true
     path = narrowed_below n way.path formula here.path below;
     below = here.below;
     entered_is = here.entered_is;
-    sits = record { there = narrowed_true i way.path formula here.sits.there ∙ e; sorted = here.sits.sorted; holds = here.sits.holds; present = here.sits.present };
+    sits = record { there = narrowed_true i way.path formula here.sits.there ∙ e; sorted = here.sits.sorted; holds = here.sits.holds; set = here.sits.set; present = here.sits.present };
   }
 
   sum_left : (a b c : ℕ) → a + b ≤ c → a ≤ c

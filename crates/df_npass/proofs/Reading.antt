@@ -35,12 +35,13 @@ use Rattle.df_nterm.proofs.Told.{IsOr, told_after}
 use Rattle.df_nterm.proofs.Laws.{evaluation_or_dismissed}
 use Rattle.df_nterm.proofs.Sorted.{IsSorted, HoldsOn, term_sorted}
 use Rattle.df_nterm.proofs.Below.{IsBelow, AreBelow, term_below, conditions_below}
-use Rattle.df_npass.specs.Rules.{Said, Known, Owed, Way, on_path, assume_all, assert_all, assume, assert}
+use Rattle.df_npass.specs.Rules.{Said, Known, Owed, Way, is_unset, on_path, assume_all, assert_all, assume, assert}
 use Rattle.df_npass.specs.Statements.{at_clause, assert_clauses, assume_clauses, assert_expr, assert_exprs, assert_measure}
 use Rattle.df_npass.specs.Methods.{require_all}
 use Rattle.df_npass.proofs.Saying.{path_true, on_it}
 use Rattle.df_npass.proofs.Playing.{Mode, Following, Taking, is_taking, Play, play_as, play_silent, said_then, not_wrong}
 use Rattle.df_npass.proofs.Proper.{PathBelow, EnvBelow, on_path_below}
+use Rattle.df_npass.proofs.Unset.{SetAll, AllHold, is_set}
 
 -- the state with this still to be handed in
 abbrev pub with_handed : State → List Handed → State
@@ -60,6 +61,7 @@ pub record Sits (mode : Mode) (i : Interpretation) (all : List Ty) (way : Way) (
   pub there : path_true i way.path ≡ true
   pub sorted : SortedAll i all way.env
   pub holds : HoldAll i way.env before s
+  pub set : SetAll way.env before
   pub present : is_taking mode ≡ false → AreAssigned before s
 
 hold_on : (i : Interpretation) (locals all : List Ty) (env : Environment) (s : State) → SortedAll i all env → Within locals all → (before : Assigned) → HoldAll i env before s → (uses : List Use) → unassigned before uses ≡ [] → HoldsOn i locals env s uses
@@ -73,10 +75,15 @@ hold_on i locals all env s sorted within (Reached set) h (u ∷ uses) e = (
 abbrev pub values_at : Interpretation → List Term → List Value
 values_at i terms = map (meanings.value i) terms
 
--- each term is of the sort of its type
+-- the term has a value of the sort of the type, and is not that of a local without one
+pub record IsGiven (i : Interpretation) (ty : Ty) (a : Term) : Type 0 where
+  pub sorted : IsSorted ty (meanings.value i a)
+  pub set : is_unset a ≡ false
+
+-- so of each
 abbrev pub AreOf : Interpretation → List Ty → List Term → Type 0
 AreOf i [] [] = Unit {0}
-AreOf i (ty ∷ tys) (a ∷ others) = IsSorted ty (meanings.value i a) × AreOf i tys others
+AreOf i (ty ∷ tys) (a ∷ others) = IsGiven i ty a × AreOf i tys others
 AreOf i tys terms = ⊥
 
 -- the value of the term, of the sort of the type
@@ -121,12 +128,16 @@ module _ (B : Type 0) (mode : Mode) (i : Interpretation) (n : ℕ) where
 
   module _ (path : Option Term) (there : path_true i path ≡ true) (path_is : PathBelow n path) where
     -- conditions tell where a run is wrong
-    pub told_then : (cs : List Condition) (more : List Said) (run : List Handed → Outcome B) → AreBelow n cs → Plays more run → Plays (assert_all path cs ++ more) (λ handed. told i cs (run handed))
-    told_then [] more run below h = h
-    told_then (c ∷ cs) more run below h =
+    pub told_all : (cs : List Condition) (more : List Said) (run : List Handed → Outcome B) → AreBelow n cs → (AllHold i cs → Plays more run) → Plays (assert_all path cs ++ more) (λ handed. told i cs (run handed))
+    told_all [] more run below h = h tt
+    told_all (c ∷ cs) more run below h =
         said_then B mode i n (Owed c.pos c.kind (on_path path c.formula)) (assert_all path cs ++ more) (λ handed. told i (c ∷ cs) (run handed)) (on_path_below n path c.formula path_is below.0)
-        (λ e. play_as B mode i n (assert_all path cs ++ more) _ (λ handed. told i cs (run handed)) (λ handed. ap (λ b. if b then told i cs (run handed) else Wrong c.pos c.kind) (sym (on_it i path c.formula there) ∙ e)) (told_then cs more run below.1 h))
+        (λ e. let is : truth i c.formula ≡ true = sym (on_it i path c.formula there) ∙ e in
+        play_as B mode i n (assert_all path cs ++ more) _ (λ handed. told i cs (run handed)) (λ handed. ap (λ b. if b then told i cs (run handed) else Wrong c.pos c.kind) is) (told_all cs more run below.1 (λ all. h (is, all))))
         (λ e handed. ap (λ b. if b then told i cs (run handed) else Wrong c.pos c.kind) (sym (on_it i path c.formula there) ∙ e))
+
+    pub told_then : (cs : List Condition) (more : List Said) (run : List Handed → Outcome B) → AreBelow n cs → Plays more run → Plays (assert_all path cs ++ more) (λ handed. told i cs (run handed))
+    told_then cs more run below h = told_all cs more run below (λ all. h)
 
     -- a formula decides between going on, where it is true, and being wrong
     pub checked_true : (at : Pos) (kind : Kind) (formula : Term) (b : Bool) (more : List Said) (run : List Handed → Outcome B) → IsBelow n formula → b ≡ truth i formula → (b ≡ true → Plays more run)
@@ -161,20 +172,25 @@ module _ (B : Type 0) (mode : Mode) (i : Interpretation) (n : ℕ) where
         evaluation_or_dismissed m i locals way.env s ty e (i_is ∙ sym m_is) (subst (λ q. is_expr q locals ty e ≡ true) (sym m_is) is) (hold_on i locals all way.env s sits.sorted within before sits.holds (reads e) read)
 
     -- an expression, and what goes on from its value
-    pub expr_then : (e : Expr) (ty : Ty) (more : List Said) (go : List Handed → Value → Outcome B) → is_expr p locals ty e ≡ true → unassigned before (reads e) ≡ []
-        → (IsTerm i way.env e ty (meanings.value i (term_of way.env e)) → Plays more (λ handed. go handed (meanings.value i (term_of way.env e))))
+    pub expr_set_then : (e : Expr) (ty : Ty) (more : List Said) (go : List Handed → Value → Outcome B) → is_expr p locals ty e ≡ true → unassigned before (reads e) ≡ []
+        → (IsTerm i way.env e ty (meanings.value i (term_of way.env e)) → is_unset (term_of way.env e) ≡ false → Plays more (λ handed. go handed (meanings.value i (term_of way.env e))))
         → Plays (assert_expr way e ++ more) (λ handed. after (evaluate m (with_handed s handed) e) (go handed))
-    expr_then e ty more go is read h = by_told (told_or e ty is read) mode refl
+    expr_set_then e ty more go is read h = by_told (told_or e ty is read) mode refl
       where
         by_told : IsOr (evaluate m s e) (told i (conditions_of way.env e) (Gives (meanings.value i (term_of way.env e)))) → (k : Mode) → mode ≡ k → Plays (assert_expr way e ++ more) (λ handed. after (evaluate m (with_handed s handed) e) (go handed))
         by_told (inr t) k is_mode =
             play_as B mode i n (assert_expr way e ++ more) _ (λ handed. told i (conditions_of way.env e) (go handed (meanings.value i (term_of way.env e))))
             (λ handed. ap (λ o. after o (go handed)) (evaluated e handed ∙ t) ∙ told_after i (conditions_of way.env e) (Gives (meanings.value i (term_of way.env e))) (go handed))
-            (told_then way.path sits.there path_is (conditions_of way.env e) more (λ handed. go handed (meanings.value i (term_of way.env e))) (conditions_below n way.env env_is e) (h (is_term e ty is read)))
+            (told_all way.path sits.there path_is (conditions_of way.env e) more (λ handed. go handed (meanings.value i (term_of way.env e))) (conditions_below n way.env env_is e) (λ holds. h (is_term e ty is read) (is_set i way.env before sits.set e read holds)))
         by_told (inl d) (Taking handed) is_mode =
             subst (λ k. Play B k i n (assert_expr way e ++ more) (λ handed. after (evaluate m (with_handed s handed) e) (go handed))) (sym is_mode)
             (play_silent B i n _ _ (λ at kind w. not_wrong at kind (ap (λ o. after o (go handed)) (evaluated e handed ∙ d)) w))
         by_told (inl d) Following is_mode = absurd (not_dismissed _ (evaluate m s e) (evaluate_counts m before s (sits.present (ap is_taking is_mode)) e read) d)
+
+    pub expr_then : (e : Expr) (ty : Ty) (more : List Said) (go : List Handed → Value → Outcome B) → is_expr p locals ty e ≡ true → unassigned before (reads e) ≡ []
+        → (IsTerm i way.env e ty (meanings.value i (term_of way.env e)) → Plays more (λ handed. go handed (meanings.value i (term_of way.env e))))
+        → Plays (assert_expr way e ++ more) (λ handed. after (evaluate m (with_handed s handed) e) (go handed))
+    expr_then e ty more go is read h = expr_set_then e ty more go is read (λ one set. h one)
 
     -- the truth of a condition
     condition_is : (e : Expr) (v : Value) → IsTerm i way.env e types.Bool v → truth_of v ≡ truth i (term_of way.env e)
@@ -277,7 +293,7 @@ module _ (B : Type 0) (mode : Mode) (i : Interpretation) (n : ℕ) where
         let read = parted before (reads e) (flat_map reads es) read in
         subst (λ said. Plays said (λ handed. after (evaluate_all m (with_handed s handed) (e ∷ es)) (go handed))) (sym (append_assoc (assert_expr way e) (assert_exprs way es) more))
         (play_as B mode i n _ _ (λ handed. after (evaluate m (with_handed s handed) e) (λ v. after (evaluate_all m (with_handed s handed) es) (λ vs. go handed (v ∷ vs)))) (λ handed. after_listed (evaluate m (with_handed s handed) e) (evaluate_all m (with_handed s handed) es) (go handed))
-        (expr_then e ty (assert_exprs way es ++ more) _ are.0 read.0 (λ one. exprs_then tys es more (λ handed vs. go handed (meanings.value i (term_of way.env e) ∷ vs)) are.1 read.1 (λ others. h (one.sorted, others)))))
+        (expr_set_then e ty (assert_exprs way es ++ more) _ are.0 read.0 (λ one set. exprs_then tys es more (λ handed vs. go handed (meanings.value i (term_of way.env e) ∷ vs)) are.1 read.1 (λ others. h (record { sorted = one.sorted; set = set }, others)))))
 
     -- ---- measures
 

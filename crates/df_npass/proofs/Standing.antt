@@ -15,7 +15,7 @@ use Rattle.df_nterm.specs.Meaning as meanings
 use Rattle.df_nterm.specs.Measuring.{Measured}
 use Rattle.df_nterm.proofs.Sorted.{IsSorted}
 use Rattle.df_nterm.proofs.Below.{IsBelow}
-use Rattle.df_npass.specs.Rules.{Way, over, with_term}
+use Rattle.df_npass.specs.Rules.{Way, is_unset, over, with_term}
 use Rattle.df_npass.proofs.Playing.{if_true, if_false, some_equal, Mode, Moves}
 use Rattle.df_npass.proofs.Proper.{PathBelow, EnvBelow, MeasureBelow, path_grows, env_grows, measure_grows}
 use Rattle.df_npass.proofs.Leading.{with_below}
@@ -37,6 +37,7 @@ sits_as mode i all way before s t same h = record {
   there = h.there;
   sorted = h.sorted;
   holds = hold_make i way.env before t (holds_reached i way.env before s h.holds) (λ k v has e. hold_at i way.env before s h.holds k v has (sym (same k) ∙ e));
+  set = h.set;
   present = λ e. assigned_make before t (holds_reached i way.env before s h.holds) (λ k has. ap is_some (same k) ∙ assigned_has before s k (h.present e) has);
 }
 
@@ -45,9 +46,9 @@ marked Unreached local k r e h = absurd r
 marked (Reached set) local k r e h = sym (if_false (k == local) true (set k) e) ∙ h
 
 -- a local takes a value of its type, and the term of it
-pub sits_given : (mode : Mode) (i : Interpretation) (all : List Ty) (way : Way) (before : Assigned) (s : State) (local : ℕ) (ty : Ty) (a : Term) → slice_get all local ≡ Some ty → IsSorted ty (meanings.value i a)
+pub sits_given : (mode : Mode) (i : Interpretation) (all : List Ty) (way : Way) (before : Assigned) (s : State) (local : ℕ) (ty : Ty) (a : Term) → slice_get all local ≡ Some ty → IsSorted ty (meanings.value i a) → is_unset a ≡ false
     → Sits mode i all way before s → Sits mode i all (over (with_term way.env local a) way) (mark true before local) (with_local s local (meanings.value i a))
-sits_given mode i all way before s local ty a typed is h =
+sits_given mode i all way before s local ty a typed is set h =
     let v = meanings.value i a in
     let reached = holds_reached i way.env before s h.holds in
     record {
@@ -59,6 +60,9 @@ sits_given mode i all way before s local ty a typed is h =
       holds = hold_make i (with_term way.env local a) (mark true before local) (with_local s local v) (reached_mark true before local reached) (λ k w has e. by_bool (k == local)
           (λ here. ap (meanings.value i) (if_true (k == local) a (way.env k) here) ∙ some_equal v w (sym (if_true (k == local) (Some v) (s.locals k) here) ∙ e))
           (λ other. ap (meanings.value i) (if_false (k == local) a (way.env k) other) ∙ hold_at i way.env before s h.holds k w (marked before local k reached other has) (sym (if_false (k == local) (Some v) (s.locals k) other) ∙ e)));
+      set = λ k has. by_bool (k == local)
+          (λ here. subst (λ x. is_unset x ≡ false) (sym (if_true (k == local) a (way.env k) here)) set)
+          (λ other. subst (λ x. is_unset x ≡ false) (sym (if_false (k == local) a (way.env k) other)) (h.set k (marked before local k reached other has)));
       present = λ following. assigned_make (mark true before local) (with_local s local v) (reached_mark true before local reached) (λ k has. by_bool (k == local)
           (λ here. ap is_some (if_true (k == local) (Some v) (s.locals k) here))
           (λ other. ap is_some (if_false (k == local) (Some v) (s.locals k) other) ∙ assigned_has before s k (h.present following) (marked before local k reached other has)));
@@ -77,10 +81,10 @@ module _ (program : Program) (entry : List Measured) (entered : List Value) (all
     sits = sits_as b j all way before s t same (sits_moves a b i j n all way before s moves h.env h.path h.sits);
   }
 
-  pub stands_given : (mode : Mode) (i : Interpretation) (n : ℕ) (way : Way) (before : Assigned) (s : State) (local : ℕ) (ty : Ty) (a : Term) → slice_get all local ≡ Some ty → IsBelow n a → IsSorted ty (meanings.value i a)
+  pub stands_given : (mode : Mode) (i : Interpretation) (n : ℕ) (way : Way) (before : Assigned) (s : State) (local : ℕ) (ty : Ty) (a : Term) → slice_get all local ≡ Some ty → IsBelow n a → IsSorted ty (meanings.value i a) → is_unset a ≡ false
       → Here mode i n way before s → Here mode i n (over (with_term way.env local a) way) (mark true before local) (with_local s local (meanings.value i a))
-  stands_given mode i n way before s local ty a typed below is h =
-      record { env = with_below n way.env local a h.env below; path = h.path; below = h.below; entered_is = h.entered_is; sits = sits_given mode i all way before s local ty a typed is h.sits }
+  stands_given mode i n way before s local ty a typed below is set h =
+      record { env = with_below n way.env local a h.env below; path = h.path; below = h.below; entered_is = h.entered_is; sits = sits_given mode i all way before s local ty a typed is set h.sits }
 
 -- ---- declared locals have no values yet
 
@@ -101,6 +105,7 @@ sits_unset mode i all way before s local h =
       holds = hold_make i way.env (mark false before local) (without_local s local) (reached_mark false before local reached) (λ k v has e.
           let other = unmarked before local k reached has in
           hold_at i way.env before s h.holds k v other.1 (sym (if_false (k == local) None (s.locals k) other.0) ∙ e));
+      set = λ k has. h.set k (unmarked before local k reached has).1;
       present = λ following. assigned_make (mark false before local) (without_local s local) (reached_mark false before local reached) (λ k has.
           let other = unmarked before local k reached has in
           ap is_some (if_false (k == local) None (s.locals k) other.0) ∙ assigned_has before s k (h.present following) other.1);

@@ -20,7 +20,7 @@ use Rattle.df_nterm.specs.Meaning.{Interpretation}
 use Rattle.df_nterm.specs.Meaning as meanings
 use Rattle.df_nterm.proofs.Sorted.{IsSorted}
 use Rattle.df_nterm.proofs.Below.{value_same}
-use Rattle.df_npass.specs.Rules.{Said, Way, over, with_term, free_of, havoc}
+use Rattle.df_npass.specs.Rules.{Said, Way, is_unset, over, with_term, free_of, havoc}
 use Rattle.df_npass.specs.Statements.{each_once}
 use Rattle.df_npass.proofs.Saying.{AllTrue, path_true}
 use Rattle.df_npass.proofs.Playing.{if_true, if_false, some_equal, Mode, Following, Taking, is_taking, Moves, moves_here, all_same, Play, play_silent, play_handed, play_took, play_taking, play_behind, not_wrong, known_then_follow}
@@ -29,7 +29,7 @@ use Rattle.df_npass.proofs.Reading.{with_handed, Sits}
 use Rattle.df_npass.proofs.Staying.{havoc_stays, once_less}
 use Rattle.df_npass.proofs.Coming.{holds_reached, hold_at, hold_make, assigned_make, path_same}
 use Rattle.df_npass.proofs.Turning.{turned_state, all_may, turned_is, turned_store, turned_local, list_once}
-use Rattle.df_npass.proofs.Handing.{by_bool, havoc_sorted, havoc_typed, havoc_known, take_turn}
+use Rattle.df_npass.proofs.Handing.{by_bool, havoc_set, havoc_sorted, havoc_typed, havoc_known, take_turn}
 
 pub havoc_path : (changed : List Changed) (fresh : ℕ) (way : Way) → (havoc changed fresh way).way.path ≡ way.path
 havoc_path [] fresh way = refl
@@ -79,6 +79,7 @@ module _ (B : Type 0) (p : Program) (all : List Ty) (n : ℕ) (way : Way) (s : S
               let e = sym (turned_local every locals s k) ∙ e in
               by_bool (is_changed every k) (λ c. are k v (covers k has c) (sym (if_true (is_changed every k) (locals k) (s.locals k) c) ∙ e)) (λ c.
               ap (meanings.value j) (havoc_stays changed n way k (once_less out every k c)) ∙ (sym (value_same n i j moves.same (way.env k) (env k)) ∙ hold_at i way.env before s sits.holds k v has (sym (if_false (is_changed every k) (locals k) (s.locals k) c) ∙ e))));
+          set = λ k has. by_bool (is_changed changed k) (λ c. havoc_set k changed n way c) (λ c. subst (λ x. is_unset x ≡ false) (sym (havoc_stays changed n way k c)) (sits.set k has));
           present = λ following. assigned_make before (state_of locals text) (holds_reached i way.env before s sits.holds) (λ k has.
               ap is_some (turned_local every locals s k) ∙ by_bool (is_changed every k) (λ c. ap is_some (if_true (is_changed every k) (locals k) (s.locals k) c) ∙ have following k (covers k has c)) (λ c.
               ap is_some (if_false (is_changed every k) (locals k) (s.locals k) c) ∙ assigned_has before s k (sits.present (moves.mode ∙ following)) has));

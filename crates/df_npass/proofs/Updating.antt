@@ -39,7 +39,7 @@ use Rattle.df_npass.proofs.Saying.{path_true}
 use Rattle.df_npass.proofs.Playing.{some_equal, Mode, Moves, moves_here, moves_then, Play, play_as}
 use Rattle.df_npass.proofs.Proper.{PathBelow, path_grows}
 use Rattle.df_npass.proofs.Leading.{TermsBelow, exprs_below, call_giving, source_giving, sources_giving}
-use Rattle.df_npass.proofs.Reading.{values_at, AreOf, with_handed, after_listed, told_then, checked_true, expr_then, exprs_then}
+use Rattle.df_npass.proofs.Reading.{values_at, AreOf, with_handed, after_listed, told_then, checked_true, expr_set_then, exprs_then}
 use Rattle.df_npass.proofs.Coming.{path_same}
 use Rattle.df_npass.proofs.Joining.{values_equal}
 use Rattle.df_npass.proofs.Arguments.{of_moves, values_move, of_append, values_append, same_types_are}
@@ -170,8 +170,8 @@ module _ (B : Type 0) (mode : Mode) (i : Interpretation) (n : ℕ) (path : Optio
       let converts_is = (both (is_type m.program c.target) (converts c.source c.target) each.0).1 in
       let v = meanings.value i a in
       let conditions = narrowing c.source c.target at a in
-      let rest = conversions_then m same at way is_path cs others more (λ handed vs. go handed (v ∷ vs)) are.1 each.1 below.1 (λ more_are. h (subst (λ sort. has_sort sort v ≡ true) (converted_sort c.source c.target converts_is) are.0, more_are)) in
-      let told_is : converted m.program c.source c.target at v ≡ told i conditions (Gives v) = subst (λ q. converted q c.source c.target at v ≡ told i conditions (Gives v)) (sym same) (conversion_told i c.source c.target at a are.0) in
+      let rest = conversions_then m same at way is_path cs others more (λ handed vs. go handed (v ∷ vs)) are.1 each.1 below.1 (λ more_are. h (record { sorted = subst (λ sort. has_sort sort v ≡ true) (converted_sort c.source c.target converts_is) are.0.sorted; set = are.0.set }, more_are)) in
+      let told_is : converted m.program c.source c.target at v ≡ told i conditions (Gives v) = subst (λ q. converted q c.source c.target at v ≡ told i conditions (Gives v)) (sym same) (conversion_told i c.source c.target at a are.0.sorted) in
       subst (λ said. Play B mode i n said (λ handed. after (convert_all m at (c ∷ cs) (v ∷ values_at i others)) (go handed))) (sym (append_assoc (assert_all way.path conditions) (assert_conversions at way cs others) more))
       (play_as B mode i n _ _ (λ handed. told i conditions (after (convert_all m at cs (values_at i others)) (λ vs. go handed (v ∷ vs))))
       (λ handed. after_listed (converted m.program c.source c.target at v) (convert_all m at cs (values_at i others)) (go handed) ∙ (ap (λ o. after o (λ w. after (convert_all m at cs (values_at i others)) (λ vs. go handed (w ∷ vs)))) told_is ∙ told_after i conditions (Gives v) _))
@@ -229,8 +229,8 @@ module _ (B : Type 0) (program : Program) (well : is_well_typed program ≡ true
   source_then mode i n way s (Single ty value) more go is read here h =
       let is = both (is_type program ty) (is_expr program locals ty value) is in
       play_as B mode i n _ _ (λ handed. after (evaluate m (with_handed s handed) value) (λ v. go (given_values (v ∷ []) (with_handed s handed)))) (λ handed. after_after (evaluate m (with_handed s handed) value) _ go)
-      (expr_then B mode i n program m m_is here.entered_is.program_is locals all within before way s here.sits here.env here.path value ty more (λ handed v. go (given_values (v ∷ []) (with_handed s handed))) is.1 read (λ one.
-      h mode i s.store.text (moves_here mode i n) (one.sorted, tt)))
+      (expr_set_then B mode i n program m m_is here.entered_is.program_is locals all within before way s here.sits here.env here.path value ty more (λ handed v. go (given_values (v ∷ []) (with_handed s handed))) is.1 read (λ one known.
+      h mode i s.store.text (moves_here mode i n) (record { sorted = one.sorted; set = known }, tt)))
   source_then mode i n way s (Results call results) more go is read here h =
       let is = both (is_call (place program locals own in_loop) call) (are_results program call results) is in
       let results_is = both (option_map_or (λ (method : Method). are_same_types (map (λ (c : Conversion). c.source) results) (types_of method.results)) (method_at program call.callee) false)
@@ -293,13 +293,13 @@ module _ (B : Type 0) (program : Program) (entry : List Measured) (entered : Lis
       let later : List passing.Taken = record { local = t.local; value = a } ∷ earlier in
       let rest = passing.give_all later ts others n next in
       let equal = assert_equal way.path t a (taken_by t.local earlier) in
-      let more_taken : AreTaken i n all later = ((below.0, λ ty e. subst (λ (u : Ty). IsSorted u v) (some_equal t.ty ty (sym typed ∙ e)) of.0), taken) in
+      let more_taken : AreTaken i n all later = ((below.0, λ ty e. subst (λ (u : Ty). IsSorted u v) (some_equal t.ty ty (sym typed ∙ e)) of.0.sorted), taken) in
       subst (λ said. Play B mode i n said (λ handed. after (give_all (with_handed s handed) (taken_values i earlier) (t ∷ ts) (v ∷ values_at i others)) go)) (sym (append_assoc equal rest.said more))
       (play_as B mode i n _ _ (λ handed. if all_equal i v (taken_by t.local earlier) then after (give_all (with_handed (with_local s t.local v) handed) (taken_values i later) ts (values_at i others)) go else Wrong t.pos kinds.Distinct)
       (λ handed. after_choice (is_distinct (taken_values i earlier) t.local v) (all_equal i v (taken_by t.local earlier)) t.pos kinds.Distinct (give_all (with_handed (with_local s t.local v) handed) (taken_values i later) ts (values_at i others)) go (distinct_is i earlier t.local v))
-      (equal_then B mode i n way.path here.sits.there here.path t a (taken_by t.local earlier) (rest.said ++ more) (λ handed. after (give_all (with_handed (with_local s t.local v) handed) (taken_values i later) ts (values_at i others)) go) of.0
+      (equal_then B mode i n way.path here.sits.there here.path t a (taken_by t.local earlier) (rest.said ++ more) (λ handed. after (give_all (with_handed (with_local s t.local v) handed) (taken_values i later) ts (values_at i others)) go) of.0.sorted
       (taken_sorted i n all t.local t.ty typed earlier taken) (taken_alike i t.local earlier alike) below.0 (taken_are_below i n all t.local earlier taken) (λ met.
-      give_then ts others later next (mark true before t.local) (with_local s t.local v) more go are.1 of.1 below.1 more_taken (met, alike) (stands_given program entry entered all mode i n way before s t.local t.ty a typed below.0 of.0 here) h)))
+      give_then ts others later next (mark true before t.local) (with_local s t.local v) more go are.1 of.1 below.1 more_taken (met, alike) (stands_given program entry entered all mode i n way before s t.local t.ty a typed below.0 of.0.sorted of.0.set here) h)))
 
 module _ (B : Type 0) (program : Program) (well : is_well_typed program ≡ true) (groups : List ℕ) (number : ℕ) (entry : List Measured) (entered : List Value)
     (m : Meaning) (m_is : m.program ≡ program) (call_is : m.call ≡ modular_call (running B program well groups number entry entered)) (own : Method) (locals all : List Ty) (within : Within locals all) (in_loop : Bool) (before : Assigned) where

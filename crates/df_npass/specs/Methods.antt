@@ -11,23 +11,16 @@ use Rattle.df_lang.specs.Measures.{method_measure}
 use Rattle.df_meaning.specs.declared.kind.Kind.{Kind}
 use Rattle.df_meaning.specs.declared.kind.Kind.TheVariants as kinds
 use Rattle.df_meaning.specs.Modular.{Changed}
-use Rattle.df_nterm.specs.Term.{Sort, Numbers, Truths, Characters, Term, literal, truth_term, of_one, sort_of_type}
-use Rattle.df_nterm.specs.Term as ops
+use Rattle.df_nterm.specs.Term.{Term, literal, sort_of_type}
 use Rattle.df_nterm.specs.Same.{same_term}
 use Rattle.df_nterm.specs.Expressions.{Environment, term_of, conditions_of}
 use Rattle.df_nterm.specs.Measuring.{measured}
-use Rattle.df_npass.specs.Rules.{Said, Known, Owed, Way, assume, assert_all, paths_of, any_path, join}
+use Rattle.df_npass.specs.Rules.{Said, Known, Owed, Way, some_term, assume, assert_all, paths_of, any_path, join}
 use Rattle.df_npass.specs.Statements.{Setting, Flow, ways_of, at_clause, assert_clauses, assert_measure, any_values, pass_all}
 
 -- the types of all locals of a method, by their numbers
 abbrev pub locals_of : Method → List Ty
 locals_of method = locals_after_all (types_of method.parameters ++ types_of method.results) method.body
-
--- a term of the sort, for a local without a value: it is not read
-abbrev pub some_term : Sort → Term
-some_term Numbers = literal (pos 0)
-some_term Truths = truth_term false
-some_term Characters = of_one ops.Chr (literal (pos 0))
 
 abbrev pub unset : List Ty → Environment
 unset types = λ n. option_map_or (λ (ty : Ty). some_term (sort_of_type ty)) (slice_get types n) (literal (pos 0))

@@ -1,13 +1,13 @@
 -- Passing over statements by single assignment: what is known and what is owed, in order, and the four rules by which
 -- both grow: `assume`, `assert`, `havoc` and `join`.
-use Rattle.std.specs.Prelude.{ℕ, suc, Bool, ◌==◌, if◌then◌else◌, List, [], ◌∷◌, ◌++◌, map, Option, None, Some}
-use Rattle.std.specs.List.{list_all}
+use Rattle.std.specs.Prelude.{ℕ, suc, pos, negsuc, Bool, ◌==◌, ◌||◌, if◌then◌else◌, List, [], ◌∷◌, ◌++◌, map, Option, None, Some}
+use Rattle.std.specs.List.{list_all, flat_map}
 use Rattle.df_base.specs.declared.pos.Pos.{Pos}
 use Rattle.df_lang.specs.declared.ty.Ty.{Ty}
 use Rattle.df_lang.specs.declared.ty.Ty.TheVariants as types
 use Rattle.df_meaning.specs.declared.kind.Kind.{Kind}
 use Rattle.df_meaning.specs.Modular.{Changed}
-use Rattle.df_nterm.specs.Term.{Term, terms_of, of_one, free, disjunction, sort_of_type}
+use Rattle.df_nterm.specs.Term.{Sort, Numbers, Truths, Characters, Term, terms_of, of_one, literal, free, disjunction, sort_of_type}
 use Rattle.df_nterm.specs.Term as ops
 use Rattle.df_nterm.specs.Same.{same_term}
 use Rattle.df_nterm.specs.Expressions.{Environment, Condition, equal_in}
@@ -82,9 +82,22 @@ havoc (changed ∷ others) fresh way =
 abbrev pub are_same : Term → List Way → ℕ → Bool
 are_same a ways local = list_all (λ (way : Way). same_term a (way.env local)) ways
 
--- on each way the term is that of the local there
+-- A term of the sort, for a local without a value: it is not read, and no expression with a value has it.
+abbrev pub some_term : Sort → Term
+some_term Numbers = of_one ops.Code (of_one ops.Chr (literal (negsuc 0)))
+some_term Truths = of_one (ops.Is types.Int) (literal (pos 0))
+some_term Characters = of_one ops.Chr (literal (negsuc 0))
+
+abbrev pub is_unset : Term → Bool
+is_unset a = same_term a (some_term Numbers) || same_term a (some_term Truths) || same_term a (some_term Characters)
+
+-- on the way of the path the term is that of the local there, if it has a value
+abbrev pub assume_there : Ty → Term → Option Term → Term → List Said
+assume_there ty a path b = if is_unset b then [] else assume path (equal_in ty a b)
+
+-- so on each way
 abbrev pub assume_joined : Ty → ℕ → Term → List Way → List Said
-assume_joined ty local a ways = map (λ (way : Way). Known (on_path way.path (equal_in ty a (way.env local)))) ways
+assume_joined ty local a ways = flat_map (λ (way : Way). assume_there ty a way.path (way.env local)) ways
 
 -- a local that has its term on each way keeps it; another one is a new free term
 abbrev pub join_locals : List Changed → List Way → ℕ → Environment → Option Term → Moved

@@ -1,4 +1,4 @@
-use Rattle.std.proofs.Common.{refl}
+use Rattle.df_nenc.proofs.Words.{refl}
 use Rattle.df_form.specs.declared.node.Op.TheVariants as ops
 use Rattle.df_form.specs.declared.node.Sort.TheVariants as sorts
 use Rattle.df_nenc.proofs.Sorts.{takes_two}

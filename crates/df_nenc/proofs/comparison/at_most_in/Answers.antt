@@ -1,7 +1,4 @@
-use Rattle.std.proofs.Common.{ap, ◌∙◌}
-use Rattle.df_nterm.specs.Term.{Numbers, sort_of_type}
-use Rattle.df_nterm.specs.Term as trees
-use Rattle.df_nterm.specs.Expressions as expressions
+use Rattle.df_nenc.proofs.Words.{ap, ◌∙◌, Numbers, sort_of_type, AtMost, number_in}
 use Rattle.df_nenc.proofs.Growing.{term_stays, stays, is_term, tree_stays}
 use Rattle.df_nenc.proofs.Results.{two_as}
 use Rattle.df_nenc.proofs.Typed.{counted_number}
@@ -17,4 +14,4 @@ pub at_most-requires-clause-right : goal.at_most-requires-clause-right
 at_most-requires-clause-right c = is_term _ Numbers _ _ c.in_ok-right.ensures.stands (counted_number c.args.ty _ c.requires.counts (term_stays (sort_of_type c.args.ty) c.args.nodes.now c.number_in.new.nodes c.args.right c.number_in.ensures.grows c.requires.right).sort_is)
 
 pub returns-clause-stands : goal.returns-clause-stands
-returns-clause-stands c = two_as trees.AtMost c.at_most.result c.at_most.new.nodes _ _ _ _ (stays c.number_in.new.nodes c.number_in-2.new.nodes _ c.in_ok-left.left c.number_in-2.ensures.grows c.in_ok-left.ensures.stands).tree_is (c.in_ok-right.ensures.stands.tree_is ∙ ap (expressions.number_in c.args.ty) (tree_stays (sort_of_type c.args.ty) c.args.nodes.now c.number_in.new.nodes c.args.right c.number_in.ensures.grows c.requires.right)) c.at_most.ensures.stands
+returns-clause-stands c = two_as AtMost c.at_most.result c.at_most.new.nodes _ _ _ _ (stays c.number_in.new.nodes c.number_in-2.new.nodes _ c.in_ok-left.left c.number_in-2.ensures.grows c.in_ok-left.ensures.stands).tree_is (c.in_ok-right.ensures.stands.tree_is ∙ ap (number_in c.args.ty) (tree_stays (sort_of_type c.args.ty) c.args.nodes.now c.number_in.new.nodes c.args.right c.number_in.ensures.grows c.requires.right)) c.at_most.ensures.stands

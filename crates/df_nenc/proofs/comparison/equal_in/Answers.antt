@@ -1,6 +1,4 @@
-use Rattle.std.proofs.Common.{sym, subst, ◌∙◌}
-use Rattle.df_nterm.specs.Term.{sort_of_type}
-use Rattle.df_nenc.specs.Standing.{IsTerm}
+use Rattle.df_nenc.proofs.Words.{sym, subst, ◌∙◌, sort_of_type, IsTerm}
 use Rattle.df_nenc.proofs.Sorts.{no_truths_of}
 use Rattle.df_nenc.proofs.comparison.equal_in.Goals as goal
 

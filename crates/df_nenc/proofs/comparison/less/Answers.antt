@@ -1,6 +1,5 @@
-use Rattle.std.proofs.Common.{refl}
-use Rattle.df_nterm.specs.Term.{Truths}
-use Rattle.df_nterm.specs.Term as trees
+use Rattle.df_nenc.proofs.Words.{refl, Truths}
+use Rattle.df_nterm.specs.Term.{Not}
 use Rattle.df_nenc.proofs.Growing.{is_term}
 use Rattle.df_nenc.proofs.Results.{one_as}
 use Rattle.df_nenc.proofs.comparison.less.Goals as goal
@@ -9,4 +8,4 @@ pub negation-requires : goal.negation-requires
 negation-requires c = is_term _ Truths _ _ c.in_ok-is_at_most.ensures.stands refl
 
 pub returns-clause-stands : goal.returns-clause-stands
-returns-clause-stands c = one_as trees.Not c.negation.result c.negation.new.nodes _ _ c.in_ok-is_at_most.ensures.stands.tree_is c.negation.ensures.stands
+returns-clause-stands c = one_as Not c.negation.result c.negation.new.nodes _ _ c.in_ok-is_at_most.ensures.stands.tree_is c.negation.ensures.stands

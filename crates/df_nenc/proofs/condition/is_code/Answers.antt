@@ -1,24 +1,22 @@
-use Rattle.std.proofs.Common.{refl, ◌∙◌}
-use Rattle.df_nterm.specs.Term.{Numbers, Truths}
-use Rattle.df_nterm.specs.Term as trees
-use Rattle.df_nenc.proofs.Growing.{grows_then, term_stays, stays, is_term, tree_stays}
+use Rattle.df_nenc.proofs.Words.{refl, ◌∙◌, Numbers, Truths, And, at_most}
+use Rattle.df_nenc.proofs.Growing.{grows_then, stays, is_term, tree_stays, term_stays}
 use Rattle.df_nenc.proofs.Results.{two_as}
 use Rattle.df_nenc.proofs.condition.is_code.Goals as goal
-
-pub at_most-requires-clause-left : goal.at_most-requires-clause-left
-at_most-requires-clause-left c = is_term _ Numbers _ _ c.in_ok-first.ensures.stands refl
-
-pub at_most-requires-clause-right : goal.at_most-requires-clause-right
-at_most-requires-clause-right c = term_stays Numbers c.args.nodes.now c.literal.new.nodes c.args.number c.literal.ensures.grows c.requires
 
 pub at_most-requires-2-clause-left : goal.at_most-requires-2-clause-left
 at_most-requires-2-clause-left c = term_stays Numbers c.args.nodes.now c.literal-2.new.nodes c.args.number (grows_then c.args.nodes.now c.at_most.new.nodes c.literal-2.new.nodes (grows_then c.args.nodes.now c.literal.new.nodes c.at_most.new.nodes c.literal.ensures.grows c.at_most.ensures.grows) c.literal-2.ensures.grows) c.requires
 
-pub at_most-requires-2-clause-right : goal.at_most-requires-2-clause-right
-at_most-requires-2-clause-right c = is_term _ Numbers _ _ c.in_ok-last.ensures.stands refl
+pub at_most-requires-clause-right : goal.at_most-requires-clause-right
+at_most-requires-clause-right c = term_stays Numbers c.args.nodes.now c.literal.new.nodes c.args.number c.literal.ensures.grows c.requires
 
 pub both-requires-clause-left : goal.both-requires-clause-left
 both-requires-clause-left c = term_stays Truths c.at_most.new.nodes c.at_most-2.new.nodes c.in_ok-is_from_first.is_from_first (grows_then c.at_most.new.nodes c.literal-2.new.nodes c.at_most-2.new.nodes c.literal-2.ensures.grows c.at_most-2.ensures.grows) (is_term _ Truths _ _ c.in_ok-is_from_first.ensures.stands refl)
+
+pub at_most-requires-clause-left : goal.at_most-requires-clause-left
+at_most-requires-clause-left c = is_term _ Numbers _ _ c.in_ok-first.ensures.stands refl
+
+pub at_most-requires-2-clause-right : goal.at_most-requires-2-clause-right
+at_most-requires-2-clause-right c = is_term _ Numbers _ _ c.in_ok-last.ensures.stands refl
 
 pub both-requires-clause-right : goal.both-requires-clause-right
 both-requires-clause-right c = is_term _ Truths _ _ c.in_ok-is_to_last.ensures.stands refl
@@ -31,4 +29,4 @@ returns-clause-stands c =
     let high = c.in_ok-last.ensures.stands.tree_is in
     let from = (stays c.at_most.new.nodes c.at_most-2.new.nodes _ c.in_ok-is_from_first.is_from_first (grows_then c.at_most.new.nodes c.literal-2.new.nodes c.at_most-2.new.nodes c.literal-2.ensures.grows c.at_most-2.ensures.grows) c.in_ok-is_from_first.ensures.stands).tree_is in
     let to = c.in_ok-is_to_last.ensures.stands.tree_is in
-    two_as trees.And c.both.result c.both.new.nodes _ _ _ _ (from ∙ (λ i. trees.at_most (low i) (same i))) (to ∙ (λ i. trees.at_most (later i) (high i))) c.both.ensures.stands
+    two_as And c.both.result c.both.new.nodes _ _ _ _ (from ∙ (λ i. at_most (low i) (same i))) (to ∙ (λ i. at_most (later i) (high i))) c.both.ensures.stands

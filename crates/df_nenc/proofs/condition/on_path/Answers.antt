@@ -1,8 +1,4 @@
-use Rattle.std.proofs.Common.{sym, subst, IfOk}
-use Rattle.df_nterm.specs.Term.{Truths}
-use Rattle.df_nterm.specs.Expressions as expressions
-use Rattle.df_nenc.specs.Tree.{tree_at, path_in}
-use Rattle.df_nenc.specs.Standing.{Stands, IsPath}
+use Rattle.df_nenc.proofs.Words.{sym, subst, IfOk, Truths, on_path, tree_at, path_in, Stands, IsPath}
 use Rattle.df_nenc.proofs.Growing.{stands}
 use Rattle.df_nenc.proofs.condition.on_path.Goals as goal
 
@@ -10,7 +6,7 @@ pub implies-requires-clause-left : goal.implies-requires-clause-left
 implies-requires-clause-left c = subst (IsPath c.args.nodes.now) c.in-Some.is c.requires.path
 
 pub returns-in-None-clause-stands : goal.returns-in-None-clause-stands
-returns-in-None-clause-stands c = subst (λ v. Stands c.args.nodes.now (expressions.on_path (path_in c.args.nodes.now v) (tree_at c.args.nodes.now c.args.formula)) c.args.formula) (sym c.in-None.is) (stands Truths c.args.nodes.now c.args.formula c.requires.formula)
+returns-in-None-clause-stands c = subst (λ v. Stands c.args.nodes.now (on_path (path_in c.args.nodes.now v) (tree_at c.args.nodes.now c.args.formula)) c.args.formula) (sym c.in-None.is) (stands Truths c.args.nodes.now c.args.formula c.requires.formula)
 
 pub returns-in-Some-clause-stands : goal.returns-in-Some-clause-stands
-returns-in-Some-clause-stands c = subst (λ v. IfOk c.implies.result (λ n. Stands c.implies.new.nodes (expressions.on_path (path_in c.args.nodes.now v) (tree_at c.args.nodes.now c.args.formula)) n)) (sym c.in-Some.is) c.implies.ensures.stands
+returns-in-Some-clause-stands c = subst (λ v. IfOk c.implies.result (λ n. Stands c.implies.new.nodes (on_path (path_in c.args.nodes.now v) (tree_at c.args.nodes.now c.args.formula)) n)) (sym c.in-Some.is) c.implies.ensures.stands

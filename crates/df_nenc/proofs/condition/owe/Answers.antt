@@ -1,5 +1,5 @@
-use Rattle.df_nenc.specs.Tree.{tree_at, path_in}
-use Rattle.df_nenc.proofs.Fronts.{front_more}
+use Rattle.df_nenc.proofs.Words.{tree_at, path_in}
+use Rattle.df_nenc.proofs.Reaching.{front_more}
 use Rattle.df_nenc.proofs.Results.{pushed}
 use Rattle.df_nenc.proofs.condition.owe.Goals as goal
 

@@ -1,13 +1,8 @@
-use Rattle.std.proofs.Common.{refl}
-use Rattle.df_nterm.specs.Term.{Truths}
-use Rattle.df_nterm.specs.Expressions as expressions
-use Rattle.df_nenc.proofs.Growing.{is_term, path_stays, path_same}
+use Rattle.df_nenc.proofs.Words.{refl, Truths, condition, under}
+use Rattle.df_nenc.proofs.Growing.{is_term, path_same}
 use Rattle.df_nenc.proofs.Narrowing.{owed_as}
 use Rattle.df_meaning.specs.declared.kind.Kind.TheVariants as kinds
 use Rattle.df_nenc.proofs.condition.owe_code.Goals as goal
-
-pub owe-requires-clause-path : goal.owe-requires-clause-path
-owe-requires-clause-path c = path_stays c.args.nodes.now c.is_code.new.nodes c.args.path c.is_code.ensures.grows c.requires.path
 
 pub owe-requires-clause-formula : goal.owe-requires-clause-formula
 owe-requires-clause-formula c = is_term _ Truths _ _ c.in_ok-formula.ensures.stands refl
@@ -16,4 +11,4 @@ pub returns-clause-adds : goal.returns-clause-adds
 returns-clause-adds c =
     let on = path_same c.args.nodes.now c.is_code.new.nodes c.args.path c.is_code.ensures.grows c.requires.path in
     let tree = c.in_ok-formula.ensures.stands.tree_is in
-    owed_as c.owe.result c.owe.new.nodes _ _ c.args.out.now.items c.owe.new.out.items (λ i. expressions.under (on i) (expressions.condition c.args.pos kinds.Range (tree i))) c.owe.ensures.adds
+    owed_as c.owe.result c.owe.new.nodes _ _ c.args.out.now.items c.owe.new.out.items (λ i. under (on i) (condition c.args.pos kinds.Range (tree i))) c.owe.ensures.adds

@@ -1,31 +1,18 @@
-use Rattle.std.proofs.Common.{sym, refl, ap, ◌∙◌}
-use Rattle.df_nterm.specs.Term.{Numbers, Truths}
-use Rattle.df_nterm.specs.Term as trees
-use Rattle.df_nterm.specs.Expressions as expressions
-use Rattle.df_nenc.specs.Tree.{sort_of_term}
-use Rattle.df_nenc.proofs.Growing.{grows_then, term_stays, is_term, tree_stays, path_stays, path_same}
+use Rattle.df_nenc.proofs.Words.{sym, refl, ap, ◌∙◌, Numbers, Truths, equal, negation, condition, under}
+use Rattle.df_nenc.proofs.Growing.{grows_then, term_stays, is_term, tree_stays, path_same}
 use Rattle.df_nenc.proofs.Narrowing.{owed_as}
 use Rattle.df_nenc.proofs.Sorts.{no_numbers}
 use Rattle.df_meaning.specs.declared.kind.Kind.TheVariants as kinds
 use Rattle.df_nenc.proofs.condition.owe_nonzero.Goals as goal
 
-pub equal-requires-clause-left : goal.equal-requires-clause-left
-equal-requires-clause-left c = (term_stays Numbers c.args.nodes.now c.literal.new.nodes c.args.number c.literal.ensures.grows c.requires.number).below
-
 pub equal-requires-clause-right : goal.equal-requires-clause-right
 equal-requires-clause-right c = c.in_ok-zero.ensures.stands.below
-
-pub equal-requires-clause-alike : goal.equal-requires-clause-alike
-equal-requires-clause-alike c = (term_stays Numbers c.args.nodes.now c.literal.new.nodes c.args.number c.literal.ensures.grows c.requires.number).sort_is ∙ sym (ap sort_of_term c.in_ok-zero.ensures.stands.tree_is)
 
 pub equal-requires-clause-values : goal.equal-requires-clause-values
 equal-requires-clause-values c = λ e. no_numbers (sym (term_stays Numbers c.args.nodes.now c.literal.new.nodes c.args.number c.literal.ensures.grows c.requires.number).sort_is ∙ e)
 
 pub negation-requires : goal.negation-requires
 negation-requires c = is_term _ Truths _ _ c.in_ok-is_zero.ensures.stands refl
-
-pub owe-requires-clause-path : goal.owe-requires-clause-path
-owe-requires-clause-path c = path_stays c.args.nodes.now c.negation.new.nodes c.args.path (grows_then c.args.nodes.now c.equal.new.nodes c.negation.new.nodes (grows_then c.args.nodes.now c.literal.new.nodes c.equal.new.nodes c.literal.ensures.grows c.equal.ensures.grows) c.negation.ensures.grows) c.requires.path
 
 pub owe-requires-clause-formula : goal.owe-requires-clause-formula
 owe-requires-clause-formula c = is_term _ Truths _ _ c.in_ok-formula.ensures.stands refl
@@ -36,5 +23,5 @@ returns-clause-adds c =
     let same = tree_stays Numbers c.args.nodes.now c.literal.new.nodes c.args.number c.literal.ensures.grows c.requires.number in
     let zero = c.in_ok-zero.ensures.stands.tree_is in
     let equals = c.in_ok-is_zero.ensures.stands.tree_is in
-    let tree = c.in_ok-formula.ensures.stands.tree_is ∙ ap trees.negation (equals ∙ (λ i. trees.equal (same i) (zero i))) in
-    owed_as c.owe.result c.owe.new.nodes _ _ c.args.out.now.items c.owe.new.out.items (λ i. expressions.under (on i) (expressions.condition c.args.pos kinds.Divisor (tree i))) c.owe.ensures.adds
+    let tree = c.in_ok-formula.ensures.stands.tree_is ∙ ap negation (equals ∙ (λ i. equal (same i) (zero i))) in
+    owed_as c.owe.result c.owe.new.nodes _ _ c.args.out.now.items c.owe.new.out.items (λ i. under (on i) (condition c.args.pos kinds.Divisor (tree i))) c.owe.ensures.adds

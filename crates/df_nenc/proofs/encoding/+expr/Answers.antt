@@ -1,17 +1,4 @@
-use Rattle.std.proofs.Common.{◌≡◌, ◌<◌, length, to_z, of_z, [], ◌∷◌, ◌++◌, get_or, refl, sym, ap, ◌∙◌, rules, subst}
-use Rattle.std.specs.List.{AllByRecursion}
-use Rattle.std.specs.Int.{w128}
-use Rattle.std.proofs.lemmas.Int.{to_z-of_z}
-use Rattle.std.proofs.lemmas.Option.{slice_get_within, get_or_from_slice_get}
-use Rattle.df_lang.specs.declared.expr.Expr.{the_lemmas}
-use Rattle.df_lang.specs.Expr as pure
-use Rattle.df_lang.specs.ExprView.{expr_of}
-use Rattle.df_nterm.specs.Term.{Numbers, Truths, sort_of_type}
-use Rattle.df_nterm.specs.Term as trees
-use Rattle.df_nterm.specs.Expressions as expressions
-use Rattle.df_nenc.specs.Tree.{tree_at, path_in}
-use Rattle.df_nenc.specs.Standing.{IsTerm}
-use Rattle.df_nenc.specs.Encoding.{IsOver, Gives, Encodes}
+use Rattle.df_nenc.proofs.Words.{◌≡◌, ◌<◌, length, to_z, of_z, [], ◌∷◌, ◌++◌, get_or, refl, sym, ap, ◌∙◌, rules, subst, AllByRecursion, w128, to_z-of_z, slice_get_within, get_or_from_slice_get, the_lemmas, expr_of, As, Chain, Character, Convert, Iff, Implies, Junction, Local, Negate, Not, Number, Product, Sum, Truth, Numbers, Truths, sort_of_type, conjunction, literal, negation, negative, term, comparisons_of, conditions_of_addends, conditions_of_factors, conditions_of_implication, conditions_of_junction, conditions_of_links, conditions_of_members, equivalence_of, implication_of, in_range, joined, members_of, narrowing, number_in, product_of, sum_of, under, value_in, tree_at, path_in, IsTerm, IsOver, Gives, Encodes}
 use Rattle.df_nenc.specs.Views.{addends_in, factors_in, members_in, links_in}
 use Rattle.df_nenc.proofs.Growing.{grows_not, grows_then, term_stays, path_stays}
 use Rattle.df_nenc.proofs.Adding.{gives_alone, gives_owing}
@@ -19,246 +6,252 @@ use Rattle.df_nenc.proofs.Results.{if_ok}
 use Rattle.df_nenc.proofs.Parts.{local_term, negate_part, not_part, sum_first, sum_rest, product_first, product_rest, junction_first, junction_rest, implies_first, implies_rest, iff_first, iff_rest, chain_first, chain_rest, as_part, as_counts, convert_part}
 use Rattle.df_nenc.proofs.Cases.{over_seen, operand_term, then_encodes, over_encodes, local_encodes}
 use Rattle.df_nenc.proofs.Siblings.{addends_stay, factors_stay, members_stay, links_stay}
-use Rattle.df_nenc.proofs.WalkingSums.{sum_starts, sum_operand, sum_steps, sum_stops, product_starts, product_operand, product_steps, product_stops}
+use Rattle.df_nenc.proofs.Sums.{sum_starts, sum_operand, sum_steps, sum_stops, product_starts, product_operand, product_steps, product_stops}
 use Rattle.df_nenc.proofs.WalkingMembers.{guard_term, next_path, junction_starts, junction_operand, junction_steps, junction_stops, implication_starts, implication_operand, implication_steps, implication_stops, equivalence_starts, equivalence_operand, equivalence_steps, equivalence_stops}
-use Rattle.df_nenc.proofs.WalkingLinks.{chain_starts, chain_operand, chain_compares, chain_steps, chain_stops}
+use Rattle.df_nenc.proofs.Chains.{chain_starts, chain_operand, chain_compares, chain_steps, chain_stops}
 use Rattle.df_nenc.proofs.encoding.+expr.Goals as goal
+
+pub equivalence-iff-requires-clause-left : goal.equivalence-iff-requires-clause-left
+equivalence-iff-requires-clause-left t c = term_stays Truths c.loop-member.nodes c.encode.new.nodes c.loop-member.formula c.encode.ensures.grows c.loop-member.invariant.formula_is
+
+pub product-with_factor-requires-clause-path : goal.product-with_factor-requires-clause-path
+product-with_factor-requires-clause-path t c = path_stays c.args.nodes.now c.encode.new.nodes c.args.path (grows_then c.args.nodes.now c.loop-factor.nodes c.encode.new.nodes c.loop-factor.invariant.grows c.encode.ensures.grows) c.requires.path
+
+pub product-with_factor-requires-clause-product : goal.product-with_factor-requires-clause-product
+product-with_factor-requires-clause-product t c = term_stays Numbers c.loop-factor.nodes c.encode.new.nodes c.loop-factor.product c.encode.ensures.grows c.loop-factor.invariant.total_is
+
+pub sum-with_addend-requires-clause-path : goal.sum-with_addend-requires-clause-path
+sum-with_addend-requires-clause-path t c = path_stays c.args.nodes.now c.encode.new.nodes c.args.path (grows_then c.args.nodes.now c.loop-addend.nodes c.encode.new.nodes c.loop-addend.invariant.grows c.encode.ensures.grows) c.requires.path
+
+pub sum-with_addend-requires-clause-total : goal.sum-with_addend-requires-clause-total
+sum-with_addend-requires-clause-total t c = term_stays Numbers c.loop-addend.nodes c.encode.new.nodes c.loop-addend.total c.encode.ensures.grows c.loop-addend.invariant.total_is
 
 -- ---- expressions
 
 pub encode-encode-requires : goal.encode-encode-requires
 encode-encode-requires t c =
-    let over : IsOver c.args.nodes.now c.args.terms.now (pure.Negate c.in-Negate.ty c.in-Negate.pos (expr_of c.deref.result.now)) = over_seen c.requires.over (search (rules, the_lemmas)) in
+    let over : IsOver c.args.nodes.now c.args.terms.now (Negate c.in-Negate.ty c.in-Negate.pos (expr_of c.deref.result.now)) = over_seen c.requires.over (search (rules, the_lemmas)) in
     (search (rules, the_lemmas), ((negate_part _ _ _ _ _ over).over, c.requires.path))
-
-pub encode-negated-requires-clause-path : goal.encode-negated-requires-clause-path
-encode-negated-requires-clause-path t c = path_stays c.args.nodes.now c.encode.new.nodes c.args.path c.in_ok-operand-in-Negate.ensures.encodes.grows c.requires.path
 
 pub encode-negated-requires-clause-operand : goal.encode-negated-requires-clause-operand
 encode-negated-requires-clause-operand t c =
-    let over : IsOver c.args.nodes.now c.args.terms.now (pure.Negate c.in-Negate.ty c.in-Negate.pos (expr_of c.deref.result.now)) = over_seen c.requires.over (search (rules, the_lemmas)) in
+    let over : IsOver c.args.nodes.now c.args.terms.now (Negate c.in-Negate.ty c.in-Negate.pos (expr_of c.deref.result.now)) = over_seen c.requires.over (search (rules, the_lemmas)) in
     operand_term Numbers c.args.nodes.now c.encode.new.nodes c.args.terms.now c.args.path (expr_of c.deref.result.now) c.in_ok-operand-in-Negate.operand c.args.out.now.items c.encode.new.out.items (negate_part _ _ _ _ _ over) c.in_ok-operand-in-Negate.ensures.encodes
 
 pub encode-returns-in_ok-operand-in-Negate-clause-encodes : goal.encode-returns-in_ok-operand-in-Negate-clause-encodes
 encode-returns-in_ok-operand-in-Negate-clause-encodes t c =
-    let is : expr_of c.args.expr.now ≡ pure.Negate c.in-Negate.ty c.in-Negate.pos (expr_of c.deref.result.now) = search (rules, the_lemmas) in
+    let is : expr_of c.args.expr.now ≡ Negate c.in-Negate.ty c.in-Negate.pos (expr_of c.deref.result.now) = search (rules, the_lemmas) in
     let over = over_seen c.requires.over is in
     if_ok c.negated.result _ _ c.negated.ensures.gives (λ n g. subst (λ whole. Encodes c.args.nodes.now c.negated.new.nodes c.args.terms.now c.args.path whole n c.args.out.now.items c.negated.new.out.items) (sym is)
-    (then_encodes c.args.nodes.now c.encode.new.nodes c.negated.new.nodes c.args.terms.now c.args.path (expr_of c.deref.result.now) (pure.Negate c.in-Negate.ty c.in-Negate.pos (expr_of c.deref.result.now)) c.in_ok-operand-in-Negate.operand n c.args.out.now.items c.encode.new.out.items c.negated.new.out.items (λ env a. trees.negative a) (λ env on a. expressions.under on (expressions.in_range c.in-Negate.ty c.in-Negate.pos (trees.negative a))) over c.requires.path c.in_ok-operand-in-Negate.ensures.encodes g))
+    (then_encodes c.args.nodes.now c.encode.new.nodes c.negated.new.nodes c.args.terms.now c.args.path (expr_of c.deref.result.now) (Negate c.in-Negate.ty c.in-Negate.pos (expr_of c.deref.result.now)) c.in_ok-operand-in-Negate.operand n c.args.out.now.items c.encode.new.out.items c.negated.new.out.items (λ env a. negative a) (λ env on a. under on (in_range c.in-Negate.ty c.in-Negate.pos (negative a))) over c.requires.path c.in_ok-operand-in-Negate.ensures.encodes g))
 
 pub encode-encode-requires-in-Not : goal.encode-encode-requires-in-Not
 encode-encode-requires-in-Not t c =
-    let over : IsOver c.args.nodes.now c.args.terms.now (pure.Not c.in-Not.pos (expr_of c.deref-in-Not.result.now)) = over_seen c.requires.over (search (rules, the_lemmas)) in
+    let over : IsOver c.args.nodes.now c.args.terms.now (Not c.in-Not.pos (expr_of c.deref-in-Not.result.now)) = over_seen c.requires.over (search (rules, the_lemmas)) in
     (search (rules, the_lemmas), ((not_part _ _ _ _ over).over, c.requires.path))
 
 pub encode-negation-requires : goal.encode-negation-requires
 encode-negation-requires t c =
-    let over : IsOver c.args.nodes.now c.args.terms.now (pure.Not c.in-Not.pos (expr_of c.deref-in-Not.result.now)) = over_seen c.requires.over (search (rules, the_lemmas)) in
+    let over : IsOver c.args.nodes.now c.args.terms.now (Not c.in-Not.pos (expr_of c.deref-in-Not.result.now)) = over_seen c.requires.over (search (rules, the_lemmas)) in
     operand_term Truths c.args.nodes.now c.encode-in-Not.new.nodes c.args.terms.now c.args.path (expr_of c.deref-in-Not.result.now) c.in_ok-operand-in-Not.operand c.args.out.now.items c.encode-in-Not.new.out.items (not_part _ _ _ _ over) c.in_ok-operand-in-Not.ensures.encodes
 
 pub encode-returns-in_ok-operand-in-Not-clause-encodes : goal.encode-returns-in_ok-operand-in-Not-clause-encodes
 encode-returns-in_ok-operand-in-Not-clause-encodes t c =
-    let is : expr_of c.args.expr.now ≡ pure.Not c.in-Not.pos (expr_of c.deref-in-Not.result.now) = search (rules, the_lemmas) in
+    let is : expr_of c.args.expr.now ≡ Not c.in-Not.pos (expr_of c.deref-in-Not.result.now) = search (rules, the_lemmas) in
     let over = over_seen c.requires.over is in
-    if_ok c.negation.result _ _ c.negation.ensures.stands (λ n s. subst (λ whole. Encodes c.args.nodes.now c.negation.new.nodes c.args.terms.now c.args.path whole n c.args.out.now.items c.encode-in-Not.new.out.items) (sym is) (over_encodes c.args.nodes.now c.encode-in-Not.new.nodes c.negation.new.nodes c.args.terms.now c.args.path (expr_of c.deref-in-Not.result.now) (pure.Not c.in-Not.pos (expr_of c.deref-in-Not.result.now)) c.in_ok-operand-in-Not.operand n c.args.out.now.items c.encode-in-Not.new.out.items c.encode-in-Not.new.out.items trees.negation c.in_ok-operand-in-Not.ensures.encodes c.negation.ensures.grows s))
+    if_ok c.negation.result _ _ c.negation.ensures.stands (λ n s. subst (λ whole. Encodes c.args.nodes.now c.negation.new.nodes c.args.terms.now c.args.path whole n c.args.out.now.items c.encode-in-Not.new.out.items) (sym is) (over_encodes c.args.nodes.now c.encode-in-Not.new.nodes c.negation.new.nodes c.args.terms.now c.args.path (expr_of c.deref-in-Not.result.now) (Not c.in-Not.pos (expr_of c.deref-in-Not.result.now)) c.in_ok-operand-in-Not.operand n c.args.out.now.items c.encode-in-Not.new.out.items c.encode-in-Not.new.out.items negation c.in_ok-operand-in-Not.ensures.encodes c.negation.ensures.grows s))
 
 pub encode-encode-requires-in-Sum : goal.encode-encode-requires-in-Sum
 unfolding addends_in
 encode-encode-requires-in-Sum t c =
-    let over : IsOver c.args.nodes.now c.args.terms.now (pure.Sum c.in-Sum.ty (expr_of c.deref-in-Sum.result.now) (addends_in c.in-Sum.rest.items)) = over_seen c.requires.over (search (rules, the_lemmas)) in
+    let over : IsOver c.args.nodes.now c.args.terms.now (Sum c.in-Sum.ty (expr_of c.deref-in-Sum.result.now) (addends_in c.in-Sum.rest.items)) = over_seen c.requires.over (search (rules, the_lemmas)) in
     (search (rules, the_lemmas), ((sum_first _ _ _ _ _ over).over, c.requires.path))
 
 pub encode-sum-requires : goal.encode-sum-requires
 unfolding addends_in
 encode-sum-requires t c =
-    let over : IsOver c.args.nodes.now c.args.terms.now (pure.Sum c.in-Sum.ty (expr_of c.deref-in-Sum.result.now) (addends_in c.in-Sum.rest.items)) = over_seen c.requires.over (search (rules, the_lemmas)) in
+    let over : IsOver c.args.nodes.now c.args.terms.now (Sum c.in-Sum.ty (expr_of c.deref-in-Sum.result.now) (addends_in c.in-Sum.rest.items)) = over_seen c.requires.over (search (rules, the_lemmas)) in
     (search (rules, the_lemmas), (addends_stay c.args.nodes.now c.encode-in-Sum.new.nodes c.args.terms.now c.in_ok-first-in-Sum.ensures.encodes.grows (addends_in c.in-Sum.rest.items) (sum_rest _ _ _ _ _ over), (path_stays c.args.nodes.now c.encode-in-Sum.new.nodes c.args.path c.in_ok-first-in-Sum.ensures.encodes.grows c.requires.path, operand_term Numbers c.args.nodes.now c.encode-in-Sum.new.nodes c.args.terms.now c.args.path (expr_of c.deref-in-Sum.result.now) c.in_ok-first-in-Sum.first c.args.out.now.items c.encode-in-Sum.new.out.items (sum_first _ _ _ _ _ over) c.in_ok-first-in-Sum.ensures.encodes)))
 
 pub encode-returns-in_ok-first-in-Sum-clause-encodes : goal.encode-returns-in_ok-first-in-Sum-clause-encodes
 unfolding addends_in
 encode-returns-in_ok-first-in-Sum-clause-encodes t c =
-    let is : expr_of c.args.expr.now ≡ pure.Sum c.in-Sum.ty (expr_of c.deref-in-Sum.result.now) (addends_in c.in-Sum.rest.items) = search (rules, the_lemmas) in
+    let is : expr_of c.args.expr.now ≡ Sum c.in-Sum.ty (expr_of c.deref-in-Sum.result.now) (addends_in c.in-Sum.rest.items) = search (rules, the_lemmas) in
     let over = over_seen c.requires.over is in
     if_ok c.sum.result _ _ c.sum.ensures.gives (λ n g. subst (λ whole. Encodes c.args.nodes.now c.sum.new.nodes c.args.terms.now c.args.path whole n c.args.out.now.items c.sum.new.out.items) (sym is)
-    (then_encodes c.args.nodes.now c.encode-in-Sum.new.nodes c.sum.new.nodes c.args.terms.now c.args.path (expr_of c.deref-in-Sum.result.now) (pure.Sum c.in-Sum.ty (expr_of c.deref-in-Sum.result.now) (addends_in c.in-Sum.rest.items)) c.in_ok-first-in-Sum.first n c.args.out.now.items c.encode-in-Sum.new.out.items c.sum.new.out.items (λ env a. expressions.sum_of env a (addends_in c.in-Sum.rest.items)) (λ env on a. expressions.conditions_of_addends env on c.in-Sum.ty a (addends_in c.in-Sum.rest.items)) over c.requires.path c.in_ok-first-in-Sum.ensures.encodes g))
+    (then_encodes c.args.nodes.now c.encode-in-Sum.new.nodes c.sum.new.nodes c.args.terms.now c.args.path (expr_of c.deref-in-Sum.result.now) (Sum c.in-Sum.ty (expr_of c.deref-in-Sum.result.now) (addends_in c.in-Sum.rest.items)) c.in_ok-first-in-Sum.first n c.args.out.now.items c.encode-in-Sum.new.out.items c.sum.new.out.items (λ env a. sum_of env a (addends_in c.in-Sum.rest.items)) (λ env on a. conditions_of_addends env on c.in-Sum.ty a (addends_in c.in-Sum.rest.items)) over c.requires.path c.in_ok-first-in-Sum.ensures.encodes g))
 
 pub encode-encode-requires-in-Product : goal.encode-encode-requires-in-Product
 unfolding factors_in
 encode-encode-requires-in-Product t c =
-    let over : IsOver c.args.nodes.now c.args.terms.now (pure.Product c.in-Product.ty (expr_of c.deref-in-Product.result.now) (factors_in c.in-Product.rest.items)) = over_seen c.requires.over (search (rules, the_lemmas)) in
+    let over : IsOver c.args.nodes.now c.args.terms.now (Product c.in-Product.ty (expr_of c.deref-in-Product.result.now) (factors_in c.in-Product.rest.items)) = over_seen c.requires.over (search (rules, the_lemmas)) in
     (search (rules, the_lemmas), ((product_first _ _ _ _ _ over).over, c.requires.path))
 
 pub encode-product-requires : goal.encode-product-requires
 unfolding factors_in
 encode-product-requires t c =
-    let over : IsOver c.args.nodes.now c.args.terms.now (pure.Product c.in-Product.ty (expr_of c.deref-in-Product.result.now) (factors_in c.in-Product.rest.items)) = over_seen c.requires.over (search (rules, the_lemmas)) in
+    let over : IsOver c.args.nodes.now c.args.terms.now (Product c.in-Product.ty (expr_of c.deref-in-Product.result.now) (factors_in c.in-Product.rest.items)) = over_seen c.requires.over (search (rules, the_lemmas)) in
     (search (rules, the_lemmas), (factors_stay c.args.nodes.now c.encode-in-Product.new.nodes c.args.terms.now c.in_ok-first-in-Product.ensures.encodes.grows (factors_in c.in-Product.rest.items) (product_rest _ _ _ _ _ over), (path_stays c.args.nodes.now c.encode-in-Product.new.nodes c.args.path c.in_ok-first-in-Product.ensures.encodes.grows c.requires.path, operand_term Numbers c.args.nodes.now c.encode-in-Product.new.nodes c.args.terms.now c.args.path (expr_of c.deref-in-Product.result.now) c.in_ok-first-in-Product.first c.args.out.now.items c.encode-in-Product.new.out.items (product_first _ _ _ _ _ over) c.in_ok-first-in-Product.ensures.encodes)))
 
 pub encode-returns-in_ok-first-in-Product-clause-encodes : goal.encode-returns-in_ok-first-in-Product-clause-encodes
 unfolding factors_in
 encode-returns-in_ok-first-in-Product-clause-encodes t c =
-    let is : expr_of c.args.expr.now ≡ pure.Product c.in-Product.ty (expr_of c.deref-in-Product.result.now) (factors_in c.in-Product.rest.items) = search (rules, the_lemmas) in
+    let is : expr_of c.args.expr.now ≡ Product c.in-Product.ty (expr_of c.deref-in-Product.result.now) (factors_in c.in-Product.rest.items) = search (rules, the_lemmas) in
     let over = over_seen c.requires.over is in
     if_ok c.product.result _ _ c.product.ensures.gives (λ n g. subst (λ whole. Encodes c.args.nodes.now c.product.new.nodes c.args.terms.now c.args.path whole n c.args.out.now.items c.product.new.out.items) (sym is)
-    (then_encodes c.args.nodes.now c.encode-in-Product.new.nodes c.product.new.nodes c.args.terms.now c.args.path (expr_of c.deref-in-Product.result.now) (pure.Product c.in-Product.ty (expr_of c.deref-in-Product.result.now) (factors_in c.in-Product.rest.items)) c.in_ok-first-in-Product.first n c.args.out.now.items c.encode-in-Product.new.out.items c.product.new.out.items (λ env a. expressions.product_of env a (factors_in c.in-Product.rest.items)) (λ env on a. expressions.conditions_of_factors env on c.in-Product.ty a (factors_in c.in-Product.rest.items)) over c.requires.path c.in_ok-first-in-Product.ensures.encodes g))
+    (then_encodes c.args.nodes.now c.encode-in-Product.new.nodes c.product.new.nodes c.args.terms.now c.args.path (expr_of c.deref-in-Product.result.now) (Product c.in-Product.ty (expr_of c.deref-in-Product.result.now) (factors_in c.in-Product.rest.items)) c.in_ok-first-in-Product.first n c.args.out.now.items c.encode-in-Product.new.out.items c.product.new.out.items (λ env a. product_of env a (factors_in c.in-Product.rest.items)) (λ env on a. conditions_of_factors env on c.in-Product.ty a (factors_in c.in-Product.rest.items)) over c.requires.path c.in_ok-first-in-Product.ensures.encodes g))
 
 pub encode-encode-requires-in-Junction : goal.encode-encode-requires-in-Junction
 unfolding members_in
 encode-encode-requires-in-Junction t c =
-    let over : IsOver c.args.nodes.now c.args.terms.now (pure.Junction c.in-Junction.junction (expr_of c.deref-in-Junction.result.now) (members_in c.in-Junction.rest.items)) = over_seen c.requires.over (search (rules, the_lemmas)) in
+    let over : IsOver c.args.nodes.now c.args.terms.now (Junction c.in-Junction.junction (expr_of c.deref-in-Junction.result.now) (members_in c.in-Junction.rest.items)) = over_seen c.requires.over (search (rules, the_lemmas)) in
     (search (rules, the_lemmas), ((junction_first _ _ _ _ _ over).over, c.requires.path))
 
 pub encode-junction_of-requires : goal.encode-junction_of-requires
 unfolding members_in
 encode-junction_of-requires t c =
-    let over : IsOver c.args.nodes.now c.args.terms.now (pure.Junction c.in-Junction.junction (expr_of c.deref-in-Junction.result.now) (members_in c.in-Junction.rest.items)) = over_seen c.requires.over (search (rules, the_lemmas)) in
+    let over : IsOver c.args.nodes.now c.args.terms.now (Junction c.in-Junction.junction (expr_of c.deref-in-Junction.result.now) (members_in c.in-Junction.rest.items)) = over_seen c.requires.over (search (rules, the_lemmas)) in
     (search (rules, the_lemmas), (members_stay c.args.nodes.now c.encode-in-Junction.new.nodes c.args.terms.now c.in_ok-first-in-Junction.ensures.encodes.grows (members_in c.in-Junction.rest.items) (junction_rest _ _ _ _ _ over), (path_stays c.args.nodes.now c.encode-in-Junction.new.nodes c.args.path c.in_ok-first-in-Junction.ensures.encodes.grows c.requires.path, operand_term Truths c.args.nodes.now c.encode-in-Junction.new.nodes c.args.terms.now c.args.path (expr_of c.deref-in-Junction.result.now) c.in_ok-first-in-Junction.first c.args.out.now.items c.encode-in-Junction.new.out.items (junction_first _ _ _ _ _ over) c.in_ok-first-in-Junction.ensures.encodes)))
 
 pub encode-returns-in_ok-first-in-Junction-clause-encodes : goal.encode-returns-in_ok-first-in-Junction-clause-encodes
 unfolding members_in
 encode-returns-in_ok-first-in-Junction-clause-encodes t c =
-    let is : expr_of c.args.expr.now ≡ pure.Junction c.in-Junction.junction (expr_of c.deref-in-Junction.result.now) (members_in c.in-Junction.rest.items) = search (rules, the_lemmas) in
+    let is : expr_of c.args.expr.now ≡ Junction c.in-Junction.junction (expr_of c.deref-in-Junction.result.now) (members_in c.in-Junction.rest.items) = search (rules, the_lemmas) in
     let over = over_seen c.requires.over is in
     if_ok c.junction_of.result _ _ c.junction_of.ensures.gives (λ n g. subst (λ whole. Encodes c.args.nodes.now c.junction_of.new.nodes c.args.terms.now c.args.path whole n c.args.out.now.items c.junction_of.new.out.items) (sym is)
-    (then_encodes c.args.nodes.now c.encode-in-Junction.new.nodes c.junction_of.new.nodes c.args.terms.now c.args.path (expr_of c.deref-in-Junction.result.now) (pure.Junction c.in-Junction.junction (expr_of c.deref-in-Junction.result.now) (members_in c.in-Junction.rest.items)) c.in_ok-first-in-Junction.first n c.args.out.now.items c.encode-in-Junction.new.out.items c.junction_of.new.out.items (λ env a. expressions.joined c.in-Junction.junction (trees.term a (expressions.members_of env (members_in c.in-Junction.rest.items)))) (λ env on a. expressions.conditions_of_junction env on c.in-Junction.junction a (members_in c.in-Junction.rest.items)) over c.requires.path c.in_ok-first-in-Junction.ensures.encodes g))
+    (then_encodes c.args.nodes.now c.encode-in-Junction.new.nodes c.junction_of.new.nodes c.args.terms.now c.args.path (expr_of c.deref-in-Junction.result.now) (Junction c.in-Junction.junction (expr_of c.deref-in-Junction.result.now) (members_in c.in-Junction.rest.items)) c.in_ok-first-in-Junction.first n c.args.out.now.items c.encode-in-Junction.new.out.items c.junction_of.new.out.items (λ env a. joined c.in-Junction.junction (term a (members_of env (members_in c.in-Junction.rest.items)))) (λ env on a. conditions_of_junction env on c.in-Junction.junction a (members_in c.in-Junction.rest.items)) over c.requires.path c.in_ok-first-in-Junction.ensures.encodes g))
 
 pub encode-encode-requires-in-Implies : goal.encode-encode-requires-in-Implies
 unfolding members_in
 encode-encode-requires-in-Implies t c =
-    let over : IsOver c.args.nodes.now c.args.terms.now (pure.Implies c.in-Implies.arrow (expr_of c.deref-in-Implies.result.now) (members_in c.in-Implies.rest.items)) = over_seen c.requires.over (search (rules, the_lemmas)) in
+    let over : IsOver c.args.nodes.now c.args.terms.now (Implies c.in-Implies.arrow (expr_of c.deref-in-Implies.result.now) (members_in c.in-Implies.rest.items)) = over_seen c.requires.over (search (rules, the_lemmas)) in
     (search (rules, the_lemmas), ((implies_first _ _ _ _ _ over).over, c.requires.path))
 
 pub encode-implication-requires : goal.encode-implication-requires
 unfolding members_in
 encode-implication-requires t c =
-    let over : IsOver c.args.nodes.now c.args.terms.now (pure.Implies c.in-Implies.arrow (expr_of c.deref-in-Implies.result.now) (members_in c.in-Implies.rest.items)) = over_seen c.requires.over (search (rules, the_lemmas)) in
+    let over : IsOver c.args.nodes.now c.args.terms.now (Implies c.in-Implies.arrow (expr_of c.deref-in-Implies.result.now) (members_in c.in-Implies.rest.items)) = over_seen c.requires.over (search (rules, the_lemmas)) in
     (search (rules, the_lemmas), (members_stay c.args.nodes.now c.encode-in-Implies.new.nodes c.args.terms.now c.in_ok-first-in-Implies.ensures.encodes.grows (members_in c.in-Implies.rest.items) (implies_rest _ _ _ _ _ over), (path_stays c.args.nodes.now c.encode-in-Implies.new.nodes c.args.path c.in_ok-first-in-Implies.ensures.encodes.grows c.requires.path, operand_term Truths c.args.nodes.now c.encode-in-Implies.new.nodes c.args.terms.now c.args.path (expr_of c.deref-in-Implies.result.now) c.in_ok-first-in-Implies.first c.args.out.now.items c.encode-in-Implies.new.out.items (implies_first _ _ _ _ _ over) c.in_ok-first-in-Implies.ensures.encodes)))
 
 pub encode-returns-in_ok-first-in-Implies-clause-encodes : goal.encode-returns-in_ok-first-in-Implies-clause-encodes
 unfolding members_in
 encode-returns-in_ok-first-in-Implies-clause-encodes t c =
-    let is : expr_of c.args.expr.now ≡ pure.Implies c.in-Implies.arrow (expr_of c.deref-in-Implies.result.now) (members_in c.in-Implies.rest.items) = search (rules, the_lemmas) in
+    let is : expr_of c.args.expr.now ≡ Implies c.in-Implies.arrow (expr_of c.deref-in-Implies.result.now) (members_in c.in-Implies.rest.items) = search (rules, the_lemmas) in
     let over = over_seen c.requires.over is in
     if_ok c.implication.result _ _ c.implication.ensures.gives (λ n g. subst (λ whole. Encodes c.args.nodes.now c.implication.new.nodes c.args.terms.now c.args.path whole n c.args.out.now.items c.implication.new.out.items) (sym is)
-    (then_encodes c.args.nodes.now c.encode-in-Implies.new.nodes c.implication.new.nodes c.args.terms.now c.args.path (expr_of c.deref-in-Implies.result.now) (pure.Implies c.in-Implies.arrow (expr_of c.deref-in-Implies.result.now) (members_in c.in-Implies.rest.items)) c.in_ok-first-in-Implies.first n c.args.out.now.items c.encode-in-Implies.new.out.items c.implication.new.out.items (λ env a. expressions.implication_of env a (members_in c.in-Implies.rest.items)) (λ env on a. expressions.conditions_of_implication env on a (members_in c.in-Implies.rest.items)) over c.requires.path c.in_ok-first-in-Implies.ensures.encodes g))
+    (then_encodes c.args.nodes.now c.encode-in-Implies.new.nodes c.implication.new.nodes c.args.terms.now c.args.path (expr_of c.deref-in-Implies.result.now) (Implies c.in-Implies.arrow (expr_of c.deref-in-Implies.result.now) (members_in c.in-Implies.rest.items)) c.in_ok-first-in-Implies.first n c.args.out.now.items c.encode-in-Implies.new.out.items c.implication.new.out.items (λ env a. implication_of env a (members_in c.in-Implies.rest.items)) (λ env on a. conditions_of_implication env on a (members_in c.in-Implies.rest.items)) over c.requires.path c.in_ok-first-in-Implies.ensures.encodes g))
 
 pub encode-encode-requires-in-Iff : goal.encode-encode-requires-in-Iff
 unfolding members_in
 encode-encode-requires-in-Iff t c =
-    let over : IsOver c.args.nodes.now c.args.terms.now (pure.Iff (expr_of c.deref-in-Iff.result.now) (members_in c.in-Iff.rest.items)) = over_seen c.requires.over (search (rules, the_lemmas)) in
+    let over : IsOver c.args.nodes.now c.args.terms.now (Iff (expr_of c.deref-in-Iff.result.now) (members_in c.in-Iff.rest.items)) = over_seen c.requires.over (search (rules, the_lemmas)) in
     (search (rules, the_lemmas), ((iff_first _ _ _ _ over).over, c.requires.path))
 
 pub encode-equivalence-requires : goal.encode-equivalence-requires
 unfolding members_in
 encode-equivalence-requires t c =
-    let over : IsOver c.args.nodes.now c.args.terms.now (pure.Iff (expr_of c.deref-in-Iff.result.now) (members_in c.in-Iff.rest.items)) = over_seen c.requires.over (search (rules, the_lemmas)) in
+    let over : IsOver c.args.nodes.now c.args.terms.now (Iff (expr_of c.deref-in-Iff.result.now) (members_in c.in-Iff.rest.items)) = over_seen c.requires.over (search (rules, the_lemmas)) in
     (search (rules, the_lemmas), (members_stay c.args.nodes.now c.encode-in-Iff.new.nodes c.args.terms.now c.in_ok-first-in-Iff.ensures.encodes.grows (members_in c.in-Iff.rest.items) (iff_rest _ _ _ _ over), (path_stays c.args.nodes.now c.encode-in-Iff.new.nodes c.args.path c.in_ok-first-in-Iff.ensures.encodes.grows c.requires.path, operand_term Truths c.args.nodes.now c.encode-in-Iff.new.nodes c.args.terms.now c.args.path (expr_of c.deref-in-Iff.result.now) c.in_ok-first-in-Iff.first c.args.out.now.items c.encode-in-Iff.new.out.items (iff_first _ _ _ _ over) c.in_ok-first-in-Iff.ensures.encodes)))
 
 pub encode-returns-in_ok-first-in-Iff-clause-encodes : goal.encode-returns-in_ok-first-in-Iff-clause-encodes
 unfolding members_in
 encode-returns-in_ok-first-in-Iff-clause-encodes t c =
-    let is : expr_of c.args.expr.now ≡ pure.Iff (expr_of c.deref-in-Iff.result.now) (members_in c.in-Iff.rest.items) = search (rules, the_lemmas) in
+    let is : expr_of c.args.expr.now ≡ Iff (expr_of c.deref-in-Iff.result.now) (members_in c.in-Iff.rest.items) = search (rules, the_lemmas) in
     let over = over_seen c.requires.over is in
     if_ok c.equivalence.result _ _ c.equivalence.ensures.gives (λ n g. subst (λ whole. Encodes c.args.nodes.now c.equivalence.new.nodes c.args.terms.now c.args.path whole n c.args.out.now.items c.equivalence.new.out.items) (sym is)
-    (then_encodes c.args.nodes.now c.encode-in-Iff.new.nodes c.equivalence.new.nodes c.args.terms.now c.args.path (expr_of c.deref-in-Iff.result.now) (pure.Iff (expr_of c.deref-in-Iff.result.now) (members_in c.in-Iff.rest.items)) c.in_ok-first-in-Iff.first n c.args.out.now.items c.encode-in-Iff.new.out.items c.equivalence.new.out.items (λ env a. expressions.equivalence_of env a (members_in c.in-Iff.rest.items)) (λ env on a. expressions.conditions_of_members env on (members_in c.in-Iff.rest.items)) over c.requires.path c.in_ok-first-in-Iff.ensures.encodes g))
+    (then_encodes c.args.nodes.now c.encode-in-Iff.new.nodes c.equivalence.new.nodes c.args.terms.now c.args.path (expr_of c.deref-in-Iff.result.now) (Iff (expr_of c.deref-in-Iff.result.now) (members_in c.in-Iff.rest.items)) c.in_ok-first-in-Iff.first n c.args.out.now.items c.encode-in-Iff.new.out.items c.equivalence.new.out.items (λ env a. equivalence_of env a (members_in c.in-Iff.rest.items)) (λ env on a. conditions_of_members env on (members_in c.in-Iff.rest.items)) over c.requires.path c.in_ok-first-in-Iff.ensures.encodes g))
 
 pub encode-encode-requires-in-Chain : goal.encode-encode-requires-in-Chain
 unfolding links_in
 encode-encode-requires-in-Chain t c =
-    let over : IsOver c.args.nodes.now c.args.terms.now (pure.Chain c.in-Chain.ty (expr_of c.deref-in-Chain.result.now) (links_in c.in-Chain.rest.items)) = over_seen c.requires.over (search (rules, the_lemmas)) in
+    let over : IsOver c.args.nodes.now c.args.terms.now (Chain c.in-Chain.ty (expr_of c.deref-in-Chain.result.now) (links_in c.in-Chain.rest.items)) = over_seen c.requires.over (search (rules, the_lemmas)) in
     (search (rules, the_lemmas), ((chain_first _ _ _ _ _ over).over, c.requires.path))
 
 pub encode-chain-requires : goal.encode-chain-requires
 unfolding links_in
 encode-chain-requires t c =
-    let over : IsOver c.args.nodes.now c.args.terms.now (pure.Chain c.in-Chain.ty (expr_of c.deref-in-Chain.result.now) (links_in c.in-Chain.rest.items)) = over_seen c.requires.over (search (rules, the_lemmas)) in
+    let over : IsOver c.args.nodes.now c.args.terms.now (Chain c.in-Chain.ty (expr_of c.deref-in-Chain.result.now) (links_in c.in-Chain.rest.items)) = over_seen c.requires.over (search (rules, the_lemmas)) in
     (search (rules, the_lemmas), (links_stay c.args.nodes.now c.encode-in-Chain.new.nodes c.args.terms.now c.in_ok-first-in-Chain.ensures.encodes.grows c.in-Chain.ty (links_in c.in-Chain.rest.items) (chain_rest _ _ _ _ _ over), (path_stays c.args.nodes.now c.encode-in-Chain.new.nodes c.args.path c.in_ok-first-in-Chain.ensures.encodes.grows c.requires.path, operand_term (sort_of_type c.in-Chain.ty) c.args.nodes.now c.encode-in-Chain.new.nodes c.args.terms.now c.args.path (expr_of c.deref-in-Chain.result.now) c.in_ok-first-in-Chain.first c.args.out.now.items c.encode-in-Chain.new.out.items (chain_first _ _ _ _ _ over) c.in_ok-first-in-Chain.ensures.encodes)))
 
 pub encode-returns-in_ok-first-in-Chain-clause-encodes : goal.encode-returns-in_ok-first-in-Chain-clause-encodes
 unfolding links_in
 encode-returns-in_ok-first-in-Chain-clause-encodes t c =
-    let is : expr_of c.args.expr.now ≡ pure.Chain c.in-Chain.ty (expr_of c.deref-in-Chain.result.now) (links_in c.in-Chain.rest.items) = search (rules, the_lemmas) in
+    let is : expr_of c.args.expr.now ≡ Chain c.in-Chain.ty (expr_of c.deref-in-Chain.result.now) (links_in c.in-Chain.rest.items) = search (rules, the_lemmas) in
     let over = over_seen c.requires.over is in
     if_ok c.chain.result _ _ c.chain.ensures.gives (λ n g. subst (λ whole. Encodes c.args.nodes.now c.chain.new.nodes c.args.terms.now c.args.path whole n c.args.out.now.items c.chain.new.out.items) (sym is)
-    (then_encodes c.args.nodes.now c.encode-in-Chain.new.nodes c.chain.new.nodes c.args.terms.now c.args.path (expr_of c.deref-in-Chain.result.now) (pure.Chain c.in-Chain.ty (expr_of c.deref-in-Chain.result.now) (links_in c.in-Chain.rest.items)) c.in_ok-first-in-Chain.first n c.args.out.now.items c.encode-in-Chain.new.out.items c.chain.new.out.items (λ env a. trees.conjunction (expressions.comparisons_of env c.in-Chain.ty a (links_in c.in-Chain.rest.items))) (λ env on a. expressions.conditions_of_links env on c.in-Chain.ty a (links_in c.in-Chain.rest.items)) over c.requires.path c.in_ok-first-in-Chain.ensures.encodes g))
+    (then_encodes c.args.nodes.now c.encode-in-Chain.new.nodes c.chain.new.nodes c.args.terms.now c.args.path (expr_of c.deref-in-Chain.result.now) (Chain c.in-Chain.ty (expr_of c.deref-in-Chain.result.now) (links_in c.in-Chain.rest.items)) c.in_ok-first-in-Chain.first n c.args.out.now.items c.encode-in-Chain.new.out.items c.chain.new.out.items (λ env a. conjunction (comparisons_of env c.in-Chain.ty a (links_in c.in-Chain.rest.items))) (λ env on a. conditions_of_links env on c.in-Chain.ty a (links_in c.in-Chain.rest.items)) over c.requires.path c.in_ok-first-in-Chain.ensures.encodes g))
 
 pub encode-encode-requires-in-As : goal.encode-encode-requires-in-As
 encode-encode-requires-in-As t c =
-    let over : IsOver c.args.nodes.now c.args.terms.now (pure.As c.in-As.source c.in-As.target c.in-As.pos (expr_of c.deref-in-As.result.now)) = over_seen c.requires.over (search (rules, the_lemmas)) in
+    let over : IsOver c.args.nodes.now c.args.terms.now (As c.in-As.source c.in-As.target c.in-As.pos (expr_of c.deref-in-As.result.now)) = over_seen c.requires.over (search (rules, the_lemmas)) in
     (search (rules, the_lemmas), ((as_part _ _ _ _ _ _ over).over, c.requires.path))
-
-pub encode-cast-requires-clause-path : goal.encode-cast-requires-clause-path
-encode-cast-requires-clause-path t c = path_stays c.args.nodes.now c.encode-in-As.new.nodes c.args.path c.in_ok-operand-in-As.ensures.encodes.grows c.requires.path
 
 pub encode-cast-requires-clause-value : goal.encode-cast-requires-clause-value
 encode-cast-requires-clause-value t c =
-    let over : IsOver c.args.nodes.now c.args.terms.now (pure.As c.in-As.source c.in-As.target c.in-As.pos (expr_of c.deref-in-As.result.now)) = over_seen c.requires.over (search (rules, the_lemmas)) in
+    let over : IsOver c.args.nodes.now c.args.terms.now (As c.in-As.source c.in-As.target c.in-As.pos (expr_of c.deref-in-As.result.now)) = over_seen c.requires.over (search (rules, the_lemmas)) in
     operand_term (sort_of_type c.in-As.source) c.args.nodes.now c.encode-in-As.new.nodes c.args.terms.now c.args.path (expr_of c.deref-in-As.result.now) c.in_ok-operand-in-As.operand c.args.out.now.items c.encode-in-As.new.out.items (as_part _ _ _ _ _ _ over) c.in_ok-operand-in-As.ensures.encodes
 
 pub encode-cast-requires-clause-source : goal.encode-cast-requires-clause-source
 encode-cast-requires-clause-source t c =
-    let over : IsOver c.args.nodes.now c.args.terms.now (pure.As c.in-As.source c.in-As.target c.in-As.pos (expr_of c.deref-in-As.result.now)) = over_seen c.requires.over (search (rules, the_lemmas)) in
+    let over : IsOver c.args.nodes.now c.args.terms.now (As c.in-As.source c.in-As.target c.in-As.pos (expr_of c.deref-in-As.result.now)) = over_seen c.requires.over (search (rules, the_lemmas)) in
     as_counts _ _ _ _ _ _ over
 
 pub encode-returns-in_ok-operand-in-As-clause-encodes : goal.encode-returns-in_ok-operand-in-As-clause-encodes
 encode-returns-in_ok-operand-in-As-clause-encodes t c =
-    let is : expr_of c.args.expr.now ≡ pure.As c.in-As.source c.in-As.target c.in-As.pos (expr_of c.deref-in-As.result.now) = search (rules, the_lemmas) in
+    let is : expr_of c.args.expr.now ≡ As c.in-As.source c.in-As.target c.in-As.pos (expr_of c.deref-in-As.result.now) = search (rules, the_lemmas) in
     let over = over_seen c.requires.over is in
     if_ok c.cast.result _ _ c.cast.ensures.gives (λ n g. subst (λ whole. Encodes c.args.nodes.now c.cast.new.nodes c.args.terms.now c.args.path whole n c.args.out.now.items c.cast.new.out.items) (sym is)
-    (then_encodes c.args.nodes.now c.encode-in-As.new.nodes c.cast.new.nodes c.args.terms.now c.args.path (expr_of c.deref-in-As.result.now) (pure.As c.in-As.source c.in-As.target c.in-As.pos (expr_of c.deref-in-As.result.now)) c.in_ok-operand-in-As.operand n c.args.out.now.items c.encode-in-As.new.out.items c.cast.new.out.items (λ env a. expressions.value_in c.in-As.target (expressions.number_in c.in-As.source a)) (λ env on a. expressions.under on (expressions.in_range c.in-As.target c.in-As.pos (expressions.number_in c.in-As.source a))) over c.requires.path c.in_ok-operand-in-As.ensures.encodes g))
+    (then_encodes c.args.nodes.now c.encode-in-As.new.nodes c.cast.new.nodes c.args.terms.now c.args.path (expr_of c.deref-in-As.result.now) (As c.in-As.source c.in-As.target c.in-As.pos (expr_of c.deref-in-As.result.now)) c.in_ok-operand-in-As.operand n c.args.out.now.items c.encode-in-As.new.out.items c.cast.new.out.items (λ env a. value_in c.in-As.target (number_in c.in-As.source a)) (λ env on a. under on (in_range c.in-As.target c.in-As.pos (number_in c.in-As.source a))) over c.requires.path c.in_ok-operand-in-As.ensures.encodes g))
 
 pub encode-encode-requires-in-Convert : goal.encode-encode-requires-in-Convert
 encode-encode-requires-in-Convert t c =
-    let over : IsOver c.args.nodes.now c.args.terms.now (pure.Convert c.in-Convert.source c.in-Convert.target c.in-Convert.pos (expr_of c.deref-in-Convert.result.now)) = over_seen c.requires.over (search (rules, the_lemmas)) in
+    let over : IsOver c.args.nodes.now c.args.terms.now (Convert c.in-Convert.source c.in-Convert.target c.in-Convert.pos (expr_of c.deref-in-Convert.result.now)) = over_seen c.requires.over (search (rules, the_lemmas)) in
     (search (rules, the_lemmas), ((convert_part _ _ _ _ _ _ over).over, c.requires.path))
-
-pub encode-owe_narrowing-requires-clause-path : goal.encode-owe_narrowing-requires-clause-path
-encode-owe_narrowing-requires-clause-path t c = path_stays c.args.nodes.now c.encode-in-Convert.new.nodes c.args.path c.in_ok-operand-in-Convert.ensures.encodes.grows c.requires.path
 
 pub encode-owe_narrowing-requires-clause-value : goal.encode-owe_narrowing-requires-clause-value
 encode-owe_narrowing-requires-clause-value t c =
-    let over : IsOver c.args.nodes.now c.args.terms.now (pure.Convert c.in-Convert.source c.in-Convert.target c.in-Convert.pos (expr_of c.deref-in-Convert.result.now)) = over_seen c.requires.over (search (rules, the_lemmas)) in
+    let over : IsOver c.args.nodes.now c.args.terms.now (Convert c.in-Convert.source c.in-Convert.target c.in-Convert.pos (expr_of c.deref-in-Convert.result.now)) = over_seen c.requires.over (search (rules, the_lemmas)) in
     operand_term (sort_of_type c.in-Convert.source) c.args.nodes.now c.encode-in-Convert.new.nodes c.args.terms.now c.args.path (expr_of c.deref-in-Convert.result.now) c.in_ok-operand-in-Convert.operand c.args.out.now.items c.encode-in-Convert.new.out.items (convert_part _ _ _ _ _ _ over) c.in_ok-operand-in-Convert.ensures.encodes
 
 pub encode-returns-in_ok-owe_narrowing-in-Convert-clause-encodes : goal.encode-returns-in_ok-owe_narrowing-in-Convert-clause-encodes
 encode-returns-in_ok-owe_narrowing-in-Convert-clause-encodes t c =
-    let is : expr_of c.args.expr.now ≡ pure.Convert c.in-Convert.source c.in-Convert.target c.in-Convert.pos (expr_of c.deref-in-Convert.result.now) = search (rules, the_lemmas) in
+    let is : expr_of c.args.expr.now ≡ Convert c.in-Convert.source c.in-Convert.target c.in-Convert.pos (expr_of c.deref-in-Convert.result.now) = search (rules, the_lemmas) in
     let over = over_seen c.requires.over is in
     subst (λ whole. Encodes c.args.nodes.now c.owe_narrowing.new.nodes c.args.terms.now c.args.path whole c.in_ok-operand-in-Convert.operand c.args.out.now.items c.owe_narrowing.new.out.items) (sym is)
-    (then_encodes c.args.nodes.now c.encode-in-Convert.new.nodes c.owe_narrowing.new.nodes c.args.terms.now c.args.path (expr_of c.deref-in-Convert.result.now) (pure.Convert c.in-Convert.source c.in-Convert.target c.in-Convert.pos (expr_of c.deref-in-Convert.result.now)) c.in_ok-operand-in-Convert.operand c.in_ok-operand-in-Convert.operand c.args.out.now.items c.encode-in-Convert.new.out.items c.owe_narrowing.new.out.items (λ env a. a) (λ env on a. expressions.under on (expressions.narrowing c.in-Convert.source c.in-Convert.target c.in-Convert.pos a)) over c.requires.path c.in_ok-operand-in-Convert.ensures.encodes (gives_owing (tree_at c.encode-in-Convert.new.nodes c.in_ok-operand-in-Convert.operand) _ c.encode-in-Convert.new.nodes c.encode-in-Convert.new.nodes c.owe_narrowing.new.nodes c.in_ok-operand-in-Convert.operand c.encode-in-Convert.new.out.items c.owe_narrowing.new.out.items (grows_not c.encode-in-Convert.new.nodes) c.owe_narrowing.ensures.grows (record { below = c.in_ok-operand-in-Convert.ensures.encodes.stands.below; tree_is = refl }) c.in_ok-owe_narrowing-in-Convert.ensures.adds))
+    (then_encodes c.args.nodes.now c.encode-in-Convert.new.nodes c.owe_narrowing.new.nodes c.args.terms.now c.args.path (expr_of c.deref-in-Convert.result.now) (Convert c.in-Convert.source c.in-Convert.target c.in-Convert.pos (expr_of c.deref-in-Convert.result.now)) c.in_ok-operand-in-Convert.operand c.in_ok-operand-in-Convert.operand c.args.out.now.items c.encode-in-Convert.new.out.items c.owe_narrowing.new.out.items (λ env a. a) (λ env on a. under on (narrowing c.in-Convert.source c.in-Convert.target c.in-Convert.pos a)) over c.requires.path c.in_ok-operand-in-Convert.ensures.encodes (gives_owing (tree_at c.encode-in-Convert.new.nodes c.in_ok-operand-in-Convert.operand) _ c.encode-in-Convert.new.nodes c.encode-in-Convert.new.nodes c.owe_narrowing.new.nodes c.in_ok-operand-in-Convert.operand c.encode-in-Convert.new.out.items c.owe_narrowing.new.out.items (grows_not c.encode-in-Convert.new.nodes) c.owe_narrowing.ensures.grows (record { below = c.in_ok-operand-in-Convert.ensures.encodes.stands.below; tree_is = refl }) c.in_ok-owe_narrowing-in-Convert.ensures.adds))
 
 pub encode-returns-in-Number-clause-encodes : goal.encode-returns-in-Number-clause-encodes
 encode-returns-in-Number-clause-encodes t c =
-    let is : expr_of c.args.expr.now ≡ pure.Number c.in-Number.ty c.in-Number.value c.in-Number.pos = search (rules, the_lemmas) in
+    let is : expr_of c.args.expr.now ≡ Number c.in-Number.ty c.in-Number.value c.in-Number.pos = search (rules, the_lemmas) in
     let same : to_z w128 (of_z w128 c.in-Number.value) ≡ c.in-Number.value = search (rules, to_z-of_z) in
-    if_ok c.number.result _ _ c.number.ensures.gives (λ n g. subst (λ whole. Encodes c.args.nodes.now c.number.new.nodes c.args.terms.now c.args.path whole n c.args.out.now.items c.number.new.out.items) (sym is) (subst (λ v. Gives (trees.literal v) (expressions.under (path_in c.args.nodes.now c.args.path) (expressions.in_range c.in-Number.ty c.in-Number.pos (trees.literal v))) c.args.nodes.now c.number.new.nodes n c.args.out.now.items c.number.new.out.items) same g))
+    if_ok c.number.result _ _ c.number.ensures.gives (λ n g. subst (λ whole. Encodes c.args.nodes.now c.number.new.nodes c.args.terms.now c.args.path whole n c.args.out.now.items c.number.new.out.items) (sym is) (subst (λ v. Gives (literal v) (under (path_in c.args.nodes.now c.args.path) (in_range c.in-Number.ty c.in-Number.pos (literal v))) c.args.nodes.now c.number.new.nodes n c.args.out.now.items c.number.new.out.items) same g))
 
 pub encode-returns-in-Truth-clause-encodes : goal.encode-returns-in-Truth-clause-encodes
 encode-returns-in-Truth-clause-encodes t c =
-    let is : expr_of c.args.expr.now ≡ pure.Truth c.in-Truth.value c.in-Truth.pos = search (rules, the_lemmas) in
+    let is : expr_of c.args.expr.now ≡ Truth c.in-Truth.value c.in-Truth.pos = search (rules, the_lemmas) in
     if_ok c.truth.result _ _ c.truth.ensures.stands (λ n s. subst (λ whole. Encodes c.args.nodes.now c.truth.new.nodes c.args.terms.now c.args.path whole n c.args.out.now.items c.args.out.now.items) (sym is) (gives_alone _ c.args.nodes.now c.truth.new.nodes n c.args.out.now.items c.truth.ensures.grows s))
 
 pub encode-returns-in-Character-clause-encodes : goal.encode-returns-in-Character-clause-encodes
 encode-returns-in-Character-clause-encodes t c =
-    let is : expr_of c.args.expr.now ≡ pure.Character c.in-Character.code c.in-Character.pos = search (rules, the_lemmas) in
+    let is : expr_of c.args.expr.now ≡ Character c.in-Character.code c.in-Character.pos = search (rules, the_lemmas) in
     if_ok c.character.result _ _ c.character.ensures.stands (λ n s. subst (λ whole. Encodes c.args.nodes.now c.character.new.nodes c.args.terms.now c.args.path whole n c.args.out.now.items c.args.out.now.items) (sym is) (gives_alone _ c.args.nodes.now c.character.new.nodes n c.args.out.now.items c.character.ensures.grows s))
 
 pub encode-bounds-terms-local : goal.encode-bounds-terms-local
 encode-bounds-terms-local t c =
-    let over : IsOver c.args.nodes.now c.args.terms.now (pure.Local c.in-Local.local c.in-Local.name c.in-Local.pos) = over_seen c.requires.over (search (rules, the_lemmas)) in
+    let over : IsOver c.args.nodes.now c.args.terms.now (Local c.in-Local.local c.in-Local.name c.in-Local.pos) = over_seen c.requires.over (search (rules, the_lemmas)) in
     let t = (local_term _ _ _ _ _ over).1 in
     slice_get_within c.args.terms.now c.in-Local.local t.number t.at
 
 pub encode-offset_bounds-terms-local : goal.encode-offset_bounds-terms-local
 encode-offset_bounds-terms-local t c =
-    let over : IsOver c.args.nodes.now c.args.terms.now (pure.Local c.in-Local.local c.in-Local.name c.in-Local.pos) = over_seen c.requires.over (search (rules, the_lemmas)) in
+    let over : IsOver c.args.nodes.now c.args.terms.now (Local c.in-Local.local c.in-Local.name c.in-Local.pos) = over_seen c.requires.over (search (rules, the_lemmas)) in
     let t = (local_term _ _ _ _ _ over).1 in
     let less : c.in-Local.local < length c.args.terms.now = slice_get_within c.args.terms.now c.in-Local.local t.number t.at in
     search (rules, less)
 
 pub encode-returns-in-Local-clause-encodes : goal.encode-returns-in-Local-clause-encodes
 encode-returns-in-Local-clause-encodes t c =
-    let is : expr_of c.args.expr.now ≡ pure.Local c.in-Local.local c.in-Local.name c.in-Local.pos = search (rules, the_lemmas) in
+    let is : expr_of c.args.expr.now ≡ Local c.in-Local.local c.in-Local.name c.in-Local.pos = search (rules, the_lemmas) in
     let over = over_seen c.requires.over is in
     let t = (local_term _ _ _ _ _ over).1 in
     subst (λ whole. Encodes c.args.nodes.now c.args.nodes.now c.args.terms.now c.args.path whole (get_or c.args.terms.now c.in-Local.local 0) c.args.out.now.items c.args.out.now.items) (sym is) (local_encodes c.args.nodes.now c.args.terms.now c.in-Local.local (get_or c.args.terms.now c.in-Local.local 0) _ c.args.out.now.items t (get_or_from_slice_get c.args.terms.now c.in-Local.local t.number 0 t.at))
@@ -273,12 +266,6 @@ sum-encode-requires t c =
     let l = c.loop-addend in
     let part = sum_operand c.deref-addend-items.result.now l.addend-index c.addend-item.result c.addend-item.is c.loop-addend-test.true l.invariant in
     (search (rules, the_lemmas), (part.over, path_stays c.args.nodes.now l.nodes c.args.path l.invariant.grows c.requires.path))
-
-pub sum-with_addend-requires-clause-path : goal.sum-with_addend-requires-clause-path
-sum-with_addend-requires-clause-path t c = path_stays c.args.nodes.now c.encode.new.nodes c.args.path (grows_then c.args.nodes.now c.loop-addend.nodes c.encode.new.nodes c.loop-addend.invariant.grows c.encode.ensures.grows) c.requires.path
-
-pub sum-with_addend-requires-clause-total : goal.sum-with_addend-requires-clause-total
-sum-with_addend-requires-clause-total t c = term_stays Numbers c.loop-addend.nodes c.encode.new.nodes c.loop-addend.total c.encode.ensures.grows c.loop-addend.invariant.total_is
 
 pub sum-with_addend-requires-clause-operand : goal.sum-with_addend-requires-clause-operand
 sum-with_addend-requires-clause-operand t c =
@@ -305,12 +292,6 @@ product-encode-requires t c =
     let part = product_operand c.deref-factor-items.result.now l.factor-index c.factor-item.result c.factor-item.is c.loop-factor-test.true l.invariant in
     (search (rules, the_lemmas), (part.over, path_stays c.args.nodes.now l.nodes c.args.path l.invariant.grows c.requires.path))
 
-pub product-with_factor-requires-clause-path : goal.product-with_factor-requires-clause-path
-product-with_factor-requires-clause-path t c = path_stays c.args.nodes.now c.encode.new.nodes c.args.path (grows_then c.args.nodes.now c.loop-factor.nodes c.encode.new.nodes c.loop-factor.invariant.grows c.encode.ensures.grows) c.requires.path
-
-pub product-with_factor-requires-clause-product : goal.product-with_factor-requires-clause-product
-product-with_factor-requires-clause-product t c = term_stays Numbers c.loop-factor.nodes c.encode.new.nodes c.loop-factor.product c.encode.ensures.grows c.loop-factor.invariant.total_is
-
 pub product-with_factor-requires-clause-operand : goal.product-with_factor-requires-clause-operand
 product-with_factor-requires-clause-operand t c =
     let l = c.loop-factor in
@@ -334,9 +315,6 @@ junction_of-loop-member-init t c =
 
 pub junction_of-goes_on-requires : goal.junction_of-goes_on-requires
 junction_of-goes_on-requires t c = c.loop-member.invariant.last_is
-
-pub junction_of-narrowed_path-requires-clause-path : goal.junction_of-narrowed_path-requires-clause-path
-junction_of-narrowed_path-requires-clause-path t c = path_stays c.loop-member.nodes c.goes_on.new.nodes c.loop-member.path c.goes_on.ensures.grows c.loop-member.invariant.path_is
 
 pub junction_of-narrowed_path-requires-clause-formula : goal.junction_of-narrowed_path-requires-clause-formula
 junction_of-narrowed_path-requires-clause-formula t c = guard_term c.args.junction c.loop-member.nodes c.goes_on.new.nodes c.loop-member.last c.in_ok-guard.guard c.loop-member.invariant.last_is c.in_ok-guard.ensures.stands
@@ -402,9 +380,6 @@ equivalence-encode-requires t c =
     let l = c.loop-member in
     let part = equivalence_operand c.deref-member-items.result.now l.member-index c.member-item.result c.member-item.is c.loop-member-test.true l.invariant in
     (search (rules, the_lemmas), (part.over, path_stays c.args.nodes.now l.nodes c.args.path l.invariant.grows c.requires.path))
-
-pub equivalence-iff-requires-clause-left : goal.equivalence-iff-requires-clause-left
-equivalence-iff-requires-clause-left t c = term_stays Truths c.loop-member.nodes c.encode.new.nodes c.loop-member.formula c.encode.ensures.grows c.loop-member.invariant.formula_is
 
 pub equivalence-iff-requires-clause-right : goal.equivalence-iff-requires-clause-right
 equivalence-iff-requires-clause-right t c =

@@ -1,8 +1,7 @@
-use Rattle.std.proofs.Common.{drop}
-use Rattle.df_nenc.specs.Views.{addends_in, factors_in, members_in, links_in}
-use Rattle.df_nenc.proofs.Summing.{Summing, Multiplying}
+use Rattle.df_nenc.proofs.Words.{drop, addends_in, factors_in, members_in, links_in}
+use Rattle.df_nenc.proofs.Sums.{Summing, Multiplying}
 use Rattle.df_nenc.proofs.Junctions.{Junctioning, Implying, Equating}
-use Rattle.df_nenc.proofs.Chaining.{Chaining}
+use Rattle.df_nenc.proofs.Chains.{Chaining}
 use Rattle.df_nenc.proofs.encoding.+expr.Given as goal
 
 -- what was made so far, and then the rest, is all

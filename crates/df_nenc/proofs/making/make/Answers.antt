@@ -1,5 +1,4 @@
-use Rattle.std.proofs.Common.{◌≡◌, sym, subst, true}
-use Rattle.df_form.specs.Sorting.{is_well_sorted}
+use Rattle.df_nenc.proofs.Words.{◌≡◌, sym, subst, true, is_well_sorted}
 use Rattle.df_nenc.proofs.Results.{added_stands, added_grows}
 use Rattle.df_nenc.proofs.making.make.Goals as goal
 

@@ -1,10 +1,6 @@
-use Rattle.std.proofs.Common.{refl, ap, ◌∙◌, arith}
-use Rattle.std.specs.Int.{w128}
-use Rattle.std.proofs.lemmas.Int.{to_z_pos}
+use Rattle.df_nenc.proofs.Words.{refl, ap, ◌∙◌, arith, w128, to_z_pos, Numbers, Chr, literal}
 use Rattle.df_form.specs.declared.node.Op.TheVariants as ops
 use Rattle.df_form.specs.declared.node.Sort.TheVariants as sorts
-use Rattle.df_nterm.specs.Term.{Numbers}
-use Rattle.df_nterm.specs.Term as trees
 use Rattle.df_nenc.proofs.Growing.{is_term}
 use Rattle.df_nenc.proofs.Sorts.{takes_one}
 use Rattle.df_nenc.proofs.Results.{one_as}
@@ -14,4 +10,4 @@ pub one-requires : goal.one-requires
 one-requires c = takes_one ops.Chr sorts.Number c.literal.new.nodes c.in_ok-code.code refl (is_term _ Numbers _ _ c.in_ok-code.ensures.stands refl)
 
 pub returns-clause-stands : goal.returns-clause-stands
-returns-clause-stands c = one_as trees.Chr c.one.result c.one.new.nodes _ _ (c.in_ok-code.ensures.stands.tree_is ∙ ap trees.literal (to_z_pos w128 c.args.code (omega arith))) c.one.ensures.stands
+returns-clause-stands c = one_as Chr c.one.result c.one.new.nodes _ _ (c.in_ok-code.ensures.stands.tree_is ∙ ap literal (to_z_pos w128 c.args.code (omega arith))) c.one.ensures.stands

@@ -1,8 +1,6 @@
-use Rattle.std.proofs.Common.{subst, refl}
+use Rattle.df_nenc.proofs.Words.{subst, refl, sort_of_type, IsTerm}
 use Rattle.df_form.specs.declared.node.Op.TheVariants as ops
 use Rattle.df_form.specs.declared.node.Sort.TheVariants as sorts
-use Rattle.df_nterm.specs.Term.{sort_of_type}
-use Rattle.df_nenc.specs.Standing.{IsTerm}
 use Rattle.df_nenc.proofs.Sorts.{takes_one}
 use Rattle.df_nenc.proofs.operation.number_in.Goals as goal
 

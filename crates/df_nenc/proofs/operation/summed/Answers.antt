@@ -1,11 +1,6 @@
-use Rattle.std.proofs.Common.{sym, subst, refl, IfOk}
+use Rattle.df_nenc.proofs.Words.{sym, subst, refl, IfOk, Numbers, Plus, summed, tree_at, Stands}
 use Rattle.df_form.specs.declared.node.Op.TheVariants as ops
 use Rattle.df_form.specs.declared.node.Sort.TheVariants as sorts
-use Rattle.df_nterm.specs.Term.{Numbers}
-use Rattle.df_nterm.specs.Term as trees
-use Rattle.df_nterm.specs.Expressions as expressions
-use Rattle.df_nenc.specs.Tree.{tree_at}
-use Rattle.df_nenc.specs.Standing.{Stands}
 use Rattle.df_nenc.proofs.Growing.{term_stays, is_term, tree_stays}
 use Rattle.df_nenc.proofs.Sorts.{takes_two}
 use Rattle.df_nenc.proofs.Results.{two_as}
@@ -18,7 +13,7 @@ pub two-requires-in-Minus : goal.two-requires-in-Minus
 two-requires-in-Minus c = takes_two ops.Plus sorts.Number c.negative.new.nodes c.args.left c.in_ok-right-in-Minus.right refl (term_stays Numbers c.args.nodes.now c.negative.new.nodes c.args.left c.negative.ensures.grows c.requires.left) (is_term _ Numbers _ _ c.in_ok-right-in-Minus.ensures.stands refl)
 
 pub returns-in-Plus-clause-stands : goal.returns-in-Plus-clause-stands
-returns-in-Plus-clause-stands c = subst (λ v. IfOk c.two.result (λ n. Stands c.two.new.nodes (expressions.summed v (tree_at c.args.nodes.now c.args.left) (tree_at c.args.nodes.now c.args.right)) n)) (sym c.in-Plus.is) c.two.ensures.stands
+returns-in-Plus-clause-stands c = subst (λ v. IfOk c.two.result (λ n. Stands c.two.new.nodes (summed v (tree_at c.args.nodes.now c.args.left) (tree_at c.args.nodes.now c.args.right)) n)) (sym c.in-Plus.is) c.two.ensures.stands
 
 pub returns-in_ok-right-in-Minus-clause-stands : goal.returns-in_ok-right-in-Minus-clause-stands
-returns-in_ok-right-in-Minus-clause-stands c = subst (λ v. IfOk c.two-in-Minus.result (λ n. Stands c.two-in-Minus.new.nodes (expressions.summed v (tree_at c.args.nodes.now c.args.left) (tree_at c.args.nodes.now c.args.right)) n)) (sym c.in-Minus.is) (two_as trees.Plus c.two-in-Minus.result c.two-in-Minus.new.nodes _ _ _ _ (tree_stays Numbers c.args.nodes.now c.negative.new.nodes c.args.left c.negative.ensures.grows c.requires.left) c.in_ok-right-in-Minus.ensures.stands.tree_is c.two-in-Minus.ensures.stands)
+returns-in_ok-right-in-Minus-clause-stands c = subst (λ v. IfOk c.two-in-Minus.result (λ n. Stands c.two-in-Minus.new.nodes (summed v (tree_at c.args.nodes.now c.args.left) (tree_at c.args.nodes.now c.args.right)) n)) (sym c.in-Minus.is) (two_as Plus c.two-in-Minus.result c.two-in-Minus.new.nodes _ _ _ _ (tree_stays Numbers c.args.nodes.now c.negative.new.nodes c.args.left c.negative.ensures.grows c.requires.left) c.in_ok-right-in-Minus.ensures.stands.tree_is c.two-in-Minus.ensures.stands)

@@ -1,19 +1,15 @@
-use Rattle.df_nterm.specs.Term.{Numbers}
-use Rattle.df_nterm.specs.Expressions as expressions
-use Rattle.df_nenc.proofs.Growing.{term_stays, is_term, path_stays}
+use Rattle.df_nenc.proofs.Words.{Numbers, in_range, under, value_in}
+use Rattle.df_nenc.proofs.Growing.{is_term, term_stays}
 use Rattle.df_nenc.proofs.Results.{owing}
 use Rattle.df_nenc.proofs.Typed.{counted_number}
-use Rattle.df_nenc.proofs.Owing.{owed_over}
+use Rattle.df_nenc.proofs.Adding.{owed_over}
 use Rattle.df_nenc.proofs.step.cast.Goals as goal
-
-pub owe_range-requires-clause-path : goal.owe_range-requires-clause-path
-owe_range-requires-clause-path c = path_stays c.args.nodes.now c.number_in.new.nodes c.args.path c.number_in.ensures.grows c.requires.path
-
-pub owe_range-requires-clause-number : goal.owe_range-requires-clause-number
-owe_range-requires-clause-number c = is_term _ Numbers _ _ c.in_ok-number.ensures.stands (counted_number c.args.source _ c.requires.source c.requires.value.sort_is)
 
 pub value_in-requires : goal.value_in-requires
 value_in-requires c = term_stays Numbers c.number_in.new.nodes c.owe_range.new.nodes c.in_ok-number.number c.owe_range.ensures.grows (is_term _ Numbers _ _ c.in_ok-number.ensures.stands (counted_number c.args.source _ c.requires.source c.requires.value.sort_is))
 
+pub owe_range-requires-clause-number : goal.owe_range-requires-clause-number
+owe_range-requires-clause-number c = is_term _ Numbers _ _ c.in_ok-number.ensures.stands (counted_number c.args.source _ c.requires.source c.requires.value.sort_is)
+
 pub returns-clause-gives : goal.returns-clause-gives
-returns-clause-gives c = owed_over (expressions.value_in c.args.target) c.value_in.result _ _ c.args.nodes.now c.owe_range.new.nodes c.value_in.new.nodes c.in_ok-number.number c.args.out.now.items c.owe_range.new.out.items (owing c.args.nodes.now c.number_in.new.nodes c.owe_range.new.nodes c.args.path _ (λ on a. expressions.under on (expressions.in_range c.args.target c.args.pos a)) c.in_ok-number.number c.args.out.now.items c.owe_range.new.out.items c.number_in.ensures.grows c.requires.path c.in_ok-number.ensures.stands c.owe_range.ensures.grows c.in_ok-owe_range.ensures.adds) c.value_in.ensures.grows c.value_in.ensures.stands
+returns-clause-gives c = owed_over (value_in c.args.target) c.value_in.result _ _ c.args.nodes.now c.owe_range.new.nodes c.value_in.new.nodes c.in_ok-number.number c.args.out.now.items c.owe_range.new.out.items (owing c.args.nodes.now c.number_in.new.nodes c.owe_range.new.nodes c.args.path _ (λ on a. under on (in_range c.args.target c.args.pos a)) c.in_ok-number.number c.args.out.now.items c.owe_range.new.out.items c.number_in.ensures.grows c.requires.path c.in_ok-number.ensures.stands c.owe_range.ensures.grows c.in_ok-owe_range.ensures.adds) c.value_in.ensures.grows c.value_in.ensures.stands

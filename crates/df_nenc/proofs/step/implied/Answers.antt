@@ -1,10 +1,6 @@
-use Rattle.std.proofs.Common.{subst, refl, rules, [], ◌∷◌}
-use Rattle.std.specs.List.{AllByRecursion}
-use Rattle.df_nterm.specs.Term.{Truths}
-use Rattle.df_nenc.specs.Standing.{IsTerm}
+use Rattle.df_nenc.proofs.Words.{subst, refl, rules, [], ◌∷◌, AllByRecursion, Truths, IsTerm, all_back}
 use Rattle.df_nenc.proofs.Growing.{grows_not}
-use Rattle.df_nenc.proofs.Owing.{implied_step, implied_end}
-use Rattle.df_lemmas.proofs.Alls.{all_back}
+use Rattle.df_nenc.proofs.Adding.{implied_step, implied_end}
 use Rattle.df_nenc.proofs.step.implied.Goals as goal
 
 pub loop-premise-init : goal.loop-premise-init

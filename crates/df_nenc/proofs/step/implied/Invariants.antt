@@ -1,5 +1,5 @@
-use Rattle.std.proofs.Common.{length}
-use Rattle.df_nenc.proofs.Owing.{Implied}
+use Rattle.df_nenc.proofs.Words.{length}
+use Rattle.df_nenc.proofs.Adding.{Implied}
 use Rattle.df_nenc.proofs.step.implied.Given as goal
 
 abbrev pub invariant-loop-premise : goal.invariant-loop-premise

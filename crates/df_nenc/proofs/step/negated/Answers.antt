@@ -1,15 +1,10 @@
-use Rattle.std.proofs.Common.{refl}
-use Rattle.df_nterm.specs.Term.{Numbers}
-use Rattle.df_nterm.specs.Expressions as expressions
-use Rattle.df_nenc.proofs.Growing.{is_term, path_stays}
+use Rattle.df_nenc.proofs.Words.{refl, Numbers, in_range, under}
+use Rattle.df_nenc.proofs.Growing.{is_term}
 use Rattle.df_nenc.proofs.Results.{owing}
 use Rattle.df_nenc.proofs.step.negated.Goals as goal
-
-pub owe_range-requires-clause-path : goal.owe_range-requires-clause-path
-owe_range-requires-clause-path c = path_stays c.args.nodes.now c.negative.new.nodes c.args.path c.negative.ensures.grows c.requires.path
 
 pub owe_range-requires-clause-number : goal.owe_range-requires-clause-number
 owe_range-requires-clause-number c = is_term _ Numbers _ _ c.in_ok-number.ensures.stands refl
 
 pub returns-clause-gives : goal.returns-clause-gives
-returns-clause-gives c = owing c.args.nodes.now c.negative.new.nodes c.owe_range.new.nodes c.args.path _ (λ on a. expressions.under on (expressions.in_range c.args.ty c.args.pos a)) c.in_ok-number.number c.args.out.now.items c.owe_range.new.out.items c.negative.ensures.grows c.requires.path c.in_ok-number.ensures.stands c.owe_range.ensures.grows c.in_ok-owe_range.ensures.adds
+returns-clause-gives c = owing c.args.nodes.now c.negative.new.nodes c.owe_range.new.nodes c.args.path _ (λ on a. under on (in_range c.args.ty c.args.pos a)) c.in_ok-number.number c.args.out.now.items c.owe_range.new.out.items c.negative.ensures.grows c.requires.path c.in_ok-number.ensures.stands c.owe_range.ensures.grows c.in_ok-owe_range.ensures.adds

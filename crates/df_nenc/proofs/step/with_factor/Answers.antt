@@ -1,18 +1,11 @@
-use Rattle.df_nterm.specs.Term.{Numbers}
-use Rattle.df_nenc.specs.Tree.{tree_at}
-use Rattle.df_nenc.proofs.Growing.{grows_then, term_stays, is_term, path_stays}
+use Rattle.df_nenc.proofs.Words.{tree_at, Numbers}
+use Rattle.df_nenc.proofs.Adding.{owing_factor}
+use Rattle.df_nenc.proofs.Growing.{term_stays, is_term}
 use Rattle.df_nenc.proofs.Typed.{multiplied_is}
-use Rattle.df_nenc.proofs.Owing.{owing_factor}
 use Rattle.df_nenc.proofs.step.with_factor.Goals as goal
-
-pub owe_divisor-requires-clause-path : goal.owe_divisor-requires-clause-path
-owe_divisor-requires-clause-path c = path_stays c.args.nodes.now c.multiplied.new.nodes c.args.path c.multiplied.ensures.grows c.requires.path
 
 pub owe_divisor-requires-clause-number : goal.owe_divisor-requires-clause-number
 owe_divisor-requires-clause-number c = term_stays Numbers c.args.nodes.now c.multiplied.new.nodes c.args.operand c.multiplied.ensures.grows c.requires.operand
-
-pub owe_range-requires-clause-path : goal.owe_range-requires-clause-path
-owe_range-requires-clause-path c = path_stays c.args.nodes.now c.owe_divisor.new.nodes c.args.path (grows_then c.args.nodes.now c.multiplied.new.nodes c.owe_divisor.new.nodes c.multiplied.ensures.grows c.owe_divisor.ensures.grows) c.requires.path
 
 pub owe_range-requires-clause-number : goal.owe_range-requires-clause-number
 owe_range-requires-clause-number c = term_stays Numbers c.multiplied.new.nodes c.owe_divisor.new.nodes c.in_ok-product.product c.owe_divisor.ensures.grows (is_term _ Numbers _ _ c.in_ok-product.ensures.stands (multiplied_is c.args.operator _ _))

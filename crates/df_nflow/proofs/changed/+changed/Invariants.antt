@@ -1,7 +1,4 @@
-use Rattle.std.proofs.Common.{◌≡◌, ◌++◌, drop}
-use Rattle.df_groups.specs.Parts.{stmts_in, branches_in}
-use Rattle.df_meaning.specs.Modular.{changed_by_all, changed_by_branches}
-use Rattle.df_nflow.specs.Views.{changed_in}
+use Rattle.df_nflow.proofs.Words.{◌≡◌, ◌++◌, drop, stmts_in, branches_in, changed_by_all, changed_by_branches, changed_in}
 use Rattle.df_nflow.proofs.changed.+changed.Given as goal
 
 -- the locals so far, in front of those of what is left, are those of all

@@ -1,6 +1,4 @@
-use Rattle.std.proofs.Common.{◌≡◌, ◌++◌, drop}
-use Rattle.df_groups.specs.Parts.{stmts_in, branches_in}
-use Rattle.df_npass.specs.Statements.{declared_by_all, declared_by_branches}
+use Rattle.df_nflow.proofs.Words.{◌≡◌, ◌++◌, drop, stmts_in, branches_in, declared_by_all, declared_by_branches}
 use Rattle.df_nflow.proofs.changed.+declared.Given as goal
 
 -- the locals so far, in front of those of what is left, are those of all

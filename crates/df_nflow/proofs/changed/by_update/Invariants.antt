@@ -1,8 +1,4 @@
-use Rattle.std.proofs.Common.{◌≡◌, ◌++◌, map, drop}
-use Rattle.df_lang.specs.Stmt.{Target}
-use Rattle.df_lang.specs.StmtView.{target_of}
-use Rattle.df_meaning.specs.Modular.{Changed}
-use Rattle.df_nflow.specs.Views.{changed_in}
+use Rattle.df_nflow.proofs.Words.{◌≡◌, ◌++◌, map, drop, Target, target_of, Changed, changed_in}
 use Rattle.df_nflow.proofs.changed.by_update.Given as goal
 
 abbrev pub changed_by : Target → Changed

@@ -1,7 +1,4 @@
-use Rattle.std.proofs.Common.{◌≡◌, ◌++◌, map, drop}
-use Rattle.df_lang.specs.StmtView.{variable_of}
-use Rattle.df_meaning.specs.Modular.{changed_by_variables}
-use Rattle.df_nflow.specs.Views.{changed_in}
+use Rattle.df_nflow.proofs.Words.{◌≡◌, ◌++◌, map, drop, variable_of, changed_by_variables, changed_in}
 use Rattle.df_nflow.proofs.changed.by_variables.Given as goal
 
 -- the locals so far, in front of those of what is left, are those of all

@@ -1,8 +1,5 @@
-use Rattle.std.proofs.Common.{◌≡◌, ℕ, ◌++◌, take, drop}
-use Rattle.df_npass.specs.Statements.{each_once}
-use Rattle.df_nflow.specs.Views.{changed_in}
-use Rattle.df_nflow.proofs.Once.{is_out}
-use Rattle.df_nflow.proofs.Meeting.{is_met}
+use Rattle.df_nflow.proofs.Words.{◌≡◌, ℕ, ◌++◌, take, drop, each_once, changed_in}
+use Rattle.df_nflow.proofs.Once.{is_out, is_met}
 use Rattle.df_nflow.proofs.changed.each_once.Given as goal
 
 -- those that are left out, so far

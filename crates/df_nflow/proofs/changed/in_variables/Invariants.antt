@@ -1,6 +1,4 @@
-use Rattle.std.proofs.Common.{◌≡◌, ◌++◌, map, drop}
-use Rattle.df_lang.specs.StmtView.{variable_of}
-use Rattle.df_lang.specs.Typing.{variable_numbers}
+use Rattle.df_nflow.proofs.Words.{◌≡◌, ◌++◌, map, drop, variable_of, variable_numbers}
 use Rattle.df_nflow.proofs.changed.in_variables.Given as goal
 
 -- the numbers so far, in front of those of what is left, are those of all

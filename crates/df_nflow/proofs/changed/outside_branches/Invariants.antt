@@ -1,7 +1,4 @@
-use Rattle.std.proofs.Common.{◌≡◌, ◌++◌, drop}
-use Rattle.df_groups.specs.Parts.{branches_in}
-use Rattle.df_npass.specs.Statements.{changed_in_branches}
-use Rattle.df_nflow.specs.Views.{changed_in}
+use Rattle.df_nflow.proofs.Words.{◌≡◌, ◌++◌, drop, branches_in, changed_in_branches, changed_in}
 use Rattle.df_nflow.proofs.changed.outside_branches.Given as goal
 
 -- the locals so far, in front of those of what is left, are those of all

@@ -1,10 +1,4 @@
-use Rattle.df_nenc.proofs.Growing.{is_term}
-use Rattle.df_nterm.specs.Term.{Truths}
-use Rattle.std.proofs.Common.{ℕ, List, sym, subst}
-use Rattle.std.specs.List.{AllByRecursion}
-use Rattle.df_nenc.specs.Standing.{IsTerm}
-use Rattle.df_nflow.proofs.Growing.{ledger_stays}
-use Rattle.df_nflow.proofs.Ledgers.{ledger_keeps, disjunction_is}
+use Rattle.df_nflow.proofs.Words.{is_term, Truths, ℕ, List, sym, subst, AllByRecursion, IsTerm, ledger_stays, ledger_keeps, disjunction_is}
 use Rattle.df_nflow.proofs.join.any_path.Goals as goal
 
 pub invariant_of-ledger : goal.invariant_of-ledger

@@ -1,11 +1,4 @@
-use Rattle.std.proofs.Common.{◌≡◌, ◌++◌, List, drop}
-use Rattle.std.specs.Option.{option_map}
-use Rattle.std.specs.List.{AllByRecursion}
-use Rattle.df_nenc.specs.Standing.{IsTerm}
-use Rattle.df_nenc.specs.Tree.{trees_at}
-use Rattle.df_nterm.specs.Term.{Term, Truths}
-use Rattle.df_nflow.specs.Joining.{paths_in}
-use Rattle.df_nflow.specs.Views.{ArePaths, arrivals_in}
+use Rattle.df_nflow.proofs.Words.{◌≡◌, ◌++◌, List, drop, option_map, AllByRecursion, IsTerm, trees_at, Term, Truths, paths_in, ArePaths, arrivals_in}
 use Rattle.df_nflow.proofs.join.any_path.Given as goal
 
 -- the paths so far, in front of those that are left, are all

@@ -1,6 +1,4 @@
-use Rattle.std.proofs.Common.{◌≡◌, ◌==◌, false, drop, slice_get}
-use Rattle.std.specs.List.{list_all}
-use Rattle.std.specs.Option.{option_map_or}
+use Rattle.df_nflow.proofs.Words.{◌≡◌, ◌==◌, false, drop, slice_get, list_all, option_map_or}
 use Rattle.df_nflow.proofs.join.are_same.Given as goal
 
 -- those that are left decide

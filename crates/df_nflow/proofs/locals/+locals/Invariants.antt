@@ -1,6 +1,4 @@
-use Rattle.std.proofs.Common.{◌≡◌, drop}
-use Rattle.df_groups.specs.Parts.{stmts_in, branches_in}
-use Rattle.df_lang.specs.Typing.{locals_after_all, locals_after_branches}
+use Rattle.df_nflow.proofs.Words.{◌≡◌, drop, stmts_in, branches_in, locals_after_all, locals_after_branches}
 use Rattle.df_nflow.proofs.locals.+locals.Given as goal
 
 -- behind what is left of it stand the types that stand behind all

@@ -1,7 +1,4 @@
-use Rattle.std.proofs.Common.{◌≡◌, ◌++◌, map, drop, length}
-use Rattle.df_lang.specs.DeclView.{param_of}
-use Rattle.df_npass.specs.Methods.{locals_from}
-use Rattle.df_nflow.specs.Views.{changed_in}
+use Rattle.df_nflow.proofs.Words.{◌≡◌, ◌++◌, map, drop, length, param_of, locals_from, changed_in}
 use Rattle.df_nflow.proofs.locals.add_params.Given as goal
 
 -- the locals so far, in front of those of what is left, are those of all

@@ -1,6 +1,4 @@
-use Rattle.std.proofs.Common.{◌≡◌, ◌++◌, map, drop}
-use Rattle.df_lang.specs.DeclView.{param_of}
-use Rattle.df_lang.specs.Program.{types_of}
+use Rattle.df_nflow.proofs.Words.{◌≡◌, ◌++◌, map, drop, param_of, types_of}
 use Rattle.df_nflow.proofs.locals.after_params.Given as goal
 
 -- the types so far, in front of those of what is left, are those of all

@@ -1,6 +1,4 @@
-use Rattle.std.proofs.Common.{◌≡◌, ◌++◌, map, drop}
-use Rattle.df_lang.specs.StmtView.{variable_of}
-use Rattle.df_lang.specs.Typing.{variable_types}
+use Rattle.df_nflow.proofs.Words.{◌≡◌, ◌++◌, map, drop, variable_of, variable_types}
 use Rattle.df_nflow.proofs.locals.after_variables.Given as goal
 
 -- the types so far, in front of those of what is left, are those of all

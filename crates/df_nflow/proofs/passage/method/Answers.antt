@@ -1,14 +1,5 @@
-use Rattle.std.proofs.Common.{◌++◌, List, [], refl, sym, ap, ◌∙◌, subst}
-use Rattle.df_lang.specs.DeclView.{method_of}
-use Rattle.df_lang.specs.View.{program_of}
-use Rattle.df_meaning.specs.Modular.{Changed}
+use Rattle.df_nflow.proofs.Words.{◌++◌, List, [], refl, sym, ap, ◌∙◌, subst, method_of, program_of, Changed, pass_all, begun, ended_over, standing_of, Standing, Passes, are_over, changed_in}
 use Rattle.df_meaning.proofs.Wholes.{method_typed}
-use Rattle.df_npass.specs.Statements.{pass_all}
-use Rattle.df_nflow.specs.Methods.{begun, ended_over}
-use Rattle.df_nflow.specs.PassedView.{standing_of}
-use Rattle.df_nflow.specs.Standing.{Standing, Passes}
-use Rattle.df_nflow.specs.Typed.{are_over}
-use Rattle.df_nflow.specs.Views.{changed_in}
 use Rattle.df_nflow.proofs.Entering.{body_over, exits_at}
 use Rattle.df_nflow.proofs.Methods.{whole_said}
 use Rattle.df_nflow.proofs.passage.method.Goals as goal

@@ -1,10 +1,6 @@
-use Rattle.std.proofs.Common.{[], ◌∷◌, ◌++◌, sym, ap, ◌∙◌, subst}
+use Rattle.df_nmeas.proofs.Words.{[], ◌∷◌, ◌++◌, sym, ap, ◌∙◌, subst, expr_of, conditions_of, trees_in, Measures, distance_in}
 use Rattle.df_lang.specs.declared.ty.Ty.TheVariants as types
-use Rattle.df_lang.specs.ExprView.{expr_of}
-use Rattle.df_nterm.specs.Expressions.{conditions_of}
-use Rattle.df_nenc.specs.Tree.{trees_in}
-use Rattle.df_nmeas.specs.Measuring.{Measures, distance_in}
-use Rattle.df_nmeas.proofs.Distance.{low_over, high_term, low_term, distance_made}
+use Rattle.df_nmeas.proofs.Guards.{low_over, high_term, low_term, distance_made}
 use Rattle.df_nmeas.proofs.making.distance.Goals as goal
 
 pub defined-requires-2 : goal.defined-requires-2

@@ -1,10 +1,6 @@
-use Rattle.std.proofs.Common.{◌≡◌, ◌+◌, ◌∷◌, drop, sym, ap, subst}
-use Rattle.std.proofs.lemmas.List.{drop_all}
+use Rattle.df_nmeas.proofs.Words.{◌≡◌, ◌+◌, ◌∷◌, drop, sym, ap, subst, drop_all, trees_in, drop_next, AreOver, measures_in}
 use Rattle.df_lang.specs.StmtView.{measure_of}
-use Rattle.df_nenc.specs.Tree.{trees_in}
-use Rattle.df_nenc.proofs.Siblings.{drop_next}
-use Rattle.df_nmeas.specs.Measuring.{AreOver, measures_in}
-use Rattle.df_nmeas.proofs.Members.{Measuring, measure_begins, measure_ends}
+use Rattle.df_nmeas.proofs.Pairs.{Measuring, measure_begins, measure_ends}
 use Rattle.df_nmeas.proofs.Over.{member_part, members_left, measure_next}
 use Rattle.df_nmeas.proofs.making.measure.Goals as goal
 

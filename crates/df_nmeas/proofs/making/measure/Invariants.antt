@@ -1,7 +1,5 @@
-use Rattle.std.proofs.Common.{drop}
-use Rattle.df_nenc.specs.Tree.{trees_in}
-use Rattle.df_nmeas.specs.Measuring.{AreOver, measures_in}
-use Rattle.df_nmeas.proofs.Members.{Measuring}
+use Rattle.df_nmeas.proofs.Words.{drop, trees_in, AreOver, measures_in}
+use Rattle.df_nmeas.proofs.Pairs.{Measuring}
 use Rattle.df_nmeas.proofs.making.measure.Given as goal
 
 -- what was made so far, and then the rest, is all

@@ -1,20 +1,15 @@
-use Rattle.std.proofs.Common.{◌≡◌, ◌≤◌, List, length, map, ap, ◌∙◌, arith}
+use Rattle.df_nmeas.proofs.Words.{◌≡◌, ◌≤◌, List, length, map, ap, ◌∙◌, arith, param_of, method_of, method_measure, parameters_from, DeclaredParam, if_ok, decreases_in, members_from}
 use Rattle.std.specs.Option.{unwrap_or}
-use Rattle.df_lang.specs.declared.decl.Param as declared_param
-use Rattle.df_lang.specs.DeclView.{param_of, method_of}
-use Rattle.df_lang.specs.Measures.{method_measure, parameters_from}
-use Rattle.df_nenc.proofs.Results.{if_ok}
-use Rattle.df_nmeas.specs.Measuring.{decreases_in, members_from}
 use Rattle.df_nmeas.proofs.Parameters.{parameters_long, parameters_make}
 use Rattle.df_nmeas.proofs.making.method_measure.Goals as goal
 
 pub of_parameters-requires : goal.of_parameters-requires
 of_parameters-requires c =
     let long : length c.args.method.now.parameters.items ≤ length c.args.terms.now = parameters_long c.args.nodes.now c.args.terms.now c.args.method.now.parameters.items c.requires.locals in
-    omega (arith, ap (λ (ps : List declared_param.Param). length ps) c.deref-in-None.ensures.value)
+    omega (arith, ap (λ (ps : List DeclaredParam). length ps) c.deref-in-None.ensures.value)
 
 pub returns-in-None-clause-measures : goal.returns-in-None-clause-measures
 returns-in-None-clause-measures c =
     let of_all : method_measure (method_of c.args.method.now) ≡ parameters_from 0 (map param_of c.args.method.now.parameters.items) = ap (λ d. unwrap_or (decreases_in d) (parameters_from 0 (map param_of c.args.method.now.parameters.items))) c.in-None.is in
     if_ok c.of_parameters.result _ _ c.of_parameters.ensures
-    (λ members is. parameters_make c.args.nodes.now c.args.terms.now c.args.method.now.parameters.items members.items _ c.args.out.now.items of_all (is ∙ ap (λ (ps : List declared_param.Param). members_from 0 (map param_of ps) c.args.terms.now) c.deref-in-None.ensures.value) c.requires.locals)
+    (λ members is. parameters_make c.args.nodes.now c.args.terms.now c.args.method.now.parameters.items members.items _ c.args.out.now.items of_all (is ∙ ap (λ (ps : List DeclaredParam). members_from 0 (map param_of ps) c.args.terms.now) c.deref-in-None.ensures.value) c.requires.locals)

@@ -1,6 +1,4 @@
-use Rattle.std.proofs.Common.{◌≡◌, ◌++◌, drop, map}
-use Rattle.df_lang.specs.DeclView.{param_of}
-use Rattle.df_nmeas.specs.Measuring.{members_from}
+use Rattle.df_nmeas.proofs.Words.{◌≡◌, ◌++◌, drop, map, param_of, members_from}
 use Rattle.df_nmeas.proofs.making.of_parameters.Given as goal
 
 abbrev pub invariant-loop-i : goal.invariant-loop-i

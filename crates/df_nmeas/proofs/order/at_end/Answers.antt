@@ -1,7 +1,5 @@
-use Rattle.std.proofs.Common.{◌<◌, ◌≤◌, length, sym}
-use Rattle.std.proofs.lemmas.Bool.{ltb-true, ltb-false}
-use Rattle.df_nenc.proofs.Results.{stands_as}
-use Rattle.df_nmeas.proofs.Fronts.{top_behind}
+use Rattle.df_nmeas.proofs.Words.{◌<◌, ◌≤◌, length, sym, ltb-true, ltb-false, stands_as}
+use Rattle.df_nmeas.proofs.Sides.{top_behind}
 use Rattle.df_nmeas.proofs.order.at_end.Goals as goal
 
 pub returns-in-None-get-clause-stands : goal.returns-in-None-get-clause-stands

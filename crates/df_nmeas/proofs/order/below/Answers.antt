@@ -1,10 +1,6 @@
-use Rattle.std.proofs.Common.{◌≡◌, ◌<◌, ◌-◌, length, drop, refl, sym, subst, arith, rules}
-use Rattle.df_nterm.specs.Term.{Truths}
-use Rattle.df_nenc.proofs.Growing.{grows_then, is_term}
-use Rattle.df_nmeas.specs.Measuring.{pairs_before}
+use Rattle.df_nmeas.proofs.Words.{◌≡◌, ◌<◌, ◌-◌, length, drop, refl, sym, subst, arith, rules, Truths, grows_then, is_term, pairs_before}
 use Rattle.df_nmeas.proofs.Pairs.{pairs_first, pairs_second, pairs_end}
-use Rattle.df_nmeas.proofs.Sides.{measures_below_is}
-use Rattle.df_nmeas.proofs.Fronts.{member_stays, front_goes}
+use Rattle.df_nmeas.proofs.Sides.{measures_below_is, member_stays, front_goes}
 use Rattle.df_nmeas.proofs.order.below.Goals as goal
 
 pub at_end-requires-clause-end : goal.at_end-requires-clause-end

@@ -1,10 +1,4 @@
-use Rattle.std.proofs.Common.{◌≡◌, ◌≤◌, drop}
-use Rattle.df_nterm.specs.Term.{Truths}
-use Rattle.df_nterm.specs.Measuring.{are_below}
-use Rattle.df_nenc.specs.Tree.{tree_at}
-use Rattle.df_nenc.specs.Growing.{Grows}
-use Rattle.df_nenc.specs.Standing.{IsTerm}
-use Rattle.df_nmeas.specs.Measuring.{measured_in, pairs_before}
+use Rattle.df_nmeas.proofs.Words.{◌≡◌, ◌≤◌, drop, Truths, are_below, tree_at, Grows, IsTerm, measured_in, pairs_before}
 use Rattle.df_nmeas.proofs.order.below.Given as goal
 
 abbrev pub invariant-loop-place : goal.invariant-loop-place

@@ -1,4 +1,4 @@
-use Rattle.std.proofs.Common.{arith}
+use Rattle.df_nmeas.proofs.Words.{arith}
 use Rattle.df_nmeas.proofs.Pairs.{equal_pairs, unequal_pairs}
 use Rattle.df_nmeas.proofs.order.pairs.Goals as goal
 

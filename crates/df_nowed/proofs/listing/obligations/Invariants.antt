@@ -1,10 +1,6 @@
-use Rattle.std.proofs.Common.{◌≡◌, ◌++◌, map, drop}
-use Rattle.std.specs.List.{flat_map}
+use Rattle.df_nowed.proofs.Words.{◌≡◌, ◌++◌, map, drop, flat_map, obligations_from, groups_from, obligations_in, grouped_in}
 use Rattle.df_lang.specs.DeclView.{decl_of}
 use Rattle.df_lang.specs.View.{program_of}
-use Rattle.df_npass.specs.Methods.{obligations_from}
-use Rattle.df_nowed.specs.Listing.{groups_from}
-use Rattle.df_nowed.specs.Obligation.{obligations_in, grouped_in}
 use Rattle.df_nowed.proofs.listing.obligations.Given as goal
 
 -- the obligations so far, in front of those of what is left, are those of all

@@ -1,46 +1,16 @@
-use Rattle.std.proofs.Common.{◌≡◌, ◌+◌, rules, IfOk, Bool, true, false, ◌||◌, List, map, drop, length, refl, sym, ap, ◌∙◌, subst, arith}
-use Rattle.std.proofs.lemmas.Bool.{and_parts}
-use Rattle.std.proofs.lemmas.List.{drop_all, length-map}
-use Rattle.std.specs.List.{flat_map}
-use Rattle.df_groups.specs.Parts.{stmts_in, branches_in}
-use Rattle.df_lang.specs.ExprView.{expr_of}
-use Rattle.df_lang.specs.Measures.{loop_measure}
-use Rattle.df_lang.specs.Stmt.{Stmt, Print, While, Stmts, next, Clause, If}
-use Rattle.df_lang.specs.StmtView.{clause_of, operand_of, stmt_of}
-use Rattle.df_lang.specs.View.{program_of}
-use Rattle.df_lang.specs.declared.stmt.Operand as declared_operand
-use Rattle.df_lang.specs.declared.stmt.Stmt as declared_stmt
-use Rattle.df_lang.specs.declared.stmt.Stmt.{the_lemmas}
-use Rattle.df_lang.specs.declared.ty.Ty.{Ty}
-use Rattle.df_meaning.specs.Modular.{Changed}
-use Rattle.df_nenc.specs.Tree.{tree_at}
-use Rattle.df_nenc.proofs.Growing.{grows_then, term_stays, tree_stays, stays, path_same}
-use Rattle.df_nenc.proofs.Results.{if_ok}
-use Rattle.df_nenc.proofs.Siblings.{drop_next}
-use Rattle.df_nmeas.specs.Measuring.{AreMembers, decreases_in, measured_in}
-use Rattle.df_nterm.specs.Measuring.{Measured, measured}
-use Rattle.df_nterm.specs.Term.{Truths}
-use Rattle.df_npass.specs.Rules.{Way}
-use Rattle.df_npass.specs.Statements as pure
-use Rattle.df_nflow.specs.Branches.{Parts}
-use Rattle.df_nflow.specs.Joining.{AllThere}
-use Rattle.df_nflow.specs.Loops.{loop_head, loop_past, turned_if, past_loop, join_past}
-use Rattle.df_nflow.specs.PassedView.{standing_of}
-use Rattle.df_nflow.specs.Standing.{Standing, also, Passes, Moves, Joins}
-use Rattle.df_nflow.specs.Typed.{are_at, is_over, are_over}
-use Rattle.df_nflow.specs.Views.{arrival_in, changed_in, kept_in, setting_of, all_ended_in, arrivals_in}
-use Rattle.df_nflow.specs.Ways.{Arrive}
+use Rattle.df_nflow.proofs.Words.{◌≡◌, ◌+◌, rules, IfOk, Bool, true, false, ◌||◌, List, map, drop, length, refl, sym, ap, ◌∙◌, subst, arith, and_parts, drop_all, length-map, flat_map, stmts_in, branches_in, expr_of, loop_measure, Stmt, Print, While, Stmts, next, Clause, If, clause_of, operand_of, stmt_of, program_of, the_lemmas, DeclaredStmt, Ty, DeclaredOperand, Changed, tree_at, grows_then, term_stays, tree_stays, stays, path_same, if_ok, drop_next, AreMembers, decreases_in, measured_in, Measured, measured, Truths, Way, assert_operand, assert_turn, changed_outside, pass_all, pass_branches, pass_stmt, rejoined, Parts, AllThere, loop_head, loop_past, turned_if, past_loop, join_past, standing_of, Standing, also, Passes, Moves, Joins, are_at, is_over, are_over, arrival_in, changed_in, kept_in, all_ended_in, arrivals_in, setting_of, Arrive, measured_stay, measured_same, path_is, has_path_stays}
 use Rattle.df_nflow.proofs.Arriving.{all_there}
 use Rattle.df_nflow.proofs.Flowing.{moves_pass}
 use Rattle.df_nflow.proofs.Going.{Going, going_on, going_done}
-use Rattle.df_nflow.proofs.Growing.{measured_stay, measured_same}
 use Rattle.df_nflow.proofs.Leaving.{told}
 use Rattle.df_nflow.proofs.Looping.{longer, breaks_arrive, loop_passes, body_over, changed_at}
 use Rattle.df_nflow.proofs.Parting.{branch_next, branch_over, arrived_more, ended_more, ended_there, part_next, part_last, if_parts}
-use Rattle.df_nflow.proofs.Places.{path_is, has_path_stays}
 use Rattle.df_nflow.proofs.Standings.{also_moves}
 use Rattle.df_nflow.proofs.passed.Passed.+stmt.Goals as goal
 use Rattle.df_nflow.proofs.passed.Passed.+stmt.Goals.{stmts-then-loses, stmts-else-loses}
+
+pub looping-end_loop-requires-clause-past : goal.looping-end_loop-requires-clause-past
+looping-end_loop-requires-clause-past t c = term_stays Truths c.begin_loop.new.self.ledger.nodes c.turn_if.new.self.ledger.nodes c.in_ok-past.past (grows_then _ _ _ c.stmts.ensures.grows c.turn_if.ensures.grows) c.in_ok-past.ensures.formula
 
 -- ---- branches
 
@@ -151,13 +121,13 @@ stmt-returns-in_ok-add-in-If-clause-passes t c =
     let in_method = changed_in c.args.exits.in_method.now in
     let is : stmt_of c.args.stmt.now ≡ If (branches_in c.in-If.branches.items) (stmts_in c.in-If.otherwise.items) = search (rules, the_lemmas) in
     let set = setting_of c.args.setting.now old.entry in
-    let all = pure.pass_branches set old.way (branches_in c.in-If.branches.items) (λ (way : Way). pure.pass_all set way (stmts_in c.in-If.otherwise.items)) old.fresh in
+    let all = pass_branches set old.way (branches_in c.in-If.branches.items) (λ (way : Way). pass_all set way (stmts_in c.in-If.otherwise.items)) old.fresh in
     let grows = grows_then s.ledger.nodes mid.ledger.nodes new.ledger.nodes c.branches.ensures.grows c.branch-self.ensures.grows in
     let path = path_same s.ledger.nodes new.ledger.nodes s.ledger.path grows (path_is s.ledger.nodes s.ledger.path s.ledger.is_ledger.path_is) in
     let parts = subst (λ (cs : List Changed). Parts cs in_loop in_method old all (standing_of new) (all_ended_in new.ledger.nodes c.add.new.self.arrived.items) c.add.new.self.loses) (sym (ap changed_in c.deref-in-If-2.ensures.value)) parts in
-    subst (λ (stmt : Stmt). IfOk c.rejoin.result (λ onward. Passes in_loop in_method old (pure.pass_stmt set old.way stmt old.fresh) (standing_of c.rejoin.new.self) onward.goes_on onward.loses)) (sym is)
+    subst (λ (stmt : Stmt). IfOk c.rejoin.result (λ onward. Passes in_loop in_method old (pass_stmt set old.way stmt old.fresh) (standing_of c.rejoin.new.self) onward.goes_on onward.loses)) (sym is)
     (if_ok c.rejoin.result _ _ c.rejoin.ensures.passes
-    (λ onward by. subst (λ (cs : List Changed). Passes in_loop in_method old (pure.rejoined cs old.way all) (standing_of c.rejoin.new.self) onward.goes_on onward.loses) (ap changed_in c.deref-in-If-2.ensures.value ∙ c.in_ok-changed-in-If.ensures) (by in_loop in_method old all parts path)))
+    (λ onward by. subst (λ (cs : List Changed). Passes in_loop in_method old (rejoined cs old.way all) (standing_of c.rejoin.new.self) onward.goes_on onward.loses) (ap changed_in c.deref-in-If-2.ensures.value ∙ c.in_ok-changed-in-If.ensures) (by in_loop in_method old all parts path)))
 
 pub stmt-returns-in_ok-print-in-Print-clause-passes : goal.stmt-returns-in_ok-print-in-Print-clause-passes
 stmt-returns-in_ok-print-in-Print-clause-passes t c =
@@ -166,10 +136,10 @@ stmt-returns-in_ok-print-in-Print-clause-passes t c =
     let s = standing_of c.args.self.now in
     let new = standing_of c.print.new.self in
     let operands = map operand_of c.in-Print.operands.items in
-    let said = flat_map (pure.assert_operand s.way) operands in
+    let said = flat_map (assert_operand s.way) operands in
     let is : stmt_of c.args.stmt.now ≡ Print c.in-Print.pos operands = search (rules, the_lemmas) in
-    let same : new ≡ also said s = c.in_ok-print-in-Print.ensures.said ∙ ap (λ (os : List declared_operand.Operand). also (flat_map (pure.assert_operand s.way) (map operand_of os)) s) c.deref-in-Print.ensures.value in
-    subst (λ (stmt : Stmt). Passes in_loop in_method s (pure.pass_stmt (setting_of c.args.setting.now s.entry) s.way stmt s.fresh) new c.on-in-Print.result.goes_on c.on-in-Print.result.loses) (sym is)
+    let same : new ≡ also said s = c.in_ok-print-in-Print.ensures.said ∙ ap (λ (os : List DeclaredOperand). also (flat_map (assert_operand s.way) (map operand_of os)) s) c.deref-in-Print.ensures.value in
+    subst (λ (stmt : Stmt). Passes in_loop in_method s (pass_stmt (setting_of c.args.setting.now s.entry) s.way stmt s.fresh) new c.on-in-Print.result.goes_on c.on-in-Print.result.loses) (sym is)
     (told in_loop in_method s new _ true false _ _ c.on-in-Print.ensures.goes_on c.on-in-Print.ensures.loses (moves_pass in_loop in_method s new _ (also_moves s new said same)))
 
 -- ---- loops
@@ -214,9 +184,6 @@ looping-end_loop-requires-clause-first t c =
     let long = longer (arrival_in a.ledger.nodes) (arrival_in b.ledger.nodes) a.breaks.items b.breaks.items _ (ap (λ (s : Standing). s.breaks) c.in_ok-turn_if.ensures.said ∙ p.breaks) in
     omega (arith, long, c.len-first.ensures, a.breaks.ok.0, a.breaks.ok.1)
 
-pub looping-end_loop-requires-clause-past : goal.looping-end_loop-requires-clause-past
-looping-end_loop-requires-clause-past t c = term_stays Truths c.begin_loop.new.self.ledger.nodes c.turn_if.new.self.ledger.nodes c.in_ok-past.past (grows_then _ _ _ c.stmts.ensures.grows c.turn_if.ensures.grows) c.in_ok-past.ensures.formula
-
 pub looping-end_loop-requires-clause-there : goal.looping-end_loop-requires-clause-there
 looping-end_loop-requires-clause-there t c =
     let changed = changed_in c.deref-3.result.now in
@@ -237,7 +204,7 @@ looping-returns-clause-passes t c =
     let decreases = decreases_in c.args.decreases.now in
     let measures = loop_measure guard decreases in
     let body = stmts_in c.args.body.now.items in
-    let changed = pure.changed_outside body in
+    let changed = changed_outside body in
     let s = standing_of c.args.self.now in
     let a = standing_of c.begin_loop.new.self in
     let b = standing_of c.stmts.new.self in
@@ -259,11 +226,11 @@ looping-returns-clause-passes t c =
     (subst (λ (ks : List Clause). Moves s (loop_head (changed_in c.deref.result.now) guard ks measures s.way s.fresh) a) k2 is.moves) in
     let past_is : past ≡ loop_past changed guard s.way s.fresh =
     tree_stays Truths n1 n3 c.in_ok-past.past (grows_then n1 n2 n3 c.stmts.ensures.grows c.turn_if.ensures.grows) is.formula ∙ is.past.tree_is ∙ ap (λ (cs : List Changed). loop_past cs guard s.way s.fresh) e1 in
-    let p : Passes changed in_method a (pure.pass_all (set a.entry) a.way body a.fresh) b inner c.in_ok-onward.onward.loses =
-    subst (λ (cs : List Changed). Passes cs in_method a (pure.pass_all (set a.entry) a.way body a.fresh) b inner c.in_ok-onward.onward.loses) e3 c.in_ok-onward.ensures.passes in
+    let p : Passes changed in_method a (pass_all (set a.entry) a.way body a.fresh) b inner c.in_ok-onward.onward.loses =
+    subst (λ (cs : List Changed). Passes cs in_method a (pass_all (set a.entry) a.way body a.fresh) b inner c.in_ok-onward.onward.loses) e3 c.in_ok-onward.ensures.passes in
     let before : measured_in n2 c.deref-5.result.now ≡ measured a.way.env measures = ap (measured_in n2) c.deref-5.ensures.value ∙ measured_same n1 n2 c.stmts.ensures.grows c.in_ok-past.before.items is.are ∙ is.measured in
-    let turned : after ≡ also (turned_if inner (pure.assert_turn c.args.pos invariants measures (measured a.way.env measures)) b.way) b =
-    c.in_ok-turn_if.ensures.said ∙ (λ i. also (turned_if inner (pure.assert_turn c.args.pos (k4 i) measures (before i)) b.way) b) in
+    let turned : after ≡ also (turned_if inner (assert_turn c.args.pos invariants measures (measured a.way.env measures)) b.way) b =
+    c.in_ok-turn_if.ensures.said ∙ (λ i. also (turned_if inner (assert_turn c.args.pos (k4 i) measures (before i)) b.way) b) in
     let begun = c.begin_loop.new.self in
     let marks : c.len-mark.result ≡ length a.trail = omega (arith, c.len-mark.ensures, begun.trail.ok.0, begun.trail.ok.1, length-map begun.trail.items (kept_in n1)) in
     let firsts : c.len-first.result ≡ length a.breaks = omega (arith, c.len-first.ensures, begun.breaks.ok.0, begun.breaks.ok.1, length-map begun.breaks.items (arrival_in n1)) in
@@ -289,12 +256,12 @@ stmts-loop-stmt-preserved t c =
     let rest = stmts_in (drop (l.stmt-index + 1) items) in
     let is : stmts_in (drop l.stmt-index items) ≡ next (stmt_of x) rest = ap stmts_in (drop_next items l.stmt-index x c.stmt-item.is c.loop-stmt-test.true) in
     let over = and_parts (is_over program types (stmt_of x)) (are_over program types rest) (sym (ap (are_over program types) is) ∙ l.invariant.over) in
-    let whole = pure.pass_all (set first.entry) first.way (stmts_in items) first.fresh in
-    let going : Going in_loop in_method first whole here (pure.pass_all (set first.entry) here.way (next (stmt_of x) rest) here.fresh) l.loses =
-    subst (λ (ss : Stmts). Going in_loop in_method first whole here (pure.pass_all (set first.entry) here.way ss here.fresh) l.loses) is l.invariant.going in
+    let whole = pass_all (set first.entry) first.way (stmts_in items) first.fresh in
+    let going : Going in_loop in_method first whole here (pass_all (set first.entry) here.way (next (stmt_of x) rest) here.fresh) l.loses =
+    subst (λ (ss : Stmts). Going in_loop in_method first whole here (pass_all (set first.entry) here.way ss here.fresh) l.loses) is l.invariant.going in
     let p = c.in_ok-onward.ensures.passes in
-    let on : Passes in_loop in_method here (pure.pass_stmt (set first.entry) here.way (stmt_of x) here.fresh) after true c.in_ok-onward.onward.loses =
-    subst (λ (es : List Measured). Passes in_loop in_method here (pure.pass_stmt (set es) here.way (stmt_of x) here.fresh) after true c.in_ok-onward.onward.loses) l.invariant.entry
+    let on : Passes in_loop in_method here (pass_stmt (set first.entry) here.way (stmt_of x) here.fresh) after true c.in_ok-onward.onward.loses =
+    subst (λ (es : List Measured). Passes in_loop in_method here (pass_stmt (set es) here.way (stmt_of x) here.fresh) after true c.in_ok-onward.onward.loses) l.invariant.entry
     (told in_loop in_method here after _ c.in_ok-onward.onward.goes_on c.in_ok-onward.onward.loses true c.in_ok-onward.onward.loses (search rules) refl p) in
     let loses : c.if-loses.loses ≡ (l.loses || c.in_ok-onward.onward.loses) =
     elim c.if-loses.branch [ stmts-then-loses w ↦ w.loses-is ∙ w.if-loses.true ∙ ap (λ (b : Bool). b || c.in_ok-onward.onward.loses) (sym w.if-loses.true) | stmts-else-loses w ↦ w.loses-is ∙ ap (λ (b : Bool). b || c.in_ok-onward.onward.loses) (sym w.if-loses.false) ] in
@@ -303,8 +270,8 @@ stmts-loop-stmt-preserved t c =
       types = p.types ∙ l.invariant.types;
       entry = p.entry ∙ l.invariant.entry;
       over = over.1;
-      going = subst (λ (b : Bool). Going in_loop in_method first whole after (pure.pass_all (set first.entry) after.way rest after.fresh) b) (sym loses)
-          (going_on in_loop in_method first here after whole (pure.pass_stmt (set first.entry) here.way (stmt_of x) here.fresh) (λ fresh way. pure.pass_all (set first.entry) way rest fresh) l.loses c.in_ok-onward.onward.loses going on);
+      going = subst (λ (b : Bool). Going in_loop in_method first whole after (pass_all (set first.entry) after.way rest after.fresh) b) (sym loses)
+          (going_on in_loop in_method first here after whole (pass_stmt (set first.entry) here.way (stmt_of x) here.fresh) (λ fresh way. pass_all (set first.entry) way rest fresh) l.loses c.in_ok-onward.onward.loses going on);
     }
 
 pub stmts-returns-clause-passes : goal.stmts-returns-clause-passes
@@ -316,10 +283,10 @@ stmts-returns-clause-passes t c =
     let first = standing_of c.args.self.now in
     let here = standing_of l.self in
     let items = c.deref-stmt-items.result.now in
-    let whole = pure.pass_all (set first.entry) first.way (stmts_in items) first.fresh in
-    subst (λ (xs : List declared_stmt.Stmt). Passes in_loop in_method first (pure.pass_all (set first.entry) first.way (stmts_in xs) first.fresh) here true l.loses) c.deref-stmt-items.ensures.value
+    let whole = pass_all (set first.entry) first.way (stmts_in items) first.fresh in
+    subst (λ (xs : List DeclaredStmt). Passes in_loop in_method first (pass_all (set first.entry) first.way (stmts_in xs) first.fresh) here true l.loses) c.deref-stmt-items.ensures.value
     (going_done in_loop in_method first here whole l.loses
-    (subst (λ (xs : List declared_stmt.Stmt). Going in_loop in_method first whole here (pure.pass_all (set first.entry) here.way (stmts_in xs) here.fresh) l.loses) (drop_all l.stmt-index items c.loop-stmt-test.false) l.invariant.going))
+    (subst (λ (xs : List DeclaredStmt). Going in_loop in_method first whole here (pass_all (set first.entry) here.way (stmts_in xs) here.fresh) l.loses) (drop_all l.stmt-index items c.loop-stmt-test.false) l.invariant.going))
 
 pub stmt-looping-requires : goal.stmt-looping-requires
 stmt-looping-requires t c =
@@ -330,4 +297,4 @@ pub stmt-returns-in-While-clause-passes : goal.stmt-returns-in-While-clause-pass
 stmt-returns-in-While-clause-passes t c =
     let s = standing_of c.args.self.now in
     let is : stmt_of c.args.stmt.now ≡ While c.in-While.pos (expr_of c.in-While.guard) (map clause_of c.in-While.invariants.items) (decreases_in c.in-While.decreases) (stmts_in c.in-While.body.items) = search (rules, the_lemmas) in
-    subst (λ (stmt : Stmt). IfOk c.looping.result (λ onward. Passes (changed_in c.args.exits.in_loop.now) (changed_in c.args.exits.in_method.now) s (pure.pass_stmt (setting_of c.args.setting.now s.entry) s.way stmt s.fresh) (standing_of c.looping.new.self) onward.goes_on onward.loses)) (sym is) c.looping.ensures.passes
+    subst (λ (stmt : Stmt). IfOk c.looping.result (λ onward. Passes (changed_in c.args.exits.in_loop.now) (changed_in c.args.exits.in_method.now) s (pass_stmt (setting_of c.args.setting.now s.entry) s.way stmt s.fresh) (standing_of c.looping.new.self) onward.goes_on onward.loses)) (sym is) c.looping.ensures.passes

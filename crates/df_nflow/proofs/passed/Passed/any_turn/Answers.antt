@@ -1,36 +1,25 @@
-use Rattle.std.proofs.Common.{List, map, ap, ◌∙◌, subst}
-use Rattle.df_lang.specs.StmtView.{clause_of}
-use Rattle.df_lang.specs.View.{program_of}
-use Rattle.df_lang.specs.declared.ty.Ty.{Ty}
-use Rattle.df_lang.specs.Typing.{are_clauses}
+use Rattle.df_nflow.proofs.Words.{List, map, ap, ◌∙◌, subst, clause_of, program_of, Ty, are_clauses, grows_not, havoc, at_clause, assert_clauses, assume_clauses, ledger_of, way_of, standing_of, Standing, Moves, changed_in, on_ok_then}
 use Rattle.df_meaning.specs.declared.kind.Kind.TheVariants as kinds
-use Rattle.df_nenc.proofs.Growing.{grows_not}
-use Rattle.df_npass.specs.Rules.{havoc}
-use Rattle.df_npass.specs.Statements.{at_clause, assert_clauses, assume_clauses}
-use Rattle.df_nflow.specs.Ledger.{ledger_of, way_of, saying}
-use Rattle.df_nflow.specs.PassedView.{standing_of}
-use Rattle.df_nflow.specs.Standing.{Standing, Moves}
-use Rattle.df_nflow.specs.Views.{changed_in}
-use Rattle.df_nflow.proofs.Ledgers.{on_ok_then}
+use Rattle.df_nledger.specs.Ledger.{saying}
 use Rattle.df_nflow.proofs.Looping.{turns}
-use Rattle.df_nflow.proofs.Passing.{is_passed, says, locals}
+use Rattle.df_nflow.proofs.Passing.{says, locals, is_passed}
 use Rattle.df_nflow.proofs.passed.Passed.any_turn.Goals as goal
+
+pub invariant_of-self : goal.invariant_of-self
+invariant_of-self c = record { is_passed = is_passed c.args.self.now c.assert_clauses.new.self c.assert_clauses.ensures.grows }
+
+pub invariant_of-self-2 : goal.invariant_of-self-2
+invariant_of-self-2 c = record { is_passed = is_passed c.havoc.new.self c.assume_clauses.new.self c.assume_clauses.ensures.grows }
 
 pub assert_clauses-requires : goal.assert_clauses-requires
 assert_clauses-requires c =
     let s = c.args.self.now in
     record { program = program_of c.args.setting.now.program.now; types = s.types.items; typed = c.requires.invariants; locals = locals s s.ledger (grows_not s.ledger.nodes) _ c.deref.ensures.value }
 
-pub invariant_of-self : goal.invariant_of-self
-invariant_of-self c = record { is_passed = is_passed c.args.self.now c.assert_clauses.new.self c.assert_clauses.ensures.grows }
-
 pub assume_clauses-requires : goal.assume_clauses-requires
 assume_clauses-requires c =
     let s = c.havoc.new.self in
     record { program = program_of c.args.setting.now.program.now; types = s.types.items; typed = ap (λ (ts : List Ty). are_clauses (program_of c.args.setting.now.program.now) ts (map clause_of c.args.invariants.now)) c.in_ok-havoc.ensures.moves.types ∙ c.requires.invariants; locals = locals s s.ledger (grows_not s.ledger.nodes) _ c.deref-2.ensures.value }
-
-pub invariant_of-self-2 : goal.invariant_of-self-2
-invariant_of-self-2 c = record { is_passed = is_passed c.havoc.new.self c.assume_clauses.new.self c.assume_clauses.ensures.grows }
 
 pub returns-clause-moves : goal.returns-clause-moves
 returns-clause-moves c =

@@ -1,17 +1,7 @@
-use Rattle.std.proofs.Common.{◌≡◌, ◌<◌, ◌+◌, ℕ, List, ◌∷◌, ◌++◌, map, drop, get_or, length, sym, ap, ◌∙◌, subst, arith}
-use Rattle.std.proofs.lemmas.List.{get_or_default}
-use Rattle.std.proofs.lemmas.Option.{slice_get_within}
+use Rattle.df_nflow.proofs.Words.{◌≡◌, ◌<◌, ◌+◌, ℕ, List, ◌∷◌, ◌++◌, map, drop, get_or, length, sym, ap, ◌∙◌, subst, arith, get_or_default, slice_get_within, Changed, tree_at, trees_at, trees_in, grows_not, drop_next, are_at, changed_of, changed_in, DeclaredChanged, trees_next, below_next}
 use Rattle.df_lang.specs.declared.ty.Ty.TheVariants as tys
-use Rattle.df_meaning.specs.Modular.{Changed}
-use Rattle.df_nenc.specs.Tree.{tree_at, trees_at, trees_in}
-use Rattle.df_nenc.proofs.Growing.{grows_not}
-use Rattle.df_nenc.proofs.Siblings.{drop_next}
-use Rattle.df_nflow.specs.Typed.{are_at}
-use Rattle.df_nflow.specs.Views.{changed_of, changed_in}
-use Rattle.df_nflow.specs.declared.way.Changed as declared
 use Rattle.df_nflow.proofs.Changes.{at_first, at_rest, type_at}
 use Rattle.df_nflow.proofs.Terms.{tree_of, kept_at}
-use Rattle.df_nflow.proofs.Values.{trees_next, below_next}
 use Rattle.df_nflow.proofs.passed.Passed.arrived.Goals as goal
 
 pub index-requires : goal.index-requires
@@ -19,7 +9,7 @@ index-requires c =
     let s = c.args.self.now in
     let l = c.loop-one in
     let xs = c.args.changed.now in
-    let nothing : declared.Changed = record { local = 0; ty = tys.Newtype 0 } in
+    let nothing : DeclaredChanged = record { local = 0; ty = tys.Newtype 0 } in
     let x = get_or xs l.one-index nothing in
     let e : x ≡ get_or xs l.one-index x = get_or_default xs l.one-index nothing x c.loop-one-test.true in
     let next = changed_in (drop (l.one-index + 1) xs) in
@@ -34,7 +24,7 @@ loop-one-preserved c =
     let s = c.args.self.now in
     let l = c.loop-one in
     let xs = c.args.changed.now in
-    let nothing : declared.Changed = record { local = 0; ty = tys.Newtype 0 } in
+    let nothing : DeclaredChanged = record { local = 0; ty = tys.Newtype 0 } in
     let x = get_or xs l.one-index nothing in
     let e : x ≡ get_or xs l.one-index x = get_or_default xs l.one-index nothing x c.loop-one-test.true in
     let next = changed_in (drop (l.one-index + 1) xs) in

@@ -1,9 +1,4 @@
-use Rattle.std.proofs.Common.{◌≡◌, ◌<◌, ◌++◌, true, map, drop, length}
-use Rattle.std.specs.List.{AllByRecursion}
-use Rattle.df_meaning.specs.Modular.{Changed}
-use Rattle.df_nenc.specs.Tree.{trees_at, trees_in}
-use Rattle.df_nflow.specs.Typed.{are_at}
-use Rattle.df_nflow.specs.Views.{changed_in}
+use Rattle.df_nflow.proofs.Words.{◌≡◌, ◌<◌, ◌++◌, true, map, drop, length, AllByRecursion, Changed, trees_at, trees_in, are_at, changed_in}
 use Rattle.df_nflow.proofs.passed.Passed.arrived.Given as goal
 
 -- with the terms of the locals that are left there are all

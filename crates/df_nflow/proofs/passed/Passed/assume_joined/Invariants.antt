@@ -1,11 +1,4 @@
-use Rattle.std.proofs.Common.{◌≡◌, drop}
-use Rattle.df_nenc.specs.Growing.{Grows}
-use Rattle.df_nenc.specs.Tree.{tree_at}
-use Rattle.df_nterm.specs.Term.{sort_of_type}
-use Rattle.df_nflow.specs.Joining.{assume_joined_at, AreThere}
-use Rattle.df_nflow.specs.PassedView.{standing_of}
-use Rattle.df_nflow.specs.Standing.{also}
-use Rattle.df_nflow.specs.Views.{AreArrived, arrivals_in}
+use Rattle.df_nflow.proofs.Words.{◌≡◌, drop, Grows, tree_at, sort_of_type, assume_joined_at, AreThere, standing_of, also, AreArrived, arrivals_in}
 use Rattle.df_nflow.proofs.passed.Passed.assume_joined.Given as goal
 
 -- with what is left said too, all is

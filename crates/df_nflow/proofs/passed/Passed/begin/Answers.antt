@@ -1,20 +1,7 @@
-use Rattle.std.proofs.Common.{ℕ, List, map, sym, ap, ◌∙◌, subst}
-use Rattle.df_lang.specs.DeclView.{method_of, param_of}
-use Rattle.df_lang.specs.Measures as measures
-use Rattle.df_lang.specs.StmtView.{clause_of}
-use Rattle.df_lang.specs.declared.decl.Clause as declared_clause
-use Rattle.df_lang.specs.declared.ty.Ty.{Ty}
-use Rattle.df_nenc.specs.Tree.{trees_in}
-use Rattle.df_nenc.proofs.Growing.{grows_then, locals_same}
-use Rattle.df_nmeas.specs.Measuring.{IsMethodOver}
-use Rattle.df_nterm.specs.Measuring.{measured}
-use Rattle.df_npass.specs.Methods.{require_all}
-use Rattle.df_npass.specs.Statements.{assert_measure}
-use Rattle.df_nflow.specs.Clauses.{AreClauses}
-use Rattle.df_nflow.specs.Ledger.{saying}
-use Rattle.df_nflow.specs.Views.{HaveTerms, AreKept, AreArrived, all_kept_in, arrivals_in}
+use Rattle.df_nflow.proofs.Words.{ℕ, List, map, sym, ap, ◌∙◌, subst, method_of, param_of, clause_of, Ty, method_measure, DeclaredClause, trees_in, grows_then, locals_same, IsMethodOver, measured, require_all, assert_measure, AreClauses, HaveTerms, AreKept, AreArrived, all_kept_in, arrivals_in}
+use Rattle.df_nledger.specs.Ledger.{saying}
 use Rattle.df_nflow.proofs.Entering.{ledger_in, enters, requires_over, measures_over}
-use Rattle.df_nflow.proofs.Places.{locals_are, terms_stay}
+use Rattle.df_nflow.proofs.Terms.{locals_are, terms_stay}
 use Rattle.df_nflow.proofs.passed.Passed.begin.Goals as goal
 
 pub require_all-requires : goal.require_all-requires
@@ -23,7 +10,7 @@ require_all-requires c =
     let in_place = enters m c.new-ledger.result c.any_values.new.self (map param_of c.deref.result.now) c.new-ledger.ensures (ap (map param_of) c.deref.ensures.value) c.in_ok-terms.terms.items c.in_ok-terms.ensures.given
     c.unset.new.self.nodes c.unset.new.terms.items c.deref-2.result.now (c.deref-2.ensures.value ∙ c.in_ok-types.ensures) c.in_ok-unset.ensures.terms c.in_ok-unset.ensures.below in
     subst (λ (ns : List ℕ). AreClauses c.unset.new.self.nodes ns (map clause_of c.deref-4.result.now)) (sym c.deref-3.ensures.value)
-    (subst (λ (cs : List declared_clause.Clause). AreClauses c.unset.new.self.nodes c.unset.new.terms.items (map clause_of cs)) (sym c.deref-4.ensures.value)
+    (subst (λ (cs : List DeclaredClause). AreClauses c.unset.new.self.nodes c.unset.new.terms.items (map clause_of cs)) (sym c.deref-4.ensures.value)
     (requires_over m c.unset.new.self.nodes c.unset.new.terms.items in_place.terms_are c.requires))
 
 pub method_measure-requires : goal.method_measure-requires
@@ -58,7 +45,7 @@ returns c =
     let l3 = c.require_all.new.self in
     let l4 = c.method_measure.new.self in
     let terms = c.unset.new.terms.items in
-    let mm = measures.method_measure m in
+    let mm = method_measure m in
     let params = ap (map param_of) c.deref.ensures.value in
     let types = c.in_ok-types.ensures in
     let in_place = enters m c.new-ledger.result c.any_values.new.self (map param_of c.deref.result.now) c.new-ledger.ensures params c.in_ok-terms.terms.items c.in_ok-terms.ensures.given l2.nodes terms c.deref-2.result.now (c.deref-2.ensures.value ∙ types) c.in_ok-unset.ensures.terms c.in_ok-unset.ensures.below in

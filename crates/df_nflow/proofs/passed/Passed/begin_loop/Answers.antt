@@ -1,23 +1,14 @@
-use Rattle.std.proofs.Common.{◌≡◌, List, map, sym, ap, ◌∙◌, subst}
-use Rattle.df_lang.specs.ExprView.{expr_of}
-use Rattle.df_lang.specs.Measures.{loop_measure}
-use Rattle.df_lang.specs.StmtView.{clause_of}
-use Rattle.df_lang.specs.View.{program_of}
-use Rattle.df_lang.specs.declared.ty.Ty.{Ty}
-use Rattle.df_nenc.specs.Standing.{AreLocals}
-use Rattle.df_nenc.specs.Tree.{trees_in}
-use Rattle.df_nenc.proofs.Growing.{grows_not, term_stays, stays}
-use Rattle.df_nmeas.specs.Measuring.{decreases_in}
-use Rattle.df_npass.specs.Statements.{assert_measure}
-use Rattle.df_nterm.specs.Measuring.{measured}
-use Rattle.df_nterm.specs.Term.{Truths}
-use Rattle.df_nflow.specs.Ledger.{ledger_of, way_of, saying}
-use Rattle.df_nflow.specs.PassedView.{standing_of}
-use Rattle.df_nflow.specs.Standing.{Standing, also}
-use Rattle.df_nflow.specs.Views.{changed_in}
+use Rattle.df_nflow.proofs.Words.{◌≡◌, List, map, sym, ap, ◌∙◌, subst, expr_of, loop_measure, clause_of, program_of, Ty, AreLocals, trees_in, grows_not, stays, decreases_in, assert_measure, measured, ledger_of, way_of, standing_of, Standing, also, changed_in, term_stays, Truths}
+use Rattle.df_nledger.specs.Ledger.{saying}
 use Rattle.df_nflow.proofs.Looping.{heads, passes_by}
-use Rattle.df_nflow.proofs.Passing.{is_passed, gone_on, says, locals}
+use Rattle.df_nflow.proofs.Passing.{gone_on, says, locals, is_passed}
 use Rattle.df_nflow.proofs.passed.Passed.begin_loop.Goals as goal
+
+pub returns-clause-formula : goal.returns-clause-formula
+returns-clause-formula c = term_stays Truths c.enter_branch.new.self.ledger.nodes c.loop_measure.new.self.nodes c.in_ok-past.past c.loop_measure.ensures.grows c.in_ok-past.ensures.formula
+
+pub invariant_of-self : goal.invariant_of-self
+invariant_of-self c = record { is_passed = is_passed c.enter_branch.new.self c.loop_measure.new.self c.loop_measure.ensures.grows }
 
 pub loop_measure-requires : goal.loop_measure-requires
 loop_measure-requires c =
@@ -30,9 +21,6 @@ loop_measure-requires c =
       typed = c.requires.measures;
       locals = subst (λ (ts : List Ty). AreLocals s.ledger.nodes ts c.deref.result.now) types (locals s s.ledger (grows_not s.ledger.nodes) _ c.deref.ensures.value);
     }
-
-pub invariant_of-self : goal.invariant_of-self
-invariant_of-self c = record { is_passed = is_passed c.enter_branch.new.self c.loop_measure.new.self c.loop_measure.ensures.grows }
 
 -- with the measure's members said too
 measure_said : (c : goal.In_ok-before) → gone_on c.enter_branch.new.self c.loop_measure.new.self c.loop_measure.ensures.grows ≡ also (assert_measure (standing_of c.enter_branch.new.self).way (loop_measure (expr_of c.args.guard.now) (decreases_in c.args.decreases.now))) (standing_of c.enter_branch.new.self)
@@ -55,9 +43,6 @@ returns-clause-past c =
     let is = c.in_ok-past.ensures.stands in
     stays c.enter_branch.new.self.ledger.nodes c.loop_measure.new.self.nodes _ c.in_ok-past.past c.loop_measure.ensures.grows
     (record { below = is.below; tree_is = is.tree_is ∙ passes_by (standing_of c.args.self.now) (standing_of c.any_turn.new.self) (changed_in c.args.changed.now) (expr_of c.args.guard.now) (map clause_of c.args.invariants.now) c.in_ok-any_turn.ensures.moves })
-
-pub returns-clause-formula : goal.returns-clause-formula
-returns-clause-formula c = term_stays Truths c.enter_branch.new.self.ledger.nodes c.loop_measure.new.self.nodes c.in_ok-past.past c.loop_measure.ensures.grows c.in_ok-past.ensures.formula
 
 pub returns-clause-measured : goal.returns-clause-measured
 returns-clause-measured c =

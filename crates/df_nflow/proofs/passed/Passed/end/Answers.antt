@@ -1,14 +1,8 @@
-use Rattle.std.proofs.Common.{ap, ◌∙◌, refl}
-use Rattle.df_lang.specs.DeclView.{method_of}
-use Rattle.df_nflow.specs.PassedView.{standing_of}
-use Rattle.df_nflow.specs.Standing.{Standing}
-use Rattle.df_nflow.specs.Typed.{are_at}
-use Rattle.df_nflow.specs.Views.{changed_in}
+use Rattle.df_nflow.proofs.Words.{ap, ◌∙◌, refl, method_of, standing_of, Standing, are_at, changed_in, on_ok_then}
 use Rattle.df_nflow.proofs.Arriving.{all_there}
 use Rattle.df_nflow.proofs.Ending.{arrive_left, ended_said}
 use Rattle.df_nflow.proofs.Entering.{exits_at}
 use Rattle.df_nflow.proofs.Leaving.{sorted_way}
-use Rattle.df_nflow.proofs.Ledgers.{on_ok_then}
 use Rattle.df_nflow.proofs.passed.Passed.end.Goals as goal
 
 pub leave_at_end-requires : goal.leave_at_end-requires

@@ -1,9 +1,4 @@
-use Rattle.std.proofs.Common.{List, refl, sym, ap, ◌∙◌, subst}
-use Rattle.df_form.specs.Node.{Node}
-use Rattle.df_npass.specs.Statements.{last_of}
-use Rattle.df_nflow.specs.Branches.{Ended, Parts}
-use Rattle.df_nflow.specs.PassedView.{standing_of}
-use Rattle.df_nflow.specs.Views.{all_ended_in, changed_in}
+use Rattle.df_nflow.proofs.Words.{List, refl, sym, ap, ◌∙◌, subst, Node, last_of, Ended, Parts, standing_of, all_ended_in, changed_in}
 use Rattle.df_nflow.proofs.Branching.{all_ended_if, branch_ends}
 use Rattle.df_nflow.proofs.Leaving.{sorted_way}
 use Rattle.df_nflow.proofs.passed.Passed.end_branch.Goals as goal

@@ -1,13 +1,4 @@
-use Rattle.std.proofs.Common.{◌∷◌, refl, sym, ap, ◌∙◌, subst}
-use Rattle.df_nenc.specs.Tree.{tree_at}
-use Rattle.df_nenc.proofs.Results.{if_ok}
-use Rattle.df_nflow.specs.Joining.{AllThere}
-use Rattle.df_nflow.specs.Loops.{past_loop}
-use Rattle.df_nflow.specs.PassedView.{standing_of}
-use Rattle.df_nflow.specs.Standing.{Standing}
-use Rattle.df_nflow.specs.Typed.{are_at}
-use Rattle.df_nflow.specs.Views.{arrivals_in, changed_in}
-use Rattle.df_nflow.specs.Ways.{arrival}
+use Rattle.df_nflow.proofs.Words.{◌∷◌, refl, sym, ap, ◌∙◌, subst, tree_at, if_ok, AllThere, past_loop, standing_of, Standing, are_at, arrivals_in, changed_in, arrival}
 use Rattle.df_nflow.proofs.Leaving.{sorted_way}
 use Rattle.df_nflow.proofs.Looping.{way_there, joins_past}
 use Rattle.df_nflow.proofs.passed.Passed.end_loop.Goals as goal

@@ -1,12 +1,11 @@
-use Rattle.std.proofs.Common.{Some, ◌∙◌}
-use Rattle.df_nenc.proofs.Growing.{term_stays, tree_stays, stays}
-use Rattle.df_npass.specs.Rules.{narrowed_path}
-use Rattle.df_nterm.specs.Term.{Truths, negation}
-use Rattle.df_nflow.specs.Standing.{at_path}
+use Rattle.df_nflow.proofs.Words.{Some, ◌∙◌, tree_stays, stays, narrowed_path, Truths, negation, at_path, term_stays}
 use Rattle.df_nflow.proofs.passed.Passed.enter_branch.Goals as goal
 
 pub enter-requires : goal.enter-requires
 enter-requires c = term_stays Truths c.guard.new.self.ledger.nodes c.past.new.self.ledger.nodes c.in_ok-formula.formula c.past.ensures.grows c.in_ok-formula.ensures.formula
+
+pub returns-clause-formula : goal.returns-clause-formula
+returns-clause-formula c = term_stays Truths c.past.new.self.ledger.nodes c.enter.new.self.ledger.nodes c.in_ok-past.past c.enter.ensures.grows c.in_ok-past.ensures.formula
 
 pub returns-clause-standing : goal.returns-clause-standing
 returns-clause-standing c =
@@ -20,6 +19,3 @@ returns-clause-stands c =
     let said = c.in_ok-formula.ensures.said in
     let tree = c.in_ok-formula.ensures.stands.tree_is in
     stays c.past.new.self.ledger.nodes c.enter.new.self.ledger.nodes _ c.in_ok-past.past c.enter.ensures.grows (record { below = is.below; tree_is = is.tree_is ∙ (λ i. narrowed_path (said i).way.path (negation (tree i))) })
-
-pub returns-clause-formula : goal.returns-clause-formula
-returns-clause-formula c = term_stays Truths c.past.new.self.ledger.nodes c.enter.new.self.ledger.nodes c.in_ok-past.past c.enter.ensures.grows c.in_ok-past.ensures.formula

@@ -1,15 +1,6 @@
-use Rattle.std.proofs.Common.{ap, ◌∙◌}
+use Rattle.df_nflow.proofs.Words.{ap, ◌∙◌, tree_at, grows_then, grows_same, term_stays, tree_stays, assert, equal_in, sort_of_type, standing_of, Standing, is_at, on_ok_then}
 use Rattle.df_meaning.specs.declared.kind.Kind.TheVariants as kinds
-use Rattle.df_nenc.specs.Tree.{tree_at}
-use Rattle.df_nenc.proofs.Growing.{grows_then, grows_same, term_stays, tree_stays}
-use Rattle.df_npass.specs.Rules.{assert}
-use Rattle.df_nterm.specs.Expressions.{equal_in}
-use Rattle.df_nterm.specs.Term.{sort_of_type}
-use Rattle.df_nflow.specs.PassedView.{standing_of}
-use Rattle.df_nflow.specs.Standing.{Standing}
-use Rattle.df_nflow.specs.Typed.{is_at}
 use Rattle.df_nflow.proofs.Changes.{kept_of, said_given}
-use Rattle.df_nflow.proofs.Ledgers.{on_ok_then}
 use Rattle.df_nflow.proofs.passed.Passed.give_again.Goals as goal
 
 pub give-requires : goal.give-requires

@@ -1,22 +1,11 @@
-use Rattle.std.proofs.Common.{◌+◌, ℕ, List, [], map, drop, get_or, length, ap, ◌∙◌, subst, rules}
-use Rattle.std.proofs.lemmas.List.{drop_all}
-use Rattle.df_lang.specs.declared.stmt.Target as declared_target
-use Rattle.df_lang.specs.declared.ty.Ty.{Ty}
+use Rattle.df_nflow.proofs.Words.{◌+◌, ℕ, List, [], map, drop, get_or, length, ap, ◌∙◌, subst, rules, drop_all, Ty, target_of, DeclaredTarget, trees_at, grows_not, grows_then, locals_stay, grown_tree, standing_of, are_targets_over, target_types, index_below, give_all}
 use Rattle.df_lang.specs.declared.ty.Ty.TheVariants as tys
-use Rattle.df_lang.specs.StmtView.{target_of}
-use Rattle.df_nenc.specs.Tree.{trees_at}
-use Rattle.df_nenc.proofs.Growing.{grows_not, grows_then, locals_stay}
-use Rattle.df_nenc.proofs.Trees.{grown_tree}
-use Rattle.df_npass.specs.Statements as pure
-use Rattle.df_nflow.specs.PassedView.{standing_of}
-use Rattle.df_nflow.specs.Typed.{are_targets_over, target_types}
 use Rattle.df_nflow.proofs.Going.{moving_done}
-use Rattle.df_nflow.proofs.Meeting.{is_met}
-use Rattle.df_nflow.proofs.Sources.{index_below}
+use Rattle.df_nflow.proofs.Once.{is_met}
 use Rattle.df_nflow.proofs.Targets.{Giving, giving_from, turn, giving_turn}
 use Rattle.df_nflow.proofs.passed.Passed.give_all.Goals as goal
 
-abbrev nothing : declared_target.Target
+abbrev nothing : DeclaredTarget
 nothing = record { local = 0; name = 0; pos = record { line = 0; col = 0 }; ty = tys.Newtype 0 }
 
 pub loop-i-init : goal.loop-i-init
@@ -73,6 +62,6 @@ returns-clause-moves c =
     let s = c.args.self.now in
     let l = c.loop-i in
     let old = s.ledger.nodes in
-    let whole = pure.give_all [] (map target_of c.args.targets.now) (trees_at old c.args.terms.now) (standing_of s).fresh (standing_of s).way in
+    let whole = give_all [] (map target_of c.args.targets.now) (trees_at old c.args.terms.now) (standing_of s).fresh (standing_of s).way in
     moving_done (standing_of s) (standing_of l.self) whole
-    (subst (λ (ts : List declared_target.Target). Giving (standing_of s) whole (standing_of l.self) (map target_of ts) (trees_at old (drop l.i c.args.terms.now)) l.named.keys) (drop_all l.i c.args.targets.now c.loop-i-test.false) l.invariant.giving).moving
+    (subst (λ (ts : List DeclaredTarget). Giving (standing_of s) whole (standing_of l.self) (map target_of ts) (trees_at old (drop l.i c.args.terms.now)) l.named.keys) (drop_all l.i c.args.targets.now c.loop-i-test.false) l.invariant.giving).moving

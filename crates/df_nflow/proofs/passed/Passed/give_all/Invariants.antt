@@ -1,11 +1,4 @@
-use Rattle.std.proofs.Common.{◌≡◌, [], true, map, drop}
-use Rattle.df_lang.specs.StmtView.{target_of}
-use Rattle.df_nenc.specs.Growing.{Grows}
-use Rattle.df_nenc.specs.Standing.{AreLocals}
-use Rattle.df_nenc.specs.Tree.{trees_at}
-use Rattle.df_npass.specs.Statements as pure
-use Rattle.df_nflow.specs.PassedView.{standing_of}
-use Rattle.df_nflow.specs.Typed.{are_targets_over, target_types}
+use Rattle.df_nflow.proofs.Words.{◌≡◌, [], true, map, drop, target_of, Grows, AreLocals, trees_at, standing_of, are_targets_over, target_types, give_all}
 use Rattle.df_nflow.proofs.Targets.{Giving}
 use Rattle.df_nflow.proofs.passed.Passed.give_all.Given as goal
 
@@ -15,5 +8,5 @@ invariant-loop-i l = record {
   grows : Grows l.fn.self.ledger.nodes l.self.ledger.nodes;
   over : are_targets_over l.self.types.items (map target_of (drop l.i l.targets)) ≡ true;
   locals : AreLocals l.self.ledger.nodes (target_types (map target_of (drop l.i l.targets))) (drop l.i l.terms);
-  giving : Giving (standing_of l.fn.self) (pure.give_all [] (map target_of l.targets) (trees_at l.fn.self.ledger.nodes l.terms) (standing_of l.fn.self).fresh (standing_of l.fn.self).way) (standing_of l.self) (map target_of (drop l.i l.targets)) (trees_at l.fn.self.ledger.nodes (drop l.i l.terms)) l.named.keys;
+  giving : Giving (standing_of l.fn.self) (give_all [] (map target_of l.targets) (trees_at l.fn.self.ledger.nodes l.terms) (standing_of l.fn.self).fresh (standing_of l.fn.self).way) (standing_of l.self) (map target_of (drop l.i l.targets)) (trees_at l.fn.self.ledger.nodes (drop l.i l.terms)) l.named.keys;
 }

@@ -1,26 +1,15 @@
-use Rattle.std.proofs.Common.{suc, List, refl, ap, ◌∙◌, subst}
-use Rattle.std.proofs.lemmas.List.{drop_all}
-use Rattle.df_lang.specs.declared.ty.Ty.{Ty}
-use Rattle.df_meaning.specs.Modular.{Changed}
-use Rattle.df_nenc.specs.Tree.{tree_at}
-use Rattle.df_nenc.proofs.Growing.{grows_not, grows_then, grows_same, is_term}
-use Rattle.df_npass.specs.Rules.{assume_type, free_of, havoc}
-use Rattle.df_nterm.specs.Term.{sort_of_type}
-use Rattle.df_nflow.specs.PassedView.{standing_of}
-use Rattle.df_nflow.specs.Typed.{are_at}
-use Rattle.df_nflow.specs.Views.{changed_of, changed_in}
-use Rattle.df_nflow.specs.declared.way.Changed as declared
+use Rattle.df_nflow.proofs.Words.{suc, List, refl, ap, ◌∙◌, subst, drop_all, Ty, Changed, tree_at, grows_not, grows_then, grows_same, is_term, assume_type, free_of, havoc, sort_of_type, standing_of, are_at, changed_of, changed_in, DeclaredChanged}
 use Rattle.df_nflow.proofs.Changes.{kept_of, said_given}
 use Rattle.df_nflow.proofs.Going.{Moving, moving_from, moving_done, moving_havoc}
-use Rattle.df_nflow.proofs.Passing.{is_passed, gone_on, gives}
+use Rattle.df_nflow.proofs.Passing.{gone_on, gives, is_passed}
 use Rattle.df_nflow.proofs.Together.{here_changed, behind_changed, changed_next, at_next}
 use Rattle.df_nflow.proofs.passed.Passed.havoc.Goals as goal
 
-pub loop-one-init : goal.loop-one-init
-loop-one-init c = record { grows = grows_not c.args.self.now.ledger.nodes; at = c.requires; moving = moving_from (standing_of c.args.self.now) _ }
-
 pub invariant_of-self : goal.invariant_of-self
 invariant_of-self c = record { is_passed = is_passed c.loop-one.self c.any.new.self c.any.ensures.grows }
+
+pub loop-one-init : goal.loop-one-init
+loop-one-init c = record { grows = grows_not c.args.self.now.ledger.nodes; at = c.requires; moving = moving_from (standing_of c.args.self.now) _ }
 
 pub give-requires : goal.give-requires
 give-requires c =
@@ -54,4 +43,4 @@ returns-clause-moves c =
     let l = c.loop-one in
     let first = standing_of c.args.self.now in
     let here = standing_of l.self in
-    moving_done first here _ (subst (λ (ds : List declared.Changed). Moving first (havoc (changed_in c.args.changed.now) first.fresh first.way) here (havoc (changed_in ds) here.fresh here.way)) (drop_all l.one-index c.args.changed.now c.loop-one-test.false) l.invariant.moving)
+    moving_done first here _ (subst (λ (ds : List DeclaredChanged). Moving first (havoc (changed_in c.args.changed.now) first.fresh first.way) here (havoc (changed_in ds) here.fresh here.way)) (drop_all l.one-index c.args.changed.now c.loop-one-test.false) l.invariant.moving)

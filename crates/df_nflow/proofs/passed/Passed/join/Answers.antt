@@ -1,8 +1,4 @@
-use Rattle.std.proofs.Common.{◌≤◌, length, ap, arith}
-use Rattle.std.proofs.lemmas.List.{length-map}
-use Rattle.df_nenc.specs.Tree.{path_in}
-use Rattle.df_nflow.specs.PassedView.{standing_of}
-use Rattle.df_nflow.specs.Views.{arrival_in, arrivals_in, changed_in}
+use Rattle.df_nflow.proofs.Words.{◌≤◌, length, ap, arith, length-map, path_in, standing_of, arrival_in, arrivals_in, changed_in}
 use Rattle.df_nflow.proofs.Joined.{joins_one_kept, joins_more_kept, one_alone}
 use Rattle.df_nflow.proofs.passed.Passed.join.Goals as goal
 

@@ -1,15 +1,7 @@
-use Rattle.std.proofs.Common.{◌≡◌, Option, sym, ap, ◌∙◌, subst}
-use Rattle.df_nenc.specs.Tree.{path_in}
-use Rattle.df_nenc.proofs.Results.{if_ok}
-use Rattle.df_nterm.specs.Term.{Term}
-use Rattle.df_npass.specs.Rules.{any_path, join, paths_of}
-use Rattle.df_nflow.specs.Joining.{AllThere, paths_in}
-use Rattle.df_nflow.specs.PassedView.{standing_of}
-use Rattle.df_nflow.specs.Standing.{Standing, Joins}
-use Rattle.df_nflow.specs.Views.{changed_in}
-use Rattle.df_nflow.proofs.Growing.{all_arrived_stay, arrivals_same}
-use Rattle.df_nflow.proofs.Joining.{paths_joined}
-use Rattle.df_nflow.proofs.Passing.{is_passed, gone_on, keeps}
+use Rattle.df_nflow.proofs.Words.{◌≡◌, Option, sym, ap, ◌∙◌, subst, path_in, if_ok, Term, any_path, join, paths_of, AllThere, paths_in, standing_of, Standing, Joins, changed_in}
+use Rattle.df_nflow.proofs.Waiting.{all_arrived_stay, arrivals_same}
+use Rattle.df_nflow.proofs.Changes.{paths_joined}
+use Rattle.df_nflow.proofs.Passing.{gone_on, keeps, is_passed}
 use Rattle.df_nflow.proofs.passed.Passed.join_all.Goals as goal
 
 pub invariant_of-self : goal.invariant_of-self

@@ -1,9 +1,4 @@
-use Rattle.std.proofs.Common.{◌≤◌, length, sym, arith}
-use Rattle.std.proofs.lemmas.List.{length-map}
-use Rattle.df_nenc.specs.Tree.{path_in}
-use Rattle.df_nenc.proofs.Results.{if_ok}
-use Rattle.df_nflow.specs.PassedView.{standing_of}
-use Rattle.df_nflow.specs.Views.{arrival_in, arrivals_in, all_ended_in, changed_in}
+use Rattle.df_nflow.proofs.Words.{◌≤◌, length, sym, arith, length-map, path_in, if_ok, standing_of, arrival_in, arrivals_in, all_ended_in, changed_in}
 use Rattle.df_nflow.proofs.Branching.{arrivals_ended}
 use Rattle.df_nflow.proofs.Joined.{joins_more_ended}
 use Rattle.df_nflow.proofs.passed.Passed.join_branches.Goals as goal

@@ -1,21 +1,14 @@
-use Rattle.std.proofs.Common.{List, refl, sym, ap, ◌∙◌, subst}
-use Rattle.df_nenc.specs.Tree.{tree_at}
-use Rattle.df_nenc.proofs.Growing.{is_term, stays}
-use Rattle.df_nterm.specs.Term.{sort_of_type}
-use Rattle.df_nflow.specs.Joining.{AreThere}
-use Rattle.df_nflow.specs.PassedView.{standing_of}
-use Rattle.df_nflow.specs.Standing.{Standing}
-use Rattle.df_nflow.specs.Typed.{is_at}
-use Rattle.df_nflow.specs.Ways.{Arrival}
-use Rattle.df_nflow.specs.Views.{changed_of, arrivals_in}
+use Rattle.df_nflow.proofs.Words.{List, refl, sym, ap, ◌∙◌, subst, tree_at, is_term, stays, sort_of_type, AreThere, standing_of, Standing, is_at, Arrival, changed_of, arrivals_in, on_ok_then}
 use Rattle.df_nflow.proofs.Changes.{kept_of}
-use Rattle.df_nflow.proofs.Growing.{all_arrived_stay, arrivals_same}
+use Rattle.df_nflow.proofs.Waiting.{all_arrived_stay, arrivals_same}
 use Rattle.df_nflow.proofs.Joined.{join_kept, join_new}
-use Rattle.df_nflow.proofs.Ledgers.{on_ok_then}
-use Rattle.df_nflow.proofs.Passing.{is_passed, gone_on}
+use Rattle.df_nflow.proofs.Passing.{gone_on, is_passed}
 use Rattle.df_nflow.proofs.Standings.{standing_with}
 use Rattle.df_nflow.proofs.Telling.{same_here}
 use Rattle.df_nflow.proofs.passed.Passed.join_local.Goals as goal
+
+pub invariant_of-self : goal.invariant_of-self
+invariant_of-self c = record { is_passed = is_passed c.args.self.now c.fresh.new.self c.fresh.ensures.grows }
 
 pub returns-then-are_same-clause-moves : goal.returns-then-are_same-clause-moves
 returns-then-are_same-clause-moves c =
@@ -23,9 +16,6 @@ returns-then-are_same-clause-moves c =
     let one = c.args.changed.now in
     join_kept (standing_of s) c.args.place (changed_of one) (arrivals_in s.ledger.nodes c.args.arrived.now)
     (same_here s.ledger.nodes s.types.items s.terms.items c.args.place one.local one.ty c.index.result.now c.args.arrived.now c.len-nodes.ensures.table s.is_passed.have_terms c.requires.changed c.requires.arrived c.requires.there c.index.ensures ∙ sym c.are_same.ensures ∙ c.if-are_same.true)
-
-pub invariant_of-self : goal.invariant_of-self
-invariant_of-self c = record { is_passed = is_passed c.args.self.now c.fresh.new.self c.fresh.ensures.grows }
 
 pub assume_joined-requires-clause-arrived : goal.assume_joined-requires-clause-arrived
 assume_joined-requires-clause-arrived c = let s = c.args.self.now in all_arrived_stay s.ledger.nodes c.fresh.new.self.nodes c.fresh.ensures.grows s.types.items c.args.arrived.now c.requires.arrived

@@ -1,16 +1,6 @@
-use Rattle.std.proofs.Common.{List, sym, ap, ◌∙◌, subst}
-use Rattle.std.proofs.lemmas.List.{drop_all}
-use Rattle.df_lang.specs.declared.ty.Ty.{Ty}
-use Rattle.df_nenc.proofs.Growing.{grows_then}
-use Rattle.df_nterm.specs.Term.{sort_of_type}
-use Rattle.df_nflow.specs.Joining.{AreThere, join_locals_from}
-use Rattle.df_nflow.specs.PassedView.{standing_of}
-use Rattle.df_nflow.specs.Typed.{are_at}
-use Rattle.df_nflow.specs.Ways.{Arrival}
-use Rattle.df_nflow.specs.Views.{AreArrived, arrivals_in, changed_in}
-use Rattle.df_nflow.specs.declared.way.Changed as declared
+use Rattle.df_nflow.proofs.Words.{List, sym, ap, ◌∙◌, subst, drop_all, Ty, grows_then, sort_of_type, AreThere, join_locals_from, standing_of, are_at, Arrival, AreArrived, arrivals_in, changed_in, DeclaredChanged}
 use Rattle.df_nflow.proofs.Going.{Moving, moving_done}
-use Rattle.df_nflow.proofs.Growing.{all_arrived_stay, arrivals_same}
+use Rattle.df_nflow.proofs.Waiting.{all_arrived_stay, arrivals_same}
 use Rattle.df_nflow.proofs.Together.{here_changed, behind_changed, at_next, there_next, joining_next}
 use Rattle.df_nflow.proofs.passed.Passed.join_locals.Goals as goal
 
@@ -47,4 +37,4 @@ returns-clause-moves c =
     let l = c.loop-place in
     let here = standing_of l.self in
     let arrivals = arrivals_in c.args.self.now.ledger.nodes c.args.arrived.now in
-    moving_done old here _ (subst (λ (ds : List declared.Changed). Moving old (join_locals_from 0 (changed_in c.args.changed.now) arrivals old.fresh old.way.env old.way.path) here (join_locals_from l.place (changed_in ds) arrivals here.fresh here.way.env here.way.path)) (drop_all l.place c.args.changed.now c.loop-place-test.false) l.invariant.moving)
+    moving_done old here _ (subst (λ (ds : List DeclaredChanged). Moving old (join_locals_from 0 (changed_in c.args.changed.now) arrivals old.fresh old.way.env old.way.path) here (join_locals_from l.place (changed_in ds) arrivals here.fresh here.way.env here.way.path)) (drop_all l.place c.args.changed.now c.loop-place-test.false) l.invariant.moving)

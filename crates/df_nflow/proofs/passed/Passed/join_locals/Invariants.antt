@@ -1,9 +1,4 @@
-use Rattle.std.proofs.Common.{◌≡◌, true, drop}
-use Rattle.df_nenc.specs.Growing.{Grows}
-use Rattle.df_nflow.specs.Joining.{join_locals_from, AllThere}
-use Rattle.df_nflow.specs.PassedView.{standing_of}
-use Rattle.df_nflow.specs.Typed.{are_at}
-use Rattle.df_nflow.specs.Views.{AreArrived, arrivals_in, changed_in}
+use Rattle.df_nflow.proofs.Words.{◌≡◌, true, drop, Grows, join_locals_from, AllThere, standing_of, are_at, AreArrived, arrivals_in, changed_in}
 use Rattle.df_nflow.proofs.Going.{Moving}
 use Rattle.df_nflow.proofs.passed.Passed.join_locals.Given as goal
 

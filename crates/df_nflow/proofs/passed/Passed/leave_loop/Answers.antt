@@ -1,7 +1,4 @@
-use Rattle.std.proofs.Common.{[], ◌∷◌, append-nil, false, true, refl, sym}
-use Rattle.df_nflow.specs.PassedView.{standing_of}
-use Rattle.df_nflow.specs.Views.{arrivals_in, changed_in}
-use Rattle.df_nflow.specs.Ways.{arrival}
+use Rattle.df_nflow.proofs.Words.{[], ◌∷◌, append-nil, false, true, refl, sym, standing_of, arrivals_in, changed_in, arrival}
 use Rattle.df_nflow.proofs.Leaving.{sorted_way, one_more, leaves, told}
 use Rattle.df_nflow.proofs.passed.Passed.leave_loop.Goals as goal
 

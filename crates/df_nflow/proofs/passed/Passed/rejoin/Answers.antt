@@ -1,10 +1,7 @@
-use Rattle.std.proofs.Common.{sym, ap, ◌∙◌, subst}
-use Rattle.df_nflow.specs.Joining.{AllThere}
-use Rattle.df_nflow.specs.PassedView.{standing_of}
-use Rattle.df_nflow.specs.Views.{AreArrived, all_ended_in, arrivals_in, changed_in}
+use Rattle.df_nflow.proofs.Words.{sym, ap, ◌∙◌, subst, AllThere, standing_of, AreArrived, all_ended_in, arrivals_in, changed_in}
 use Rattle.df_nflow.proofs.Branching.{rejoins, all_ended_same, arrivals_ended}
-use Rattle.df_nflow.proofs.Growing.{all_arrived_stay, arrivals_same}
-use Rattle.df_nflow.proofs.Passing.{is_passed, gone_on, keeps}
+use Rattle.df_nflow.proofs.Waiting.{all_arrived_stay, arrivals_same}
+use Rattle.df_nflow.proofs.Passing.{gone_on, keeps, is_passed}
 use Rattle.df_nflow.proofs.passed.Passed.rejoin.Goals as goal
 
 pub invariant_of-self : goal.invariant_of-self

@@ -1,14 +1,4 @@
-use Rattle.std.proofs.Common.{◌≡◌, ◌+◌, ◌-◌, ◌<◌, [], ◌∷◌, List, length, drop, get_or, ap, ◌∙◌, subst, arith}
-use Rattle.std.proofs.lemmas.List.{get_or_default}
-use Rattle.df_form.specs.Node.{Node}
-use Rattle.df_nenc.specs.Tree.{tree_at}
-use Rattle.df_nenc.proofs.Siblings.{drop_next}
-use Rattle.df_npass.specs.Rules.{over, with_term}
-use Rattle.df_npass.specs.Statements.{saying}
-use Rattle.df_nflow.specs.PassedView.{standing_of}
-use Rattle.df_nflow.specs.Standing.{Moves}
-use Rattle.df_nflow.specs.Views.{kept_in, all_kept_in}
-use Rattle.df_nflow.specs.declared.way.Kept as declared
+use Rattle.df_nflow.proofs.Words.{◌≡◌, ◌+◌, ◌-◌, ◌<◌, [], ◌∷◌, List, length, drop, get_or, ap, ◌∙◌, subst, arith, get_or_default, Node, tree_at, drop_next, over, with_term, saying, standing_of, Moves, kept_in, all_kept_in, DeclaredKept}
 use Rattle.df_nflow.proofs.Trailing.{replayed}
 use Rattle.df_nflow.proofs.passed.Passed.replay.Goals as goal
 
@@ -17,7 +7,7 @@ loop-place-preserved c =
     let l = c.loop-place in
     let xs = c.args.ahead.now in
     let p = l.place - 1 in
-    let nothing : declared.Kept = record { local = 0; term = 0 } in
+    let nothing : DeclaredKept = record { local = 0; term = 0 } in
     let k = get_or xs p nothing in
     let less : p < length xs = omega (arith, c.loop-place-test.true, l.auto.place) in
     let next : p + 1 ≡ l.place = omega (arith, c.loop-place-test.true) in

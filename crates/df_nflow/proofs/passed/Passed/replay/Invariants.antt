@@ -1,10 +1,4 @@
-use Rattle.std.proofs.Common.{◌≡◌, [], drop}
-use Rattle.df_npass.specs.Rules.{over}
-use Rattle.df_npass.specs.Statements.{saying}
-use Rattle.df_nflow.specs.PassedView.{standing_of}
-use Rattle.df_nflow.specs.Standing.{Moves}
-use Rattle.df_nflow.specs.Views.{all_kept_in}
-use Rattle.df_nflow.specs.Ways.{back}
+use Rattle.df_nflow.proofs.Words.{◌≡◌, [], drop, over, saying, standing_of, Moves, all_kept_in, back}
 use Rattle.df_nflow.proofs.passed.Passed.replay.Given as goal
 
 -- the locals of the places behind have their terms

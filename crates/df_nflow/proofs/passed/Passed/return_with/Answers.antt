@@ -1,6 +1,4 @@
-use Rattle.df_nflow.specs.PassedView.{standing_of}
-use Rattle.df_nflow.specs.Views.{changed_in}
-use Rattle.df_nenc.proofs.Results.{if_ok}
+use Rattle.df_nflow.proofs.Words.{standing_of, changed_in, if_ok}
 use Rattle.df_nflow.proofs.Flowing.{moves_return}
 use Rattle.df_nflow.proofs.passed.Passed.return_with.Goals as goal
 

@@ -1,10 +1,4 @@
-use Rattle.std.proofs.Common.{◌≡◌, ◌-◌, ◌≤◌, List, length, sym, ap, ◌∙◌, subst, arith}
-use Rattle.df_form.specs.Node.{Node}
-use Rattle.df_lang.specs.declared.ty.Ty.{Ty}
-use Rattle.df_nflow.specs.PassedView.{standing_of}
-use Rattle.df_nflow.specs.Standing.{Standing}
-use Rattle.df_nflow.specs.Views.{AreKept, all_kept_in}
-use Rattle.df_nflow.specs.Ways.{back}
+use Rattle.df_nflow.proofs.Words.{◌≡◌, ◌-◌, ◌≤◌, List, length, sym, ap, ◌∙◌, subst, arith, Node, Ty, standing_of, Standing, AreKept, all_kept_in, back}
 use Rattle.df_nflow.proofs.Trailing.{rewound}
 use Rattle.df_nflow.proofs.passed.Passed.rewind.Goals as goal
 

@@ -1,8 +1,4 @@
-use Rattle.std.proofs.Common.{◌≡◌, ◌≤◌, length, take, drop}
-use Rattle.df_nflow.specs.PassedView.{standing_of}
-use Rattle.df_nflow.specs.Standing.{over_terms}
-use Rattle.df_nflow.specs.Views.{AreKept, all_kept_in}
-use Rattle.df_nflow.specs.Ways.{back}
+use Rattle.df_nflow.proofs.Words.{◌≡◌, ◌≤◌, length, take, drop, standing_of, over_terms, AreKept, all_kept_in, back}
 use Rattle.df_nflow.proofs.passed.Passed.rewind.Given as goal
 
 -- what leads back from here leads back from the end, and ahead to it

@@ -1,7 +1,4 @@
-use Rattle.std.proofs.Common.{◌<◌, length, refl, sym, ap, ◌∙◌, subst, arith}
-use Rattle.df_nenc.specs.Tree.{tree_at}
-use Rattle.df_nflow.specs.PassedView.{standing_of}
-use Rattle.df_nflow.specs.Views.{IsKept}
+use Rattle.df_nflow.proofs.Words.{◌<◌, length, refl, sym, ap, ◌∙◌, subst, arith, tree_at, standing_of, IsKept}
 use Rattle.df_nflow.proofs.Terms.{tree_of, kept_at}
 use Rattle.df_nflow.proofs.Trailing.{last_kept, stepped, ahead_back, ahead_kept}
 use Rattle.df_nflow.proofs.passed.Passed.step_back.Goals as goal

@@ -1,19 +1,4 @@
-use Rattle.std.proofs.Common.{◌≡◌, ◌<◌, ◌+◌, [], ◌∷◌, List, Option, drop, get_or, length, sym, ap, ◌∙◌, subst, arith}
-use Rattle.std.proofs.lemmas.List.{drop_all, get_or_default}
-use Rattle.df_lang.specs.declared.ty.Ty.{Ty}
-use Rattle.df_form.specs.Node.{Node}
-use Rattle.df_nenc.specs.Standing.{IsTerm}
-use Rattle.df_nenc.specs.Tree.{tree_at, trees_at, path_in}
-use Rattle.df_nenc.proofs.Siblings.{drop_next}
-use Rattle.df_npass.specs.Rules.{over}
-use Rattle.df_npass.specs.Statements.{saying}
-use Rattle.df_nterm.specs.Term.{Term, sort_of_type}
-use Rattle.df_nflow.specs.Joining.{take_all}
-use Rattle.df_nflow.specs.PassedView.{standing_of}
-use Rattle.df_nflow.specs.Standing.{at_path, Moves}
-use Rattle.df_nflow.specs.Typed.{are_at}
-use Rattle.df_nflow.specs.Views.{changed_in}
-use Rattle.df_nflow.specs.declared.way.Changed as declared
+use Rattle.df_nflow.proofs.Words.{◌≡◌, ◌<◌, ◌+◌, [], ◌∷◌, List, Option, drop, get_or, length, sym, ap, ◌∙◌, subst, arith, drop_all, get_or_default, Ty, Node, IsTerm, tree_at, trees_at, path_in, drop_next, over, saying, Term, sort_of_type, take_all, standing_of, at_path, Moves, are_at, changed_in, DeclaredChanged}
 use Rattle.df_nflow.proofs.Arriving.{joined_within, term_joined}
 use Rattle.df_nflow.proofs.Changes.{kept_of}
 use Rattle.df_nflow.proofs.Going.{Moving, moving_done}
@@ -73,7 +58,7 @@ returns-clause-moves c =
     let terms = trees_at s.ledger.nodes way.terms.items in
     let env = take_all (changed_in c.args.changed.now) terms old.way.env in
     let left = trees_at s.ledger.nodes (drop l.place way.terms.items) in
-    let moving = subst (λ (ds : List declared.Changed). Moving old (saying [] old.fresh (over env old.way)) here (saying [] here.fresh (over (take_all (changed_in ds) left here.way.env) here.way))) (drop_all l.place c.args.changed.now c.loop-place-test.false) l.invariant.moving in
+    let moving = subst (λ (ds : List DeclaredChanged). Moving old (saying [] old.fresh (over env old.way)) here (saying [] here.fresh (over (take_all (changed_in ds) left here.way.env) here.way))) (drop_all l.place c.args.changed.now c.loop-place-test.false) l.invariant.moving in
     let other = path_in s.ledger.nodes way.path in
     subst (λ (path : Option Term). Moves old (saying [] old.fresh (record { env = env; path = other })) (at_path path here)) (ap (λ (ns : List Node). path_in ns way.path) (sym l.invariant.nodes))
     (moves_on_path old here env old.way.path other (moving_done old here _ moving))

@@ -1,11 +1,4 @@
-use Rattle.std.proofs.Common.{◌≡◌, [], ◌∷◌, true, drop}
-use Rattle.df_nenc.specs.Tree.{trees_at}
-use Rattle.df_npass.specs.Rules.{over}
-use Rattle.df_npass.specs.Statements.{saying}
-use Rattle.df_nflow.specs.Joining.{take_all, AllThere}
-use Rattle.df_nflow.specs.PassedView.{standing_of}
-use Rattle.df_nflow.specs.Typed.{are_at}
-use Rattle.df_nflow.specs.Views.{arrival_in, changed_in}
+use Rattle.df_nflow.proofs.Words.{◌≡◌, [], ◌∷◌, true, drop, trees_at, over, saying, take_all, AllThere, standing_of, are_at, arrival_in, changed_in}
 use Rattle.df_nflow.proofs.Going.{Moving}
 use Rattle.df_nflow.proofs.passed.Passed.take.Given as goal
 

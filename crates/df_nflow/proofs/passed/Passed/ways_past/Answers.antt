@@ -1,10 +1,4 @@
-use Rattle.std.proofs.Common.{List, [], ◌∷◌, ◌++◌, take, drop, Some, sym, ap, ◌∙◌}
-use Rattle.std.proofs.lemmas.List.{take-map, drop-map}
-use Rattle.df_nenc.specs.Tree.{tree_at, trees_in}
-use Rattle.df_nflow.specs.Standing.{Standing}
-use Rattle.df_nflow.specs.Views.{arrival_in, arrivals_in, changed_in}
-use Rattle.df_nflow.specs.Ways.{Arrival, arrival}
-use Rattle.df_nflow.specs.declared.way.Arrived as declared
+use Rattle.df_nflow.proofs.Words.{List, [], ◌∷◌, ◌++◌, take, drop, Some, sym, ap, ◌∙◌, take-map, drop-map, tree_at, trees_in, Standing, arrival_in, arrivals_in, changed_in, Arrival, arrival, DeclaredArrived}
 use Rattle.df_nflow.proofs.passed.Passed.ways_past.Goals as goal
 
 pub returns-clause-standing : goal.returns-clause-standing
@@ -29,7 +23,7 @@ returns-clause-ways c =
     let r = c.rewind.new.self in
     let nodes = r.ledger.nodes in
     let one = c.in_ok-arrived.field-0 in
-    let push = c.in_ok-push.ensures.items ∙ ap (λ (ways : List declared.Arrived). ways ++ one ∷ []) c.new-ways.ensures.items in
+    let push = c.in_ok-push.ensures.items ∙ ap (λ (ways : List DeclaredArrived). ways ++ one ∷ []) c.new-ways.ensures.items in
     let tail = c.in_ok-breaks.ensures.tail in
     let is = c.in_ok-arrived.ensures.arrival in
     ap (arrivals_in nodes) (c.in_ok-append.ensures.items ∙ (λ i. push i ++ tail i)) ∙ (λ i. is i ∷ arrivals_in nodes (drop c.args.first r.breaks.items))

@@ -1,6 +1,0 @@
-use Rattle.df_nflow.proofs.Repeated.{Saying, owed}
-use Rattle.df_nflow.specs.Clauses.{place_at}
-use Rattle.df_nflow.proofs.ledger.Ledger.assert_clauses.Given as goal
-
-abbrev pub invariant-loop-clause : goal.invariant-loop-clause
-invariant-loop-clause l = Saying (owed (place_at l.place) l.kind) l.fn.self l.self l.terms l.clauses l.clause-index

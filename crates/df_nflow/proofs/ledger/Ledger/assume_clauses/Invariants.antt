@@ -1,5 +1,0 @@
-use Rattle.df_nflow.proofs.Repeated.{Saying, known}
-use Rattle.df_nflow.proofs.ledger.Ledger.assume_clauses.Given as goal
-
-abbrev pub invariant-loop-clause : goal.invariant-loop-clause
-invariant-loop-clause l = Saying known l.fn.self l.self l.terms l.clauses l.clause-index

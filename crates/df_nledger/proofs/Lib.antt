@@ -1,0 +1,11 @@
+pub mod Words
+pub mod Growing
+pub mod Ledgers
+pub mod Telling
+pub mod Places
+pub mod Conditions
+pub mod Claims
+pub mod Repeated
+pub mod Sayings
+pub mod Values
+pub mod Sources

@@ -1,0 +1,20 @@
+use Rattle.df_nledger.proofs.Words.{◌∙◌, stays, saying, assert_all}
+use Rattle.df_nledger.proofs.Growing.{ledger_stays}
+use Rattle.df_nledger.proofs.Sayings.{asked_are, asked_same}
+use Rattle.df_nledger.proofs.Ledgers.{ledger_keeps}
+use Rattle.df_nledger.proofs.ledger.Ledger.value.Goals as goal
+
+pub invariant_of-self : goal.invariant_of-self
+invariant_of-self c = record { is_ledger = ledger_stays c.args.self.now.nodes c.defined.new.nodes c.defined.ensures.grows c.args.self.now.path c.args.self.now.said.items c.args.self.now.is_ledger }
+
+pub assert_all-requires : goal.assert_all-requires
+assert_all-requires c = asked_are c.defined.new.nodes _ c.new-conditions.result.items c.defined.new.out.items c.deref.result.now c.in_ok-term.ensures.gives.adds c.new-conditions.ensures.items c.deref.ensures.value
+
+pub returns-clause-ledger : goal.returns-clause-ledger
+returns-clause-ledger c =
+    let kept = ledger_keeps c.args.self.now.nodes c.defined.new.nodes c.args.self.now.said.items c.args.self.now.frees.items c.args.self.now.path c.defined.ensures.grows c.args.self.now.is_ledger in
+    let asked = asked_same c.defined.new.nodes _ c.new-conditions.result.items c.defined.new.out.items c.deref.result.now c.in_ok-term.ensures.gives.adds c.new-conditions.ensures.items c.deref.ensures.value in
+    c.in_ok-assert_all.ensures.ledger ∙ (λ i. saying (assert_all (kept i).path (asked i)) (kept i))
+
+pub returns-clause-stands : goal.returns-clause-stands
+returns-clause-stands c = stays c.defined.new.nodes c.assert_all.new.self.nodes _ c.in_ok-term.term c.assert_all.ensures.grows c.in_ok-term.ensures.gives.stands
