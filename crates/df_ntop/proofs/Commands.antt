@@ -1,5 +1,5 @@
 -- How a call ends by its words.
-use Rattle.std.proofs.Common.{◌≡◌, ⊎_elim, inl, inr, ℕ, ◌≤◌, List, Option, sym, subst, arith}
+use Rattle.std.proofs.Common.{◌≡◌, ⊎_elim, inl, inr, ℕ, ◌≤◌, List, Option, sym, subst}
 use Rattle.df_base.specs.Outside.{Appends, AppendsPrefix}
 use Rattle.df_base.specs.declared.status.Status.{Status}
 use Rattle.df_base.specs.declared.status.Status.TheVariants as statuses
@@ -7,18 +7,16 @@ use Rattle.df_lang.specs.Program.{Program}
 use Rattle.df_ncmd.specs.Line.{Command}
 use Rattle.df_ntop.specs.declared.ending.End.{End}
 use Rattle.df_ntop.specs.declared.ending.End.TheVariants as ends
-use Rattle.df_ntop.specs.Call.{Store, Stream, Streams, Call, Rose}
+use Rattle.df_ntop.specs.Call.{Store, Stream, Streams, Call}
 use Rattle.df_ntop.specs.Command.{IsLine, IsNoLine}
 use Rattle.df_ntop.specs.Lines.{usage_line, memory_line, fuel_line}
-use Rattle.df_ntop.specs.Answer.{IsSpent, IsPartOnOut, ProgramTells, not_native, no_main, SourceTells, refused, lawful, FilesTell, unread, large, loaded, PutSoFar, nothing, on_out, on_err, IsCutOnErr, Answers}
+use Rattle.df_ntop.specs.Loaded.{LogFile}
+use Rattle.df_ntop.specs.Answer.{IsSpent, IsPartOnOut, ProgramTells, not_native, no_main, too_large, not_a_log, bad_part, SourceTells, refused, lawful, FilesTell, unread, large, loaded, PutSoFar, nothing, on_out, on_err, IsCutOnErr, Answers}
 use Rattle.df_ntop.specs.Answer as answers
 use Rattle.df_ntop.specs.Ending.{Ends, of_files}
 use Rattle.df_ntop.specs.Telling.{Tells}
+use Rattle.df_ntop.proofs.Bulk.{later}
 use Rattle.df_ntop.proofs.Rows.{done_row, spent_row, part_row, spent_part_row, out_report_row, err_report_row, report_part_row}
-
-later : (before middle now : ℕ) → before ≤ middle → Rose middle now → Rose before now
-later before middle now kept (inl less) = inl (omega arith)
-later before middle now kept (inr last) = inr last
 
 module _ (words : List (List ℕ)) (files : Store) where
   abbrev call : Streams → Stream → Call
@@ -79,18 +77,21 @@ module _ (words : List (List ℕ)) (files : Store) where
       by_status : (line : List ℕ) (status : Status) → FilesTell files command status line → s.out.new ≡ s.out.old → Appends s.err.old new line → AnswersSo status
       by_status line status tells quiet put = by_files command status line tells words_are put
         where
-          by_program : (command : Command) (source : List ℕ) (program : Program) (status : Status) (line : List ℕ) → FilesTell files command status line → ProgramTells program command status line → IsLine words command → Appends s.err.old new line → AnswersSo status
-          by_program command source program status line tells (not_native pos rule compiled first) is put = (line, record { command = command; line = is; holds = tells }, (quiet, put))
-          by_program command source program status line tells (no_main run native none) is put = (line, record { command = command; line = is; holds = tells }, (quiet, put))
+          by_program : (command : Command) (log : LogFile) (program : Program) (status : Status) (line : List ℕ) → FilesTell files command status line → ProgramTells program command log status line → IsLine words command → Appends s.err.old new line → AnswersSo status
+          by_program command log program status line tells (not_native pos rule compiled first) is put = (line, record { command = command; line = is; holds = tells }, (quiet, put))
+          by_program command log program status line tells (no_main run native none) is put = (line, record { command = command; line = is; holds = tells }, (quiet, put))
+          by_program command log program status line tells (too_large ready long) is put = (line, record { command = command; line = is; holds = tells }, (quiet, put))
+          by_program command log program status line tells (not_a_log bytes number ready there bad) is put = (line, record { command = command; line = is; holds = tells }, (quiet, put))
+          by_program command log program status line tells (bad_part bytes obligation step ready there bad) is put = (line, record { command = command; line = is; holds = tells }, (quiet, put))
 
-          by_source : (command : Command) (source : List ℕ) (status : Status) (line : List ℕ) → FilesTell files command status line → SourceTells source command status line → IsLine words command → Appends s.err.old new line → AnswersSo status
-          by_source command source status line tells (refused names r why) is put = (line, record { command = command; line = is; holds = tells }, (quiet, put))
-          by_source command source status line tells (lawful program there told) is put = by_program command source program status line tells told is put
+          by_source : (command : Command) (log : LogFile) (source : List ℕ) (status : Status) (line : List ℕ) → FilesTell files command status line → SourceTells source command log status line → IsLine words command → Appends s.err.old new line → AnswersSo status
+          by_source command log source status line tells (refused names r why) is put = (line, record { command = command; line = is; holds = tells }, (quiet, put))
+          by_source command log source status line tells (lawful program there told) is put = by_program command log program status line tells told is put
 
           by_files : (command : Command) (status : Status) (line : List ℕ) → FilesTell files command status line → IsLine words command → Appends s.err.old new line → AnswersSo status
-          by_files command status line (unread rose) is put = (rose, record { command = command; line = is; holds = (quiet, put) })
-          by_files command status line (large long) is put = (line, record { command = command; line = is; holds = large long }, (quiet, put))
-          by_files command status line (loaded source there told) is put = by_source command source status line (loaded source there told) told is put
+          by_files command status line (unread name named rose) is put = (rose, record { command = command; line = is; holds = (name, named, (quiet, put)) })
+          by_files command status line (large loads long) is put = (line, record { command = command; line = is; holds = large loads long }, (quiet, put))
+          by_files command status line (loaded source log there is_log told) is put = by_source command log source status line (loaded source log there is_log told) told is put
 
       pub told_end : (line : List ℕ) (status result : Status) → FilesTell files command status line → s.out.new ≡ s.out.old → s.err.new ≡ s.err.old → Tells status line line_err result → AnswersSo result
       told_end line status result tells quiet silent told =

@@ -1,13 +1,13 @@
 -- The status of a call is the one that is due.
-use Rattle.std.proofs.Common.{◌≡◌, ◌⊎◌, inl, inr, ℕ, ◌≤◌, ◌<◌, true, List, length, Option, Some, None, refl, sym, subst, true≢false, arith}
-use Rattle.std.specs.Prelude.{IfSome}
-use Rattle.df_base.specs.Outside.{Contents, bytes_of}
+use Rattle.std.proofs.Common.{◌≡◌, ◌⊎◌, inl, inr, ℕ, ◌≤◌, ◌<◌, true, false, List, [], length, Option, Some, None, refl, sym, subst, ◌∙◌, true≢false, arith}
 use Rattle.df_base.specs.declared.pos.Pos.{Pos}
 use Rattle.df_base.specs.declared.refusal.Refusal.{Refusal}
 use Rattle.df_base.specs.declared.status.Status.{Status}
 use Rattle.df_base.specs.declared.status.Status.TheVariants as statuses
+use Rattle.df_form.specs.Log.{Step}
 use Rattle.df_lang.specs.Native.{IsNative}
 use Rattle.df_lang.specs.Program.{Program}
+use Rattle.df_logtext.specs.BadLog.{IsText, IsBad}
 use Rattle.df_ncmd.specs.Line.{Budget, Command, Verify, Prove, Check, Build, Run, Bulk}
 use Rattle.df_nmach.specs.Step as step
 use Rattle.df_nmach.specs.Step.{Stepped}
@@ -17,14 +17,18 @@ use Rattle.df_nerase.specs.Erasing.{method_number}
 use Rattle.df_nerase.specs.First.{IsFirst, BrokenIsNotNative}
 use Rattle.df_nfront.specs.Source.{IsLawful, IsUnlawful, byte_limit}
 use Rattle.df_nfront.specs.Refused.{IsRefused}
+use Rattle.df_nproof.specs.Laws.{DerivedIsNotRefused}
+use Rattle.df_nproof.specs.Verified.{verified_outcomes}
+use Rattle.df_report.specs.Report.{summary}
 use Rattle.df_ntop.specs.Call.{Call}
-use Rattle.df_ntop.specs.Command.{IsLine, IsNoLine, is_here, file_of, compiles, runs}
+use Rattle.df_ntop.specs.Command.{IsLine, IsNoLine, IsFileOf, file_of, log_of, usual, most_fuel, compiles, runs}
 use Rattle.df_ntop.specs.Entry.{HasNoEntry}
-use Rattle.df_ntop.specs.Loaded.{IsLoaded}
+use Rattle.df_ntop.specs.Loaded.{IsSourceOf, IsLonger, LogFile, NoLog, IsLogFile}
 use Rattle.df_ntop.specs.Headline.{Share, Whole, Spent, EntryRun}
-use Rattle.df_ntop.specs.Answer.{IsBuilt, IsAccepted, OfLine, IsDone, IsSpent, IsUnproved, ProgramTells, not_native, no_main, SourceTells, refused, lawful, FilesTell, unread, large, loaded, IsLarge, Tells, Answers}
-use Rattle.df_ntop.specs.Complete.{Holds, IsCutShort, IsDueOn, IsDue, IsComplete}
+use Rattle.df_ntop.specs.Answer.{ProvesBy, IsReady, IsBuilt, IsAccepted, OfLine, IsDone, IsSpent, IsUnproved, ProgramTells, not_native, no_main, too_large, not_a_log, bad_part, SourceTells, refused, lawful, FilesTell, unread, large, loaded, Tells, Answers}
+use Rattle.df_ntop.specs.Complete.{HoldsSource, HoldsLog, IsCutShort, HasRun, IsDueOn, IsDue, IsComplete}
 use Rattle.df_ntop.specs.Complete as complete
+use Rattle.df_ntop.proofs.DueLogs.{same_bytes, longer_bytes, same_log, unlogged, proves_due, IsWrong, wrong_due, long_is_wrong, no_text_is_wrong, part_is_wrong}
 use Rattle.df_ntop.proofs.Limits.{same_command}
 use Rattle.df_ntop.proofs.Steps.{ends_later}
 
@@ -34,195 +38,295 @@ not_both a b = omega arith
 one_way : (s : Stepped) (ended : _) (state : states.State) → s ≡ step.Ended ended → s ≡ step.On state → ⊥
 one_way s ended state e o = cc
 
--- the files tell of one source
-same_source : (held : Option Contents) (name source other : List ℕ) → IfSome held (λ files. bytes_of files name ≡ Some source) → Holds held name other → source ≡ other
-same_source None name source other is (files, e, there) = absurd cc
-same_source (Some f) name source other is (files, e, there) = cc
-
-large_source : (held : Option Contents) (name source : List ℕ) → IsLarge held name → Holds held name source → byte_limit < length source
-large_source None name source is (files, e, there) = absurd cc
-large_source (Some f) name source (other, is, long) (files, e, there) =
-    let same : other ≡ source = cc in subst (λ (x : List ℕ). byte_limit < length x) same long
-
 module _ (call : Call)
     (same_program : (source : List ℕ) (program other : Program) → IsLawful source program → IsLawful source other → program ≡ other)
     (unlawful : (source : List ℕ) (names : List (List ℕ)) (r : Refusal) → IsRefused source names r → IsUnlawful source)
-    (broken : BrokenIsNotNative) where
-  abbrev Due : Command → List ℕ → Status → Type 0
-  Due command source status = IsDue command source status call.out
+    (broken : BrokenIsNotNative)
+    (one_text : (names : List (List ℕ)) (one other : List (List Step)) (bytes : List ℕ) → IsText names one bytes → IsText names other bytes → one ≡ other)
+    (no_text : (names : List (List ℕ)) (logs : List (List Step)) (bytes : List ℕ) (number : ℕ) → IsBad names bytes number → IsText names logs bytes → ⊥)
+    (not_refused : DerivedIsNotRefused) where
+  abbrev Due : Command → List ℕ → LogFile → Status → Type 0
+  Due command source log status = IsDue command source log status call.out
 
-  abbrev DueOn : Command → Program → Status → Type 0
-  DueOn command program status = IsDueOn command program status call.out
+  abbrev DueOn : Command → Program → LogFile → Status → Type 0
+  DueOn command program log status = IsDueOn command program log status call.out
 
-  of_lawful : (command : Command) (source : List ℕ) (program : Program) (status : Status) → IsLawful source program → DueOn command program status → Due command source status
-  of_lawful command source program status is due = record {
+  of_lawful : (command : Command) (source : List ℕ) (log : LogFile) (program : Program) (status : Status) → IsLawful source program → DueOn command program log status → Due command source log status
+  of_lawful command source log program status is due = record {
     refused = λ names r h. absurd (unlawful source names r h program is);
     long = λ h. absurd (not_both (length source) byte_limit is.read.divided.short h);
-    lawful = λ other h. subst (λ (p : Program). DueOn command p status) (same_program source program other is h) due;
+    lawful = λ other h. subst (λ (p : Program). DueOn command p log status) (same_program source program other is h) due;
   }
 
-  of_refused : (command : Command) (source : List ℕ) (names : List (List ℕ)) (r : Refusal) → IsRefused source names r → Due command source statuses.Refused
-  of_refused command source names r why = record {
+  of_refused : (command : Command) (source : List ℕ) (log : LogFile) (names : List (List ℕ)) (r : Refusal) → IsRefused source names r → Due command source log statuses.Refused
+  of_refused command source log names r why = record {
     refused = λ names r h. refl;
     long = λ h. refl;
     lawful = λ program is. absurd (unlawful source names r why program is);
   }
 
-  of_long : (command : Command) (source : List ℕ) → byte_limit < length source → Due command source statuses.Refused
-  of_long command source long = record {
+  of_long : (command : Command) (source : List ℕ) (log : LogFile) → byte_limit < length source → Due command source log statuses.Refused
+  of_long command source log long = record {
     refused = λ names r h. refl;
     long = λ h. refl;
     lawful = λ program is. absurd (not_both (length source) byte_limit is.read.divided.short long);
   }
 
-  -- ---- with a program
+  -- ---- the files tell of the source and of the log
 
-  module _ (command : Command) (source : List ℕ) (there : Holds call.files.held (file_of command) source) where
-    -- the files tell that the source is this one
-    of_source : (other : List ℕ) (status : Status) → IsLoaded call.files (file_of command) other → Due command other status → Due command source status
-    of_source other status is due = subst (λ (x : List ℕ). Due command x status) (same_source call.files.held (file_of command) other source is.held there) due
+  same_source : (command : Command) (source other : List ℕ) → IsSourceOf call.files command other → HoldsSource call.files.held command source → other ≡ source
+  same_source (Verify file budget) source other is there = same_bytes call.files.held file other source is.held there
+  same_source (Prove file budget) source other is there = same_bytes call.files.held file other source is.held there
+  same_source (Check file log) source other is there = same_bytes call.files.held file other source is.held there
+  same_source (Build file proof budget) source other is there = same_bytes call.files.held file other source is.held there
+  same_source (Run file proof budget fuel) source other is there = same_bytes call.files.held file other source is.held there
+  same_source (Bulk seed count) source other is there = is ∙ sym there
 
-  -- what ran is accepted
-  ran : (program : Program) (fuel : ℕ) (share : Share) (budget : Budget) (code : Code) → IsBuilt program budget code → (run : EntryRun program code fuel share call.out) → IsAccepted program budget run.number code run.runs.returned.store.text
-  ran program fuel share budget code built run = record { built = built; run = record { method = run.main; entry = run.entry; compiled = built.compiled; runs = run.runs; prints = refl } }
+  module _ (command : Command) (source : List ℕ) (log : LogFile) (there : HoldsSource call.files.held command source) (there_log : HoldsLog call.files.held (log_of command) log) where
+    of_source : (other : List ℕ) (status : Status) → IsSourceOf call.files command other → Due command other log status → Due command source log status
+    of_source other status is due = subst (λ (x : List ℕ). Due command x log status) (same_source command source other is there) due
 
-  done_due : (command : Command) (source : List ℕ) → Holds call.files.held (file_of command) source → IsDone call command → Due command source statuses.Done
-  done_due (Verify file budget) source there is =
-      of_source (Verify file budget) source there is.right.source statuses.Done is.right.loaded
-      (of_lawful (Verify file budget) is.right.source is.right.program statuses.Done is.right.lawful (inl refl))
-  done_due (Prove file budget) source there is = absurd is
-  done_due (Check file log) source there is = absurd is
-  done_due (Build file proof budget) source there is =
-      of_source (Build file proof budget) source there is.accepted.source statuses.Done is.accepted.loaded
-      (of_lawful (Build file proof budget) is.accepted.source is.accepted.program statuses.Done is.accepted.lawful (record {
-        not_native = λ h. absurd (h is.built.native);
-        native = λ native. inr (record { code = is.accepted.code; built = is.built; done = refl; put = is.accepted.put.put });
-      }))
-  done_due (Run file proof budget fuel) source there is =
-      let run = is.accepted.put in
-      of_source (Run file proof budget fuel) source there is.accepted.source statuses.Done is.accepted.loaded
-      (of_lawful (Run file proof budget fuel) is.accepted.source is.accepted.program statuses.Done is.accepted.lawful (record {
-        not_native = λ h. absurd (h is.built.native);
-        no_main = λ native none. absurd (none run.number run.main run.entry);
-        main = λ native number entry. inr (record {
-          number = run.number;
-          code = is.accepted.code;
-          whole = run.runs.returned.store.text;
-          accepted = ran is.accepted.program fuel Whole budget is.accepted.code is.built run;
-          enough = λ taken few h. (refl, run.put.1);
-          short = λ h. absurd (h run.put.0);
-        });
-      }))
-  done_due (Bulk seed count) source there is = absurd is
+    of_both : (other : List ℕ) (other_log : LogFile) (status : Status) → IsSourceOf call.files command other → IsLogFile call.files (log_of command) other_log → Due command other other_log status → Due command source log status
+    of_both other other_log status is is_log due =
+        of_source other status is (subst (λ (l : LogFile). Due command other l status) (same_log call.files (log_of command) log other_log is_log there_log) due)
 
-  spent_due : (command : Command) (source : List ℕ) → Holds call.files.held (file_of command) source → IsSpent call command → Due command source statuses.FuelSpent
-  spent_due (Verify file budget) source there is = absurd is
-  spent_due (Prove file budget) source there is = absurd is
-  spent_due (Check file log) source there is = absurd is
-  spent_due (Build file proof budget) source there is = absurd is
-  spent_due (Run file proof budget fuel) source there is =
-      let run = is.accepted.put in
+  -- ---- what ran
+
+  -- it is accepted
+  ran : (program : Program) (fuel : ℕ) (share : Share) (line : List ℕ) (budget : Budget) (code : Code) → IsBuilt program budget code → (run : EntryRun program code fuel share line call.out) → IsAccepted program budget run.number code run.runs.returned.store.text
+  ran program fuel share line budget code built run = record { built = built; run = record { method = run.main; entry = run.entry; compiled = built.compiled; runs = run.runs; prints = refl } }
+
+  done_run : (program : Program) (fuel : ℕ) (line : List ℕ) (budget : Budget) (code : Code) → IsBuilt program budget code → EntryRun program code fuel Whole line call.out → HasRun program budget fuel line statuses.Done call.out
+  done_run program fuel line budget code built run = record {
+    number = run.number;
+    code = code;
+    whole = run.runs.returned.store.text;
+    accepted = ran program fuel Whole line budget code built run;
+    enough = λ taken few h. (refl, run.put.1);
+    short = λ h. absurd (h run.put.0);
+  }
+
+  spent_run : (program : Program) (fuel : ℕ) (line : List ℕ) (budget : Budget) (code : Code) → IsBuilt program budget code → EntryRun program code fuel Spent line call.out → HasRun program budget fuel line statuses.FuelSpent call.out
+  spent_run program fuel line budget code built run =
       let unended = run.put.1 in
-      of_source (Run file proof budget fuel) source there is.accepted.source statuses.FuelSpent is.accepted.loaded
-      (of_lawful (Run file proof budget fuel) is.accepted.source is.accepted.program statuses.FuelSpent is.accepted.lawful (record {
+      record {
+        number = run.number;
+        code = code;
+        whole = run.runs.returned.store.text;
+        accepted = ran program fuel Spent line budget code built run;
+        enough = λ taken few h. absurd (one_way _ _ unended.state (ends_later code (method_number program run.number) taken fuel run.runs.returned.store.text h few).within unended.on);
+        short = λ h. refl;
+      }
+
+  -- ---- by commands, over the log that is there
+
+  goes_on : (program : Program) (proof : Option (List ℕ)) (log : LogFile) (status : Status) (then_due : Type 0) → ProvesBy program log → then_due → complete.ProofIsDue program proof log status then_due
+  goes_on program proof log status then_due proves go = proves_due one_text no_text not_refused program proof log status then_due proves go
+
+  done_due : (command : Command) (source : List ℕ) (log : LogFile) → HoldsSource call.files.held command source → HoldsLog call.files.held (log_of command) log → IsDone call command → Due command source log statuses.Done
+  done_due (Verify file budget) source log there there_log is =
+      of_source (Verify file budget) source log there there_log is.right.source statuses.Done is.right.loaded
+      (of_lawful (Verify file budget) is.right.source log is.right.program statuses.Done is.right.lawful (inr refl))
+  done_due (Prove file budget) source log there there_log is =
+      of_source (Prove file budget) source log there there_log is.right.source statuses.Done is.right.loaded
+      (of_lawful (Prove file budget) is.right.source log is.right.program statuses.Done is.right.lawful (inr refl))
+  done_due (Check file name) source log there there_log is =
+      let by = is.by_log in
+      of_both (Check file name) source log there there_log is.right.source by.log statuses.Done is.right.loaded by.is_file
+      (of_lawful (Check file name) is.right.source by.log is.right.program statuses.Done is.right.lawful
+      (goes_on is.right.program (Some name) by.log statuses.Done (statuses.Done ≡ statuses.Done) by.proves refl))
+  done_due (Build file proof budget) source log there there_log is =
+      let by = is.by_log in
+      of_both (Build file proof budget) source log there there_log is.accepted.source by.log statuses.Done is.accepted.loaded by.is_file
+      (of_lawful (Build file proof budget) is.accepted.source by.log is.accepted.program statuses.Done is.accepted.lawful (record {
+        not_native = λ h. absurd (h is.built.native);
+        native = λ native. goes_on is.accepted.program proof by.log statuses.Done _ by.proves (record { code = is.accepted.code; built = is.built; done = refl; put = is.accepted.put.put });
+      }))
+  done_due (Run file proof budget fuel) source log there there_log is =
+      let by = is.by_log in
+      let run = is.accepted.put in
+      of_both (Run file proof budget fuel) source log there there_log is.accepted.source by.log statuses.Done is.accepted.loaded by.is_file
+      (of_lawful (Run file proof budget fuel) is.accepted.source by.log is.accepted.program statuses.Done is.accepted.lawful (record {
         not_native = λ h. absurd (h is.built.native);
         no_main = λ native none. absurd (none run.number run.main run.entry);
-        main = λ native number entry. inr (record {
-          number = run.number;
-          code = is.accepted.code;
-          whole = run.runs.returned.store.text;
-          accepted = ran is.accepted.program fuel Spent budget is.accepted.code is.built run;
-          enough = λ taken few h. absurd (one_way _ _ unended.state (ends_later is.accepted.code (method_number is.accepted.program run.number) taken fuel run.runs.returned.store.text h few).within unended.on);
-          short = λ h. refl;
-        });
+        main = λ native number entry. goes_on is.accepted.program proof by.log statuses.Done _ by.proves (done_run is.accepted.program fuel [] budget is.accepted.code is.built run);
       }))
-  spent_due (Bulk seed count) source there is = absurd is
+  done_due (Bulk seed count) source log there there_log is =
+      let run = is.accepted.put in
+      let line = summary (verified_outcomes is.accepted.program.decls) in
+      of_source (Bulk seed count) source log there there_log is.accepted.source statuses.Done is.accepted.loaded
+      (of_lawful (Bulk seed count) is.accepted.source log is.accepted.program statuses.Done is.accepted.lawful (record {
+        not_native = λ h. absurd (h is.built.native);
+        no_main = λ native none. absurd (none run.number run.main run.entry);
+        main = λ native number entry. inr (done_run is.accepted.program most_fuel line usual is.accepted.code is.built run);
+      }))
 
-  unproved_due : (command : Command) (source : List ℕ) → Holds call.files.held (file_of command) source → IsUnproved call command → Due command source statuses.Unproved
-  unproved_due (Verify file budget) source there (is, silent) =
-      of_source (Verify file budget) source there is.source statuses.Unproved is.loaded
-      (of_lawful (Verify file budget) is.source is.program statuses.Unproved is.lawful (inr refl))
-  unproved_due (Prove file budget) source there is = absurd is
-  unproved_due (Check file log) source there is = absurd is
-  unproved_due (Build file proof budget) source there (is, quiet) =
-      of_source (Build file proof budget) source there is.source statuses.Unproved is.loaded
-      (of_lawful (Build file proof budget) is.source is.program statuses.Unproved is.lawful (record {
+  spent_due : (command : Command) (source : List ℕ) (log : LogFile) → HoldsSource call.files.held command source → HoldsLog call.files.held (log_of command) log → IsSpent call command → Due command source log statuses.FuelSpent
+  spent_due (Verify file budget) source log there there_log is = absurd is
+  spent_due (Prove file budget) source log there there_log is = absurd is
+  spent_due (Check file name) source log there there_log is = absurd is
+  spent_due (Build file proof budget) source log there there_log is = absurd is
+  spent_due (Run file proof budget fuel) source log there there_log is =
+      let by = is.by_log in
+      let run = is.accepted.put in
+      of_both (Run file proof budget fuel) source log there there_log is.accepted.source by.log statuses.FuelSpent is.accepted.loaded by.is_file
+      (of_lawful (Run file proof budget fuel) is.accepted.source by.log is.accepted.program statuses.FuelSpent is.accepted.lawful (record {
+        not_native = λ h. absurd (h is.built.native);
+        no_main = λ native none. absurd (none run.number run.main run.entry);
+        main = λ native number entry. goes_on is.accepted.program proof by.log statuses.FuelSpent _ by.proves (spent_run is.accepted.program fuel [] budget is.accepted.code is.built run);
+      }))
+  spent_due (Bulk seed count) source log there there_log is =
+      let run = is.accepted.put in
+      let line = summary (verified_outcomes is.accepted.program.decls) in
+      of_source (Bulk seed count) source log there there_log is.accepted.source statuses.FuelSpent is.accepted.loaded
+      (of_lawful (Bulk seed count) is.accepted.source log is.accepted.program statuses.FuelSpent is.accepted.lawful (record {
+        not_native = λ h. absurd (h is.built.native);
+        no_main = λ native none. absurd (none run.number run.main run.entry);
+        main = λ native number entry. inr (spent_run is.accepted.program most_fuel line usual is.accepted.code is.built run);
+      }))
+
+  unproved_due : (command : Command) (source : List ℕ) (log : LogFile) → HoldsSource call.files.held command source → HoldsLog call.files.held (log_of command) log → IsUnproved call command → Due command source log statuses.Unproved
+  unproved_due (Verify file budget) source log there there_log (is, silent) =
+      of_source (Verify file budget) source log there there_log is.source statuses.Unproved is.loaded
+      (of_lawful (Verify file budget) is.source log is.program statuses.Unproved is.lawful (inl refl))
+  unproved_due (Prove file budget) source log there there_log (is, quiet) =
+      of_source (Prove file budget) source log there there_log is.source statuses.Unproved is.loaded
+      (of_lawful (Prove file budget) is.source log is.program statuses.Unproved is.lawful (inl refl))
+  unproved_due (Check file name) source log there there_log is = absurd is
+  unproved_due (Build file None budget) source log there there_log (is, quiet) =
+      of_source (Build file None budget) source log there there_log is.source statuses.Unproved is.loaded
+      (of_lawful (Build file None budget) is.source log is.program statuses.Unproved is.lawful (record {
         not_native = λ h. absurd (h (is.is.ready.native refl));
         native = λ native. inl refl;
       }))
-  unproved_due (Run file proof budget fuel) source there (is, quiet) =
+  unproved_due (Build file (Some name) budget) source log there there_log is = absurd is
+  unproved_due (Run file None budget fuel) source log there there_log (is, quiet) =
       let found = is.is.ready.entry refl in
-      of_source (Run file proof budget fuel) source there is.source statuses.Unproved is.loaded
-      (of_lawful (Run file proof budget fuel) is.source is.program statuses.Unproved is.lawful (record {
+      of_source (Run file None budget fuel) source log there there_log is.source statuses.Unproved is.loaded
+      (of_lawful (Run file None budget fuel) is.source log is.program statuses.Unproved is.lawful (record {
         not_native = λ h. absurd (h (is.is.ready.native refl));
         no_main = λ native none. absurd (none found.0 found.1.method found.1.entry);
         main = λ native number entry. inl refl;
       }))
-  unproved_due (Bulk seed count) source there is = absurd is
+  unproved_due (Run file (Some name) budget fuel) source log there there_log is = absurd is
+  unproved_due (Bulk seed count) source log there there_log (is, silent) =
+      let found = is.is.ready.entry refl in
+      of_source (Bulk seed count) source log there there_log is.source statuses.Unproved is.loaded
+      (of_lawful (Bulk seed count) is.source log is.program statuses.Unproved is.lawful (record {
+        not_native = λ h. absurd (h (is.is.ready.native refl));
+        no_main = λ native none. absurd (none found.0 found.1.method found.1.entry);
+        main = λ native number entry. inl refl;
+      }))
 
   -- ---- lines
 
-  not_native_due : (command : Command) (program : Program) (pos : Pos) (rule : ℕ) → is_here command ≡ true → compiles command ≡ true → IsFirst program pos rule → DueOn command program statuses.NotCompilable
-  not_native_due (Verify file budget) program pos rule here compiled first = absurd (true≢false (sym compiled))
-  not_native_due (Prove file budget) program pos rule here compiled first = absurd (true≢false (sym compiled))
-  not_native_due (Check file log) program pos rule here compiled first = absurd (true≢false (sym compiled))
-  not_native_due (Build file proof budget) program pos rule here compiled first = record {
+  not_native_due : (command : Command) (program : Program) (log : LogFile) (pos : Pos) (rule : ℕ) → compiles command ≡ true → IsFirst program pos rule → DueOn command program log statuses.NotCompilable
+  not_native_due (Verify file budget) program log pos rule compiled first = absurd (true≢false (sym compiled))
+  not_native_due (Prove file budget) program log pos rule compiled first = absurd (true≢false (sym compiled))
+  not_native_due (Check file name) program log pos rule compiled first = absurd (true≢false (sym compiled))
+  not_native_due (Build file proof budget) program log pos rule compiled first = record {
     not_native = λ h. refl;
     native = λ native. absurd (broken program pos rule first native);
   }
-  not_native_due (Run file proof budget fuel) program pos rule here compiled first = record {
+  not_native_due (Run file proof budget fuel) program log pos rule compiled first = record {
     not_native = λ h. refl;
     no_main = λ native none. absurd (broken program pos rule first native);
     main = λ native number entry. absurd (broken program pos rule first native);
   }
-  not_native_due (Bulk seed count) program pos rule here compiled first = absurd (true≢false (sym here))
+  not_native_due (Bulk seed count) program log pos rule compiled first = record {
+    not_native = λ h. refl;
+    no_main = λ native none. absurd (broken program pos rule first native);
+    main = λ native number entry. absurd (broken program pos rule first native);
+  }
 
-  no_main_due : (command : Command) (program : Program) → is_here command ≡ true → runs command ≡ true → IsNative program → HasNoEntry program → DueOn command program statuses.NoMain
-  no_main_due (Verify file budget) program here run native none = absurd (true≢false (sym run))
-  no_main_due (Prove file budget) program here run native none = absurd (true≢false (sym run))
-  no_main_due (Check file log) program here run native none = absurd (true≢false (sym run))
-  no_main_due (Build file proof budget) program here run native none = absurd (true≢false (sym run))
-  no_main_due (Run file proof budget fuel) program here run native none = record {
+  no_main_due : (command : Command) (program : Program) (log : LogFile) → runs command ≡ true → IsNative program → HasNoEntry program → DueOn command program log statuses.NoMain
+  no_main_due (Verify file budget) program log run native none = absurd (true≢false (sym run))
+  no_main_due (Prove file budget) program log run native none = absurd (true≢false (sym run))
+  no_main_due (Check file name) program log run native none = absurd (true≢false (sym run))
+  no_main_due (Build file proof budget) program log run native none = absurd (true≢false (sym run))
+  no_main_due (Run file proof budget fuel) program log run native none = record {
     not_native = λ h. absurd (h native);
     no_main = λ native none. refl;
     main = λ native number entry. absurd (none number entry.method entry.entry);
   }
-  no_main_due (Bulk seed count) program here run native none = absurd (true≢false (sym here))
+  no_main_due (Bulk seed count) program log run native none = record {
+    not_native = λ h. absurd (h native);
+    no_main = λ native none. refl;
+    main = λ native number entry. absurd (none number entry.method entry.entry);
+  }
 
-  program_due : (command : Command) (program : Program) (status : Status) (line : List ℕ) → is_here command ≡ true → ProgramTells program command status line → DueOn command program status
-  program_due command program status line here (not_native pos rule compiled first) = not_native_due command program pos rule here compiled first
-  program_due command program status line here (no_main run native none) = no_main_due command program here run native none
+  -- a log that is refused
+  module _ (program : Program) (log : LogFile) (some : log ≡ NoLog → ⊥) (wrong : IsWrong one_text no_text not_refused program log) where
+    bad_proof_due : (proof : Option (List ℕ)) (then_due : Type 0) → IsLogFile call.files proof log → complete.ProofIsDue program proof log statuses.BadLog then_due
+    bad_proof_due None then_due is = absurd (unlogged call.files log is some)
+    bad_proof_due (Some name) then_due is = wrong_due one_text no_text not_refused program log then_due wrong
+
+    bad_log_due : (command : Command) → IsReady command program → IsLogFile call.files (log_of command) log → DueOn command program log statuses.BadLog
+    bad_log_due (Verify file budget) ready is = absurd (unlogged call.files log is some)
+    bad_log_due (Prove file budget) ready is = absurd (unlogged call.files log is some)
+    bad_log_due (Check file name) ready is = wrong_due one_text no_text not_refused program log (statuses.BadLog ≡ statuses.Done) wrong
+    bad_log_due (Build file proof budget) ready is = record {
+      not_native = λ h. absurd (h (ready.native refl));
+      native = λ native. bad_proof_due proof _ is;
+    }
+    bad_log_due (Run file proof budget fuel) ready is =
+        let found = ready.entry refl in
+        record {
+          not_native = λ h. absurd (h (ready.native refl));
+          no_main = λ native none. absurd (none found.0 found.1.method found.1.entry);
+          main = λ native number entry. bad_proof_due proof _ is;
+        }
+    bad_log_due (Bulk seed count) ready is = absurd (unlogged call.files log is some)
+
+  program_due : (command : Command) (program : Program) (log : LogFile) (status : Status) (line : List ℕ) → IsLogFile call.files (log_of command) log → ProgramTells program command log status line → DueOn command program log status
+  program_due command program log status line is (not_native pos rule compiled first) = not_native_due command program log pos rule compiled first
+  program_due command program log status line is (no_main run native none) = no_main_due command program log run native none
+  program_due command program log status line is (too_large ready long) =
+      bad_log_due program log (λ e. absurd cc) (long_is_wrong one_text no_text not_refused program log long) command ready is
+  program_due command program log status line is (not_a_log bytes number ready there bad) =
+      bad_log_due program log (λ e. absurd cc) (no_text_is_wrong one_text no_text not_refused program log bytes number there bad) command ready is
+  program_due command program log status line is (bad_part bytes obligation place ready there bad) =
+      bad_log_due program log (λ e. absurd cc) (part_is_wrong one_text no_text not_refused program log bytes obligation place there bad) command ready is
 
   -- ---- with a source, the files and the words
 
-  source_due : (command : Command) (source : List ℕ) (status : Status) (line : List ℕ) → is_here command ≡ true → SourceTells source command status line → Due command source status
-  source_due command source status line here (refused names r why) = of_refused command source names r why
-  source_due command source status line here (lawful program is told) = of_lawful command source program status is (program_due command program status line here told)
+  source_due : (command : Command) (source : List ℕ) (log : LogFile) (status : Status) (line : List ℕ) → IsLogFile call.files (log_of command) log → SourceTells source command log status line → Due command source log status
+  source_due command source log status line is_log (refused names r why) = of_refused command source log names r why
+  source_due command source log status line is_log (lawful program is told) = of_lawful command source log program status is (program_due command program log status line is_log told)
 
-  files_due : (command : Command) (source : List ℕ) (status : Status) (line : List ℕ) → is_here command ≡ true → Holds call.files.held (file_of command) source → FilesTell call.files command status line → IsCutShort status ⊎ Due command source status
-  files_due command source status line here there (unread rose) = inl complete.unread
-  files_due command source status line here there (large long) = inr (of_long command source (large_source call.files.held (file_of command) source long there))
-  files_due command source status line here there (loaded other is told) = inr (of_source command source there other status is (source_due command other status line here told))
+  large_of : (command : Command) (source : List ℕ) → IsFileOf command (file_of command) → HoldsSource call.files.held command source → IsLonger byte_limit call.files.held (file_of command) → byte_limit < length source
+  large_of (Verify file budget) source loads there long = longer_bytes byte_limit call.files.held file source long there
+  large_of (Prove file budget) source loads there long = longer_bytes byte_limit call.files.held file source long there
+  large_of (Check file name) source loads there long = longer_bytes byte_limit call.files.held file source long there
+  large_of (Build file proof budget) source loads there long = longer_bytes byte_limit call.files.held file source long there
+  large_of (Run file proof budget fuel) source loads there long = longer_bytes byte_limit call.files.held file source long there
+  large_of (Bulk seed count) source loads there long = absurd loads
 
-  module _ (command : Command) (source : List ℕ) (line : IsLine call.words command) (there : Holds call.files.held (file_of command) source) where
+  files_due : (command : Command) (source : List ℕ) (log : LogFile) (status : Status) (line : List ℕ) → HoldsSource call.files.held command source → HoldsLog call.files.held (log_of command) log → FilesTell call.files command status line → IsCutShort status ⊎ Due command source log status
+  files_due command source log status line there there_log (unread name named rose) = inl complete.unread
+  files_due command source log status line there there_log (large loads long) = inr (of_long command source log (large_of command source loads there long))
+  files_due command source log status line there there_log (loaded other other_log is is_log told) =
+      inr (of_both command source log there there_log other other_log status is is_log (source_due command other other_log status line is_log told))
+
+  module _ (command : Command) (source : List ℕ) (log : LogFile) (line : IsLine call.words command) (there : HoldsSource call.files.held command source) (there_log : HoldsLog call.files.held (log_of command) log) where
     of_line : (is : Command → Type 0) → OfLine call.words is → is command
     of_line is h = subst is (same_command call.words h.command command h.line line) h.holds
 
-    of_tells : (status : Status) (text : List ℕ) → Tells call status text → IsCutShort status ⊎ Due command source status
-    of_tells status text tells = files_due command source status text line.here there (of_line (λ (c : Command). FilesTell call.files c status text) tells)
+    of_tells : (status : Status) (text : List ℕ) → Tells call status text → IsCutShort status ⊎ Due command source log status
+    of_tells status text tells = files_due command source log status text there there_log (of_line (λ (c : Command). FilesTell call.files c status text) tells)
 
-    is_due : (status : Status) → Answers call status → IsCutShort status ⊎ Due command source status
-    is_due statuses.Done a = inr (done_due command source there (of_line (IsDone call) a.0))
-    is_due statuses.Unproved a = inr (unproved_due command source there (of_line (IsUnproved call) a))
+    is_due : (status : Status) → Answers call status → IsCutShort status ⊎ Due command source log status
+    is_due statuses.Done a = inr (done_due command source log there there_log (of_line (IsDone call) a.0))
+    is_due statuses.Unproved a = inr (unproved_due command source log there there_log (of_line (IsUnproved call) a))
     is_due statuses.Usage a = absurd (a.0 command line)
     is_due statuses.Refused a = of_tells statuses.Refused a.0 a.1
     is_due statuses.Unread a = inl complete.unread
     is_due statuses.Unwritten a = inl complete.unwritten
     is_due statuses.Memory a = inl complete.memory
-    is_due statuses.FuelSpent a = inr (spent_due command source there (of_line (IsSpent call) a.0))
+    is_due statuses.FuelSpent a = inr (spent_due command source log there there_log (of_line (IsSpent call) a.0))
     is_due statuses.NotCompilable a = of_tells statuses.NotCompilable a.0 a.1
     is_due statuses.NoMain a = of_tells statuses.NoMain a.0 a.1
-    is_due statuses.BadLog a = absurd a
+    is_due statuses.BadLog a = of_tells statuses.BadLog a.0 a.1
 
   -- ---- words that are no line
 
@@ -237,10 +341,10 @@ module _ (call : Call)
   no_line statuses.FuelSpent a none = absurd (none a.0.command a.0.line)
   no_line statuses.NotCompilable a none = absurd (none a.1.command a.1.line)
   no_line statuses.NoMain a none = absurd (none a.1.command a.1.line)
-  no_line statuses.BadLog a none = absurd a
+  no_line statuses.BadLog a none = absurd (none a.1.command a.1.line)
 
   pub is_complete : (status : Status) → Answers call status → IsComplete call status
   is_complete status a = record {
     no_line = no_line status a;
-    due = λ command source line there. is_due command source line there status a;
+    due = λ command source log line there there_log. is_due command source log line there there_log status a;
   }

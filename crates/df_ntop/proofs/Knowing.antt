@@ -12,19 +12,22 @@ use Rattle.df_base.specs.declared.status.Status.{Status}
 use Rattle.df_base.specs.declared.status.Status.TheVariants as statuses
 use Rattle.df_lang.specs.Native.{IsNative}
 use Rattle.df_lang.specs.Program.{Program}
+use Rattle.df_logtext.specs.BadLog.{IsBad}
 use Rattle.df_ncmd.specs.Line.{Command}
 use Rattle.df_nerase.specs.First.{IsFirst}
 use Rattle.df_nfront.specs.Source.{IsLawful, byte_limit}
 use Rattle.df_nfront.specs.Refused.{IsRefused}
 use Rattle.df_nfront.specs.Line.{refusal_line}
+use Rattle.df_nproof.specs.Names.{names_in}
+use Rattle.df_nproof.specs.Checking.{HasBadPart}
 use Rattle.df_ntop.specs.declared.ending.End.{End}
 use Rattle.df_ntop.specs.declared.ending.End.TheVariants as ends
-use Rattle.df_ntop.specs.Call.{Store, Streams, Rose}
-use Rattle.df_ntop.specs.Command.{file_of, compiles, runs}
+use Rattle.df_ntop.specs.Call.{Store, Streams}
+use Rattle.df_ntop.specs.Command.{IsFileOf, file_of, log_of, log_name_of, compiles, runs}
 use Rattle.df_ntop.specs.Entry.{HasNoEntry}
-use Rattle.df_ntop.specs.Loaded.{IsLoaded}
-use Rattle.df_ntop.specs.Lines.{native_line, no_main_line, unread_line, large_line}
-use Rattle.df_ntop.specs.Answer.{ProgramTells, not_native, no_main, SourceTells, refused, lawful, FilesTell, unread, large, loaded, IsLarge}
+use Rattle.df_ntop.specs.Loaded.{IsSourceOf, IsLonger, LogFile, TooLong, Log, IsLogFile}
+use Rattle.df_ntop.specs.Lines.{native_line, no_main_line, large_line, too_large_line, not_a_log_line, bad_part_line}
+use Rattle.df_ntop.specs.Answer.{IsReady, ProgramTells, not_native, no_main, too_large, not_a_log, bad_part, SourceTells, refused, lawful, FilesTell, large, loaded}
 use Rattle.df_ntop.specs.Ending.{Known, IsToldBy, IsQuiet, Ends, of_program, of_source, of_files}
 
 -- a line is told, if there is memory for it
@@ -34,41 +37,49 @@ told_ends known s status text (Err e) end quiet tells same is = subst (Ends know
 
 -- ---- the lines that are told
 
-pub not_native_tells : (program : Program) (command : Command) (name : List ℕ) (rule : ℕ) (pos : Pos) → name ≡ file_of command → compiles command ≡ true → IsFirst program pos rule → ProgramTells program command statuses.NotCompilable (native_line name pos rule)
-not_native_tells program command name rule pos same compiled first =
-    subst (λ (n : List ℕ). ProgramTells program command statuses.NotCompilable (native_line n pos rule)) (sym same) (not_native pos rule compiled first)
+module _ (program : Program) (command : Command) (log : LogFile) where
+  pub not_native_tells : (name : List ℕ) (rule : ℕ) (pos : Pos) → name ≡ file_of command → compiles command ≡ true → IsFirst program pos rule → ProgramTells program command log statuses.NotCompilable (native_line name pos rule)
+  not_native_tells name rule pos same compiled first =
+      subst (λ (n : List ℕ). ProgramTells program command log statuses.NotCompilable (native_line n pos rule)) (sym same) (not_native pos rule compiled first)
 
-pub no_main_tells : (program : Program) (command : Command) (name : List ℕ) → name ≡ file_of command → runs command ≡ true → IsNative program → HasNoEntry program → ProgramTells program command statuses.NoMain (no_main_line name)
-no_main_tells program command name same run native none =
-    subst (λ (n : List ℕ). ProgramTells program command statuses.NoMain (no_main_line n)) (sym same) (no_main run native none)
+  pub no_main_tells : (name : List ℕ) → name ≡ file_of command → runs command ≡ true → IsNative program → HasNoEntry program → ProgramTells program command log statuses.NoMain (no_main_line name)
+  no_main_tells name same run native none =
+      subst (λ (n : List ℕ). ProgramTells program command log statuses.NoMain (no_main_line n)) (sym same) (no_main run native none)
+
+  pub too_large_tells : (name : List ℕ) → name ≡ log_name_of command → IsReady command program → log ≡ TooLong → ProgramTells program command log statuses.BadLog (too_large_line name)
+  too_large_tells name same ready is = subst (λ (n : List ℕ). ProgramTells program command log statuses.BadLog (too_large_line n)) (sym same) (too_large ready is)
+
+  pub not_a_log_tells : (name bytes : List ℕ) (number : ℕ) → name ≡ log_name_of command → IsReady command program → log ≡ Log bytes → IsBad (names_in program) bytes number → ProgramTells program command log statuses.BadLog (not_a_log_line name number)
+  not_a_log_tells name bytes number same ready is bad =
+      subst (λ (n : List ℕ). ProgramTells program command log statuses.BadLog (not_a_log_line n number)) (sym same) (not_a_log bytes number ready is bad)
+
+  pub bad_part_tells : (name bytes : List ℕ) (obligation step : ℕ) → name ≡ log_name_of command → IsReady command program → log ≡ Log bytes → HasBadPart program bytes obligation step → ProgramTells program command log statuses.BadLog (bad_part_line name obligation step)
+  bad_part_tells name bytes obligation step same ready is bad =
+      subst (λ (n : List ℕ). ProgramTells program command log statuses.BadLog (bad_part_line n obligation step)) (sym same) (bad_part bytes obligation step ready is bad)
 
 pub refusal_is : (told : Refusal → Type 0) (stop : Stop) (r : Refusal) → stop ≡ stops.Refused r → IfRefused told stop → told r
 refusal_is told stop r is h = subst (IfRefused told) is h
 
-pub refused_tells : (source : List ℕ) (command : Command) (name : List ℕ) (names : List (List ℕ)) (r : Refusal) → name ≡ file_of command → IsRefused source names r → SourceTells source command statuses.Refused (refusal_line name names r)
-refused_tells source command name names r same why =
-    subst (λ (n : List ℕ). SourceTells source command statuses.Refused (refusal_line n names r)) (sym same) (refused names r why)
+pub refused_tells : (source : List ℕ) (command : Command) (log : LogFile) (name : List ℕ) (names : List (List ℕ)) (r : Refusal) → name ≡ file_of command → IsRefused source names r → SourceTells source command log statuses.Refused (refusal_line name names r)
+refused_tells source command log name names r same why =
+    subst (λ (n : List ℕ). SourceTells source command log statuses.Refused (refusal_line n names r)) (sym same) (refused names r why)
 
-pub unread_tells : (files : Store) (command : Command) (name : List ℕ) → name ≡ file_of command → Rose files.before files.after → FilesTell files command statuses.Unread (unread_line name)
-unread_tells files command name same rose = subst (λ (n : List ℕ). FilesTell files command statuses.Unread (unread_line n)) (sym same) (unread rose)
+pub large_tells : (files : Store) (command : Command) (name : List ℕ) → name ≡ file_of command → IsFileOf command (file_of command) → IsLonger byte_limit files.held (file_of command) → FilesTell files command statuses.Refused (large_line name)
+large_tells files command name same loads long = subst (λ (n : List ℕ). FilesTell files command statuses.Refused (large_line n)) (sym same) (large loads long)
 
-longer : (found : Option (List ℕ)) → IfSome found (λ source. byte_limit < length source) → found ≢ None → (source : List ℕ) × (found ≡ Some source) × (byte_limit < length source)
-longer None long there = absurd (there refl)
-longer (Some source) long there = (source, refl, long)
+-- ---- files that are too long
 
-is_large : (held : Option Contents) (name : List ℕ) → IfSome held (λ files. IfSome (bytes_of files name) (λ source. byte_limit < length source)) → IfSome held (λ files. bytes_of files name ≢ None) → IsLarge held name
-is_large None name long there = tt
-is_large (Some files) name long there = longer (bytes_of files name) long there
+longer : (limit : ℕ) (found : Option (List ℕ)) → IfSome found (λ bytes. limit < length bytes) → found ≢ None → (bytes : List ℕ) × (found ≡ Some bytes) × (limit < length bytes)
+longer limit None long there = absurd (there refl)
+longer limit (Some bytes) long there = (bytes, refl, long)
 
--- the file is named when it is loaded, and when it is told
-pub large_tells : (files : Store) (command : Command) (asked name : List ℕ) → asked ≡ file_of command → name ≡ file_of command → IfSome files.held (λ held. IfSome (bytes_of held asked) (λ source. byte_limit < length source)) → IfSome files.held (λ held. bytes_of held asked ≢ None) → FilesTell files command statuses.Refused (large_line name)
-large_tells files command asked name is same long there =
-    subst (λ (n : List ℕ). FilesTell files command statuses.Refused (large_line n)) (sym same)
-    (large (subst (λ (n : List ℕ). IsLarge files.held n) is (is_large files.held asked long there)))
+pub is_longer : (limit : ℕ) (held : Option Contents) (name : List ℕ) → IfSome held (λ files. IfSome (bytes_of files name) (λ bytes. limit < length bytes)) → IfSome held (λ files. bytes_of files name ≢ None) → IsLonger limit held name
+is_longer limit None name long there = tt
+is_longer limit (Some files) name long there = longer limit (bytes_of files name) long there
 
 -- ---- with more known
 
-module _ (k l : Known) (s : Streams) (texts : (is_of : Command → Program → List ℕ → Type 0) (put : List ℕ → Type 0) → k.puts is_of put → l.puts is_of put) (lines : (status : Status) (line : List ℕ) → k.tells status line → l.tells status line) where
+module _ (k l : Known) (s : Streams) (texts : (is_of : Command → LogFile → Program → List ℕ → Type 0) (put : List ℕ → Type 0) → k.puts is_of put → l.puts is_of put) (lines : (status : Status) (line : List ℕ) → k.tells status line → l.tells status line) where
   ends_with : (end : End) → Ends k s end → Ends l s end
   ends_with ends.Done h = (texts _ _ h.0, h.1)
   ends_with ends.Unproved (inl h) = inl (texts _ _ h.0, h.1)
@@ -81,12 +92,11 @@ module _ (k l : Known) (s : Streams) (texts : (is_of : Command → Program → L
   ends_with ends.Memory (inr (inl h)) = inr (inl (texts _ _ h.0, h.1))
   ends_with ends.Memory (inr (inr h)) = inr (inr (texts _ _ h.0, h.1))
 
-pub source_ends : (command : Command) (source : List ℕ) (program : Program) (s : Streams) (end : End) → IsLawful source program → Ends (of_program command program) s end → Ends (of_source command source) s end
-source_ends command source program s end is h =
-    ends_with (of_program command program) (of_source command source) s (λ is_of put t. (program, is, t)) (λ status line t. lawful program is t) end h
+pub source_ends : (command : Command) (log : LogFile) (source : List ℕ) (program : Program) (s : Streams) (end : End) → IsLawful source program → Ends (of_program command log program) s end → Ends (of_source command log source) s end
+source_ends command log source program s end is h =
+    ends_with (of_program command log program) (of_source command log source) s (λ is_of put t. (program, is, t)) (λ status line t. lawful program is t) end h
 
-pub files_ends : (command : Command) (files : Store) (name source bytes : List ℕ) (s : Streams) (end : End) → name ≡ file_of command → bytes ≡ source → IsLoaded files name source → Ends (of_source command bytes) s end → Ends (of_files command files) s end
-files_ends command files name source bytes s end file same holds h =
-    let there = subst (λ (n : List ℕ). IsLoaded files n source) file holds in
-    let whole = subst (λ (b : List ℕ). Ends (of_source command b) s end) same h in
-    ends_with (of_source command source) (of_files command files) s (λ is_of put t. (source, there, t)) (λ status line t. loaded source there t) end whole
+pub files_ends : (command : Command) (files : Store) (log : LogFile) (source bytes : List ℕ) (s : Streams) (end : End) → bytes ≡ source → IsSourceOf files command source → IsLogFile files (log_of command) log → Ends (of_source command log bytes) s end → Ends (of_files command files) s end
+files_ends command files log source bytes s end same is is_log h =
+    let whole = subst (λ (b : List ℕ). Ends (of_source command log b) s end) same h in
+    ends_with (of_source command log source) (of_files command files) s (λ is_of put t. (source, log, is, is_log, t)) (λ status line t. loaded source log is is_log t) end whole

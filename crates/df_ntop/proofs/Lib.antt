@@ -3,11 +3,16 @@ pub mod Steps
 pub mod Runs
 pub mod Searching
 pub mod Programs
+pub mod Bulk
 pub mod Knowing
+pub mod Loads
 pub mod Reports
 pub mod Rows
 pub mod Commands
+pub mod DueLogs
 pub mod Due
+pub mod Proven
 pub mod Headline
 pub mod Limits
 pub mod Counting
+pub mod Checked

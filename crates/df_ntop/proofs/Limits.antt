@@ -1,5 +1,5 @@
 -- The words of a command, and how far its search may go.
-use Rattle.std.proofs.Common.{◌≡◌, ℕ, ◌≤◌, true, false, List, Some, None, Result, Err, refl, sym, ap, subst, ◌∙◌, true≢false, arith}
+use Rattle.std.proofs.Common.{◌≡◌, inl, inr, ℕ, ◌≤◌, true, false, List, Some, None, Result, Err, refl, sym, ap, subst, ◌∙◌, true≢false, arith}
 use Rattle.std.proofs.lemmas.Option.{same_Some}
 use Rattle.df_search.specs.declared.found.Budget as search
 use Rattle.df_ncmd.specs.declared.command.Command as declared
@@ -7,22 +7,16 @@ use Rattle.df_ncmd.specs.declared.command.LineFault.{LineFault}
 use Rattle.df_ncmd.specs.declared.command.LineFault.TheVariants as faults
 use Rattle.df_ncmd.specs.View.{ReadsLine}
 use Rattle.df_ncmd.specs.Line.{Budget, Command, Verify, Prove, Check, Build, Run, Bulk, IsBudget, IsInLimits, line_of}
-use Rattle.df_ntop.specs.Command.{IsLine, IsNoLine, is_here, usual, file_of, budget_of, compiles, runs}
+use Rattle.df_ntop.specs.Command.{IsLine, IsNoLine, IsFileOf, usual, file_of, log_of, log_name_of, budget_of, fuel_of, is_bulk}
 use Rattle.df_ntop.specs.Answer.{search_budget}
 
 -- the words ask for one command
 pub same_command : (words : List (List ℕ)) (command other : Command) → IsLine words command → IsLine words other → command ≡ other
 same_command words command other is that = same_Some command other (sym is.asks ∙ that.asks)
 
--- words that ask for none are no line, and so are those of a command that is not carried out
+-- words that ask for none are no line
 pub no_line : (words : List (List ℕ)) → line_of words ≡ None → IsNoLine words
 no_line words none command is = let same : None ≡ Some command = sym none ∙ is.asks in absurd cc
-
-pub not_here : (words : List (List ℕ)) (command : Command) → line_of words ≡ Some command → is_here command ≡ false → IsNoLine words
-not_here words command asks away other is =
-    let same : command ≡ other = same_Some command other (sym asks ∙ is.asks) in
-    let here : is_here command ≡ true = subst (λ (c : Command). is_here c ≡ true) (sym same) is.here in
-    absurd cc
 
 -- nor are words of which reading them tells so
 pub no_line_read : (words : List (List ℕ)) (read : Result declared.Command LineFault) → ReadsLine words read → read ≡ Err faults.Usage → IsNoLine words
@@ -46,32 +40,81 @@ steps_are_some budget b same limits = subst (λ (n : ℕ). 1 ≤ n) (sym (ap (λ
 
 -- ---- which command it is
 
-abbrev pub fuel_of : Command → ℕ
-fuel_of (Run file proof budget fuel) = fuel
-fuel_of command = 0
+-- the place of a command in the table
+abbrev pub place_of : Command → ℕ
+place_of (Verify file budget) = 0
+place_of (Prove file budget) = 1
+place_of (Check file log) = 2
+place_of (Build file proof budget) = 3
+place_of (Run file proof budget fuel) = 4
+place_of (Bulk seed count) = 5
 
-pub is_verify : (command : Command) → is_here command ≡ true → compiles command ≡ false → command ≡ Verify (file_of command) (budget_of command)
-is_verify (Verify file budget) here compiled = refl
-is_verify (Prove file budget) here compiled = absurd (true≢false (sym here))
-is_verify (Check file log) here compiled = absurd (true≢false (sym here))
-is_verify (Build file proof budget) here compiled = absurd (true≢false compiled)
-is_verify (Run file proof budget fuel) here compiled = absurd (true≢false compiled)
-is_verify (Bulk seed count) here compiled = absurd (true≢false (sym here))
+pub is_verify : (command : Command) → place_of command ≡ 0 → command ≡ Verify (file_of command) (budget_of command)
+is_verify (Verify file budget) e = refl
+is_verify (Prove file budget) e = absurd (omega arith)
+is_verify (Check file log) e = absurd (omega arith)
+is_verify (Build file proof budget) e = absurd (omega arith)
+is_verify (Run file proof budget fuel) e = absurd (omega arith)
+is_verify (Bulk seed count) e = absurd (omega arith)
 
-pub is_build : (command : Command) → is_here command ≡ true → compiles command ≡ true → runs command ≡ false → command ≡ Build (file_of command) None (budget_of command)
-is_build (Verify file budget) here compiled run = absurd (true≢false (sym compiled))
-is_build (Prove file budget) here compiled run = absurd (true≢false (sym here))
-is_build (Check file log) here compiled run = absurd (true≢false (sym here))
-is_build (Build file None budget) here compiled run = refl
-is_build (Build file (Some log) budget) here compiled run = absurd (true≢false (sym here))
-is_build (Run file proof budget fuel) here compiled run = absurd (true≢false run)
-is_build (Bulk seed count) here compiled run = absurd (true≢false (sym here))
+pub is_prove : (command : Command) → place_of command ≡ 1 → command ≡ Prove (file_of command) (budget_of command)
+is_prove (Verify file budget) e = absurd (omega arith)
+is_prove (Prove file budget) e = refl
+is_prove (Check file log) e = absurd (omega arith)
+is_prove (Build file proof budget) e = absurd (omega arith)
+is_prove (Run file proof budget fuel) e = absurd (omega arith)
+is_prove (Bulk seed count) e = absurd (omega arith)
 
-pub is_run : (command : Command) (fuel : ℕ) → is_here command ≡ true → runs command ≡ true → fuel_of command ≡ fuel → command ≡ Run (file_of command) None (budget_of command) fuel
-is_run (Verify file budget) fuel here run same = absurd (true≢false (sym run))
-is_run (Prove file budget) fuel here run same = absurd (true≢false (sym here))
-is_run (Check file log) fuel here run same = absurd (true≢false (sym here))
-is_run (Build file proof budget) fuel here run same = absurd (true≢false (sym run))
-is_run (Run file None budget most) fuel here run same = ap (Run file None budget) same
-is_run (Run file (Some log) budget most) fuel here run same = absurd (true≢false (sym here))
-is_run (Bulk seed count) fuel here run same = absurd (true≢false (sym here))
+pub is_check : (command : Command) → place_of command ≡ 2 → command ≡ Check (file_of command) (log_name_of command)
+is_check (Verify file budget) e = absurd (omega arith)
+is_check (Prove file budget) e = absurd (omega arith)
+is_check (Check file log) e = refl
+is_check (Build file proof budget) e = absurd (omega arith)
+is_check (Run file proof budget fuel) e = absurd (omega arith)
+is_check (Bulk seed count) e = absurd (omega arith)
+
+pub is_build : (command : Command) → place_of command ≡ 3 → command ≡ Build (file_of command) (log_of command) (budget_of command)
+is_build (Verify file budget) e = absurd (omega arith)
+is_build (Prove file budget) e = absurd (omega arith)
+is_build (Check file log) e = absurd (omega arith)
+is_build (Build file proof budget) e = refl
+is_build (Run file proof budget fuel) e = absurd (omega arith)
+is_build (Bulk seed count) e = absurd (omega arith)
+
+pub is_run : (command : Command) (fuel : ℕ) → place_of command ≡ 4 → fuel_of command ≡ fuel → command ≡ Run (file_of command) (log_of command) (budget_of command) fuel
+is_run (Verify file budget) fuel e same = absurd (omega arith)
+is_run (Prove file budget) fuel e same = absurd (omega arith)
+is_run (Check file log) fuel e same = absurd (omega arith)
+is_run (Build file proof budget) fuel e same = absurd (omega arith)
+is_run (Run file proof budget most) fuel e same = ap (Run file proof budget) same
+is_run (Bulk seed count) fuel e same = absurd (omega arith)
+
+-- a command but bulk loads its file
+pub loads_file : (command : Command) → is_bulk command ≡ false → IsFileOf command (file_of command)
+loads_file (Verify file budget) e = inl refl
+loads_file (Prove file budget) e = inl refl
+loads_file (Check file log) e = inl refl
+loads_file (Build file proof budget) e = inl refl
+loads_file (Run file proof budget fuel) e = inl refl
+loads_file (Bulk seed count) e = absurd (true≢false e)
+
+-- and its log, if it names one
+pub loads_log : (command : Command) (name : List ℕ) → log_of command ≡ Some name → IsFileOf command name
+loads_log (Verify file budget) name e = absurd cc
+loads_log (Prove file budget) name e = absurd cc
+loads_log (Check file log) name e = inr e
+loads_log (Build file proof budget) name e = inr e
+loads_log (Run file proof budget fuel) name e = inr e
+loads_log (Bulk seed count) name e = absurd cc
+
+-- ---- the numbers of bulk
+
+count_in : (command : Command) (seed count : ℕ) → command ≡ Bulk seed count → IsInLimits command → count ≤ 200
+count_in command seed count is limits =
+    let told = subst IsInLimits is limits in told.2
+
+-- the count fits 32 bits
+pub count_fits : (command : Command) (seed count : ℕ) → command ≡ Bulk seed count → IsInLimits command → count ≤ 4294967295
+count_fits command seed count is limits =
+    let few = count_in command seed count is limits in
+    omega (arith, few)

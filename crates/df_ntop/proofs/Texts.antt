@@ -11,7 +11,7 @@ pub part_of_whole : (old new : Option (List ℕ)) (whole text more : List ℕ) �
 part_of_whole old new whole text more is put = (length text, subst (λ (x : List ℕ). Appends old new x) (sym (ap (take (length text)) is ∙ take-append_seam text more)) put)
 
 -- a text that goes on after a part of it is put
-prefix_more : (old mid new : Option (List ℕ)) (t u more : List ℕ) → Appends old mid t → AppendsPrefix mid new u → AppendsPrefix old new ((t ++ u) ++ more)
+pub prefix_more : (old mid new : Option (List ℕ)) (t u more : List ℕ) → Appends old mid t → AppendsPrefix mid new u → AppendsPrefix old new ((t ++ u) ++ more)
 prefix_more old mid new t u more a b =
     let part : List ℕ = take b.0 u in
     let rest : List ℕ = drop b.0 u ++ more in
@@ -72,3 +72,15 @@ pub part_of_part : (old new : Option (List ℕ)) (whole text more : List ℕ) �
 part_of_part old new whole text more is (count, put) =
     part_of_whole old new whole (take count text) (drop count text ++ more)
     (is ∙ ap (λ (x : List ℕ). x ++ more) (sym (take-append-drop count text)) ∙ append_assoc (take count text) (drop count text) more) put
+
+-- ---- a text behind a line
+
+pub behind : (old mid new : Option (List ℕ)) (line text : List ℕ) → Appends old mid line → Appends mid new text → Appends old new (line ++ text)
+behind old mid new line text a b = Appends-more old mid new line text a b
+
+pub part_behind : (old mid new : Option (List ℕ)) (line text : List ℕ) → Appends old mid line → AppendsPrefix mid new text → AppendsPrefix old new (line ++ text)
+part_behind old mid new line text a b = subst (AppendsPrefix old new) (append-nil (line ++ text)) (prefix_more old mid new line text [] a b)
+
+-- a line before a whole and before its front
+pub behind_line : (line whole text more : List ℕ) → whole ≡ text ++ more → line ++ whole ≡ (line ++ text) ++ more
+behind_line line whole text more is = ap (λ (t : List ℕ). line ++ t) is ∙ sym (append_assoc line text more)

@@ -5,11 +5,12 @@ use Rattle.df_base.specs.Outside.{Contents, Appends, AppendsPrefix}
 use Rattle.df_base.specs.declared.files.Files as files
 use Rattle.df_base.specs.declared.sink.Sink as sinks
 
--- the files: what they hold, where they tell, the name and the bytes of the file that they gave last, and their count
--- of faults before and after
+-- the files: what they hold, where they tell, the names and the bytes of the files that they had given and have given,
+-- the last one first, and their count of faults before and after
 pub record Store : Type 0 where
   pub held : Option Contents
-  pub given : Option (List ℕ × List ℕ)
+  pub had : List (List ℕ × List ℕ)
+  pub given : List (List ℕ × List ℕ)
   pub before : ℕ
   pub after : ℕ
 
@@ -36,6 +37,7 @@ pub record Call : Type 0 where
 abbrev pub store : {F : Type 0} → files.Ghosts F → F → F → Store
 store members old new = record {
   held = members.holds old;
+  had = members.given old;
   given = members.given new;
   before = members.fault_count old;
   after = members.fault_count new;

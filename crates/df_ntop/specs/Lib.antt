@@ -2,11 +2,15 @@ pub mod Command
 pub mod Call
 pub mod Lines
 pub mod Loaded
+pub mod View
 pub mod Steps
 pub mod Entry
 pub mod Run
 pub mod Headline
+pub mod Proved
 pub mod Answer
 pub mod Complete
 pub mod Telling
 pub mod Ending
+pub mod Proving
+pub mod Running

@@ -25,3 +25,14 @@ native_line file pos rule = pos_text file pos ++ codes "not compilable N" ++ dec
 
 abbrev pub no_main_line : List ℕ → List ℕ
 no_main_line file = file ++ codes ": no Main\n"
+
+abbrev pub too_large_line : List ℕ → List ℕ
+too_large_line log = log ++ codes ": too large\n"
+
+-- the line of this number is the first with which the bytes begin no log
+abbrev pub not_a_log_line : List ℕ → ℕ → List ℕ
+not_a_log_line log number = log ++ codes ":" ++ decimal number ++ codes ": not a log\n"
+
+-- the part of this obligation is refused at this step
+abbrev pub bad_part_line : List ℕ → ℕ → ℕ → List ℕ
+bad_part_line log obligation step = log ++ codes ": obligation " ++ decimal obligation ++ codes " step " ++ decimal step ++ codes "\n"

@@ -1,9 +1,73 @@
--- The source of a call.
-use Rattle.std.specs.Prelude.{◌≡◌, ℕ, List, Some, IfSome}
-use Rattle.df_base.specs.Outside.{bytes_of}
+-- The source and the log of a call.
+use Rattle.std.specs.Prelude.{◌≡◌, ◌<◌, ◌≤◌, ℕ, Bool, true, false, List, ◌∷◌, ◌++◌, length, Option, None, Some, IfSome}
+use Rattle.df_base.specs.Outside.{Contents, bytes_of}
+use Rattle.df_gen.specs.GeneratedSource.{generated_source}
+use Rattle.df_ncmd.specs.Line.{Command, Verify, Prove, Check, Build, Run, Bulk}
 use Rattle.df_ntop.specs.Call.{Store}
 
--- the files gave these bytes as those of the file, and they are, where the files tell what they hold
+-- ---- the source
+
+-- the files gave these bytes as those of the file, before any others of the call, and they are, where the files tell what
+-- they hold
 pub record IsLoaded (files : Store) (name source : List ℕ) : Type 0 where
-  pub given : files.given ≡ Some (name, source)
+  pub others : List (List ℕ × List ℕ)
+  pub given : files.given ≡ others ++ (name, source) ∷ files.had
   pub held : IfSome files.held (λ held. bytes_of held name ≡ Some source)
+
+-- the source of a command is that of its file, and of bulk the generated one
+abbrev pub IsSourceOf : Store → Command → List ℕ → Type 0
+IsSourceOf files (Verify file budget) source = IsLoaded files file source
+IsSourceOf files (Prove file budget) source = IsLoaded files file source
+IsSourceOf files (Check file log) source = IsLoaded files file source
+IsSourceOf files (Build file proof budget) source = IsLoaded files file source
+IsSourceOf files (Run file proof budget fuel) source = IsLoaded files file source
+IsSourceOf files (Bulk seed count) source = source ≡ generated_source seed count
+
+-- ---- the log
+
+-- a log has at most this many bytes
+abbrev pub log_limit : ℕ
+log_limit = 268435456
+
+-- the file is longer than a limit, where the files tell it
+abbrev pub IsLonger : ℕ → Option Contents → List ℕ → Type 0
+IsLonger limit held name = IfSome held (λ files. (bytes : List ℕ) × (bytes_of files name ≡ Some bytes) × (limit < length bytes))
+
+-- what is there of the log of a command
+pub data LogFile : Type 0 where
+  -- the command names none
+  NoLog : LogFile
+  -- it is longer than the limit
+  TooLong : LogFile
+  -- its bytes
+  Log : List ℕ → LogFile
+
+abbrev pub is_absent : LogFile → Bool
+is_absent NoLog = true
+is_absent TooLong = false
+is_absent (Log bytes) = false
+
+-- the files gave these bytes as those of the log, behind the source, and they are, where the files tell what they hold
+pub record IsLogLoaded (files : Store) (name bytes : List ℕ) : Type 0 where
+  pub first : List ℕ × List ℕ
+  pub given : files.given ≡ (name, bytes) ∷ first ∷ files.had
+  pub held : IfSome files.held (λ held. bytes_of held name ≡ Some bytes)
+  pub short : length bytes ≤ log_limit
+
+-- of a log of this name, if one is named
+abbrev pub IsLogFile : Store → Option (List ℕ) → LogFile → Type 0
+IsLogFile files None NoLog = Unit {0}
+IsLogFile files None TooLong = ⊥
+IsLogFile files None (Log bytes) = ⊥
+IsLogFile files (Some name) NoLog = ⊥
+IsLogFile files (Some name) TooLong = IsLonger log_limit files.held name
+IsLogFile files (Some name) (Log bytes) = IsLogLoaded files name bytes
+
+-- there is one exactly where one is named
+abbrev pub IsNamed : Option (List ℕ) → LogFile → Type 0
+IsNamed None NoLog = Unit {0}
+IsNamed None TooLong = ⊥
+IsNamed None (Log bytes) = ⊥
+IsNamed (Some name) NoLog = ⊥
+IsNamed (Some name) TooLong = Unit {0}
+IsNamed (Some name) (Log bytes) = Unit {0}

@@ -1,13 +1,19 @@
 //! The program as one call: from the words and the files to what is written and the status.
 #![tactic(auto)]
 
+mod checking;
 mod command;
 mod ending;
 mod entries;
+mod judging;
+mod loading;
+mod logs;
 mod machine;
+mod naming;
 mod proving;
 mod putting;
 mod running;
+mod sources;
 mod telling;
 
 pub use command::top;

@@ -43,6 +43,7 @@ pub(crate) fn run_main<S: Sink>(
     ensures runs { RunsMain result (program_of program.now) (code_of code.now) number fuel (S.taken sink.old) (S.taken sink.new) }
     // A failed write is a counted fault of the sink.
     ensures cause { HasCause (S.fault_count sink.old) (S.fault_count sink.new) (result ≡ Ran.Write) }
+    ensures stays { S.takes_memory sink.new ≡ S.takes_memory sink.old }
 {
     the_entry_runs();
     let method = number_on_machine(program, number);

@@ -1,5 +1,5 @@
 -- What is judged with no failure is valid, and so it is safe and correct.
-use Rattle.std.proofs.Common.{◌≡◌, ℕ, zero, suc, ◌+◌, ◌<◌, true, List, [], ◌∷◌, length, get_or, Some, refl, sym, subst, rules, arith}
+use Rattle.std.proofs.Common.{◌≡◌, ℕ, zero, suc, ◌+◌, ◌<◌, true, List, [], ◌∷◌, map, length, get_or, Some, refl, sym, subst, rules, arith}
 use Rattle.df_lang.specs.Assignment.{IsDefinitelyAssigned}
 use Rattle.df_lang.specs.Groups.{AreGroups}
 use Rattle.df_lang.specs.Program.{Param, Method, Decl, NewtypeDecl, MethodDecl, Program, method_at}
@@ -7,9 +7,8 @@ use Rattle.df_lang.specs.Typing.{is_well_typed}
 use Rattle.df_meaning.specs.Correct.{AreCorrect}
 use Rattle.df_meaning.specs.Modular.{IsModularlySafe}
 use Rattle.df_hoare.specs.Total.{SafeIsCorrect}
-use Rattle.df_form.specs.Log.{Step}
+use Rattle.df_form.specs.Log.{Step, step_of}
 use Rattle.df_form.specs.Sequent.{Sequent, IsSequent, IsValid}
-use Rattle.df_kern.specs.declared.accepted.Accepted.{Accepted}
 use Rattle.df_kern.specs.Derivation.{Derives}
 use Rattle.df_npass.specs.Methods.{Obligation, obligations_of_method}
 use Rattle.df_npass.specs.Laws.{ValidIsSafe}
@@ -17,51 +16,52 @@ use Rattle.df_npass.specs.Laws as trees
 use Rattle.df_nowed.specs.Laws.{ValidSequentsAreValidObligations, RefutedSequentsAreRefutedObligations}
 use Rattle.df_search.specs.declared.found.Budget.{Budget}
 use Rattle.df_report.specs.Report.{Failure, Outcome, is_verified}
+use Rattle.df_nverdict.specs.declared.judging.Proof.{Proof}
 use Rattle.df_nverdict.specs.Laws.{RefutedIsWrong}
 use Rattle.df_nverdict.specs.Sequents.{IsSequentOf}
 use Rattle.df_nverdict.specs.Verdict.{IsConfirmed, Judges, none, proved, failed, IsJudgedMethod, AreJudged, IsJudged, are_verified}
 
-no_failures : (failures : List Failure) (name : List ℕ) → is_verified (record { name = name; failures = failures }) ≡ true → failures ≡ []
+pub no_failures : (failures : List Failure) (name : List ℕ) → is_verified (record { name = name; failures = failures }) ≡ true → failures ≡ []
 no_failures [] name e = refl
 no_failures (f ∷ fs) name e = absurd cc
 
-first_verified : (o : Outcome) (os : List Outcome) → are_verified (o ∷ os) ≡ true → (is_verified o ≡ true) × (are_verified os ≡ true)
+pub first_verified : (o : Outcome) (os : List Outcome) → are_verified (o ∷ os) ≡ true → (is_verified o ≡ true) × (are_verified os ≡ true)
 first_verified o os e = (search rules, search rules)
 
 module _ (valid : (s : Sequent) (log : List Step) → IsSequent s → Derives s log → IsValid s) (same : ValidSequentsAreValidObligations) where
   of_sequent : (program : Program) (o : Obligation) (s : Sequent) → IsSequentOf program o s → IsValid s → trees.IsValid program o
   of_sequent program o s is_of v = subst (trees.IsValid program) is_of.owed ((same program o.declaration o.pos o.kind s is_of.world).0 v)
 
-  is_valid : (program : Program) (o : Obligation) (accepted : Accepted) → IsConfirmed program o accepted → trees.IsValid program o
-  is_valid program o accepted h = of_sequent program o h.sequent h.is_of (valid h.sequent h.taken.log h.is_of.sequent h.taken.derives)
+  is_valid : (program : Program) (o : Obligation) (proof : Proof) → IsConfirmed program o proof → trees.IsValid program o
+  is_valid program o proof h = of_sequent program o h.sequent h.is_of (valid h.sequent (map step_of proof.log.items) h.is_of.sequent h.proves.derives)
 
   -- with no failure each of the obligations is valid
-  valid_at : (program : Program) (params : List Param) (budget : Budget) (os : List Obligation) (failures : List Failure) (accepted : List Accepted) (k : ℕ) (x : Obligation) → failures ≡ [] → Judges program params budget os failures accepted → k < length os → get_or os k x ≡ x → trees.IsValid program x
-  valid_at program params budget os failures accepted k x empty none less is = absurd (omega arith)
-  valid_at program params budget os failures accepted zero x empty (proved {o} h rest) less is = subst (trees.IsValid program) is (is_valid program o _ h)
-  valid_at program params budget os failures accepted (suc k) x empty (proved h rest) less is = valid_at program params budget _ _ _ k x empty rest (omega arith) is
-  valid_at program params budget os failures accepted k x empty (failed h rest) less is = absurd cc
+  valid_at : (program : Program) (params : List Param) (budget : Budget) (os : List Obligation) (failures : List Failure) (proofs : List Proof) (k : ℕ) (x : Obligation) → failures ≡ [] → Judges program params budget os failures proofs → k < length os → get_or os k x ≡ x → trees.IsValid program x
+  valid_at program params budget os failures proofs k x empty none less is = absurd (omega arith)
+  valid_at program params budget os failures proofs zero x empty (proved {o} h rest) less is = subst (trees.IsValid program) is (is_valid program o _ h)
+  valid_at program params budget os failures proofs (suc k) x empty (proved h rest) less is = valid_at program params budget _ _ _ k x empty rest (omega arith) is
+  valid_at program params budget os failures proofs k x empty (failed h rest) less is = absurd cc
 
   module _ (safe : ValidIsSafe) where
-    pub method_is_safe : (program : Program) (groups : List ℕ) (budget : Budget) (number : ℕ) (method : Method) (outcome : Outcome) (accepted : List Accepted)
+    pub method_is_safe : (program : Program) (groups : List ℕ) (budget : Budget) (number : ℕ) (method : Method) (outcome : Outcome) (proofs : List Proof)
         → is_well_typed program ≡ true → IsDefinitelyAssigned program → method_at program number ≡ Some method
-        → IsJudgedMethod program groups budget number method outcome accepted → is_verified outcome ≡ true → IsModularlySafe program groups number method
-    method_is_safe program groups budget number method outcome accepted typed definite there judged verified =
+        → IsJudgedMethod program groups budget number method outcome proofs → is_verified outcome ≡ true → IsModularlySafe program groups number method
+    method_is_safe program groups budget number method outcome proofs typed definite there judged verified =
         let empty = no_failures judged.failures method.declared.text (subst (λ (o : Outcome). is_verified o ≡ true) judged.outcome_is verified) in
         safe program groups number method typed definite there
-        (λ o contains. valid_at program method.parameters budget (obligations_of_method program groups number method) judged.failures accepted contains.0 o empty judged.judges contains.1 contains.2)
+        (λ o contains. valid_at program method.parameters budget (obligations_of_method program groups number method) judged.failures proofs contains.0 o empty judged.judges contains.1 contains.2)
 
     -- the method is there among declarations from a number on, which are judged
-    method_at_is_safe : (program : Program) (groups : List ℕ) (budget : Budget) (number : ℕ) (decls : List Decl) (outcomes : List Outcome) (accepted : List (List Accepted)) (k : ℕ) (method : Method)
+    method_at_is_safe : (program : Program) (groups : List ℕ) (budget : Budget) (number : ℕ) (decls : List Decl) (outcomes : List Outcome) (proofs : List (List Proof)) (k : ℕ) (method : Method)
         → is_well_typed program ≡ true → IsDefinitelyAssigned program → method_at program (number + k) ≡ Some method → method_at (record { decls = decls }) k ≡ Some method
-        → AreJudged program groups budget number decls outcomes accepted → are_verified outcomes ≡ true → IsModularlySafe program groups (number + k) method
-    method_at_is_safe program groups budget number [] outcomes accepted k method typed definite there here judged verified = absurd cc
-    method_at_is_safe program groups budget number (NewtypeDecl n ∷ decls) outcomes accepted zero method typed definite there here judged verified = absurd cc
-    method_at_is_safe program groups budget number (NewtypeDecl n ∷ decls) outcomes accepted (suc k) method typed definite there here judged verified =
+        → AreJudged program groups budget number decls outcomes proofs → are_verified outcomes ≡ true → IsModularlySafe program groups (number + k) method
+    method_at_is_safe program groups budget number [] outcomes proofs k method typed definite there here judged verified = absurd cc
+    method_at_is_safe program groups budget number (NewtypeDecl n ∷ decls) outcomes proofs zero method typed definite there here judged verified = absurd cc
+    method_at_is_safe program groups budget number (NewtypeDecl n ∷ decls) outcomes proofs (suc k) method typed definite there here judged verified =
         let next : number + suc k ≡ suc number + k = omega arith in
         subst (λ (i : ℕ). IsModularlySafe program groups i method) (sym next)
-        (method_at_is_safe program groups budget (suc number) decls outcomes accepted k method typed definite (subst (λ (i : ℕ). method_at program i ≡ Some method) next there) here judged verified)
-    method_at_is_safe program groups budget number (MethodDecl m ∷ decls) [] accepted k method typed definite there here judged verified = absurd judged
+        (method_at_is_safe program groups budget (suc number) decls outcomes proofs k method typed definite (subst (λ (i : ℕ). method_at program i ≡ Some method) next there) here judged verified)
+    method_at_is_safe program groups budget number (MethodDecl m ∷ decls) [] proofs k method typed definite there here judged verified = absurd judged
     method_at_is_safe program groups budget number (MethodDecl m ∷ decls) (o ∷ os) [] k method typed definite there here judged verified = absurd judged
     method_at_is_safe program groups budget number (MethodDecl m ∷ decls) (o ∷ os) (a ∷ rest) zero method typed definite there here judged verified =
         let same : m ≡ method = cc in

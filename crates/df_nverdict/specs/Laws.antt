@@ -10,9 +10,9 @@ use Rattle.df_meaning.specs.Modular.{IsModularlySafe, IsModularlyWrong}
 use Rattle.df_form.specs.Sequent.{Sequent}
 use Rattle.df_form.specs.Truth.{Assignment, truth}
 use Rattle.df_npass.specs.Methods.{Obligation, obligations_of_method}
-use Rattle.df_kern.specs.declared.accepted.Accepted.{Accepted}
 use Rattle.df_search.specs.declared.found.Budget.{Budget}
 use Rattle.df_report.specs.Report.{Outcome, is_verified}
+use Rattle.df_nverdict.specs.declared.judging.Proof.{Proof}
 use Rattle.df_nverdict.specs.Sequents.{IsSequentOf}
 use Rattle.df_nverdict.specs.Verdict.{IsJudgedMethod, IsJudged, are_verified}
 
@@ -24,9 +24,9 @@ JudgedIsCorrect = (program : Program) (groups : List ℕ) (budget : Budget) (out
 
 -- and where the outcome of one method has no failure, no modular run of that method is wrong
 abbrev pub VerifiedIsSafe : Type 0
-VerifiedIsSafe = (program : Program) (groups : List ℕ) (budget : Budget) (number : ℕ) (method : Method) (outcome : Outcome) (accepted : List Accepted)
+VerifiedIsSafe = (program : Program) (groups : List ℕ) (budget : Budget) (number : ℕ) (method : Method) (outcome : Outcome) (proofs : List Proof)
     → is_well_typed program ≡ true → IsDefinitelyAssigned program → method_at program number ≡ Some method
-    → IsJudgedMethod program groups budget number method outcome accepted → is_verified outcome ≡ true → IsModularlySafe program groups number method
+    → IsJudgedMethod program groups budget number method outcome proofs → is_verified outcome ≡ true → IsModularlySafe program groups number method
 
 -- and where an assignment refutes the sequent of an obligation of a method, a modular run of that method is wrong at its
 -- position by its kind: so no obligation is one too many

@@ -1,5 +1,5 @@
 -- Verdicts: what proving a program comes to.
-use Rattle.std.specs.Prelude.{◌≡◌, ◌⊎◌, ℕ, suc, ◌≤◌, ℤ, pos, Bool, true, false, ◌==◌, ◌&&◌, if◌then◌else◌, List, [], ◌∷◌, ◌++◌, position}
+use Rattle.std.specs.Prelude.{◌≡◌, ◌⊎◌, ℕ, suc, ℤ, pos, Bool, true, false, ◌==◌, ◌&&◌, if◌then◌else◌, List, [], ◌∷◌, ◌++◌, map, position}
 use Rattle.std.specs.List.{list_all}
 use Rattle.std.specs.Option.{option_map_or}
 use Rattle.df_lang.specs.declared.ty.Ty.{Ty}
@@ -10,18 +10,20 @@ use Rattle.df_form.specs.declared.node.Sort.TheVariants as sorts
 use Rattle.df_form.specs.declared.node.Op.{Op}
 use Rattle.df_form.specs.declared.node.Op.TheVariants as ops
 use Rattle.df_form.specs.declared.log.Lit.{Lit}
+use Rattle.df_form.specs.Log.{step_of}
 use Rattle.df_form.specs.Node.{Node, same_sort}
 use Rattle.df_form.specs.Sequent.{Sequent}
-use Rattle.df_kern.specs.declared.accepted.Accepted.{Accepted}
 use Rattle.df_kern.specs.Accepted.{IsTaken}
+use Rattle.df_kern.specs.Derivation.{Derives}
 use Rattle.df_table.specs.TableModel.{number_at}
-use Rattle.df_ground.specs.Lines.{ground_lines, unbound_count}
+use Rattle.df_trig.specs.Instances.{AreTooMany}
 use Rattle.df_search.specs.declared.found.Budget.{Budget}
 use Rattle.df_search.specs.Found.{HasModel, AreSpent, IsTooWide, HasManyRows}
 use Rattle.df_npass.specs.Methods.{Obligation, obligations_of_method}
 use Rattle.df_report.specs.declared.outcome.Evidence.{Evidence}
 use Rattle.df_report.specs.declared.outcome.Evidence.TheVariants as evidences
 use Rattle.df_report.specs.Report.{Parameter, Failure, Outcome, is_verified}
+use Rattle.df_nverdict.specs.declared.judging.Proof.{Proof}
 use Rattle.df_nverdict.specs.Sequents.{IsSequentOf}
 
 -- ---- the parameters in a table
@@ -54,16 +56,16 @@ numbers_of nodes table number (param ∷ others) = number_of nodes table number 
 
 -- ---- evidence
 
--- there are too many ground clauses, or on a branch a level has too many rows
-abbrev pub IsTooMany : Sequent → Type 0
-IsTooMany s = (200000 ≤ unbound_count s.nodes (ground_lines s)) ⊎ ((closed : List (List Lit)) × (branch : List Lit) × (count : ℕ) × HasManyRows s closed branch count)
+-- there are too many instances, or on a branch a level has too many rows
+abbrev pub IsTooMany : Sequent → ℕ → Type 0
+IsTooMany s rounds = AreTooMany s rounds ⊎ ((closed : List (List Lit)) × (branch : List Lit) × (count : ℕ) × HasManyRows s rounds closed branch count)
 
 -- Evidence of this kind for why a search that may go so far stopped. A table gives numbers to the parameters.
 abbrev pub IsEvidence : List Param → Sequent → Budget → Evidence → List Parameter → Type 0
-IsEvidence params s budget evidences.Model parameters = (table : List ℤ) × HasModel s table × (parameters ≡ numbers_of s.nodes table 0 params)
-IsEvidence params s budget evidences.Spent parameters = ((branches : List (List Lit)) × AreSpent s budget.steps branches) × (parameters ≡ [])
-IsEvidence params s budget evidences.Wide parameters = ((closed : List (List Lit)) × (branch : List Lit) × IsTooWide s closed branch) × (parameters ≡ [])
-IsEvidence params s budget evidences.Many parameters = IsTooMany s × (parameters ≡ [])
+IsEvidence params s budget evidences.Model parameters = (table : List ℤ) × HasModel s budget.rounds table × (parameters ≡ numbers_of s.nodes table 0 params)
+IsEvidence params s budget evidences.Spent parameters = ((branches : List (List Lit)) × AreSpent s budget.steps budget.rounds branches) × (parameters ≡ [])
+IsEvidence params s budget evidences.Wide parameters = ((closed : List (List Lit)) × (branch : List Lit) × IsTooWide s budget.rounds closed branch) × (parameters ≡ [])
+IsEvidence params s budget evidences.Many parameters = IsTooMany s budget.rounds × (parameters ≡ [])
 
 -- The failure is the obligation's: its position, the word of its kind, and evidence at its sequent.
 pub record IsFailureOf (program : Program) (params : List Param) (budget : Budget) (o : Obligation) (f : Failure) : Type 0 where
@@ -74,43 +76,48 @@ pub record IsFailureOf (program : Program) (params : List Param) (budget : Budge
   pub is_of : IsSequentOf program o sequent
   pub evidence : IsEvidence params sequent budget f.evidence f.parameters
 
--- a log that the kernel took derives the sequent of the obligation
-pub record IsConfirmed (program : Program) (o : Obligation) (accepted : Accepted) : Type 0 where
+-- the log derives the sequent, and the kernel took one
+pub record IsProofOf (s : Sequent) (proof : Proof) : Type 0 where
+  pub taken : IsTaken s proof.accepted
+  pub derives : Derives s (map step_of proof.log.items)
+
+-- the proof is one of the sequent of the obligation
+pub record IsConfirmed (program : Program) (o : Obligation) (proof : Proof) : Type 0 where
   pub sequent : Sequent
   pub is_of : IsSequentOf program o sequent
-  pub taken : IsTaken sequent accepted
+  pub proves : IsProofOf sequent proof
 
 -- ---- verdicts
 
--- Of each obligation in order the kernel took a log, and the next one that it took is that, or the next failure is its.
-pub data Judges (program : Program) (params : List Param) (budget : Budget) : List Obligation → List Failure → List Accepted → Type 0 where
+-- Each obligation in order has the next proof, or the next failure is its.
+pub data Judges (program : Program) (params : List Param) (budget : Budget) : List Obligation → List Failure → List Proof → Type 0 where
   none : Judges program params budget [] [] []
-  proved : {o : Obligation} {accepted : Accepted} {others : List Obligation} {failures : List Failure} {logs : List Accepted} → IsConfirmed program o accepted → Judges program params budget others failures logs → Judges program params budget (o ∷ others) failures (accepted ∷ logs)
-  failed : {o : Obligation} {f : Failure} {others : List Obligation} {failures : List Failure} {logs : List Accepted} → IsFailureOf program params budget o f → Judges program params budget others failures logs → Judges program params budget (o ∷ others) (f ∷ failures) logs
+  proved : {o : Obligation} {proof : Proof} {others : List Obligation} {failures : List Failure} {proofs : List Proof} → IsConfirmed program o proof → Judges program params budget others failures proofs → Judges program params budget (o ∷ others) failures (proof ∷ proofs)
+  failed : {o : Obligation} {f : Failure} {others : List Obligation} {failures : List Failure} {proofs : List Proof} → IsFailureOf program params budget o f → Judges program params budget others failures proofs → Judges program params budget (o ∷ others) (f ∷ failures) proofs
 
--- the outcome is the method's: its failures are those of its obligations, each once and in their order, that have no log
-pub record IsJudgedMethod (program : Program) (groups : List ℕ) (budget : Budget) (number : ℕ) (method : Method) (outcome : Outcome) (accepted : List Accepted) : Type 0 where
+-- the outcome is the method's: its failures are those of its obligations, each once and in their order, that have no proof
+pub record IsJudgedMethod (program : Program) (groups : List ℕ) (budget : Budget) (number : ℕ) (method : Method) (outcome : Outcome) (proofs : List Proof) : Type 0 where
   pub failures : List Failure
-  pub judges : Judges program method.parameters budget (obligations_of_method program groups number method) failures accepted
+  pub judges : Judges program method.parameters budget (obligations_of_method program groups number method) failures proofs
   pub outcome_is : outcome ≡ record { name = method.declared.text; failures = failures }
 
--- an outcome for each method among declarations from a number on, and what the kernel took of it, in order
-abbrev pub AreJudged : Program → List ℕ → Budget → ℕ → List Decl → List Outcome → List (List Accepted) → Type 0
+-- an outcome for each method among declarations from a number on, and its proofs, in order
+abbrev pub AreJudged : Program → List ℕ → Budget → ℕ → List Decl → List Outcome → List (List Proof) → Type 0
 AreJudged program groups budget number [] [] [] = Unit {0}
-AreJudged program groups budget number [] [] (logs ∷ accepted) = ⊥
-AreJudged program groups budget number [] (outcome ∷ outcomes) accepted = ⊥
-AreJudged program groups budget number (NewtypeDecl newtype ∷ others) outcomes accepted = AreJudged program groups budget (suc number) others outcomes accepted
-AreJudged program groups budget number (MethodDecl method ∷ others) [] accepted = ⊥
+AreJudged program groups budget number [] [] (of_method ∷ proofs) = ⊥
+AreJudged program groups budget number [] (outcome ∷ outcomes) proofs = ⊥
+AreJudged program groups budget number (NewtypeDecl newtype ∷ others) outcomes proofs = AreJudged program groups budget (suc number) others outcomes proofs
+AreJudged program groups budget number (MethodDecl method ∷ others) [] proofs = ⊥
 AreJudged program groups budget number (MethodDecl method ∷ others) (outcome ∷ outcomes) [] = ⊥
-AreJudged program groups budget number (MethodDecl method ∷ others) (outcome ∷ outcomes) (logs ∷ accepted) =
-    IsJudgedMethod program groups budget number method outcome logs × AreJudged program groups budget (suc number) others outcomes accepted
+AreJudged program groups budget number (MethodDecl method ∷ others) (outcome ∷ outcomes) (of_method ∷ proofs) =
+    IsJudgedMethod program groups budget number method outcome of_method × AreJudged program groups budget (suc number) others outcomes proofs
 
-abbrev pub AreVerdicts : Program → List ℕ → Budget → List Outcome → List (List Accepted) → Type 0
-AreVerdicts program groups budget outcomes accepted = AreJudged program groups budget 0 program.decls outcomes accepted
+abbrev pub AreVerdicts : Program → List ℕ → Budget → List Outcome → List (List Proof) → Type 0
+AreVerdicts program groups budget outcomes proofs = AreJudged program groups budget 0 program.decls outcomes proofs
 
--- the outcomes, with what the kernel took
+-- the outcomes, with the proofs
 abbrev pub IsJudged : Program → List ℕ → Budget → List Outcome → Type 0
-IsJudged program groups budget outcomes = (accepted : List (List Accepted)) × AreVerdicts program groups budget outcomes accepted
+IsJudged program groups budget outcomes = (proofs : List (List Proof)) × AreVerdicts program groups budget outcomes proofs
 
 -- there is no failure
 abbrev pub are_verified : List Outcome → Bool

@@ -1,6 +1,6 @@
 //! An obligation, judged.
 
-ghost use Rattle.std.specs.Prelude.{◌≡◌, ◌≤◌, [], map, string_bytes, OnOk, IfOk, length};
+ghost use Rattle.std.specs.Prelude.{◌≡◌, ◌≤◌, [], map, string_bytes, OnOk, IfOk};
 ghost use Rattle.df_form.specs.Log.{step_of};
 ghost use Rattle.df_form.specs.SequentView.{sequent_of};
 ghost use Rattle.df_kern.specs.Accepted.{IsTaken};
@@ -8,9 +8,8 @@ ghost use Rattle.df_kern.specs.Derivation.{Derives};
 ghost use Rattle.df_lang.specs.DeclView.{param_of};
 ghost use Rattle.df_lang.specs.View.{program_of};
 ghost use Rattle.df_meaning.specs.Kind.{word_of};
-ghost use Rattle.df_nenc.specs.Standing.{IsTerm};
-ghost use Rattle.df_nterm.specs.Term.{Truths};
 ghost use Rattle.df_nowed.specs.Obligation.{obligation_in, obligations_in};
+ghost use Rattle.df_nowed.specs.Owed.{IsOwed};
 ghost use Rattle.df_report.specs.View.{failure_of};
 ghost use Rattle.df_nverdict.specs.Verdict.{Judges};
 ghost use Rattle.df_nverdict.specs.Judging.{Finds, Adds};
@@ -21,7 +20,7 @@ use df_kern::{Accepted, KernFault, check, logs_derive_or_are_refused};
 use df_lang::{Param, Program};
 use df_nowed::{MethodObligations, Obligation};
 use df_report::{Evidence, Failure, Parameter};
-use df_search::{Budget, Found, search};
+use df_search::{Budget, Found, Index, search_with};
 use std::alloc::{AllocError, Global};
 
 /// A method whose obligations are judged.
@@ -38,6 +37,13 @@ pub(crate) struct Entry<'a> {
 pub(crate) struct Finding {
     pub evidence: Evidence,
     pub parameters: Vec<Parameter>,
+}
+
+/// A log that derives the sequent of an obligation, and that the kernel took it.
+#[derive(Drop)]
+pub struct Proof {
+    pub accepted: Accepted,
+    pub log: Vec<Step>,
 }
 
 /// Has the kernel take the log that a search found.
@@ -64,20 +70,22 @@ fn found(alloc: Global, evidence: Evidence) -> Finding
     }
 }
 
-/// Why there is no proof of the sequent, where none is found; else that the kernel took one is added.
+/// Why there is no proof of the sequent, where none is found; else the proof is added.
 fn judge(
     alloc: Global,
+    index: &mut Index,
     params: &[Param],
     sequent: &Sequent,
-    accepted: &mut Vec<Accepted>,
+    proofs: &mut Vec<Proof>,
     budget: Budget,
 ) -> Result<Option<Finding>, AllocError>
     requires { 1 ≤ budget.steps }
-    ensures { IfOk result (Finds (map param_of params.now) (sequent_of sequent.now) budget accepted.old.items accepted.new.items) }
+    ensures { IfOk result (Finds (map param_of params.now) (sequent_of sequent.now) budget proofs.old.items proofs.new.items) }
 {
-    match search(alloc, sequent, budget)? {
+    match search_with(alloc, index, sequent, budget)? {
         Found::Proved(log) => {
-            accepted.push(confirm(alloc, sequent, log.as_slice())?)?;
+            let accepted = confirm(alloc, sequent, log.as_slice())?;
+            proofs.push(Proof { accepted, log })?;
             Ok(None)
         }
         Found::Modelled(table) => Ok(Some(Finding {
@@ -105,22 +113,22 @@ fn failure(alloc: Global, obligation: &Obligation, finding: Finding) -> Result<F
     })
 }
 
-/// Judges an obligation, and adds its failure where it has no proof, and else that the kernel took one.
+/// Judges an obligation, and adds its proof, or its failure where none is found.
 fn add(
     alloc: Global,
     entry: &Entry,
+    index: &mut Index,
     failures: &mut Vec<Failure>,
-    accepted: &mut Vec<Accepted>,
+    proofs: &mut Vec<Proof>,
     obligation: &Obligation,
     budget: Budget,
 ) -> Result<(), AllocError>
     requires steps { 1 ≤ budget.steps }
-    requires front { obligation.now.hypothesis_count ≤ length entry.now.owed.now.known.items }
-    requires goal { IsTerm Truths entry.now.owed.now.nodes obligation.now.goal }
-    ensures { OnOk result (Adds (program_of entry.now.program.now) (map param_of entry.now.params.now) budget (obligation_in entry.now.owed.now.declaration entry.now.owed.now.nodes entry.now.owed.now.known.items obligation.now) (map failure_of failures.old.items) (map failure_of failures.new.items) accepted.old.items accepted.new.items) }
+    requires owed { IsOwed entry.now.owed.now.known obligation.now }
+    ensures { OnOk result (Adds (program_of entry.now.program.now) (map param_of entry.now.params.now) budget (obligation_in entry.now.owed.now.declaration entry.now.owed.now.nodes entry.now.owed.now.known obligation.now) (map failure_of failures.old.items) (map failure_of failures.new.items) proofs.old.items proofs.new.items) }
 {
     let sequent = entry.owed.sequent(alloc, entry.program, obligation)?;
-    match judge(alloc, entry.params, &sequent, accepted, budget)? {
+    match judge(alloc, index, entry.params, &sequent, proofs, budget)? {
         Some(finding) => {
             failures.push(failure(alloc, obligation, finding)?)?;
             Ok(())
@@ -129,20 +137,29 @@ fn add(
     }
 }
 
-/// The failures of the obligations, in their order; for each of the others the kernel took a log, which is added.
+/// The failures of the obligations, in their order; the proofs of the others are added.
 pub(crate) fn failures(
     alloc: Global,
     entry: &Entry,
-    accepted: &mut Vec<Accepted>,
+    proofs: &mut Vec<Proof>,
     budget: Budget,
 ) -> Result<Vec<Failure>, AllocError>
     requires steps { 1 ≤ budget.steps }
-    requires none { accepted.old.items ≡ [] }
-    ensures { IfOk result (λ failures. Judges (program_of entry.now.program.now) (map param_of entry.now.params.now) budget (obligations_in entry.now.owed.now) (map failure_of failures.items) accepted.new.items) }
+    requires none { proofs.old.items ≡ [] }
+    ensures { IfOk result (λ failures. Judges (program_of entry.now.program.now) (map param_of entry.now.params.now) budget (obligations_in entry.now.owed.now) (map failure_of failures.items) proofs.new.items) }
 {
+    let mut index = Index::new(alloc);
     let mut failures = Vec::new(alloc);
     for obligation in &entry.owed.obligations {
-        add(alloc, entry, &mut failures, accepted, obligation, budget)?;
+        add(
+            alloc,
+            entry,
+            &mut index,
+            &mut failures,
+            proofs,
+            obligation,
+            budget,
+        )?;
     }
     Ok(failures)
 }

@@ -7,5 +7,6 @@ mod law;
 mod parameters;
 mod verdict;
 
+pub use judging::Proof;
 pub use law::{judged_is_correct, refuted_is_wrong, verified_is_safe};
 pub use verdict::{Judged, verdicts};

@@ -9,11 +9,10 @@ ghost use Rattle.df_meaning.specs.Correct.{AreCorrect};
 ghost use Rattle.df_report.specs.View.{outcome_of};
 ghost use Rattle.df_nverdict.specs.Judging.{AddsVerdict};
 ghost use Rattle.df_nverdict.specs.Verdict.{IsJudgedMethod, AreVerdicts, are_verified};
-ghost use Rattle.df_nverdict.specs.View.{outcomes_in, logs_in};
+ghost use Rattle.df_nverdict.specs.View.{outcomes_in, proofs_in};
 
-use crate::judging::{Entry, failures};
+use crate::judging::{Entry, Proof, failures};
 use crate::law::judged_is_correct;
-use df_kern::Accepted;
 use df_lang::{Decl, DeclId, Method, Program};
 use df_nghost::Checked;
 use df_nowed::obligations_of_method;
@@ -25,25 +24,25 @@ use std::alloc::{AllocError, Global};
 #[derive(Drop)]
 pub struct Judged {
     pub outcomes: Vec<Outcome>,
-    /// For each method that the kernel took logs: one of each obligation that is no failure, in order.
-    pub accepted: Vec<Vec<Accepted>>,
+    /// For each method the proofs of its obligations that are no failures, in order.
+    pub proofs: Vec<Vec<Proof>>,
 }
 
-/// The outcome of a method: its failures are the obligations without a proof, in order. Of each of the others the kernel
-/// took a log, which is added.
+/// The outcome of a method: its failures are the obligations without a proof, in order. The proofs of the others are
+/// added.
 fn outcome(
     alloc: Global,
     program: &Program,
     groups: &[usize],
     number: DeclId,
     method: &Method,
-    accepted: &mut Vec<Accepted>,
+    proofs: &mut Vec<Proof>,
     budget: Budget,
 ) -> Result<Outcome, AllocError>
     requires declared { method_at (program_of program.now) number ≡ Some (method_of method.now) }
     requires steps { 1 ≤ budget.steps }
-    requires none { accepted.old.items ≡ [] }
-    ensures { IfOk result (λ outcome. IsJudgedMethod (program_of program.now) groups.now budget number (method_of method.now) (outcome_of outcome) accepted.new.items) }
+    requires none { proofs.old.items ≡ [] }
+    ensures { IfOk result (λ outcome. IsJudgedMethod (program_of program.now) groups.now budget number (method_of method.now) (outcome_of outcome) proofs.new.items) }
 {
     let owed = obligations_of_method(alloc, program, groups, number, method)?;
     let entry = Entry {
@@ -51,12 +50,12 @@ fn outcome(
         params: method.parameters.as_slice(),
         owed: &owed,
     };
-    let failures = failures(alloc, &entry, accepted, budget)?;
+    let failures = failures(alloc, &entry, proofs, budget)?;
     let name = String::from_str(alloc, method.declared.text.as_str())?;
     Ok(Outcome { name, failures })
 }
 
-/// Judges a declaration, if it is a method: its outcome is added, and what the kernel took of it.
+/// Judges a declaration, if it is a method: its outcome and its proofs are added.
 fn judge_declaration(
     alloc: Global,
     program: &Program,
@@ -68,15 +67,15 @@ fn judge_declaration(
 ) -> Result<(), AllocError>
     requires declared { slice_get (program_of program.now).decls number ≡ Some (decl_of decl.now) }
     requires steps { 1 ≤ budget.steps }
-    ensures { OnOk result (AddsVerdict (program_of program.now) groups.now budget number (decl_of decl.now) (outcomes_in judged.old) (logs_in judged.old) (outcomes_in judged.new) (logs_in judged.new)) }
+    ensures { OnOk result (AddsVerdict (program_of program.now) groups.now budget number (decl_of decl.now) (outcomes_in judged.old) (proofs_in judged.old) (outcomes_in judged.new) (proofs_in judged.new)) }
 {
     match decl {
         Decl::Newtype(_) => Ok(()),
         Decl::Method(method) => {
-            let mut logs = Vec::new(alloc);
-            let outcome = outcome(alloc, program, groups, number, method, &mut logs, budget)?;
+            let mut proofs = Vec::new(alloc);
+            let outcome = outcome(alloc, program, groups, number, method, &mut proofs, budget)?;
             judged.outcomes.push(outcome)?;
-            judged.accepted.push(logs)?;
+            judged.proofs.push(proofs)?;
             Ok(())
         }
     }
@@ -90,11 +89,11 @@ fn judge_all(
     budget: Budget,
 ) -> Result<Judged, AllocError>
     requires steps { 1 ≤ budget.steps }
-    ensures { IfOk result (λ judged. AreVerdicts (program_of program.now) groups.now budget (outcomes_in judged) (logs_in judged)) }
+    ensures { IfOk result (λ judged. AreVerdicts (program_of program.now) groups.now budget (outcomes_in judged) (proofs_in judged)) }
 {
     let mut judged = Judged {
         outcomes: Vec::new(alloc),
-        accepted: Vec::new(alloc),
+        proofs: Vec::new(alloc),
     };
     for (number, decl) in program.decls.iter().enumerate() {
         judge_declaration(alloc, program, groups, number, decl, &mut judged, budget)?;
@@ -103,7 +102,7 @@ fn judge_all(
 }
 
 /// The verdicts on the methods of a program over its groups, in their order: a failure for each obligation for which no
-/// log is found, with its evidence. It fails for want of memory.
+/// proof is found, with its evidence, and the proofs of the others. It fails for want of memory.
 pub fn verdicts(
     alloc: Global,
     program: &Checked,
@@ -112,7 +111,7 @@ pub fn verdicts(
 ) -> Result<Judged, AllocError>
     requires groups { AreGroups (program_of program.now.program) groups.now }
     requires steps { 1 ≤ budget.steps }
-    ensures judged { IfOk result (λ judged. AreVerdicts (program_of program.now.program) groups.now budget (outcomes_in judged) (logs_in judged)) }
+    ensures judged { IfOk result (λ judged. AreVerdicts (program_of program.now.program) groups.now budget (outcomes_in judged) (proofs_in judged)) }
     // Where no outcome has a failure, each method is correct.
     ensures correct { IfOk result (λ judged. are_verified (outcomes_in judged) ≡ true → AreCorrect (program_of program.now.program)) }
 {

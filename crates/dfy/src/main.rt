@@ -33,7 +33,7 @@ fn main(rt: HostRuntime) -> ExitCode {
     };
     let alloc = rt.alloc();
     let mut out = HostSink::new(rt.stdout());
-    let mut files = HostFiles::new(rt);
+    let mut files = HostFiles::new(alloc, rt);
     let status = top(alloc, words.as_slice(), &mut files, &mut out, &mut err);
     ExitCode::from(status.code())
 }

@@ -2,11 +2,10 @@ use Rattle.std.proofs.Common.{map, string_bytes}
 use Rattle.df_ncmd.specs.View.{command_of}
 use Rattle.df_ntop.specs.Call.{store, streams}
 use Rattle.df_ntop.proofs.Commands.{done, unproved, unwritten, fuel_end, told_end, memory_end}
-use Rattle.df_ntop.proofs.Limits.{limits_of}
 use Rattle.df_ntop.proofs.command.carry_out.Goals as goal
 
-pub end_command-requires-clause-budget : goal.end_command-requires-clause-budget
-end_command-requires-clause-budget g c = limits_of (command_of c.args.command.now) (c.limits.ensures (map string_bytes c.args.words.now) (command_of c.args.command.now) c.requires.line.asks)
+pub end_command-requires-clause-limits : goal.end_command-requires-clause-limits
+end_command-requires-clause-limits g c = c.limits.ensures (map string_bytes c.args.words.now) (command_of c.args.command.now) c.requires.line.asks
 
 pub returns-in-Done-clause-answers : goal.returns-in-Done-clause-answers
 returns-in-Done-clause-answers g c =

@@ -11,4 +11,5 @@ loop-start-preserved g c = record {
   within = search rules;
   put = line_put _ _ _ c.args.text.now c.loop-start.start c.line_end-end.result c.line_end-end.ensures.0 c.loop-start.invariant.put c.in_ok-put.ensures.took;
   counted = search rules;
+  stays = search rules;
 }

@@ -15,12 +15,12 @@ returns-in-Some c =
     let program = program_of entry.program.now in
     let params = map param_of entry.params.now in
     let owed = entry.owed.now in
-    let o = obligation_in owed.declaration owed.nodes owed.known.items c.args.obligation.now in
+    let o = obligation_in owed.declaration owed.nodes owed.known c.args.obligation.now in
     let s = c.in_ok-sequent.sequent in
-    let now = c.judge.new.accepted.items in
-    let found = subst (λ (f : Option Finding). Finds params (sequent_of s) c.args.budget c.args.accepted.now.items now f) c.in-Some.is c.in_ok-finding.ensures in
+    let now = c.judge.new.proofs.items in
+    let found = subst (λ (f : Option Finding). Finds params (sequent_of s) c.args.budget c.args.proofs.now.items now f) c.in-Some.is c.in_ok-finding.ensures in
     let told = c.in_ok-failure-in-Some.ensures in
-    failure_added program params c.args.budget o (sequent_of s) c.in-Some.finding c.in_ok-failure-in-Some.field-0 c.args.accepted.now.items now c.args.failures.now.items c.push.new.self.items
+    failure_added program params c.args.budget o (sequent_of s) c.in-Some.finding c.in_ok-failure-in-Some.field-0 c.args.proofs.now.items now c.args.failures.now.items c.push.new.self.items
     (is_sequent_of program o s c.in_ok-sequent.ensures.world c.in_ok-sequent.ensures.owed) found told.pos told.kind told.evidence told.parameters c.in_ok-push-in-Some.ensures.items
 
 pub returns : goal.returns
@@ -29,9 +29,9 @@ returns c =
     let program = program_of entry.program.now in
     let params = map param_of entry.params.now in
     let owed = entry.owed.now in
-    let o = obligation_in owed.declaration owed.nodes owed.known.items c.args.obligation.now in
+    let o = obligation_in owed.declaration owed.nodes owed.known c.args.obligation.now in
     let s = c.in_ok-sequent.sequent in
-    let now = c.judge.new.accepted.items in
-    let found = subst (λ (f : Option Finding). Finds params (sequent_of s) c.args.budget c.args.accepted.now.items now f) c.in-None.is c.in_ok-finding.ensures in
-    proof_added program params c.args.budget o (sequent_of s) (map failure_of c.args.failures.now.items) c.args.accepted.now.items now
+    let now = c.judge.new.proofs.items in
+    let found = subst (λ (f : Option Finding). Finds params (sequent_of s) c.args.budget c.args.proofs.now.items now f) c.in-None.is c.in_ok-finding.ensures in
+    proof_added program params c.args.budget o (sequent_of s) (map failure_of c.args.failures.now.items) c.args.proofs.now.items now
     (is_sequent_of program o s c.in_ok-sequent.ensures.world c.in_ok-sequent.ensures.owed) found

@@ -10,4 +10,4 @@ abbrev pub invariant-loop-obligation : goal.invariant-loop-obligation
 invariant-loop-obligation l =
     let owed = l.entry.owed.now in
     Judges (program_of l.entry.program.now) (map param_of l.entry.params.now) l.budget
-    (map (obligation_in owed.declaration owed.nodes owed.known.items) (take l.obligation-index l.obligation-items)) (map failure_of l.failures.items) l.accepted.items
+    (map (obligation_in owed.declaration owed.nodes owed.known) (take l.obligation-index l.obligation-items)) (map failure_of l.failures.items) l.proofs.items

@@ -1,0 +1,10 @@
+pub mod Sequents
+pub mod Derivations
+pub mod Taking
+pub mod Judged
+pub mod Correct
+pub mod Refusals
+pub mod Declarations
+pub mod Unread
+pub mod Parts
+pub mod Logs
