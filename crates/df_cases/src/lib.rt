@@ -80,9 +80,6 @@ pub const NAT: Op = Op::Is(Ty::Nat);
 /// That a number is an `int`.
 pub const INT: Op = Op::Is(Ty::Int);
 
-/// That a truth is a `bool`.
-pub const BOOL: Op = Op::Is(Ty::Bool);
-
 /// That a character is a `char`.
 pub const CHAR: Op = Op::Is(Ty::Char);
 

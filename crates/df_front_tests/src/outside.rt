@@ -64,7 +64,7 @@ fn files_of_the_system_are_read(rt: HostRuntime) -> Result<(), Fail> {
     fs::create_dir_all(&rt, "df_front_tests")?;
     fs::write(&rt, "df_front_tests/text", b"seven b".as_slice())?;
     fs::write(&rt, "df_front_tests/long", vec![in alloc; 9u8; 10000]?)?;
-    let mut files = HostFiles::new(&rt);
+    let mut files = HostFiles::new(alloc, &rt);
     let text = files.load(alloc, "df_front_tests/text", 7)?;
     assert_eq!(rt; text.as_slice(), b"seven b".as_slice());
     assert_eq!(rt;

@@ -1,8 +1,8 @@
 //! The kernel: which logs it accepts, and where it refuses the others.
 
 use df_cases::{
-    BOOL, BYTE, CHAR, I8, INT, Line, NAT, P, Q, Signed, Terms, UNDECLARED, X, Y, Z, literals,
-    program, sequent, step, steps,
+    BYTE, CHAR, I8, INT, Line, NAT, P, Q, Signed, Terms, UNDECLARED, X, Y, Z, literals, program,
+    sequent, step, steps,
 };
 use df_form::{Op, Sequent, World};
 use df_kern::{AxiomFault, Checker, KernFault, check, connective, instance};
@@ -515,17 +515,6 @@ const WHOLE: Sheet = (
     ],
 );
 
-/// p is 0, and the goal that it is a bool 1.
-const BOOLEAN: Sheet = (
-    &[],
-    &[(P, 0), (BOOL, 1)],
-    &[Line::G],
-    &[
-        (&[Line::A(74, 0, &[1]), Line::U(&[0, 1], &[])], None),
-        (&[Line::A(74, 1, &[1])], Some((2, 5))),
-    ],
-);
-
 /// 65 is 0, its character 1, and the goal that this is a char 2.
 const LETTER: Sheet = (
     &[],
@@ -537,7 +526,7 @@ const LETTER: Sheet = (
     ],
 );
 
-const SHEETS: [Sheet; 14] = [
+const SHEETS: [Sheet; 13] = [
     (&[], &[(P, 0)], &[], &PLACES),
     (&[&[(P, 0)], &[(P, 0), (Op::Not, 1)]], &EACH, &[], &KINDS),
     (&[], &EACH, DOUBLES, &CONGRUENCES),
@@ -550,7 +539,6 @@ const SHEETS: [Sheet; 14] = [
     CHARACTER,
     NATURAL,
     WHOLE,
-    BOOLEAN,
     LETTER,
 ];
 

@@ -1,9 +1,10 @@
-//! What comes next at the empty branch of a search.
+//! What comes next at the empty branch of a search without instances.
 
+use df_axiom::Written;
 use df_branch::{Leaf, ground_sets_are_places, leaf_at};
 use df_cases::{P, Q, Terms, X, Y, program, sequent};
 use df_form::{Op, Sequent};
-use df_ground::Ground;
+use df_trig::{instances, instances_are_ground};
 use std::alloc::Global;
 use std::test::Fail;
 
@@ -77,10 +78,12 @@ const CASES: [Case; 8] = [
 /// What comes next at the empty branch.
 fn end(alloc: Global, sequent: &Sequent) -> Result<Leaf, Fail> {
     ground_sets_are_places();
-    let Ok(ground) = Ground::new(alloc, sequent) else {
+    instances_are_ground();
+    let Ok(ground) = instances(alloc, sequent, &Written {}, 0) else {
         return Err(Fail::new("no ground set"));
     };
-    Ok(leaf_at(alloc, &ground.nodes, &ground.clauses, &ground.nodes, &[])?)
+    let clauses = ground.clauses.as_slice();
+    Ok(leaf_at(alloc, &ground.nodes, clauses, &ground.nodes, &[])?)
 }
 
 fn word(leaf: &Leaf) -> &'static str {

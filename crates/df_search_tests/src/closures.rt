@@ -1,8 +1,8 @@
 //! Closures by hand.
 
 use df_cases::{Signed, literals};
+use df_clause::GroundClause;
 use df_closure::{Closure, close};
-use df_ground::GroundClause;
 use std::alloc::Global;
 use std::test::Fail;
 

@@ -1,12 +1,14 @@
 //! Ground sets that are listed by hand.
 
+use df_axiom::Written;
 use df_cases::{
     BYTE, CHAR, I8, INT, NAT, P, Q, Signed, Terms, UNDECLARED, X, Y, assume, conclude, program,
     sequent,
 };
+use df_clause::{GroundClause, clauses};
 use df_form::{Draft, Op, Sequent, World};
-use df_ground::{Ground, GroundClause, GroundFault};
 use df_kern::Checker;
+use df_trig::instances;
 use std::alloc::Global;
 use std::process::Abort;
 use std::test::Fail;
@@ -85,19 +87,26 @@ const SHEETS: [Sheet; 7] = [
         5,
         &[(3, 0)],
     ),
-    // p is 0, 65 1, its character 2, and that this is a char 3
+    // p is 0, 65 1, its character 2, and that this is a char 3; 0 becomes 4, 0 <= 65 5, 127 6, 65 <= 127 7, the
+    // character's code 8, that this is 65 9, and its comparisons 10 and 11
     (
         &[&[(P, 0)]],
         &[(Op::Number(65), 0), (Op::Chr, 1), (CHAR, 1)],
         &[
             (&[(true, 0)], None),
             (&[(false, 3)], None),
+            (&[(false, 5), (false, 7), (true, 9)], None),
             (&[(true, 3)], None),
+            (&[(false, 9), (true, 10)], Some(9)),
+            (&[(false, 9), (true, 11)], Some(9)),
+            (&[(true, 9), (false, 10), (false, 11)], Some(9)),
         ],
-        4,
-        &[(1, 65)],
+        12,
+        &[(1, 65), (4, 0), (6, 127)],
     ),
-    // x is 0, y 1, x = y 2, and x <= y 3; y <= x becomes 7; an equality of characters, 6, has no clauses
+    // x is 0, y 1, x = y 2, and x <= y 3; y <= x becomes 7; an equality of characters, 6, has no clauses; 0
+    // becomes 8, 0 <= x 9, 127 10, x <= 127 11, the code of x's character 12, that this is x 13, and the same
+    // of y from 14 to 17, and then their comparisons
     (
         &[
             &[(X, 0), (Y, 0), (Op::Equal, 2)],
@@ -111,9 +120,17 @@ const SHEETS: [Sheet; 7] = [
             (&[(false, 2), (true, 3)], Some(2)),
             (&[(false, 2), (true, 7)], Some(2)),
             (&[(true, 2), (false, 3), (false, 7)], Some(2)),
+            (&[(false, 9), (false, 11), (true, 13)], None),
+            (&[(false, 14), (false, 15), (true, 17)], None),
+            (&[(false, 13), (true, 18)], Some(13)),
+            (&[(false, 13), (true, 19)], Some(13)),
+            (&[(true, 13), (false, 18), (false, 19)], Some(13)),
+            (&[(false, 17), (true, 20)], Some(17)),
+            (&[(false, 17), (true, 21)], Some(17)),
+            (&[(true, 17), (false, 20), (false, 21)], Some(17)),
         ],
-        8,
-        &[],
+        22,
+        &[(8, 0), (10, 127)],
     ),
     // p is 0, q 1, and then come their connectives from 2 to 6
     (
@@ -168,7 +185,7 @@ fn are_lines(
     count: usize,
     made: usize,
 ) -> Result<(), Fail> {
-    let set = Ground::new(alloc, sequent).map_err(|_| "refused")?;
+    let set = instances(alloc, sequent, &Written {}, 1).map_err(|_| "refused")?;
     assert_eq!(rt; set.lines.len(), count);
     let mut checker = Checker::new(alloc, sequent)?;
     for line in &set.lines {
@@ -185,10 +202,10 @@ fn is_as_listed(
     sheet: Sheet,
 ) -> Result<(), Fail> {
     let (_, _, clauses, made, numbers) = sheet;
-    let set = Ground::new(alloc, sequent).map_err(|_| "refused")?;
+    let set = instances(alloc, sequent, &Written {}, 1).map_err(|_| "refused")?;
     assert_eq!(rt; set.nodes.len(), made);
     assert_eq!(rt; set.clauses.len(), clauses.len());
-    for (number, (clause, listed)) in set.clauses.iter().zip(clauses).enumerate() {
+    for (number, (clause, listed)) in set.clauses.as_slice().iter().zip(clauses).enumerate() {
         assert!(rt; is_listed(clause, *listed), "at {number}");
     }
     for (node, value) in numbers {
@@ -210,8 +227,8 @@ fn lists_clauses(rt: HostRuntime) -> Result<(), Fail> {
     Ok(())
 }
 
-/// The answer for the hypothesis p so many times, and the goal q.
-fn repeated(rt: &impl Abort, alloc: Global, count: usize) -> Result<Option<GroundFault>, Fail> {
+/// How many clauses there are for the hypothesis p so many times, and the goal q.
+fn repeated(rt: &impl Abort, alloc: Global, count: usize) -> Result<usize, Fail> {
     let program = program(alloc)?;
     let world = World { program: &program };
     let mut draft = Draft::new(alloc, world);
@@ -219,16 +236,13 @@ fn repeated(rt: &impl Abort, alloc: Global, count: usize) -> Result<Option<Groun
         assume(&mut draft, &[(P, 0)])?;
     }
     let sequent = conclude(alloc, &mut draft, &[(Q, 0)])?;
-    Ok(Ground::new(alloc, &sequent).err())
+    Ok(clauses(alloc, &sequent)?.clauses.len())
 }
 
 #[test]
-fn refuses_too_many(rt: HostRuntime) -> Result<(), Fail> {
+fn counts_equal_clauses_once(rt: HostRuntime) -> Result<(), Fail> {
     let alloc = rt.alloc();
-    assert_eq!(rt; repeated(&rt, alloc, 199_998)?, None);
-    assert_eq!(rt;
-        repeated(&rt, alloc, 199_999)?,
-        Some(GroundFault::Many(200_000))
-    );
+    assert_eq!(rt; repeated(&rt, alloc, 1)?, 2);
+    assert_eq!(rt; repeated(&rt, alloc, 1_000)?, 2);
     Ok(())
 }

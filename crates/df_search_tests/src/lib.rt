@@ -1,5 +1,5 @@
-//! Tests of ground sets, closures, tables, branches and searches, as tables against their public calls. The crate
-//! holds nothing else.
+//! Tests of ground sets, rounds of instances, closures, tables, branches and searches, as tables against
+//! their public calls. The crate holds nothing else.
 #![tactic(auto)]
 
 #[cfg(test)]
@@ -7,9 +7,13 @@ mod branches;
 #[cfg(test)]
 mod closures;
 #[cfg(test)]
+mod evidence;
+#[cfg(test)]
 mod grounds;
 #[cfg(test)]
 mod operations;
+#[cfg(test)]
+mod rounds;
 #[cfg(test)]
 mod searches;
 #[cfg(test)]

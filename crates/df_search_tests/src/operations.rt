@@ -1,11 +1,12 @@
 //! Searches for proofs of sequents with products, quotients, remainders and characters.
 
+use df_axiom::Written;
 use df_cases::{P, Terms, X, Y, Z, program, sequent};
 use df_form::{Op, Sequent};
-use df_ground::Ground;
 use df_kern::check;
 use df_search::{Budget, Found, search};
 use df_table::is_model;
+use df_trig::instances;
 use std::alloc::Global;
 use std::process::Abort;
 use std::test::Fail;
@@ -229,7 +230,7 @@ fn end(rt: &impl Abort, alloc: Global, sequent: &Sequent, rounds: u32) -> Result
             Ending::Proved
         }
         Found::Modelled(table) => {
-            let set = Ground::new(alloc, sequent).map_err(|_| "refused")?;
+            let set = instances(alloc, sequent, &Written {}, rounds).map_err(|_| "refused")?;
             assert!(rt; is_model(&set, &table));
             Ending::Modelled
         }

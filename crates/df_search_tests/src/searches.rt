@@ -1,11 +1,12 @@
 //! Searches for proofs.
 
+use df_axiom::Written;
 use df_cases::{BYTE, Terms, X, program, sequent};
 use df_form::{Op, Sequent};
-use df_ground::Ground;
 use df_kern::check;
 use df_search::{Budget, Found, search};
 use df_table::is_model;
+use df_trig::instances;
 use std::alloc::Global;
 use std::process::Abort;
 use std::test::Fail;
@@ -67,7 +68,7 @@ fn confirmed(rt: &impl Abort, alloc: Global, sequent: &Sequent, found: Found) ->
             End::Proved
         }
         Found::Modelled(table) => {
-            let set = Ground::new(alloc, sequent).map_err(|_| "refused")?;
+            let set = instances(alloc, sequent, &Written {}, 1).map_err(|_| "refused")?;
             assert!(rt; is_model(&set, &table));
             End::Modelled
         }

@@ -1,10 +1,10 @@
 //! Tables by hand: those that are models of ground sets and those that are not, and those of assignments.
 
 use df_cases::{
-    BOOL, CHAR, I8, INT, NAT, P, Plain, Q, Terms, UNDECLARED, X, Y, Z, nodes, program, sequent,
+    CHAR, I8, INT, NAT, P, Plain, Q, Terms, UNDECLARED, X, Y, Z, nodes, program, sequent,
 };
+use df_clause::clauses;
 use df_form::{Lit, Op, Sequent, World};
-use df_ground::Ground;
 use df_kern::Known;
 use df_model::{Valuation, valuation};
 use df_table::{Table, is_model};
@@ -12,7 +12,7 @@ use std::alloc::Global;
 use std::process::Abort;
 use std::test::Fail;
 
-/// A sequent's hypotheses and goal, and tables: whether they are models of its ground set.
+/// A sequent's hypotheses and goal, and tables: whether they are models of its ground set without instances.
 type Sheet<'a> = (&'a [Terms<'a>], Terms<'a>, &'a [(&'a [i128], bool)]);
 
 const SHEETS: [Sheet; 3] = [
@@ -102,7 +102,7 @@ fn are_models(
     sequent: &Sequent,
     tables: &[(&[i128], bool)],
 ) -> Result<(), Fail> {
-    let set = Ground::new(alloc, sequent).map_err(|_| "refused")?;
+    let set = clauses(alloc, sequent)?;
     for (number, (numbers, expected)) in tables.iter().enumerate() {
         let table = Table::new(Vec::from_slice(alloc, numbers)?);
         assert_eq!(rt; is_model(&set, &table), *expected, "at {number}");
@@ -123,7 +123,7 @@ fn tells_models(rt: HostRuntime) -> Result<(), Fail> {
 
 /// Nodes with their numbers, where the first two free numbers are 5 and -3, and node 2 alone is known
 /// to be true.
-const TABLE: [(Plain, i128); 42] = [
+const TABLE: [(Plain, i128); 41] = [
     ((X, &[]), 5),
     ((Y, &[]), -3),
     ((P, &[]), 1),
@@ -169,7 +169,6 @@ const TABLE: [(Plain, i128); 42] = [
     ((NAT, &[0]), 1),
     ((NAT, &[1]), 0),
     ((INT, &[1]), 1),
-    ((BOOL, &[3]), 1),
     ((CHAR, &[34]), 1),
 ];
 
