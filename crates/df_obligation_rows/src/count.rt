@@ -16,7 +16,7 @@ fn sizes_of(obligations: &Obligations) -> Sizes {
     let mut sizes = Sizes::default();
     for method in &obligations.methods {
         sizes.obligations = sizes.obligations.saturating_add(method.obligations.len());
-        sizes.known = sizes.known.saturating_add(method.known.len());
+        sizes.known = sizes.known.saturating_add(method.known.as_slice().len());
     }
     sizes
 }

@@ -1,5 +1,6 @@
 //! Makes the obligations of the sources of a folder, and tells where they are not those that stand beside a source.
-//! With the word `count` before the folder it tells how many there are, and compares nothing.
+//! With the word `count` before the folder it tells how many there are, and compares nothing. With the word `sequents`
+//! before a source, without its ending, it prints its newtypes and its sequents.
 #![tactic(auto)]
 
 mod assignment;
@@ -8,6 +9,7 @@ mod evaluation;
 mod folder;
 mod listing;
 mod made;
+mod printing;
 mod row;
 mod sequents;
 mod term;
@@ -15,6 +17,7 @@ mod verdict;
 
 use crate::count::print_counts;
 use crate::folder::sources;
+use crate::printing::print_sequents;
 use crate::row::play;
 use anyhow::{Context, Result, ensure};
 use std::{env, io};
@@ -71,6 +74,9 @@ fn main(rt: HostRuntime) -> Result<()> {
     if first.as_str() == "count" {
         let folder = word(&rt, 2)?;
         count_all(&rt, folder.as_str())
+    } else if first.as_str() == "sequents" {
+        let name = word(&rt, 2)?;
+        print_sequents(&rt, name.as_str())
     } else {
         play_all(&rt, first.as_str())
     }

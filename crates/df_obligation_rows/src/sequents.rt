@@ -15,7 +15,7 @@ fn push_known(
     to: usize,
 ) -> Result<(), AllocError> {
     for place in from..to {
-        if let Some(formula) = method.known.get(place) {
+        if let Some(formula) = method.known.as_slice().get(place) {
             text.push_str("have ")?;
             text.push_str(text_of(texts, *formula))?;
             text.push_str("\n")?;

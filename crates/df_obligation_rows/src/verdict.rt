@@ -26,7 +26,8 @@ fn is_refuted(
     assignment: &Assignment,
 ) -> Result<bool> {
     let values = values(alloc, program, assignment, &method.nodes)?;
-    for formula in method.known.iter().take(obligation.hypothesis_count) {
+    let known = method.known.as_slice();
+    for formula in known.iter().take(obligation.hypothesis_count) {
         if !is_truth(&values, *formula, true) {
             return Ok(false);
         }

@@ -37,9 +37,26 @@ impl Try {
     }
 }
 
+/// A file beside the source.
+#[derive(Drop)]
+pub struct File {
+    pub name: String,
+    pub text: Vec<u8>,
+}
+
+/// A file beside the source that holds what a command puts on standard output.
+#[derive(Drop)]
+pub struct Made {
+    pub name: String,
+    /// The words of the command.
+    pub words: Vec<String>,
+}
+
 #[derive(Drop)]
 pub struct Example {
     /// The source, where the `.expected` file has it.
     pub source: Option<Vec<u8>>,
+    pub files: Vec<File>,
+    pub made: Vec<Made>,
     pub tries: Vec<Try>,
 }

@@ -11,7 +11,7 @@ mod text;
 
 use crate::example::Example;
 use crate::folder::examples;
-use crate::play::{Count, play};
+use crate::play::{Count, make_files, play};
 use crate::reading::read;
 use anyhow::{Context, Result, ensure};
 use std::{env, fs, io};
@@ -33,8 +33,9 @@ fn play_all(rt: &HostRuntime, name: &str, count: &mut Count) -> Result<()> {
     let text = fs::read_to_string(rt, path.as_str())?;
     let mut example = read(rt.alloc(), text.as_str())?;
     let source = source(rt, name, &mut example)?;
+    make_files(rt.alloc(), name, source.as_slice(), &mut example)?;
     for tried in &example.tries {
-        count.add(play(rt, name, source.as_slice(), tried)?);
+        count.add(play(rt, name, source.as_slice(), &example, tried)?);
     }
     Ok(())
 }

@@ -1,11 +1,12 @@
 //! Plays a try.
 
-use crate::example::{Failing, Try};
+use crate::example::{Example, Failing, File, Made, Try};
 use crate::fitting::fits;
 use anyhow::Result;
 use df_base::{MemFiles, MemSink, Memory};
 use df_ntop::top;
 use std::alloc::{AllocError, Global};
+use std::mem;
 
 /// How many tries there were, and how many of them differ from what is written.
 #[derive(Clone, Copy, Debug, Default)]
@@ -35,16 +36,60 @@ fn of_memory(_memory: Memory) -> AllocError {
     AllocError
 }
 
-fn made(
+/// The name of an example's source, without its folders.
+fn source_name(alloc: Global, name: &str) -> Result<String, AllocError> {
+    format!(in alloc;
+        "{}.dfy",
+        name.rsplit_once('/').map_or(name, |(_, last)| last)
+    )
+}
+
+/// The files of an example, without those that are made.
+fn all_files(
     alloc: Global,
     name: &str,
     source: &[u8],
+    example: &Example,
+) -> Result<MemFiles, AllocError> {
+    let mut files = MemFiles::new(alloc);
+    files
+        .add(source_name(alloc, name)?.as_str(), source)
+        .map_err(of_memory)?;
+    for file in &example.files {
+        files
+            .add(file.name.as_str(), file.text.as_slice())
+            .map_err(of_memory)?;
+    }
+    Ok(files)
+}
+
+/// Makes the files that commands put on standard output.
+pub fn make_files(
+    alloc: Global,
+    name: &str,
+    source: &[u8],
+    example: &mut Example,
+) -> Result<(), AllocError> {
+    for Made { name: file, words } in mem::replace(&mut example.made, Vec::new(alloc)) {
+        let mut files = all_files(alloc, name, source, example)?;
+        let mut out = MemSink::new(alloc);
+        let mut err = MemSink::new(alloc);
+        top(alloc, &words, &mut files, &mut out, &mut err);
+        let mut text = Vec::new(alloc);
+        text.extend_from_slice(out.taken())?;
+        example.files.push(File { name: file, text })?;
+    }
+    Ok(())
+}
+
+fn devices_over(
+    alloc: Global,
+    files: MemFiles,
     failing: &[Failing],
 ) -> Result<Devices, AllocError> {
-    let mut files = MemFiles::new(alloc);
+    let mut files = files;
     let mut out = MemSink::new(alloc);
     let mut err = MemSink::new(alloc);
-    files.add(name, source).map_err(of_memory)?;
     for one in failing {
         match *one {
             Failing::Load(call) => files.fail_at(call),
@@ -62,23 +107,24 @@ fn told(bytes: &[u8]) -> &str {
     str::from_utf8(bytes).unwrap_or("bytes that are no text")
 }
 
-/// Plays a try with a source of this name, and tells where it differs.
+/// Plays a try of the example of this name, and tells where it differs.
 pub fn play(
     rt: &(impl Print + AllocGlobal),
     name: &str,
     source: &[u8],
+    example: &Example,
     tried: &Try,
 ) -> Result<bool> {
     let alloc = rt.alloc();
-    let file = format!(in alloc;
-        "{}.dfy",
-        name.rsplit_once('/').map_or(name, |(_, last)| last)
-    )?;
     let Devices {
         mut files,
         mut out,
         mut err,
-    } = made(alloc, file.as_str(), source, &tried.failing)?;
+    } = devices_over(
+        alloc,
+        all_files(alloc, name, source, example)?,
+        &tried.failing,
+    )?;
     let status = top(alloc, &tried.words, &mut files, &mut out, &mut err).code();
     if status == tried.status && fits(&tried.out, out.taken()) && fits(&tried.err, err.taken()) {
         return Ok(true);

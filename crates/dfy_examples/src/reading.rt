@@ -1,6 +1,6 @@
 //! Reads an `.expected` file.
 
-use crate::example::{Example, Failing, Try};
+use crate::example::{Example, Failing, File, Made, Try};
 use crate::text::{push_times, unescaped};
 use anyhow::{Context, Result, bail};
 use std::alloc::Global;
@@ -29,7 +29,7 @@ fn split(line: &str) -> Result<Line<'_>> {
     }
 }
 
-/// The words of a try, each of which stands behind a blank.
+/// The words of a command, each of which stands behind a blank.
 fn words(alloc: Global, line: &str) -> Result<Vec<String>> {
     let mut words = Vec::new(alloc);
     for word in line.split(' ').skip(1) {
@@ -57,7 +57,7 @@ fn take_more(alloc: Global, tried: &mut Try, line: &Line) -> Result<()> {
         b"out" => push_times(&mut tried.out, &unescaped(alloc, line.text)?, line.times)?,
         b"err" => push_times(&mut tried.err, &unescaped(alloc, line.text)?, line.times)?,
         b"fail" => tried.failing.push(failing(line.text)?)?,
-        _ => bail!("a line begins with source, try, status, out, err or fail"),
+        _ => bail!("a line begins with source, file, made, try, status, out, err or fail"),
     }
     Ok(())
 }
@@ -67,6 +67,37 @@ fn take_source(alloc: Global, example: &mut Example, line: &Line) -> Result<()> 
     push_times(source, &unescaped(alloc, line.text)?, line.times)
 }
 
+/// A name, and what stands behind it.
+fn named(text: &str) -> (&str, &str) {
+    text.split_once(' ').unwrap_or((text, ""))
+}
+
+/// Takes a line that says more of a file.
+fn take_file(alloc: Global, example: &mut Example, line: &Line) -> Result<()> {
+    let (name, text) = named(line.text);
+    let more = unescaped(alloc, text)?;
+    if !example.files.iter().any(|file| file.name.as_str() == name) {
+        example.files.push(File {
+            name: String::from_str(alloc, name)?,
+            text: Vec::new(alloc),
+        })?;
+    }
+    for file in example.files.iter_mut() {
+        if file.name.as_str() == name {
+            push_times(&mut file.text, &more, line.times)?;
+        }
+    }
+    Ok(())
+}
+
+fn take_made(alloc: Global, example: &mut Example, line: &Line) -> Result<()> {
+    let (name, _) = named(line.text);
+    let name = String::from_str(alloc, name)?;
+    let words = words(alloc, line.text)?;
+    example.made.push(Made { name, words })?;
+    Ok(())
+}
+
 fn take(alloc: Global, example: &mut Example, number: usize, text: &str) -> Result<()> {
     if text.is_empty() || text.starts_with('#') {
         return Ok(());
@@ -74,6 +105,8 @@ fn take(alloc: Global, example: &mut Example, number: usize, text: &str) -> Resu
     let line = split(text)?;
     match line.word.as_bytes() {
         b"source" => take_source(alloc, example, &line),
+        b"file" => take_file(alloc, example, &line),
+        b"made" => take_made(alloc, example, &line),
         b"try" => {
             example
                 .tries
@@ -91,6 +124,8 @@ fn take(alloc: Global, example: &mut Example, number: usize, text: &str) -> Resu
 pub fn read(alloc: Global, text: &str) -> Result<Example> {
     let mut example = Example {
         source: None,
+        files: Vec::new(alloc),
+        made: Vec::new(alloc),
         tries: Vec::new(alloc),
     };
     for (index, line) in text.lines().enumerate() {

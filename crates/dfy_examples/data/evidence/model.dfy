@@ -1,0 +1,4 @@
+method Square(x: int)
+{
+  assert x * x >= 0;
+}

@@ -1,0 +1,2 @@
+newtype i32 = x: int | -0x8000_0000 <= x < 0x8000_0000
+method Main() { var x: i32 := 5; if x < 7 { print x + 1, "\n"; } }
