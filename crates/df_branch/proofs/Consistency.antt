@@ -8,8 +8,8 @@ use Rattle.df_lemmas.proofs.Truths.{true_is_not_false}
 use Rattle.df_lemmas.proofs.Options.{test_some}
 use Rattle.df_form.specs.declared.log.Lit.{Lit}
 use Rattle.df_form.specs.Clause.{Clause, same_literal, negation, is_among}
-use Rattle.df_kern.specs.Propagation.{left, only}
-use Rattle.df_kern.proofs.SoundClauses.{same_literal_is}
+use Rattle.df_rules.specs.Propagation.{left, only}
+use Rattle.df_rules.proofs.SoundClauses.{same_literal_is}
 use Rattle.df_closure.specs.Closure.{GroundClause, Taught, nothing, more, after}
 use Rattle.df_closure.specs.Full.{IsConsistent}
 

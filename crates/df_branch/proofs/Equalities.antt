@@ -10,8 +10,8 @@ use Rattle.df_form.specs.Sorting.{IsTable, sort_at}
 use Rattle.df_form.specs.Clause.{yes, no}
 use Rattle.df_form.proofs.Tables.{made_old, number_of_at, table-take}
 use Rattle.df_form.proofs.Values.{Grows, grown_get, grown_sort, AreSorted, parts_below}
-use Rattle.df_kern.specs.Bound.{at_most}
-use Rattle.df_kern.specs.Connective.{Added, equal_clause, equal_by_sort, connective_clause, connective_line}
+use Rattle.df_rules.specs.Bound.{at_most}
+use Rattle.df_rules.specs.Connective.{Added, equal_clause, equal_by_sort, connective_clause, connective_line}
 use Rattle.df_clause.specs.Among.{Among}
 use Rattle.df_clause.specs.Lines.{bound_by}
 use Rattle.df_clause.proofs.Parts.{first_below}

@@ -11,8 +11,8 @@ use Rattle.df_form.specs.Sorting.{sort_at}
 use Rattle.df_form.specs.Clause.{yes, no, is_among}
 use Rattle.df_row.specs.Row.{Row}
 use Rattle.df_row.specs.RowView.{IsWithin}
-use Rattle.df_kern.specs.Bound.{number, at_most}
-use Rattle.df_kern.specs.Derivation.{is_number}
+use Rattle.df_rules.specs.Bound.{number, at_most}
+use Rattle.df_rules.specs.Derivation.{is_number}
 use Rattle.df_closure.specs.Atoms.{is_atom}
 use Rattle.df_closure.specs.Closure.{GroundClause, after}
 use Rattle.df_level.specs.declared.level.Level.{Level}

@@ -8,7 +8,7 @@ use Rattle.df_form.specs.declared.node.Sort.TheVariants as sorts
 use Rattle.df_form.specs.Node.{Node, same_sort}
 use Rattle.df_form.specs.Sorting.{sort_at, is_formula}
 use Rattle.df_form.specs.Clause.{Clause, same_literal, is_among, are_literals}
-use Rattle.df_kern.proofs.SoundClauses.{same_literal_is}
+use Rattle.df_rules.proofs.SoundClauses.{same_literal_is}
 
 pub all_at : {A : Type 0} (test : A → Bool) (xs : List A) (n : ℕ) (x : A) → slice_get xs n ≡ Some x → list_all test xs ≡ true → test x ≡ true
 all_at test [] n x e all = absurd cc

@@ -9,8 +9,8 @@ use Rattle.df_form.specs.declared.node.Sort.TheVariants as sorts
 use Rattle.df_form.specs.Node.{Node}
 use Rattle.df_form.specs.Sorting.{sort_at}
 use Rattle.df_form.specs.Clause.{same_literal, is_among, yes, no}
-use Rattle.df_kern.specs.Bound.{number, at_most}
-use Rattle.df_kern.proofs.SoundClauses.{same_literal_is}
+use Rattle.df_rules.specs.Bound.{number, at_most}
+use Rattle.df_rules.proofs.SoundClauses.{same_literal_is}
 use Rattle.df_row.specs.Row.{Row, constant_row, with_more, with_coefficient, without, literal_number, with_product, expanded_parts, expanded_at, expanded_below, expanded_difference, difference}
 use Rattle.df_row.specs.Linear.{one_row, rows_by_sort, rows_of_node, rows_of}
 use Rattle.df_row.proofs.Rows.{at_zero, narrow_row_is}

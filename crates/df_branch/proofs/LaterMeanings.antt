@@ -8,7 +8,7 @@ use Rattle.df_form.specs.Node.{Node}
 use Rattle.df_form.specs.Sorting.{IsTable, sort_at}
 use Rattle.df_form.proofs.Tables.{table-take}
 use Rattle.df_form.proofs.Values.{Grows, grown_get, grown_sort, AreSorted, parts_below}
-use Rattle.df_kern.specs.Connective.{Added, connective_clause, connective_line}
+use Rattle.df_rules.specs.Connective.{Added, connective_clause, connective_line}
 use Rattle.df_clause.specs.Among.{Among}
 use Rattle.df_clause.specs.Lines.{bound_by}
 use Rattle.df_clause.proofs.Parts.{first_below}

@@ -13,8 +13,8 @@ use Rattle.df_row.specs.RowView.{IsWithin}
 use Rattle.df_row.specs.Linear.{rows_of, refutes}
 use Rattle.df_row.specs.LinearView.{AreWithin}
 use Rattle.df_row.proofs.LinearWithin.{table_within}
-use Rattle.df_kern.specs.declared.known.Known.{Known}
-use Rattle.df_kern.specs.Known.{IsSetOf}
+use Rattle.df_rules.specs.declared.known.Known.{Known}
+use Rattle.df_rules.specs.Known.{IsSetOf}
 use Rattle.df_cong.specs.declared.answer.Congruence.{Congruence}
 use Rattle.df_cong.specs.declared.answer.Reason.{Reason}
 use Rattle.df_cong.specs.Congruence.{HasLabels, TellsCongruence}

@@ -10,7 +10,7 @@ use Rattle.df_form.specs.Sorting.{IsTable, sort_at}
 use Rattle.df_form.specs.Clause.{yes, no, is_among}
 use Rattle.df_form.proofs.Tables.{table-take}
 use Rattle.df_form.proofs.Values.{grown_sort, AreSorted}
-use Rattle.df_kern.specs.Derivation.{is_number}
+use Rattle.df_rules.specs.Derivation.{is_number}
 use Rattle.df_clause.proofs.Running.{grown_from}
 use Rattle.df_closure.specs.Closure.{GroundClause, after}
 use Rattle.df_closure.specs.Filled.{IsFilled}

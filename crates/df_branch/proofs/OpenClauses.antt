@@ -5,8 +5,8 @@ use Rattle.std.specs.List.{list_any}
 use Rattle.std.proofs.lemmas.Option.{same_Some, slice_get_within}
 use Rattle.df_form.specs.declared.log.Lit.{Lit}
 use Rattle.df_form.specs.Clause.{Clause, is_among}
-use Rattle.df_kern.specs.declared.known.Known.{Known}
-use Rattle.df_kern.specs.Known.{knows, IsSetOf}
+use Rattle.df_rules.specs.declared.known.Known.{Known}
+use Rattle.df_rules.specs.Known.{knows, IsSetOf}
 use Rattle.df_closure.specs.Closure.{GroundClause, counts_for}
 use Rattle.df_branch.specs.Filling.{TellsUndecided, TellsMember, TellsOpen, IsUnmet}
 

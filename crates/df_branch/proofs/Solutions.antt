@@ -9,7 +9,7 @@ use Rattle.df_form.specs.declared.node.Op.TheVariants as ops
 use Rattle.df_form.specs.Node.{Node}
 use Rattle.df_form.specs.Clause.{is_among, are_literals}
 use Rattle.df_row.specs.Value.{rows_hold}
-use Rattle.df_kern.specs.Connective.{connective_clause}
+use Rattle.df_rules.specs.Connective.{connective_clause}
 use Rattle.df_clause.specs.Among.{Among}
 use Rattle.df_clause.specs.Lines.{bound_by}
 use Rattle.df_cong.specs.Congruence.{HasLabels}

@@ -9,14 +9,14 @@ use Rattle.df_form.specs.Sequent.{Sequent}
 use Rattle.df_form.specs.Log.{Step}
 use Rattle.df_row.specs.Row.{Row}
 use Rattle.df_row.specs.Linear.{rows_of}
-use Rattle.df_kern.specs.Derivation.{begin, after_all}
+use Rattle.df_rules.specs.Derivation.{begin, after_all}
 use Rattle.df_clause.specs.declared.ground.Ground.{Ground}
 use Rattle.df_trig.specs.Instances.{IsInstances}
 use Rattle.df_clause.specs.Among.{Among}
 use Rattle.df_closure.specs.Closure.{GroundClause, after, IsClosed, IsRefuted}
 use Rattle.df_closure.specs.Filled.{IsOpenClause, IsFilled}
 use Rattle.df_level.specs.Elimination.{AreRefuted, IsElimination}
-use Rattle.df_kern.specs.Connective.{Added, connective_line}
+use Rattle.df_rules.specs.Connective.{Added, connective_line}
 use Rattle.df_cong.specs.Equal.{IsContradicted}
 use Rattle.df_branch.specs.Splits.{IsSplit}
 use Rattle.df_branch.specs.TermPair.{IsTermEquality}

@@ -3,7 +3,7 @@ use Rattle.std.specs.Prelude.{◌≡◌, true, false, List, Option, Some, None}
 use Rattle.std.specs.List.{list_any}
 use Rattle.df_form.specs.declared.log.Lit.{Lit}
 use Rattle.df_form.specs.Clause.{Clause, negation, is_among}
-use Rattle.df_kern.specs.Propagation.{left, is_empty}
+use Rattle.df_rules.specs.Propagation.{left, is_empty}
 use Rattle.df_closure.specs.Closure.{GroundClause, counts_for}
 use Rattle.df_closure.specs.Filled.{IsOpenClause}
 

@@ -8,8 +8,8 @@ use Rattle.df_form.specs.Sequent.{Sequent, IsSequent}
 use Rattle.df_row.specs.Row.{Row, fits}
 use Rattle.df_row.specs.RowView.{IsWithin}
 use Rattle.df_row.specs.Linear.{rows_of, refutes}
-use Rattle.df_kern.specs.Bound.{number, at_most}
-use Rattle.df_kern.specs.Derivation.{is_number}
+use Rattle.df_rules.specs.Bound.{number, at_most}
+use Rattle.df_rules.specs.Derivation.{is_number}
 use Rattle.df_clause.specs.declared.ground.Ground.{Ground}
 use Rattle.df_clause.specs.GroundView.{IsGround, state_of}
 use Rattle.df_table.specs.TableModel.{IsTableModel}

@@ -5,7 +5,7 @@ use Rattle.df_form.specs.declared.log.Lit.{Lit}
 use Rattle.df_form.specs.Node.{Node}
 use Rattle.df_form.specs.Sorting.{IsTable}
 use Rattle.df_form.specs.Clause.{yes, no, are_literals}
-use Rattle.df_kern.specs.Connective.{Added, connective_line}
+use Rattle.df_rules.specs.Connective.{Added, connective_line}
 use Rattle.df_clause.specs.Among.{Among}
 use Rattle.df_clause.specs.Lines.{bound_by}
 use Rattle.df_closure.specs.Closure.{GroundClause}

@@ -5,7 +5,7 @@ use Rattle.df_form.specs.Node.{Node}
 use Rattle.df_row.specs.Row.{Row}
 use Rattle.df_row.specs.RowView.{IsWithin}
 use Rattle.df_row.specs.Linear.{rows_of}
-use Rattle.df_kern.specs.Bound.{number, at_most}
+use Rattle.df_rules.specs.Bound.{number, at_most}
 use Rattle.df_level.specs.Levels.{Stands}
 use Rattle.df_level.specs.Elimination.{IsElimination}
 use Rattle.df_back.specs.BackSubstitution.{IsBetween}

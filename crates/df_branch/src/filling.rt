@@ -4,13 +4,13 @@ ghost use Rattle.std.specs.Prelude.{◌≡◌, ◌||◌, List, map};
 ghost use Rattle.std.specs.List.{list_any};
 ghost use Rattle.df_form.specs.declared.log.Lit.{Lit};
 ghost use Rattle.df_form.specs.Clause.{yes, no, negation, is_among};
-ghost use Rattle.df_kern.specs.Known.{knows, IsSetOf};
+ghost use Rattle.df_rules.specs.Known.{knows, IsSetOf};
 ghost use Rattle.df_closure.specs.Closure.{ground_of, counts_for};
 ghost use Rattle.df_branch.specs.Filling.{TellsMember, TellsOpen, TellsUndecided};
 
 use df_clause::GroundClause;
 use df_form::{Formula, Lit};
-use df_kern::Known;
+use df_rules::Known;
 
 /// Whether a clause that is bound to an equality counts.
 fn counts(known: &Known, bound: Option<Formula>) -> bool

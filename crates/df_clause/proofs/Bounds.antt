@@ -12,7 +12,7 @@ use Rattle.df_form.specs.Sorting.{IsTable}
 use Rattle.df_form.specs.Log.{Step, Hypothesis, Goal, Connective, Schema, Propagation, Congruence, Linear, Split, Make}
 use Rattle.df_form.specs.Sequent.{Sequent, IsSequent}
 use Rattle.df_form.proofs.Values.{Grows, grows_not, grows_twice, grown_get, AreSorted}
-use Rattle.df_kern.specs.Connective.{Added, connective_clause, connective_line}
+use Rattle.df_rules.specs.Connective.{Added, connective_clause, connective_line}
 use Rattle.df_clause.specs.Among.{Among}
 use Rattle.df_clause.specs.GroundClause.{GroundClause}
 use Rattle.df_clause.specs.Lines.{lines_at, bound_by, bound_of}

@@ -12,7 +12,7 @@ use Rattle.df_form.specs.Node.{Node}
 use Rattle.df_form.specs.Sorting.{sort_at}
 use Rattle.df_form.specs.Clause.{Clause}
 use Rattle.df_form.specs.Log.{Connective}
-use Rattle.df_kern.specs.Connective.{chosen, not_clauses, and_clauses, or_clauses, implies_clauses, iff_clauses, equal_clause, equal_by_sort, connective_clause, connective_line}
+use Rattle.df_rules.specs.Connective.{chosen, not_clauses, and_clauses, or_clauses, implies_clauses, iff_clauses, equal_clause, equal_by_sort, connective_clause, connective_line}
 use Rattle.df_clause.specs.Lines.{sides_count, connective_count, connective_lines, lines_at}
 use Rattle.df_clause.specs.Among.{Among}
 use Rattle.df_clause.proofs.Counts.{and_length, or_length}

@@ -2,7 +2,7 @@
 use Rattle.std.proofs.Common.{◌≡◌, ℕ, ◌+◌, List, [], ◌∷◌, map, length, arith}
 use Rattle.std.proofs.lemmas.List.{length-map, length-append}
 use Rattle.df_form.specs.Clause.{yes, no}
-use Rattle.df_kern.specs.Connective.{and_clauses, or_clauses}
+use Rattle.df_rules.specs.Connective.{and_clauses, or_clauses}
 
 pub and_length : (n : ℕ) (parts : List ℕ) → length (and_clauses n parts) ≡ length parts + 1
 and_length n parts =

@@ -11,8 +11,8 @@ use Rattle.df_form.specs.Clause.{Clause, yes, no}
 use Rattle.df_form.specs.Log.{Hypothesis, Goal, Connective}
 use Rattle.df_form.specs.Sequent.{Sequent, IsSequent}
 use Rattle.df_form.proofs.Values.{grown_get}
-use Rattle.df_kern.specs.Connective.{Added, connective_clause}
-use Rattle.df_kern.specs.Derivation.{only_clause}
+use Rattle.df_rules.specs.Connective.{Added, connective_clause}
+use Rattle.df_rules.specs.Derivation.{only_clause}
 use Rattle.df_clause.specs.Among.{Among}
 use Rattle.df_clause.specs.Comparing.{is_comparing, AreComparing}
 use Rattle.df_clause.specs.Lines.{connective_count, connective_lines, lines_at}

@@ -11,8 +11,8 @@ use Rattle.df_form.specs.Node.{Node, number_of, same_sort}
 use Rattle.df_form.specs.Sorting.{sort_at, is_formula}
 use Rattle.df_form.specs.Made.{made, made_where}
 use Rattle.df_form.specs.Clause.{Clause, yes, no, are_literals}
-use Rattle.df_kern.specs.Bound.{at_most}
-use Rattle.df_kern.specs.Connective.{Added, chosen, not_clauses, and_clauses, or_clauses, implies_clauses, iff_clauses, equal_clause, equal_by_sort, connective_clause}
+use Rattle.df_rules.specs.Bound.{at_most}
+use Rattle.df_rules.specs.Connective.{Added, chosen, not_clauses, and_clauses, or_clauses, implies_clauses, iff_clauses, equal_clause, equal_by_sort, connective_clause}
 
 made_inside : (nodes : List Node) (node : Node) → (made nodes node).number < length nodes → (made nodes node).nodes ≡ nodes
 made_inside nodes node less = by (number_of nodes node) less

@@ -10,7 +10,7 @@ use Rattle.df_form.specs.Clause.{Clause}
 use Rattle.df_form.specs.Log.{Step, step_of, Connective}
 use Rattle.df_form.specs.Sequent.{Sequent}
 use Rattle.df_form.proofs.Values.{Grows, grows_not, grows_twice}
-use Rattle.df_kern.specs.Connective.{Added, connective_clause, connective_line}
+use Rattle.df_rules.specs.Connective.{Added, connective_clause, connective_line}
 use Rattle.df_clause.specs.declared.ground.Ground.{Ground}
 use Rattle.df_clause.specs.GroundClause.{GroundClause}
 use Rattle.df_clause.specs.Counting.{stands, with_clause}

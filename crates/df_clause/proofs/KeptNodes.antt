@@ -10,9 +10,9 @@ use Rattle.df_form.specs.Node.{Node}
 use Rattle.df_form.specs.Sorting.{sort_at}
 use Rattle.df_form.specs.Made.{made}
 use Rattle.df_form.specs.Clause.{Clause}
-use Rattle.df_kern.specs.Bound.{at_most}
-use Rattle.df_kern.specs.Connective.{Added, not_clauses, and_clauses, or_clauses, implies_clauses, iff_clauses, equal_clause, equal_by_sort, connective_clause}
-use Rattle.df_kern.specs.Derivation.{only_clause}
+use Rattle.df_rules.specs.Bound.{at_most}
+use Rattle.df_rules.specs.Connective.{Added, not_clauses, and_clauses, or_clauses, implies_clauses, iff_clauses, equal_clause, equal_by_sort, connective_clause}
+use Rattle.df_rules.specs.Derivation.{only_clause}
 use Rattle.df_clause.specs.Comparing.{is_comparing}
 
 module _ (P : List Node → Type 0) (keeps : (nodes : List Node) (node : Node) → is_comparing node.op ≡ true → P nodes → P (made nodes node).nodes) where

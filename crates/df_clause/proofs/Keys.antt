@@ -10,7 +10,7 @@ use Rattle.std.proofs.lemmas.Bool.{and_from, and_parts, eqb-true, eq-eqb}
 use Rattle.df_meaning.specs.Value.{same_truth}
 use Rattle.df_form.specs.declared.log.Lit.{Lit}
 use Rattle.df_form.specs.Clause.{Clause, same_literal}
-use Rattle.df_kern.proofs.SoundClauses.{same_literal_is}
+use Rattle.df_rules.proofs.SoundClauses.{same_literal_is}
 use Rattle.df_clause.specs.declared.clause.GroundClause as declared
 use Rattle.df_clause.specs.contracts.clause.GroundClausePartialEq.TheImpl as key
 use Rattle.df_clause.specs.GroundClause.{GroundClause, ground_of, same_bound, same_clause}

@@ -1,5 +1,5 @@
 -- The literals of ground clauses are of formulas.
-use Rattle.std.proofs.Common.{◌≡◌, ℕ, zero, suc, pos, Bool, true, false, ◌&&◌, ◌==◌, if◌then◌else◌, List, [], ◌∷◌, map, length, Option, Some, slice_get, nat_lt, refl, sym, ap, ◌∙◌, subst, arith, ltb-true, lt-ltb}
+use Rattle.std.proofs.Common.{◌≡◌, ℕ, zero, suc, Bool, true, false, ◌&&◌, ◌==◌, if◌then◌else◌, List, [], ◌∷◌, map, length, Option, Some, slice_get, nat_lt, refl, sym, ap, ◌∙◌, subst, arith, ltb-true, lt-ltb}
 use Rattle.std.specs.Option.{option_map}
 use Rattle.std.specs.List.{list_all, AllByRecursion}
 use Rattle.std.proofs.lemmas.Option.{same_Some, slice_get_within}
@@ -8,32 +8,27 @@ use Rattle.df_form.proofs.Drafts.{sort_here}
 use Rattle.df_lemmas.proofs.Alls.{all_joined}
 use Rattle.df_lemmas.proofs.Lists.{all_weaker, all_parts}
 use Rattle.df_lemmas.proofs.Options.{then_some, map_some}
-use Rattle.df_lang.specs.declared.ty.Ty.{Ty}
-use Rattle.df_lang.specs.declared.ty.Ty.TheVariants as types
-use Rattle.df_form.specs.World.{World, Ends, ends_at}
+use Rattle.df_form.specs.World.{World}
 use Rattle.df_form.specs.declared.log.Lit.{Lit}
 use Rattle.df_form.specs.declared.node.Sort.{Sort}
 use Rattle.df_form.specs.declared.node.Sort.TheVariants as sorts
 use Rattle.df_form.specs.declared.node.Op.{Op}
 use Rattle.df_form.specs.declared.node.Op.TheVariants as ops
 use Rattle.df_form.specs.Node.{Node, same_sort}
-use Rattle.df_form.specs.Types.{sort_of_type}
 use Rattle.df_form.specs.Sorting.{sort_at, sort_of, is_formula}
 use Rattle.df_form.specs.Made.{made}
 use Rattle.df_form.specs.Sequent.{Sequent, IsSequent}
 use Rattle.df_form.specs.Clause.{Clause, yes, no, are_literals}
 use Rattle.df_form.specs.Log.{Step, Hypothesis, Goal, Connective, Schema, Propagation, Congruence, Linear, Split, Make}
-use Rattle.df_form.proofs.Same.{same_sort_equal, values_alike}
+use Rattle.df_form.proofs.Same.{values_alike}
 use Rattle.df_form.proofs.Values.{Grows, grown_sort, grown_below, AreSorted, parts_below, parts_taken}
 use Rattle.df_form.proofs.Making.{IsNumber, grown_number, made_stands}
-use Rattle.df_form.proofs.Tested.{tested_one}
-use Rattle.df_kern.specs.Bound.{at_most, made_at_least, made_at_most}
-use Rattle.df_kern.specs.Connective.{Added, chosen, of_one, not_clauses, and_clauses, or_clauses, implies_clauses, iff_clauses, equal_clause, equal_by_sort, connective_clause}
+use Rattle.df_rules.specs.Bound.{at_most}
+use Rattle.df_rules.specs.Connective.{Added, chosen, not_clauses, and_clauses, or_clauses, implies_clauses, iff_clauses, equal_clause, equal_by_sort, connective_clause}
 use Rattle.df_axiom.specs.Line.{instance_line}
 use Rattle.df_axiom.proofs.SchemaTruth.{line_kept}
-use Rattle.df_kern.specs.Schema.{newtype_clause, natural_clause, always_clause, type_clause, is_clause, schema_74, type_line, schema_line}
-use Rattle.df_kern.specs.Derivation.{only_clause}
-use Rattle.df_kern.proofs.SoundNodes.{at_most_sorted, at_least_stands, at_most_stands}
+use Rattle.df_rules.specs.Derivation.{only_clause}
+use Rattle.df_rules.proofs.SoundNodes.{at_most_sorted}
 use Rattle.df_clause.specs.Adding.{added_by}
 use Rattle.df_clause.proofs.Assignments.{some_assignment}
 
@@ -176,76 +171,8 @@ op_fits nodes n k ops.Iff (a ∷ b ∷ []) added all e is =
 op_fits nodes n k ops.Equal (a ∷ b ∷ []) added all e is = sides_fit (sort_at nodes a) nodes n k a b added refl all e is
 op_fits nodes n k op parts added all e is = absurd cc
 
-newtype_fits : (newtype : Ends) (nodes : List Node) (n x k : ℕ) (added : Added) → AreSorted nodes → is_formula nodes n ≡ true → IsNumber nodes x → newtype_clause newtype nodes n x k ≡ Some added → Fits added
-newtype_fits newtype nodes n x zero added all e is line =
-    let low = made_at_least nodes newtype.low x in
-    let first = at_least_stands nodes newtype.low x all is in
-    subst Fits (same_Some _ added line) (two _ _ (formula_grown nodes low.nodes first.grows n e) (formula_at low.nodes low.number (at_most first.literal x) first.there refl))
-newtype_fits newtype nodes n x (suc zero) added all e is line =
-    let high = made_at_most nodes x newtype.high in
-    let first = at_most_stands nodes x newtype.high all is in
-    subst Fits (same_Some _ added line) (two _ _ (formula_grown nodes high.nodes first.grows n e) (formula_at high.nodes high.number (at_most x first.literal) first.there refl))
-newtype_fits newtype nodes n x (suc (suc zero)) added all e is line =
-    let low = made_at_least nodes newtype.low x in
-    let high = made_at_most low.nodes x newtype.high in
-    let first = at_least_stands nodes newtype.low x all is in
-    let second = at_most_stands low.nodes x newtype.high first.sorted (grown_number nodes low.nodes first.grows x is) in
-    let here = formula_grown low.nodes high.nodes second.grows n (formula_grown nodes low.nodes first.grows n e) in
-    let left = formula_grown low.nodes high.nodes second.grows low.number (formula_at low.nodes low.number (at_most first.literal x) first.there refl) in
-    subst Fits (same_Some _ added line) (three _ _ _ here left (formula_at high.nodes high.number (at_most x second.literal) second.there refl))
-newtype_fits newtype nodes n x (suc (suc (suc k))) added all e is line = absurd cc
-
-natural_fits : (nodes : List Node) (n x k : ℕ) (added : Added) → AreSorted nodes → is_formula nodes n ≡ true → IsNumber nodes x → natural_clause nodes n x k ≡ Some added → Fits added
-natural_fits nodes n x zero added all e is line =
-    let low = made_at_least nodes (pos 0) x in
-    let first = at_least_stands nodes (pos 0) x all is in
-    subst Fits (same_Some _ added line) (two _ _ (formula_grown nodes low.nodes first.grows n e) (formula_at low.nodes low.number (at_most first.literal x) first.there refl))
-natural_fits nodes n x (suc zero) added all e is line =
-    let low = made_at_least nodes (pos 0) x in
-    let first = at_least_stands nodes (pos 0) x all is in
-    subst Fits (same_Some _ added line) (two _ _ (formula_grown nodes low.nodes first.grows n e) (formula_at low.nodes low.number (at_most first.literal x) first.there refl))
-natural_fits nodes n x (suc (suc k)) added all e is line = absurd cc
-
-always_fits : (nodes : List Node) (n k : ℕ) (added : Added) → is_formula nodes n ≡ true → always_clause nodes n k ≡ Some added → Fits added
-always_fits nodes n zero added e line = subst Fits (same_Some _ added line) (one _ e)
-always_fits nodes n (suc k) added e line = absurd cc
-
--- a number that a node says to be of a type
-typed_number : (nodes : List Node) (n x : ℕ) (ty : Ty) → sort_of_type ty ≡ sorts.Number → AreSorted nodes → slice_get nodes n ≡ Some (record { op = ops.Is ty; parts = x ∷ [] }) → IsNumber nodes x
-typed_number nodes n x ty number all e =
-    let node : Node = record { op = ops.Is ty; parts = x ∷ [] } in
-    let below = and_parts (nat_lt x (length nodes)) true (each_below nodes n node all e) in
-    record { below = ltb-true x (length nodes) below.0; sort = same_sort_equal (sort_at nodes x) (sort_of_type ty) (tested_one ty (sort_at nodes x) (parts_taken nodes n node all e)) ∙ number }
-
-type_fits : (world : World) (nodes : List Node) (n x k : ℕ) (ty : Ty) (added : Added) → AreSorted nodes → slice_get nodes n ≡ Some (record { op = ops.Is ty; parts = x ∷ [] }) → type_clause world nodes n x ty k ≡ Some added → Fits added
-type_fits world nodes n x k (types.Newtype t) added all e line =
-    let node : Node = record { op = ops.Is (types.Newtype t); parts = x ∷ [] } in
-    let found = then_some (λ (newtype : Ends). newtype_clause newtype nodes n x k) (ends_at world t) added line in
-    newtype_fits found.0 nodes n x k added all (formula_at nodes n node e refl) (typed_number nodes n x (types.Newtype t) refl all e) found.2
-type_fits world nodes n x k types.Int added all e line = always_fits nodes n k added (formula_at nodes n (record { op = ops.Is types.Int; parts = x ∷ [] }) e refl) line
-type_fits world nodes n x k types.Nat added all e line = natural_fits nodes n x k added all (formula_at nodes n (record { op = ops.Is types.Nat; parts = x ∷ [] }) e refl) (typed_number nodes n x types.Nat refl all e) line
-type_fits world nodes n x k types.Bool added all e line = always_fits nodes n k added (formula_at nodes n (record { op = ops.Is types.Bool; parts = x ∷ [] }) e refl) line
-type_fits world nodes n x k types.Char added all e line = always_fits nodes n k added (formula_at nodes n (record { op = ops.Is types.Char; parts = x ∷ [] }) e refl) line
-
-is_fits : (world : World) (nodes : List Node) (n k : ℕ) (op : Op) (parts : List ℕ) (added : Added) → AreSorted nodes → slice_get nodes n ≡ Some (record { op = op; parts = parts }) → is_clause world nodes n k op parts ≡ Some added → Fits added
-is_fits world nodes n k (ops.Is ty) (x ∷ []) added all e line = type_fits world nodes n x k ty added all e line
-is_fits world nodes n k op parts added all e line = absurd cc
-
-one_term : (world : World) (nodes : List Node) (k : ℕ) (terms : List ℕ) (added : Added) → AreSorted nodes → of_one (schema_74 world nodes k) terms ≡ Some added → Fits added
-one_term world nodes k (n ∷ []) added all line =
-    let found = then_some (λ (node : Node). is_clause world nodes n k node.op node.parts) (slice_get nodes n) added line in
-    is_fits world nodes n k found.0.op found.0.parts added all found.1 found.2
-one_term world nodes k [] added all line = absurd cc
-one_term world nodes k (n ∷ m ∷ others) added all line = absurd cc
-
-schema_fits : (world : World) (nodes : List Node) (schema k : ℕ) (terms : List ℕ) (added : Added) → AreSorted nodes → schema_line world nodes schema k terms ≡ Some added → Fits added
-schema_fits world nodes schema k terms added sorted e = by (schema == 74) refl
-  where
-    by : (b : Bool) → (schema == 74) ≡ b → Fits added
-    by true is = one_term world nodes k terms added sorted (sym (ap (λ (b : Bool). if b then type_line world nodes k terms else instance_line world nodes schema k terms) is) ∙ e)
-    by false is =
-        (line_kept 0 world some_assignment nodes schema k terms added sorted
-        (sym (ap (λ (b : Bool). if b then type_line world nodes k terms else instance_line world nodes schema k terms) is) ∙ e)).formulas
+schema_fits : (world : World) (nodes : List Node) (schema k : ℕ) (terms : List ℕ) (added : Added) → AreSorted nodes → instance_line world nodes schema k terms ≡ Some added → Fits added
+schema_fits world nodes schema k terms added sorted e = (line_kept 0 world some_assignment nodes schema k terms added sorted e).formulas
 
 listed : (test : ℕ → Bool) (xs : List ℕ) (i x : ℕ) → list_all test xs ≡ true → slice_get xs i ≡ Some x → test x ≡ true
 listed test [] i x all at = absurd cc

@@ -11,7 +11,7 @@ use Rattle.df_form.specs.Clause.{are_literals}
 use Rattle.df_form.specs.Log.{Connective}
 use Rattle.df_form.specs.Sequent.{Sequent, IsSequent}
 use Rattle.df_form.proofs.Values.{Grows, grown_get, grown_sort, AreSorted, parts_below}
-use Rattle.df_kern.specs.Connective.{Added, connective_clause, connective_line}
+use Rattle.df_rules.specs.Connective.{Added, connective_clause, connective_line}
 use Rattle.df_clause.specs.Among.{Among}
 use Rattle.df_clause.specs.GroundClause.{GroundClause}
 use Rattle.df_clause.specs.Counting.{stands}

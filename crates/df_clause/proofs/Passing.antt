@@ -6,7 +6,7 @@ use Rattle.std.proofs.lemmas.Bool.{or_cases}
 use Rattle.df_form.specs.Node.{Node}
 use Rattle.df_form.specs.Log.{Step}
 use Rattle.df_form.specs.Sequent.{Sequent, IsSequent}
-use Rattle.df_kern.specs.Connective.{Added}
+use Rattle.df_rules.specs.Connective.{Added}
 use Rattle.df_clause.specs.Among.{Among}
 use Rattle.df_clause.specs.GroundClause.{GroundClause, same_clause}
 use Rattle.df_clause.specs.Counting.{stands}

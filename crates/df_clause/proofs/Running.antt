@@ -10,10 +10,10 @@ use Rattle.df_form.specs.Sequent.{Sequent}
 use Rattle.df_form.specs.Clause.{Clause, yes, no}
 use Rattle.df_form.specs.Log.{Step, Hypothesis, Goal, Connective, Schema, Propagation, Congruence, Linear, Split, Make}
 use Rattle.df_form.proofs.Values.{Grows, grows_not, AreSorted}
-use Rattle.df_kern.specs.Connective.{Added}
-use Rattle.df_kern.specs.Derivation.{State, only_clause, with_clause, after, after_all}
-use Rattle.df_kern.proofs.SoundConnectives.{connective_is_line}
-use Rattle.df_kern.proofs.SoundBounds.{schema_is_line}
+use Rattle.df_rules.specs.Connective.{Added}
+use Rattle.df_rules.specs.Derivation.{State, only_clause, with_clause, after, after_all}
+use Rattle.df_rules.proofs.SoundConnectives.{connective_is_line}
+use Rattle.df_rules.proofs.SoundBounds.{schema_is_line}
 use Rattle.df_clause.specs.Adding.{added_by}
 use Rattle.df_clause.proofs.Assignments.{some_assignment}
 

@@ -13,9 +13,9 @@ use Rattle.df_form.specs.Made.{Made, made}
 use Rattle.df_form.specs.Clause.{Clause, yes, no}
 use Rattle.df_form.proofs.Values.{Grows, grows_twice, grown_get}
 use Rattle.df_form.proofs.Tables.{made_old, number_of_at}
-use Rattle.df_kern.specs.Bound.{at_most}
-use Rattle.df_kern.specs.Connective.{Added, chosen, not_clauses, and_clauses, or_clauses, implies_clauses, iff_clauses, equal_clause, equal_by_sort, connective_clause}
-use Rattle.df_kern.proofs.Growth.{made-at}
+use Rattle.df_rules.specs.Bound.{at_most}
+use Rattle.df_rules.specs.Connective.{Added, chosen, not_clauses, and_clauses, or_clauses, implies_clauses, iff_clauses, equal_clause, equal_by_sort, connective_clause}
+use Rattle.df_rules.proofs.Growth.{made-at}
 use Rattle.df_clause.proofs.Making.{made_grows}
 
 module _ (nodes : List Node) (table : IsTable nodes) where

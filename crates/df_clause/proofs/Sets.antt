@@ -10,8 +10,8 @@ use Rattle.df_form.specs.Clause.{are_literals}
 use Rattle.df_form.specs.Log.{Step}
 use Rattle.df_form.specs.Sequent.{Sequent, IsSequent}
 use Rattle.df_form.proofs.Values.{Grows, grows_not, grows_twice, AreSorted}
-use Rattle.df_kern.specs.Connective.{Added}
-use Rattle.df_kern.specs.Derivation.{State, begin, with_clause, after_all}
+use Rattle.df_rules.specs.Connective.{Added}
+use Rattle.df_rules.specs.Derivation.{State, begin, with_clause, after_all}
 use Rattle.df_clause.specs.GroundClause.{GroundClause}
 use Rattle.df_clause.specs.Counting.{stands, instance_count}
 use Rattle.df_clause.specs.Lines.{lines_at, bound_of}

@@ -5,7 +5,7 @@ use Rattle.std.specs.List.{range_with_len}
 use Rattle.df_form.specs.Node.{Node}
 use Rattle.df_form.specs.Sequent.{Sequent}
 use Rattle.df_form.specs.Log.{Step, Hypothesis, Goal}
-use Rattle.df_kern.specs.Connective.{Added}
+use Rattle.df_rules.specs.Connective.{Added}
 use Rattle.df_clause.specs.GroundClause.{GroundClause}
 use Rattle.df_clause.specs.Counting.{stands}
 use Rattle.df_clause.specs.Lines.{lines_at, bound_of}

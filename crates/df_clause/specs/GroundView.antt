@@ -7,8 +7,8 @@ use Rattle.df_form.specs.Sorting.{IsTable}
 use Rattle.df_form.specs.Clause.{Clause, yes, no, are_literals}
 use Rattle.df_form.specs.Sequent.{Sequent}
 use Rattle.df_form.specs.Log.{step_of}
-use Rattle.df_kern.specs.Connective.{Added, connective_line}
-use Rattle.df_kern.specs.Derivation.{State, begin, after_all}
+use Rattle.df_rules.specs.Connective.{Added, connective_line}
+use Rattle.df_rules.specs.Derivation.{State, begin, after_all}
 use Rattle.df_clause.specs.declared.ground.Ground.{Ground}
 use Rattle.df_clause.specs.GroundClause.{GroundClause}
 use Rattle.df_clause.specs.GroundSet.{GroundSet}

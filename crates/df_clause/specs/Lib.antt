@@ -1,4 +1,4 @@
-pub use Rattle.df_kern.specs.Derivation
+pub use Rattle.df_rules.specs.Derivation
 pub mod Among
 pub mod Comparing
 pub mod GroundClause

@@ -19,7 +19,7 @@ use crate::clause::GroundClause;
 use crate::clause_set::ClauseSet;
 use crate::lines::{bound_by, connective_count};
 use df_form::{Formula, Lit, Nodes, Sequent, Step};
-use df_kern::{AxiomFault, connective};
+use df_rules::{AxiomFault, connective};
 use std::alloc::{AllocError, Global};
 
 /// Clauses of a sequent: its hypotheses, its negated goal, what connectives mean, and instances of

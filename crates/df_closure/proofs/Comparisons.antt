@@ -21,7 +21,7 @@ use Rattle.df_row.specs.Value.{row_value, row_holds, rows_hold}
 use Rattle.df_row.specs.Linear.{one_row, two_rows, comparison_rows, rows_by_sort, rows_of_parts, rows_of_node, rows_of}
 use Rattle.df_form.proofs.Values.{AreSorted, parts_taken}
 use Rattle.df_form.proofs.Same.{same_sort_equal}
-use Rattle.df_kern.proofs.SoundClauses.{same_literal_is}
+use Rattle.df_rules.proofs.SoundClauses.{same_literal_is}
 use Rattle.df_closure.specs.Comparisons.{IsComparison, at_most, equal, AreComparisonsTrue}
 use Rattle.df_closure.specs.Reading.{IsReading}
 use Rattle.df_closure.proofs.Expansions.{both_inside, difference_value}

@@ -11,8 +11,8 @@ use Rattle.df_form.proofs.Values.{AreSorted, parts_below}
 use Rattle.df_row.specs.Row.{Row, with_coefficient, constant_row, with_more, with_constant, without, literal_number, with_product, expanded_parts, expanded_at, expanded_below, expanded_difference, difference}
 use Rattle.df_row.specs.Value.{sum_below, row_value}
 use Rattle.df_row.proofs.Rows.{narrow_row_is}
-use Rattle.df_kern.proofs.SoundIntegers.{changed}
-use Rattle.df_kern.proofs.SoundRows.{constant_value, more_value}
+use Rattle.df_rules.proofs.SoundIntegers.{changed}
+use Rattle.df_rules.proofs.SoundRows.{constant_value, more_value}
 use Rattle.df_closure.specs.Reading.{IsExact}
 use Rattle.df_closure.proofs.Atoms.{two_below}
 

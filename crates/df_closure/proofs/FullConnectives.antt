@@ -10,7 +10,7 @@ use Rattle.df_form.specs.declared.node.Op.TheVariants as ops
 use Rattle.df_form.specs.Node.{Node}
 use Rattle.df_form.specs.Clause.{Clause, yes, no, is_among}
 use Rattle.df_form.proofs.Values.{AreSorted, parts_below}
-use Rattle.df_kern.specs.Connective.{Added, and_clauses, connective_clause}
+use Rattle.df_rules.specs.Connective.{Added, and_clauses, connective_clause}
 use Rattle.df_closure.specs.Full.{IsMet, IsConsistent, AreConnectivesMet}
 use Rattle.df_closure.specs.Reading.{IsReading}
 use Rattle.df_closure.proofs.Knowing.{and_false, known_of, one_left, two_left, rest_yes, rest_no}

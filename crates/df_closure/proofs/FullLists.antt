@@ -18,10 +18,10 @@ use Rattle.df_form.specs.Clause.{yes, no, same_literal, is_among, are_literals}
 use Rattle.df_form.proofs.Values.{grown_get, parts_below, parts_taken}
 use Rattle.df_form.proofs.Making.{made_stands, IsNumber, grown_number}
 use Rattle.df_form.proofs.Same.{same_sort_equal, values_alike}
-use Rattle.df_kern.specs.Bound.{at_most}
-use Rattle.df_kern.specs.Connective.{equal_by_sort}
-use Rattle.df_kern.proofs.SoundNodes.{at_most_sorted}
-use Rattle.df_kern.proofs.SoundClauses.{same_literal_is}
+use Rattle.df_rules.specs.Bound.{at_most}
+use Rattle.df_rules.specs.Connective.{equal_by_sort}
+use Rattle.df_rules.proofs.SoundNodes.{at_most_sorted}
+use Rattle.df_rules.proofs.SoundClauses.{same_literal_is}
 use Rattle.df_closure.specs.Full.{is_primitive, ArePrimitivesTrue}
 use Rattle.df_closure.proofs.Atoms.{two_below}
 use Rattle.df_closure.proofs.Readings.{equal_is_both}

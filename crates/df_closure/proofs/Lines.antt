@@ -5,11 +5,11 @@ use Rattle.df_form.proofs.Literals.{all_negated_twice}
 use Rattle.df_form.specs.declared.log.Lit.{Lit}
 use Rattle.df_form.specs.Node.{Node}
 use Rattle.df_form.specs.Clause.{Clause, negation, are_literals}
-use Rattle.df_kern.specs.Propagation.{left, is_empty, clauses_at, propagation_of, propagation_line}
-use Rattle.df_kern.specs.Learning.{learned, learned_from, refutes}
+use Rattle.df_rules.specs.Propagation.{left, is_empty, clauses_at, propagation_of, propagation_line}
+use Rattle.df_rules.specs.Learning.{learned, learned_from, refutes}
 use Rattle.df_closure.specs.Lines.{AreIn}
 use Rattle.df_closure.specs.Closure.{GroundClause, Taught, nothing, more, after, IsClosed, IsRefuted}
-use Rattle.df_kern.proofs.Learning.{found, ends, found_by_learning}
+use Rattle.df_rules.proofs.Learning.{found, ends, found_by_learning}
 
 -- what is taught is what the kernel learns
 pub taught_is_learned : (clauses : List GroundClause) (log : List Clause) → AreIn clauses log → (known : List Lit) (numbers : List ℕ) (literals : List Lit) → Taught clauses known numbers literals

@@ -7,10 +7,10 @@ use Rattle.df_form.proofs.Literals.{same_self}
 use Rattle.df_lemmas.proofs.Options.{test_some}
 use Rattle.df_form.specs.declared.log.Lit.{Lit}
 use Rattle.df_form.specs.Clause.{Clause, same_literal, negation, is_among}
-use Rattle.df_kern.specs.Propagation.{left, only}
+use Rattle.df_rules.specs.Propagation.{left, only}
 use Rattle.df_closure.specs.Closure.{GroundClause, Teaches, Taught, nothing, more, after}
 use Rattle.df_closure.specs.Closing.{unknown_in, unknown}
-use Rattle.df_kern.proofs.SoundClauses.{same_literal_is}
+use Rattle.df_rules.proofs.SoundClauses.{same_literal_is}
 
 pub after_more : (known literals : List Lit) (l : Lit) → after known (literals ++ l ∷ []) ≡ l ∷ after known literals
 after_more known [] l = refl

@@ -17,9 +17,9 @@ use Rattle.df_form.specs.Truth.{Assignment, truth}
 use Rattle.df_form.proofs.Values.{AreSorted, parts_taken, worth}
 use Rattle.df_form.proofs.Same.{values_alike}
 use Rattle.df_row.specs.Row.{number_of_op, literal_number}
-use Rattle.df_kern.proofs.SoundConnectives.{node_truth, at_most_truth, equal_truth}
-use Rattle.df_kern.proofs.SoundLinear.{numbers_are}
-use Rattle.df_kern.proofs.SoundRows.{two_below}
+use Rattle.df_rules.proofs.SoundConnectives.{node_truth, at_most_truth, equal_truth}
+use Rattle.df_rules.proofs.SoundLinear.{numbers_are}
+use Rattle.df_rules.proofs.SoundRows.{two_below}
 use Rattle.df_closure.specs.Reading.{IsExact, IsReading}
 use Rattle.df_closure.specs.Comparisons.{numbers_of}
 

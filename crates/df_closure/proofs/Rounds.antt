@@ -3,8 +3,8 @@ use Rattle.std.proofs.Common.{◌≡◌, ℕ, zero, suc, map, get_or, ◌+◌, �
 use Rattle.std.proofs.lemmas.Option.{same_Some, slice_get_within}
 use Rattle.df_form.specs.declared.log.Lit.{Lit}
 use Rattle.df_form.specs.Clause.{same_literal, is_among}
-use Rattle.df_kern.specs.Propagation.{left, only, is_empty}
-use Rattle.df_kern.specs.Known.{knows, IsSetOf}
+use Rattle.df_rules.specs.Propagation.{left, only, is_empty}
+use Rattle.df_rules.specs.Known.{knows, IsSetOf}
 use Rattle.df_closure.specs.declared.closing.Teaching.{Teaching}
 use Rattle.df_closure.specs.declared.closing.Teaching.TheVariants as teachings
 use Rattle.df_closure.specs.declared.closing.Closing.{Closing}

@@ -1,7 +1,7 @@
 -- What the closure of a list answers.
 use Rattle.std.specs.Prelude.{List}
 use Rattle.df_form.specs.declared.log.Lit.{Lit}
-use Rattle.df_kern.specs.Known.{IsSetOf}
+use Rattle.df_rules.specs.Known.{IsSetOf}
 use Rattle.df_closure.specs.declared.closure.Closure.{Closure}
 use Rattle.df_closure.specs.declared.closure.Closure.TheVariants.{Refuted, Closed}
 use Rattle.df_closure.specs.Closure.{GroundClause, IsClosed, IsRefuted, after}

@@ -2,8 +2,8 @@
 use Rattle.std.specs.Prelude.{◌≡◌, ℕ, suc, ◌+◌, ◌<◌, Bool, true, List, [], ◌∷◌, Option, None, Some, if◌then◌else◌}
 use Rattle.df_form.specs.declared.log.Lit.{Lit}
 use Rattle.df_form.specs.Clause.{Clause, is_among}
-use Rattle.df_kern.specs.Propagation.{left, only, is_empty}
-use Rattle.df_kern.specs.Known.{knows, IsSetOf}
+use Rattle.df_rules.specs.Propagation.{left, only, is_empty}
+use Rattle.df_rules.specs.Known.{knows, IsSetOf}
 use Rattle.df_closure.specs.declared.closing.Teaching.{Teaching}
 use Rattle.df_closure.specs.declared.closing.Teaching.TheVariants as teachings
 use Rattle.df_closure.specs.declared.closing.Round.{Round}

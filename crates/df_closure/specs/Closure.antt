@@ -2,7 +2,7 @@
 use Rattle.std.specs.Prelude.{◌≡◌, ℕ, Bool, true, ◌||◌, List, [], ◌∷◌, ◌++◌, slice_get, Option, None, Some}
 use Rattle.df_form.specs.declared.log.Lit.{Lit}
 use Rattle.df_form.specs.Clause.{yes, no, is_among}
-use Rattle.df_kern.specs.Propagation.{left, only, is_empty}
+use Rattle.df_rules.specs.Propagation.{left, only, is_empty}
 pub use Rattle.df_clause.specs.GroundClause.{GroundClause, ground_of}
 
 -- A bound clause counts beside literals among which its equality or the negation is.

@@ -8,7 +8,7 @@ use Rattle.df_form.specs.declared.node.Op.TheVariants as ops
 use Rattle.df_form.specs.Node.{Node, same_sort}
 use Rattle.df_form.specs.Sorting.{sort_at}
 use Rattle.df_form.specs.Clause.{yes, no, negation, is_among, literal_truth}
-use Rattle.df_kern.specs.Connective.{Added, connective_line}
+use Rattle.df_rules.specs.Connective.{Added, connective_line}
 
 -- the nodes hold what the clause needs, and one of its literals is known
 pub record IsMet (nodes : List Node) (known : List Lit) (added : Added) : Type 0 where

@@ -3,13 +3,13 @@
 ghost use Rattle.std.specs.Prelude.{◌≡◌, ◌++◌, ◌∷◌, ◌||◌, [], List, IfOk, OnOk, map};
 ghost use Rattle.df_form.specs.declared.log.Lit.{Lit};
 ghost use Rattle.df_form.specs.Clause.{same_literal, yes, no, is_among};
-ghost use Rattle.df_kern.specs.Known.{knows, IsSetOf};
+ghost use Rattle.df_rules.specs.Known.{knows, IsSetOf};
 ghost use Rattle.df_closure.specs.Closure.{GroundClause as Ground, ground_of, counts_for};
 ghost use Rattle.df_closure.specs.Closing.{teaching, IsClosing, Rounds};
 
 use df_clause::GroundClause;
 use df_form::{Formula, Lit};
-use df_kern::Known;
+use df_rules::Known;
 use std::alloc::{AllocError, Global};
 
 /// What a clause says beside the known literals.

@@ -8,7 +8,7 @@ ghost use Rattle.df_closure.specs.Closing.{IsClosing};
 use crate::closing::{Closing, Round};
 use df_clause::GroundClause;
 use df_form::Lit;
-use df_kern::Known;
+use df_rules::Known;
 use std::alloc::{AllocError, Global};
 
 /// A list of literals closed under unit propagation, or a clause that is false beside it.

@@ -8,7 +8,7 @@ ghost use Rattle.df_form.specs.Clause.{Clause, negation, is_among, are_literals,
 ghost use Rattle.df_row.specs.Row.{Row};
 ghost use Rattle.df_row.specs.Linear.{rows_of};
 ghost use Rattle.df_row.specs.Value.{rows_hold};
-ghost use Rattle.df_kern.specs.Propagation.{left, is_empty, propagation_line};
+ghost use Rattle.df_rules.specs.Propagation.{left, is_empty, propagation_line};
 ghost use Rattle.df_closure.specs.Closure.{GroundClause, IsClosed, IsRefuted, after};
 ghost use Rattle.df_closure.specs.Lines.{AreIn};
 ghost use Rattle.df_closure.specs.Full.{AreConnectivesMet, ArePrimitivesTrue, IsConsistent};

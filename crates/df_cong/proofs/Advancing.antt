@@ -7,7 +7,7 @@ use Rattle.std.proofs.lemmas.Option.{same_Some, slice_get_within, none-some}
 use Rattle.std.proofs.lemmas.List.{take_more, take_all, length-set}
 use Rattle.df_form.specs.declared.log.Pair.{Pair}
 use Rattle.df_form.specs.Node.{Node}
-use Rattle.df_kern.specs.CongruenceLine.{is_congruent}
+use Rattle.df_rules.specs.CongruenceLine.{is_congruent}
 use Rattle.df_cong.specs.declared.partition.Partition.{Partition}
 use Rattle.df_cong.specs.PartitionView.{state_of}
 use Rattle.df_cong.specs.mirror.State.{State, label_of, list_at, entered}

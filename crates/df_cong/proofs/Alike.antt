@@ -8,8 +8,8 @@ use Rattle.df_form.specs.declared.log.Pair.{Pair}
 use Rattle.df_form.specs.Node.{Node, same_op}
 use Rattle.df_form.proofs.Same.{same_op_equal, same_op-refl}
 use Rattle.df_lemmas.proofs.Numbers.{equal_self}
-use Rattle.df_kern.specs.Classes.{is_together}
-use Rattle.df_kern.specs.CongruenceLine.{are_congruent, is_congruent}
+use Rattle.df_rules.specs.Classes.{is_together}
+use Rattle.df_rules.specs.CongruenceLine.{are_congruent, is_congruent}
 use Rattle.df_cong.specs.Labels.{HaveOneLabel}
 use Rattle.df_cong.specs.mirror.Closure.{AreAlike, mixed_with, mixed}
 use Rattle.df_cong.proofs.Moving.{first_there, later_there}

@@ -5,7 +5,7 @@ use Rattle.df_form.specs.declared.log.Lit.{Lit}
 use Rattle.df_form.specs.Node.{Node}
 use Rattle.df_form.specs.Sorting.{is_formula}
 use Rattle.df_form.specs.Clause.{negation, are_literals}
-use Rattle.df_kern.specs.Congruence.{IsCongruence}
+use Rattle.df_rules.specs.Congruence.{IsCongruence}
 use Rattle.df_cong.specs.declared.answer.Reason.{Reason}
 use Rattle.df_cong.specs.declared.holding.Holding.{Holding}
 use Rattle.df_cong.specs.Equal.{IsContradicted}

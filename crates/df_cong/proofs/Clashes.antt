@@ -14,10 +14,10 @@ use Rattle.df_form.specs.Node.{Node}
 use Rattle.df_form.specs.Sorting.{is_formula}
 use Rattle.df_form.specs.Clause.{Clause, yes, no, negation, are_literals}
 use Rattle.df_form.proofs.Literals.{negated_twice}
-use Rattle.df_kern.specs.Classes.{InOneClass}
-use Rattle.df_kern.specs.Congruence.{equality, Closes, IsCongruence}
-use Rattle.df_kern.specs.Congruence as kern
-use Rattle.df_kern.specs.CongruenceLine.{is_paired, has_positive, has_opposites, number_at, number_in, are_different, has_two_numbers}
+use Rattle.df_rules.specs.Classes.{InOneClass}
+use Rattle.df_rules.specs.Congruence.{equality, Closes, IsCongruence}
+use Rattle.df_rules.specs.Congruence as kern
+use Rattle.df_rules.specs.CongruenceLine.{is_paired, has_positive, has_opposites, number_at, number_in, are_different, has_two_numbers}
 use Rattle.df_cong.specs.Equal.{AreEqual, IsContradicted, equals, opposites, numbers}
 use Rattle.df_cong.specs.HoldingView.{held_equalities}
 use Rattle.df_cong.specs.mirror.State.{State, label_of}

@@ -8,7 +8,7 @@ use Rattle.df_lemmas.proofs.Lists.{get_below}
 use Rattle.df_form.specs.declared.log.Lit.{Lit}
 use Rattle.df_form.specs.declared.log.Pair.{Pair}
 use Rattle.df_form.specs.Node.{Node}
-use Rattle.df_kern.specs.Congruence.{equality}
+use Rattle.df_rules.specs.Congruence.{equality}
 use Rattle.df_cong.specs.declared.partition.Partition.{Partition}
 use Rattle.df_cong.specs.declared.holding.Level.{Level}
 use Rattle.df_cong.specs.declared.holding.Holding.{Holding}

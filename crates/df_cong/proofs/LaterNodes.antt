@@ -18,7 +18,7 @@ use Rattle.df_form.specs.Clause.{Clause, yes, no, negation, are_literals}
 use Rattle.df_form.specs.Sorting.{IsTable, is_formula, sort_at}
 use Rattle.df_form.proofs.Values.{Grows, parts_below}
 use Rattle.df_row.specs.Row.{number_of_op, literal_number}
-use Rattle.df_kern.specs.Congruence.{sides_of, equality, negative_equality, negative_equalities}
+use Rattle.df_rules.specs.Congruence.{sides_of, equality, negative_equality, negative_equalities}
 use Rattle.df_cong.specs.Equal.{AreEqual, turned, IsContradicted, equals, opposites, numbers}
 use Rattle.df_cong.specs.Laws.{LaterNodesAddNone}
 use Rattle.df_cong.proofs.Clashes.{negations_are}

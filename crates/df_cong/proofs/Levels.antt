@@ -10,7 +10,7 @@ use Rattle.df_form.specs.declared.log.Lit.{Lit}
 use Rattle.df_form.specs.declared.log.Pair.{Pair}
 use Rattle.df_form.specs.Node.{Node}
 use Rattle.df_form.specs.Clause.{negation}
-use Rattle.df_kern.specs.Congruence.{negative_equality}
+use Rattle.df_rules.specs.Congruence.{negative_equality}
 use Rattle.df_cong.specs.declared.partition.Change.{Change}
 use Rattle.df_cong.specs.declared.partition.Partition.{Partition}
 use Rattle.df_cong.specs.declared.holding.Level.{Level}

@@ -3,9 +3,9 @@ use Rattle.std.proofs.Common.{◌≡◌, ℕ, true, List, ◌++◌}
 use Rattle.df_form.specs.declared.log.Pair.{Pair}
 use Rattle.df_form.specs.Node.{Node}
 use Rattle.df_form.specs.Clause.{Clause, are_literals}
-use Rattle.df_kern.specs.Classes.{InOneClass}
-use Rattle.df_kern.specs.Congruence.{negative_equalities, Closes, IsCongruence}
-use Rattle.df_kern.specs.Congruence as kern
+use Rattle.df_rules.specs.Classes.{InOneClass}
+use Rattle.df_rules.specs.Congruence.{negative_equalities, Closes, IsCongruence}
+use Rattle.df_rules.specs.Congruence as kern
 use Rattle.df_cong.specs.Equal.{IsContradicted, equals, opposites, numbers}
 use Rattle.df_cong.specs.Laws.{HasLine, LinesAreContradictions}
 use Rattle.df_cong.proofs.Pairs.{HasPairs, pairs_of, AllEqual, class_equal, pairs_equal}

@@ -7,7 +7,7 @@ use Rattle.std.proofs.lemmas.List.Elements.{Contains-append_left, Contains-push,
 use Rattle.df_lemmas.proofs.Alls.{none_there}
 use Rattle.df_form.specs.Node.{Node}
 use Rattle.df_row.specs.Row.{literal_number}
-use Rattle.df_kern.specs.CongruenceLine.{number_at}
+use Rattle.df_rules.specs.CongruenceLine.{number_at}
 use Rattle.df_cong.specs.mirror.State.{list_at, pushed}
 use Rattle.df_cong.specs.mirror.Closure.{AreUsers}
 use Rattle.df_cong.specs.mirror.Clash.{AreNumbers}

@@ -4,10 +4,10 @@ use Rattle.std.specs.List.{AllZip}
 use Rattle.std.proofs.lemmas.List.Elements.{Contains-append_left, Contains-append_right, Contains-append_cases}
 use Rattle.df_form.specs.declared.log.Pair.{Pair}
 use Rattle.df_form.specs.Node.{Node}
-use Rattle.df_kern.specs.Classes.{InOneClass}
-use Rattle.df_kern.specs.Classes as class
-use Rattle.df_kern.specs.Congruence.{IsCongruent, AreCongruent}
-use Rattle.df_kern.proofs.OneClass.{wider}
+use Rattle.df_rules.specs.Classes.{InOneClass}
+use Rattle.df_rules.specs.Classes as class
+use Rattle.df_rules.specs.Congruence.{IsCongruent, AreCongruent}
+use Rattle.df_rules.proofs.OneClass.{wider}
 use Rattle.df_cong.specs.Equal.{AreEqual, AreAllEqual, named, itself, turned, through, applied, none, both}
 
 abbrev pub AllAmong : List Pair → List Pair → Type 0

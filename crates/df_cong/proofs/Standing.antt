@@ -7,9 +7,9 @@ use Rattle.std.proofs.lemmas.List.Elements.{Contains-append_left, Contains-appen
 use Rattle.df_lemmas.proofs.Alls.{none_there}
 use Rattle.df_form.specs.declared.log.Pair.{Pair}
 use Rattle.df_form.specs.Node.{Node}
-use Rattle.df_kern.specs.Classes.{InOneClass, named, itself, turned, through}
-use Rattle.df_kern.specs.Congruence.{AreCongruent}
-use Rattle.df_kern.proofs.OneClass.{wider}
+use Rattle.df_rules.specs.Classes.{InOneClass, named, itself, turned, through}
+use Rattle.df_rules.specs.Congruence.{AreCongruent}
+use Rattle.df_rules.proofs.OneClass.{wider}
 use Rattle.df_cong.specs.Labels.{AreLabels}
 use Rattle.df_cong.specs.mirror.State.{State, label_of, list_at, entered, alone}
 use Rattle.df_cong.specs.mirror.Partition.{renamed}

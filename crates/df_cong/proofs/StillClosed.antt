@@ -5,9 +5,9 @@ use Rattle.std.proofs.lemmas.Bool.{cases_eq}
 use Rattle.std.proofs.lemmas.Option.{same_Some, none-some}
 use Rattle.df_form.specs.declared.log.Pair.{Pair}
 use Rattle.df_form.specs.Node.{Node}
-use Rattle.df_kern.specs.Classes.{InOneClass, turned, through}
-use Rattle.df_kern.specs.Congruence.{IsCongruent}
-use Rattle.df_kern.proofs.OneClass.{wider}
+use Rattle.df_rules.specs.Classes.{InOneClass, turned, through}
+use Rattle.df_rules.specs.Congruence.{IsCongruent}
+use Rattle.df_rules.proofs.OneClass.{wider}
 use Rattle.df_cong.specs.Labels.{HaveOneLabel}
 use Rattle.df_cong.specs.mirror.State.{State, label_of, list_at}
 use Rattle.df_cong.specs.mirror.Partition.{renamed}

@@ -4,7 +4,7 @@ use Rattle.df_form.specs.declared.log.Pair.{Pair}
 use Rattle.df_form.specs.Node.{Node}
 use Rattle.df_form.specs.Clause.{Clause, yes, no}
 use Rattle.df_row.specs.Row.{literal_number}
-use Rattle.df_kern.specs.Congruence.{equality, negative_equalities}
+use Rattle.df_rules.specs.Congruence.{equality, negative_equalities}
 
 mutual
   -- It is the least equivalence that has these pairs, and in which nodes of one operation with equal arguments are equal.

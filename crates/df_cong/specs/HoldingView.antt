@@ -5,7 +5,7 @@ use Rattle.df_form.specs.declared.log.Lit.{Lit}
 use Rattle.df_form.specs.declared.log.Pair.{Pair}
 use Rattle.df_form.specs.Node.{Node}
 use Rattle.df_form.specs.Clause.{negation}
-use Rattle.df_kern.specs.Congruence.{negative_equality, negative_equalities}
+use Rattle.df_rules.specs.Congruence.{negative_equality, negative_equalities}
 use Rattle.df_cong.specs.declared.partition.Partition.{Partition}
 use Rattle.df_cong.specs.declared.holding.Level.{Level}
 use Rattle.df_cong.specs.declared.holding.Holding.{Holding}

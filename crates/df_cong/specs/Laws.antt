@@ -5,7 +5,7 @@ use Rattle.df_form.specs.declared.log.Pair.{Pair}
 use Rattle.df_form.specs.Node.{Node}
 use Rattle.df_form.specs.Clause.{Clause, negation, are_literals}
 use Rattle.df_form.specs.Sorting.{IsTable}
-use Rattle.df_kern.specs.Congruence.{IsCongruence}
+use Rattle.df_rules.specs.Congruence.{IsCongruence}
 use Rattle.df_cong.specs.Equal.{AreEqual, IsContradicted}
 use Rattle.df_cong.specs.Labels.{HaveOneLabel, AreLabels}
 

@@ -3,7 +3,7 @@ use Rattle.std.specs.Prelude.{List, Contains, map}
 use Rattle.df_form.specs.declared.log.Lit.{Lit}
 use Rattle.df_form.specs.Node.{Node}
 use Rattle.df_form.specs.Clause.{negation}
-use Rattle.df_kern.specs.Congruence.{IsCongruence}
+use Rattle.df_rules.specs.Congruence.{IsCongruence}
 use Rattle.df_cong.specs.declared.answer.Reason.{Reason}
 use Rattle.df_cong.specs.declared.answer.Answer.{Answer}
 use Rattle.df_cong.specs.declared.answer.Answer.TheVariants as answers

@@ -3,8 +3,8 @@
 ghost use Rattle.std.specs.Prelude.{◌≡◌, ◌∷◌, ◌++◌, [], ◌<◌, None, slice_get, find, length, IfOk, IfSome, IfNone, OnOk};
 ghost use Rattle.std.specs.List.{list_any};
 ghost use Rattle.std.specs.Cmp.Lexicographic.{pointwise};
-ghost use Rattle.df_kern.specs.Classes.{is_together};
-ghost use Rattle.df_kern.specs.CongruenceLine.{is_congruent};
+ghost use Rattle.df_rules.specs.Classes.{is_together};
+ghost use Rattle.df_rules.specs.CongruenceLine.{is_congruent};
 ghost use Rattle.df_cong.specs.mirror.State.{label_of, list_at};
 ghost use Rattle.df_cong.specs.mirror.Closure.{AreUsers, CanAbsorb, CanJoin, Absorbs, Joins, bucket_of, mixed, apart_from, alike_to, Enters, IsBucketOf};
 ghost use Rattle.df_cong.specs.mirror.Steps.{IsReady, Advances, Closes};

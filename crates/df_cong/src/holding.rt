@@ -1,7 +1,7 @@
 //! Held literals, with the classes of their equalities.
 
 ghost use Rattle.std.specs.Prelude.{◌≡◌, ◌<◌, ◌∷◌, ◌++◌, [], length, slice_get, IfOk, IfSome, OnOk, OnErr};
-ghost use Rattle.df_kern.specs.Congruence.{equality};
+ghost use Rattle.df_rules.specs.Congruence.{equality};
 ghost use Rattle.df_cong.specs.mirror.Closure.{AreUsers};
 ghost use Rattle.df_cong.specs.mirror.Steps.{IsReady};
 ghost use Rattle.df_cong.specs.PartitionView.{state_of, Extends};

@@ -1,5 +1,5 @@
 -- A log that is checked step by step.
-use Rattle.std.proofs.Common.{append-nil, map, ◌≡◌, Result, Ok, Err, OnOk, IfOk, ℕ, suc, ◌+◌, ◌<◌, ◌≤◌, Bool, true, false, List, [], ◌∷◌, ◌++◌, length, take, drop, get_or, slice_get, Option, None, Some, refl, sym, ap, ◌∙◌, arith, drop-cons, add-one, if◌then◌else◌}
+use Rattle.std.proofs.Common.{append-nil, map, ◌≡◌, Result, Ok, Err, OnOk, IfOk, ℕ, suc, ◌+◌, ◌<◌, ◌≤◌, Bool, true, false, List, [], ◌∷◌, ◌++◌, length, take, drop, get_or, slice_get, Option, None, Some, sym, ap, ◌∙◌, arith, drop-cons, add-one, if◌then◌else◌}
 use Rattle.std.specs.Option.{option_and_then, option_map}
 use Rattle.std.proofs.Math.Seq.{take-suc}
 use Rattle.std.proofs.lemmas.List.{drop_all, take-append-drop}
@@ -7,7 +7,7 @@ use Rattle.std.proofs.lemmas.Option.{slice_get_within, get_or_from_slice_get, sl
 use Rattle.df_form.specs.Log.{Step, step_of}
 use Rattle.df_form.specs.declared.log.Step as declared
 use Rattle.df_form.specs.Sequent.{Sequent, IsSequent, IsValid}
-use Rattle.df_kern.specs.Derivation.{State, begin, after, after_all, ends_empty, kind_row, Derives}
+use Rattle.df_rules.specs.Derivation.{State, begin, after, after_all, ends_empty, kind_row, Derives}
 use Rattle.df_kern.specs.Refusal.{refusal, refusal_from, or_refused, Answers}
 use Rattle.df_kern.specs.declared.accepted.Accepted.{Accepted}
 use Rattle.df_kern.specs.declared.checker.Checker.{Checker}
@@ -15,7 +15,8 @@ use Rattle.df_kern.specs.Accepted.{IsTaken}
 use Rattle.df_kern.specs.declared.fault.KernFault.{KernFault}
 use Rattle.df_kern.specs.declared.fault.KernFault.TheVariants.{Refused, Memory}
 use Rattle.df_kern.specs.CheckerView.{goal_of, state_of, HasTaken, Takes, Finishes, ProvesGoal}
-use Rattle.df_kern.proofs.Sound.{derivation_is_valid}
+use Rattle.df_rules.proofs.Logs.{after_all-append}
+use Rattle.df_rules.proofs.Sound.{derivation_is_valid}
 
 -- so many steps of the log were taken, each a line of a derivation
 pub record IsAt (s : Sequent) (steps : List Step) (i : ℕ) (goal : Sequent) (state : State) (taken : ℕ) : Type 0 where
@@ -23,15 +24,6 @@ pub record IsAt (s : Sequent) (steps : List Step) (i : ℕ) (goal : Sequent) (st
   pub state_is : after_all s (begin s) (take i steps) ≡ Some state
   pub rest_is : refusal s steps ≡ refusal_from s (suc taken) state (drop i steps)
   pub count_is : taken ≡ i
-
-pub after_all-append : (s : Sequent) (state : State) (xs ys : List Step) → after_all s state (xs ++ ys) ≡ option_and_then (λ next. after_all s next ys) (after_all s state xs)
-after_all-append s state [] ys = refl
-after_all-append s state (x ∷ xs) ys =
-    ap (λ (f : State → Option State). option_and_then f (after s state x)) (λ i next. after_all-append s next xs ys i) ∙ again (after s state x)
-  where
-    again : (r : Option State) → option_and_then (λ next. option_and_then (λ more. after_all s more ys) (after_all s next xs)) r ≡ option_and_then (λ more. after_all s more ys) (option_and_then (λ next. after_all s next xs) r)
-    again None = refl
-    again (Some next) = refl
 
 pub at_begin : (s : Sequent) (steps : List Step) (goal : Sequent) (state : State) (taken : ℕ) → goal ≡ s → state ≡ begin s → taken ≡ 0 → IsAt s steps 0 goal state taken
 at_begin s steps goal state taken goal_is state_is taken_is = record {
@@ -116,9 +108,8 @@ module _ (s : Sequent) (steps : List Step) (i : ℕ) (checker : Checker) (is : I
   derives (Ok accepted) past told = (at_end s steps i (goal_of checker) (state_of checker) checker.taken is past told.0).1
   derives (Err fault) past told = tt
 
-  pub is_taken : (result : Result Accepted KernFault) → length steps ≡ i → Finishes checker result → IfOk result (IsTaken s)
+  pub is_taken : (result : Result Accepted KernFault) → length steps ≡ i → Finishes checker result → IfOk result (IsTaken s steps)
   is_taken (Ok accepted) all told = record {
-    log = steps;
     derives = (at_end s steps i (goal_of checker) (state_of checker) checker.taken is (omega (arith, all)) told.0).1;
     steps = omega (arith, told.1, is.count_is, all);
   }

@@ -5,8 +5,8 @@ use Rattle.std.proofs.lemmas.List.{length-map}
 use Rattle.std.proofs.lemmas.Option.{slice_get-map, same_Some}
 use Rattle.df_form.specs.declared.log.Lit.{Lit}
 use Rattle.df_form.specs.Clause.{Clause}
-use Rattle.df_kern.specs.Derivation.{ends_empty}
-use Rattle.df_kern.specs.Propagation.{is_empty}
+use Rattle.df_rules.specs.Derivation.{ends_empty}
+use Rattle.df_rules.specs.Propagation.{is_empty}
 
 -- the last clause tells
 ends-last : (clauses : List Clause) (k : ℕ) (clause : Clause) → suc k ≡ length clauses → slice_get clauses k ≡ Some clause → ends_empty clauses ≡ is_empty clause

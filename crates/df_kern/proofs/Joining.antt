@@ -1,11 +1,7 @@
 -- Two classes that become one.
-use Rattle.std.proofs.Common.{◌≡◌, ℕ, ◌<◌, ◌==◌, nat_lt, Bool, true, false, Result, Ok, Err, OnOk, refl, sym, ap, ◌∙◌, arith, lt-ltb, ltb-true, if◌then◌else◌, eqb-true}
+use Rattle.std.proofs.Common.{◌≡◌, ℕ, ◌<◌, ◌==◌, nat_lt, Bool, true, false, refl, sym, ap, ◌∙◌, arith, lt-ltb, ltb-true, if◌then◌else◌, eqb-true}
 use Rattle.df_form.specs.declared.log.Pair.{Pair}
-use Rattle.df_kern.specs.Classes.{joined, lower, higher}
-
-pub on_ok : {A E P Q : Type 0} (r : Result A E) → (P → Q) → OnOk r P → OnOk r Q
-on_ok (Ok x) step h = step h
-on_ok (Err e) step h = tt
+use Rattle.df_rules.specs.Classes.{joined, lower, higher}
 
 not_less : (a b : ℕ) → (a < b → ⊥) → nat_lt a b ≡ false
 not_less a b never = by (nat_lt a b) refl

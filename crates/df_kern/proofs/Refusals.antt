@@ -4,7 +4,7 @@ use Rattle.std.specs.Option.{option_and_then}
 use Rattle.std.proofs.lemmas.Option.{same_Some, none-some}
 use Rattle.df_form.specs.Log.{Step}
 use Rattle.df_form.specs.Sequent.{Sequent}
-use Rattle.df_kern.specs.Derivation.{State, begin, after, after_all, ends_empty, kind_row, Derives}
+use Rattle.df_rules.specs.Derivation.{State, begin, after, after_all, ends_empty, kind_row, Derives}
 use Rattle.df_kern.specs.Refusal.{Refusal, refusal, refusal_from, or_refused}
 
 -- the steps lead from a state to one whose last clause is empty

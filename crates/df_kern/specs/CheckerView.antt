@@ -8,7 +8,7 @@ use Rattle.df_kern.specs.declared.accepted.Accepted.{Accepted}
 use Rattle.df_kern.specs.declared.checker.Checker.{Checker}
 use Rattle.df_kern.specs.declared.fault.KernFault.{KernFault}
 use Rattle.df_kern.specs.declared.fault.KernFault.TheVariants.{Refused, Memory}
-use Rattle.df_kern.specs.Derivation.{State, begin, after, after_all, ends_empty, kind_row}
+use Rattle.df_rules.specs.Derivation.{State, begin, after, after_all, ends_empty, kind_row}
 
 -- a checker without where it lies in memory: its sequent, and the state of its derivation
 abbrev pub goal_of : Checker → Sequent

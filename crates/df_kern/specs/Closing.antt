@@ -2,7 +2,7 @@
 use Rattle.std.specs.Prelude.{◌≡◌, ℕ, Bool, true, false, List, Option, None, Some}
 use Rattle.df_form.specs.declared.log.Pair.{Pair}
 use Rattle.df_form.specs.Node.{Node}
-use Rattle.df_kern.specs.CongruenceLine.{closed}
+use Rattle.df_rules.specs.CongruenceLine.{closed}
 
 abbrev pub IsClosed : Option (ℕ → ℕ) → (ℕ → ℕ) → Bool → Type 0
 IsClosed None new all = all ≡ false

@@ -8,12 +8,12 @@ use Rattle.df_form.specs.Log.{Step, Hypothesis, Goal, Connective, Schema, Propag
 use Rattle.df_form.specs.Node.{Node}
 use Rattle.df_form.specs.Sequent.{Sequent}
 use Rattle.df_form.specs.Clause.{yes, no}
-use Rattle.df_kern.specs.Connective.{Added, connective_line}
-use Rattle.df_kern.specs.Schema.{schema_line}
-use Rattle.df_kern.specs.Propagation.{propagation_line}
-use Rattle.df_kern.specs.CongruenceLine.{congruence_line}
+use Rattle.df_rules.specs.Connective.{Added, connective_line}
+use Rattle.df_axiom.specs.Line.{instance_line}
+use Rattle.df_rules.specs.Propagation.{propagation_line}
+use Rattle.df_rules.specs.CongruenceLine.{congruence_line}
 use Rattle.df_row.specs.Linear.{linear_line}
-use Rattle.df_kern.specs.Derivation.{State, only_clause, split_line}
+use Rattle.df_rules.specs.Derivation.{State, only_clause, split_line}
 
 abbrev pub state : List Node → List (Vec Lit Global) → State
 state nodes clauses = record { nodes = nodes; clauses = map (λ clause. clause.items) clauses }
@@ -23,7 +23,7 @@ abbrev pub line_of : Sequent → State → Step → Option Added
 line_of s state (Hypothesis i) = only_clause state.nodes (option_map (λ h. yes h ∷ []) (slice_get s.hypotheses i))
 line_of s state Goal = only_clause state.nodes (Some (no s.goal ∷ []))
 line_of s state (Connective n k) = connective_line state.nodes n k
-line_of s state (Schema schema k terms) = schema_line s.world state.nodes schema k terms
+line_of s state (Schema schema k terms) = instance_line s.world state.nodes schema k terms
 line_of s state (Propagation numbers conclusion) = only_clause state.nodes (propagation_line state.nodes state.clauses numbers conclusion)
 line_of s state (Congruence conclusion pairs) = only_clause state.nodes (congruence_line state.nodes conclusion pairs)
 line_of s state (Linear conclusion combinations) = only_clause state.nodes (linear_line state.nodes conclusion combinations)

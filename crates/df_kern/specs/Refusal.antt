@@ -5,7 +5,7 @@ use Rattle.df_kern.specs.declared.fault.KernFault.{KernFault}
 use Rattle.df_kern.specs.declared.fault.KernFault.TheVariants.{Refused, Memory}
 use Rattle.df_form.specs.Log.{Step}
 use Rattle.df_form.specs.Sequent.{Sequent}
-use Rattle.df_kern.specs.Derivation.{State, begin, after, ends_empty, kind_row}
+use Rattle.df_rules.specs.Derivation.{State, begin, after, ends_empty, kind_row}
 
 -- a step by its number, and the row of its kind; 0 where the empty clause is missing
 pub record Refusal : Type 0 where

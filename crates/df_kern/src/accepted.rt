@@ -1,5 +1,5 @@
-/// That the kernel took a log: only `check` and `Checker::finish` make one, so who holds one had it
-/// checked.
+/// That the kernel took a log, which derives its sequent: only `check` and `Checker::finish` make one, so
+/// who holds one had that log checked. Of which log it is, `IsTaken` says.
 #[derive(Debug, Drop, PartialEq, Eq)]
 pub struct Accepted {
     /// How many steps the log has.

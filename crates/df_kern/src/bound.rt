@@ -1,33 +1,14 @@
-//! Comparisons that a line needs: they are made where they do not stand yet.
+//! Comparisons of a node with a number: they are made where they do not stand yet.
 
 ghost use Rattle.std.specs.Prelude.{◌≡◌, ◌≤◌, length, IfOk};
 ghost use Rattle.df_form.specs.Made.{made};
 ghost use Rattle.df_form.specs.Sorting.{is_well_sorted};
-ghost use Rattle.df_kern.specs.Bound.{at_most, number as number_node, made_at_least, made_at_most};
-ghost use Rattle.df_kern.specs.Growth.{Grows, IsNumber};
+ghost use Rattle.df_rules.specs.Bound.{number as number_node, made_at_least, made_at_most};
+ghost use Rattle.df_rules.specs.Growth.{Grows, IsNumber};
 
 use df_form::{Node, Nodes, Op};
+use df_rules::comparison;
 use std::alloc::{AllocError, Global};
-
-/// The number of `left <= right`.
-pub(crate) fn comparison(
-    alloc: Global,
-    nodes: &mut Nodes,
-    left: usize,
-    right: usize,
-) -> Result<usize, AllocError>
-    requires left { IsNumber nodes.old left }
-    requires right { IsNumber nodes.old right }
-    ensures made { IfOk result (λ n. made nodes.old (at_most left right) ≡ record { nodes = nodes.new; number = n }) }
-    ensures grows { Grows nodes.old nodes.new }
-    ensures longer { length nodes.old ≤ length nodes.new }
-{
-    let parts = vec![in alloc; left, right]?;
-    nodes.add(Node {
-        op: Op::AtMost,
-        parts,
-    })
-}
 
 /// The number of a number's node.
 fn number_of(alloc: Global, nodes: &mut Nodes, value: i128) -> Result<usize, AllocError>

@@ -5,9 +5,9 @@ ghost use Rattle.df_form.specs.Log.{step_of};
 ghost use Rattle.df_form.specs.Sequent.{IsValid};
 ghost use Rattle.df_form.specs.SequentView.{sequent_of};
 ghost use Rattle.df_kern.specs.Accepted.{IsTaken};
-ghost use Rattle.df_kern.specs.Derivation.{ends_empty, Derives};
+ghost use Rattle.df_rules.specs.Derivation.{ends_empty, Derives};
 ghost use Rattle.df_kern.specs.Refusal.{refusal, Answers};
-ghost use Rattle.df_kern.specs.Propagation.{is_empty};
+ghost use Rattle.df_rules.specs.Propagation.{is_empty};
 
 use crate::accepted::Accepted;
 use crate::fault::KernFault;
@@ -121,9 +121,9 @@ impl<'a> Checker<'a> {
 }
 
 /// Whether the log derives its sequent: Ok exactly where each step is a line of a derivation and the
-/// last clause is empty. The sequent is then valid.
+/// last clause is empty. What it answers says that this log was taken, and the sequent is then valid.
 pub fn check(alloc: Global, sequent: &Sequent, log: &[Step]) -> Result<Accepted, KernFault>
-    ensures taken { IfOk result (IsTaken (sequent_of sequent.now)) }
+    ensures taken { IfOk result (IsTaken (sequent_of sequent.now) (map step_of log.now)) }
     ensures derives { OnOk result (Derives (sequent_of sequent.now) (map step_of log.now)) }
     ensures valid { OnOk result (IsValid (sequent_of sequent.now)) }
     ensures answers { Answers (refusal (sequent_of sequent.now) (map step_of log.now)) result }

@@ -17,7 +17,7 @@ pub(crate) struct Classes {
 impl Classes {
     ghost use Rattle.std.specs.Prelude.{◌≡◌, ◌<◌, ◌==◌, IfOk, IfSome, OnOk, if◌then◌else◌};
     ghost use Rattle.std.specs.Option.{option_map_or};
-    ghost use Rattle.df_kern.specs.Classes.{alone, joined, joined_all, is_together};
+    ghost use Rattle.df_rules.specs.Classes.{alone, joined, joined_all, is_together};
     ghost use Rattle.df_kern.specs.ClassesView.{class_of};
 
     /// Each number is alone.

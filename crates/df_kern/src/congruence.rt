@@ -3,8 +3,8 @@
 ghost use Rattle.std.specs.Prelude.{◌≡◌, IfOk, OnOk};
 ghost use Rattle.std.specs.Option.{is_some};
 ghost use Rattle.std.specs.Cmp.Lexicographic.{pointwise};
-ghost use Rattle.df_kern.specs.Classes.{is_together};
-ghost use Rattle.df_kern.specs.CongruenceLine.{is_congruent as is_congruent_pair, closes as closes_by, congruence_line};
+ghost use Rattle.df_rules.specs.Classes.{is_together};
+ghost use Rattle.df_rules.specs.CongruenceLine.{is_congruent as is_congruent_pair, closes as closes_by, congruence_line};
 ghost use Rattle.df_kern.specs.ClassesView.{class_of};
 ghost use Rattle.df_kern.specs.Closing.{Closes};
 

@@ -1,8 +1,8 @@
 //! Equalities of clauses.
 
 ghost use Rattle.std.specs.Prelude.{◌≡◌, ◌&&◌, IfOk, OnOk};
-ghost use Rattle.df_kern.specs.Congruence.{equality as equality_of, negative_equality as negative_equality_of, negative_equalities as negative_equalities_of};
-ghost use Rattle.df_kern.specs.CongruenceLine.{is_paired, has_equality as has_equality_in};
+ghost use Rattle.df_rules.specs.Congruence.{equality as equality_of, negative_equality as negative_equality_of, negative_equalities as negative_equalities_of};
+ghost use Rattle.df_rules.specs.CongruenceLine.{is_paired, has_equality as has_equality_in};
 ghost use Rattle.df_kern.specs.ClassesView.{class_of};
 
 use crate::classes::Classes;

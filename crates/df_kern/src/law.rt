@@ -8,14 +8,13 @@ ghost use Rattle.df_form.specs.Log.{Step};
 ghost use Rattle.df_form.specs.Sequent.{Sequent, IsSequent, IsValid};
 ghost use Rattle.df_form.specs.declared.log.Pair.{Pair};
 ghost use Rattle.df_form.specs.Clause.{Clause};
-ghost use Rattle.df_kern.specs.Congruence.{IsCongruence};
-ghost use Rattle.df_kern.specs.CongruenceLine.{congruence_line};
-ghost use Rattle.df_kern.specs.Derivation.{Derives};
-ghost use Rattle.df_kern.specs.Connective.{Added, connective_line};
+ghost use Rattle.df_rules.specs.Congruence.{IsCongruence};
+ghost use Rattle.df_rules.specs.CongruenceLine.{congruence_line};
+ghost use Rattle.df_rules.specs.Derivation.{Derives};
+ghost use Rattle.df_rules.specs.Connective.{Added, connective_line};
 ghost use Rattle.df_kern.specs.Refusal.{refusal};
 ghost use Rattle.df_axiom.specs.Line.{instance_line};
-ghost use Rattle.df_kern.specs.Schema.{type_line, schema_line};
-ghost use Rattle.df_kern.specs.Truth.{IsTrue};
+ghost use Rattle.df_rules.specs.Truth.{IsTrue};
 
 /// A log that derives a sequent makes it valid.
 pub fn derivations_are_valid()
@@ -24,13 +23,8 @@ pub fn derivations_are_valid()
 
 /// The clauses of schemas and of connectives are true, whatever the free terms are.
 pub fn clauses_are_true()
-    ensures schemas { (world : World) (nodes : List pure.Node) (schema clause : ℕ) (terms : List ℕ) (added : Added) → IsTable nodes → schema_line world nodes schema clause terms ≡ Some added → IsTrue world added }
+    ensures schemas { (world : World) (nodes : List pure.Node) (schema clause : ℕ) (terms : List ℕ) (added : Added) → IsTable nodes → instance_line world nodes schema clause terms ≡ Some added → IsTrue world added }
     ensures connectives { (world : World) (nodes : List pure.Node) (node clause : ℕ) (added : Added) → IsTable nodes → connective_line nodes node clause ≡ Some added → IsTrue world added }
-{}
-
-/// The clauses of types are those of their schema as data.
-pub fn types_are_a_schema()
-    ensures { (world : World) (nodes : List pure.Node) (clause : ℕ) (terms : List ℕ) → IsTable nodes → instance_line world nodes 74 clause terms ≡ type_line world nodes clause terms }
 {}
 
 /// A line of congruence adds its clause exactly where the clause holds by congruence, and no other clause.

@@ -7,14 +7,10 @@ mod bound;
 mod checker;
 mod classes;
 mod congruence;
-mod connecting;
 mod equality;
 mod fault;
-mod instances;
-mod known;
 mod law;
 mod line;
-mod literal;
 mod number;
 mod opposite;
 mod propagation;
@@ -22,11 +18,7 @@ mod step;
 
 pub use accepted::Accepted;
 pub use checker::{Checker, check};
-pub use df_axiom::AxiomFault;
 pub use fault::KernFault;
-pub use instances::{connective, instance};
-pub use known::Known;
 pub use law::{
-    clauses_are_true, congruence_lines_are_exact, derivations_are_valid,
-    logs_derive_or_are_refused, types_are_a_schema,
+    clauses_are_true, congruence_lines_are_exact, derivations_are_valid, logs_derive_or_are_refused,
 };

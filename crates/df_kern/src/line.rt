@@ -4,23 +4,23 @@ ghost use Rattle.std.specs.Prelude.{◌≡◌, ◌+◌, ◌<◌, ◌≤◌, leng
 ghost use Rattle.std.specs.Bool.{OnTrue};
 ghost use Rattle.df_form.specs.Log.{step_of};
 ghost use Rattle.df_form.specs.SequentView.{sequent_of};
-ghost use Rattle.df_form.specs.World.{world_of};
-ghost use Rattle.df_kern.specs.Schema.{schema_line};
-ghost use Rattle.df_kern.specs.Derivation.{after, kind_row};
+ghost use Rattle.df_rules.specs.Derivation.{after, kind_row};
 ghost use Rattle.df_kern.specs.Lines.{state, line_of, Takes};
-ghost use Rattle.df_kern.specs.Answers.{Gives, Adds};
-ghost use Rattle.df_kern.specs.Propagation.{propagation_line};
-ghost use Rattle.df_kern.specs.CongruenceLine.{congruence_line};
+ghost use Rattle.df_rules.specs.Answers.{Gives, Adds};
+ghost use Rattle.df_rules.specs.Propagation.{propagation_line};
+ghost use Rattle.df_rules.specs.CongruenceLine.{congruence_line};
 ghost use Rattle.df_row.specs.Linear.{linear_line};
 ghost use Rattle.df_form.specs.Log.{combination_of};
+ghost use Rattle.df_form.specs.World.{world_of};
+ghost use Rattle.df_axiom.specs.Line.{instance_line};
 
 use crate::congruence::is_congruence;
-use crate::connecting::connective_clause_of;
 use crate::propagation::is_propagation;
 use crate::step::{goal_clause, hypothesis_clause, make, split_clause};
 use df_axiom::clause;
 use df_form::{Combination, Lit, Nodes, Pair, Sequent, Step, World};
 use df_row::is_linear;
+use df_rules::connective_clause_of;
 use std::alloc::{AllocError, Global};
 
 /// The row of the step's kind in the table of lines, from 1.
@@ -40,7 +40,7 @@ pub(crate) fn kind_of(step: &Step) -> u8
 }
 
 /// The clause of this number of a schema for the terms that its pattern matches.
-pub(crate) fn schema_clause(
+fn schema_clause(
     alloc: Global,
     world: World,
     nodes: &mut Nodes,
@@ -48,10 +48,9 @@ pub(crate) fn schema_clause(
     number: u32,
     terms: &[usize],
 ) -> Result<Option<Vec<Lit>>, AllocError>
-    ensures adds { Adds nodes.old nodes.new result (schema_line (world_of world.entry) nodes.old schema number terms.now) }
+    ensures adds { Adds nodes.old nodes.new result (instance_line (world_of world.entry) nodes.old schema number terms.now) }
     ensures longer { length nodes.old ≤ length nodes.new }
 {
-    let _nodes = nodes.len();
     clause(alloc, world, nodes, schema, number, terms)
 }
 
@@ -149,7 +148,7 @@ pub(crate) fn add_line(
     ensures longer { IfOk result (λ taken. OnTrue taken (length nodes.old + vec_len clauses.old < length nodes.new + vec_len clauses.new)) }
 {
     match step {
-        Step::Make(node) => make(alloc, nodes, node),
+        Step::Make(node) => make(alloc, sequent.world, nodes, node),
         Step::Hypothesis(_)
         | Step::Goal
         | Step::Connective { .. }

@@ -5,7 +5,7 @@ ghost use Rattle.std.specs.Option.{option_or};
 ghost use Rattle.std.specs.List.{list_any};
 ghost use Rattle.std.specs.Ordering.{nat_cmp};
 ghost use Rattle.std.specs.BTreeMap.{get};
-ghost use Rattle.df_kern.specs.CongruenceLine.{number_at, number_in, are_different, members as members_of, has_two_numbers as has_two_numbers_in};
+ghost use Rattle.df_rules.specs.CongruenceLine.{number_at, number_in, are_different, members as members_of, has_two_numbers as has_two_numbers_in};
 ghost use Rattle.df_kern.specs.ClassesView.{class_of};
 
 use crate::classes::Classes;

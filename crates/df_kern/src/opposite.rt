@@ -4,7 +4,7 @@ ghost use Rattle.std.specs.Prelude.{◌≡◌, ◌&&◌, ◌||◌, ◌==◌, not
 ghost use Rattle.std.specs.List.{list_any};
 ghost use Rattle.std.specs.Ordering.{nat_cmp};
 ghost use Rattle.std.specs.BTreeSet.{contains};
-ghost use Rattle.df_kern.specs.CongruenceLine.{has_positive, has_opposites as has_opposites_in};
+ghost use Rattle.df_rules.specs.CongruenceLine.{has_positive, has_opposites as has_opposites_in};
 ghost use Rattle.df_kern.specs.ClassesView.{class_of};
 
 use crate::classes::Classes;

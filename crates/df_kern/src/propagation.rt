@@ -3,12 +3,12 @@
 ghost use Rattle.std.specs.Prelude.{◌≡◌, List, IfOk, map, slice_get};
 ghost use Rattle.std.specs.Option.{is_some, option_map};
 ghost use Rattle.df_form.specs.declared.log.Lit.{Lit};
-ghost use Rattle.df_kern.specs.Propagation.{propagation_line};
-ghost use Rattle.df_kern.specs.Known.{IsSetOf};
-ghost use Rattle.df_kern.specs.Learning.{Learns, refutes};
+ghost use Rattle.df_rules.specs.Propagation.{propagation_line};
+ghost use Rattle.df_rules.specs.Known.{IsSetOf};
+ghost use Rattle.df_rules.specs.Learning.{Learns, refutes};
 
-use crate::known::Known;
 use df_form::{Lit, Nodes};
+use df_rules::Known;
 use std::alloc::{AllocError, Global};
 
 fn clause_at(clauses: &[Vec<Lit>], number: usize) -> Option<&[Lit]>

@@ -5,13 +5,15 @@ ghost use Rattle.std.specs.Bool.{OnTrue};
 ghost use Rattle.std.specs.Option.{option_map};
 ghost use Rattle.df_form.specs.Node.{node_of, same_sort};
 ghost use Rattle.df_form.specs.SequentView.{sequent_of};
+ghost use Rattle.df_form.specs.World.{world_of};
 ghost use Rattle.df_form.specs.Clause.{yes, no};
-ghost use Rattle.df_kern.specs.Derivation.{split_line, made_line, is_number as is_number_of, is_free as is_free_of};
-ghost use Rattle.df_kern.specs.Answers.{Gives, Adds, Makes};
+ghost use Rattle.df_rules.specs.Derivation.{split_line, made_line, is_number as is_number_of, is_undeclared as is_undeclared_in, is_unknown as is_unknown_in, is_foreign as is_foreign_in};
+ghost use Rattle.df_rules.specs.Answers.{Gives, Adds, Makes};
 
 use crate::bound::{at_least_of, at_most_of};
-use crate::literal::{no_of, yes_of};
-use df_form::{Lit, Node, Nodes, Op, Sequent, Sort};
+use df_form::{Lit, Node, Nodes, Op, Sequent, Sort, World};
+use df_lang::Ty;
+use df_rules::{no_of, yes_of};
 use std::alloc::{AllocError, Global};
 
 /// A hypothesis.
@@ -71,11 +73,33 @@ fn is_numeric(sort: Sort) -> bool
     }
 }
 
-fn is_free(op: Op) -> bool
-    ensures { result ≡ is_free_of op }
+/// Whether no newtype has this number.
+fn is_undeclared(world: World, number: usize) -> bool
+    ensures { result ≡ is_undeclared_in (world_of world.entry) number }
+{
+    match world.interval(number) {
+        Some(_) => false,
+        None => true,
+    }
+}
+
+/// Whether the type is none of the program.
+fn is_unknown(world: World, ty: Ty) -> bool
+    ensures { result ≡ is_unknown_in (world_of world.entry) ty }
+{
+    match ty {
+        Ty::Newtype(number) => is_undeclared(world, number),
+        Ty::Int | Ty::Nat | Ty::Bool | Ty::Char => false,
+    }
+}
+
+/// Whether it is a free term, or tests a type that is none of the program.
+fn is_foreign(world: World, op: Op) -> bool
+    ensures { result ≡ is_foreign_in (world_of world.entry) op }
 {
     match op {
         Op::Free(_) => true,
+        Op::Is(ty) => is_unknown(world, ty),
         Op::Number(_)
         | Op::Plus
         | Op::Times
@@ -83,7 +107,6 @@ fn is_free(op: Op) -> bool
         | Op::Mod
         | Op::Code
         | Op::Chr
-        | Op::Is(_)
         | Op::Equal
         | Op::AtMost
         | Op::Not
@@ -95,11 +118,16 @@ fn is_free(op: Op) -> bool
 }
 
 /// Makes a node that differs from all before. Whether it could.
-pub(crate) fn make(alloc: Global, nodes: &mut Nodes, node: &Node) -> Result<bool, AllocError>
-    ensures makes { Makes nodes.old nodes.new result (made_line nodes.old (node_of node.now)) }
+pub(crate) fn make(
+    alloc: Global,
+    world: World,
+    nodes: &mut Nodes,
+    node: &Node,
+) -> Result<bool, AllocError>
+    ensures makes { Makes nodes.old nodes.new result (made_line (world_of world.entry) nodes.old (node_of node.now)) }
     ensures longer { IfOk result (λ made. OnTrue made (length nodes.old < length nodes.new)) }
 {
-    if is_free(node.op) || !nodes.admits(node) {
+    if is_foreign(world, node.op) || !nodes.admits(node) {
         return Ok(false);
     }
     let before = nodes.len();

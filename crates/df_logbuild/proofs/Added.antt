@@ -1,7 +1,7 @@
 -- Lines that are added keep a log running.
 use Rattle.std.proofs.Common.{◌≡◌, ℕ, ◌+◌, ◌<◌, ◌≤◌, Bool, true, false, not, ◌&&◌, if◌then◌else◌, Result, Ok, Err, OnOk, List, [], ◌∷◌, ◌++◌, length, map, Option, Some, None, refl, sym, ap, ◌∙◌, arith}
 use Rattle.std.specs.Option.{option_and_then, option_map}
-use Rattle.df_kern.proofs.Checks.{after_all-append}
+use Rattle.df_rules.proofs.Logs.{after_all-append}
 use Rattle.df_form.specs.declared.log.Step as declared
 use Rattle.df_form.specs.declared.log.Pair.{Pair}
 use Rattle.df_form.specs.Sequent.{Sequent}
@@ -10,11 +10,11 @@ use Rattle.df_form.specs.Log.{Combination, Connective, Propagation, Congruence, 
 use Rattle.df_form.specs.Node.{Node, number_of}
 use Rattle.df_form.specs.Made.{Made, made, made_where}
 use Rattle.df_form.specs.Sorting.{is_well_sorted}
-use Rattle.df_kern.specs.Propagation.{propagation_line}
+use Rattle.df_rules.specs.Propagation.{propagation_line}
 use Rattle.df_row.specs.Linear.{linear_line}
-use Rattle.df_kern.specs.CongruenceLine.{congruence_line}
-use Rattle.df_kern.specs.Connective.{connective_line}
-use Rattle.df_kern.specs.Derivation.{State, begin, only_clause, adds, is_free, is_new, made_line, after, after_all, ends_empty, Derives}
+use Rattle.df_rules.specs.CongruenceLine.{congruence_line}
+use Rattle.df_rules.specs.Connective.{connective_line}
+use Rattle.df_rules.specs.Derivation.{State, begin, only_clause, adds, is_foreign, is_new, made_line, after, after_all, ends_empty, Derives}
 use Rattle.df_logbuild.specs.declared.derivation.Derivation.{Derivation}
 use Rattle.df_logbuild.specs.Runs.{Runs, state_of}
 
@@ -72,10 +72,10 @@ new_made nodes node more number None is e less = (is, sym (ap (λ (m : Made). m.
 new_made nodes node more number (Some n) is e less = absurd (let same : nodes ≡ more = ap (λ (m : Made). m.nodes) e in omega (arith, ap length same, less))
 
 pub made_runs : (s : Sequent) (old new : Derivation) (all : List Clause) (line : declared.Step) (node : Node) (number : ℕ) → new.lines.items ≡ old.lines.items ++ line ∷ [] → new.clauses ≡ old.clauses → step_of line ≡ Make node
-    → made old.nodes node ≡ record { nodes = new.nodes; number = number } → length old.nodes < length new.nodes → is_well_sorted old.nodes node ≡ true → is_free node.op ≡ false → Runs s old all → Runs s new all
+    → made old.nodes node ≡ record { nodes = new.nodes; number = number } → length old.nodes < length new.nodes → is_well_sorted old.nodes node ≡ true → is_foreign s.world node.op ≡ false → Runs s old all → Runs s new all
 made_runs s old new all line node number lines count line_is e less sorted bound runs =
     let found = new_made old.nodes node new.nodes number (number_of old.nodes node) refl e less in
-    let made_it : made_line old.nodes node ≡ Some (old.nodes ++ node ∷ []) =
+    let made_it : made_line s.world old.nodes node ≡ Some (old.nodes ++ node ∷ []) =
     ap (λ (b : Bool). if not b && is_well_sorted old.nodes node && is_new (number_of old.nodes node) then Some (old.nodes ++ node ∷ []) else None) bound
     ∙ ap (λ (b : Bool). if b && is_new (number_of old.nodes node) then Some (old.nodes ++ node ∷ []) else None) sorted
     ∙ ap (λ (o : Option ℕ). if is_new o then Some (old.nodes ++ node ∷ []) else None) found.0 in

@@ -1,3 +1,3 @@
-pub use Rattle.df_kern.specs.Derivation
+pub use Rattle.df_rules.specs.Derivation
 pub mod Front
 pub mod Runs

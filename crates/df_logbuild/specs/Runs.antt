@@ -3,7 +3,7 @@ use Rattle.std.specs.Prelude.{◌≡◌, List, length, map, Some}
 use Rattle.df_form.specs.Sequent.{Sequent}
 use Rattle.df_form.specs.Clause.{Clause}
 use Rattle.df_form.specs.Log.{step_of}
-use Rattle.df_kern.specs.Derivation.{State, begin, after_all}
+use Rattle.df_rules.specs.Derivation.{State, begin, after_all}
 use Rattle.df_logbuild.specs.declared.derivation.Derivation.{Derivation}
 
 abbrev pub state_of : Derivation → List Clause → State

@@ -4,7 +4,7 @@ ghost use Rattle.std.specs.Prelude.{◌++◌, ◌∷◌, [], List, map};
 ghost use Rattle.df_form.specs.Sequent.{Sequent};
 ghost use Rattle.df_form.specs.Clause.{Clause};
 ghost use Rattle.df_form.specs.Log.{step_of};
-ghost use Rattle.df_kern.specs.Derivation.{Derives};
+ghost use Rattle.df_rules.specs.Derivation.{Derives};
 ghost use Rattle.df_logbuild.specs.declared.derivation.Derivation.{Derivation};
 ghost use Rattle.df_logbuild.specs.Runs.{Runs};
 

@@ -7,10 +7,11 @@ ghost use Rattle.df_form.specs.Node.{node_of};
 ghost use Rattle.df_form.specs.Made.{made};
 ghost use Rattle.df_form.specs.Sorting.{is_well_sorted};
 ghost use Rattle.df_form.specs.Log.{step_of, combination_of};
-ghost use Rattle.df_kern.specs.CongruenceLine.{congruence_line};
-ghost use Rattle.df_kern.specs.Connective.{connective_line};
-ghost use Rattle.df_kern.specs.Derivation.{after, is_free};
-ghost use Rattle.df_kern.specs.Propagation.{propagation_line};
+ghost use Rattle.df_rules.specs.CongruenceLine.{congruence_line};
+ghost use Rattle.df_rules.specs.Connective.{connective_line};
+ghost use Rattle.df_form.specs.World.{World};
+ghost use Rattle.df_rules.specs.Derivation.{after, is_foreign};
+ghost use Rattle.df_rules.specs.Propagation.{propagation_line};
 ghost use Rattle.df_row.specs.Linear.{linear_line};
 ghost use Rattle.df_logbuild.specs.Front.{IsFront};
 ghost use Rattle.df_logbuild.specs.Runs.{Runs, state_of};
@@ -106,11 +107,11 @@ impl Derivation {
         self.add(Step::Connective { node, clause })
     }
 
-    /// The number of a node, which a line makes where it does not stand yet. It is no free term, and is well
-    /// sorted after the nodes. An error makes nothing.
+    /// The number of a node, which a line makes where it does not stand yet. It is no free term and no test
+    /// of a newtype, and is well sorted after the nodes. An error makes nothing.
     pub fn make(&mut self, alloc: Global, node: Node) -> Result<usize, AllocError>
         requires sorted { is_well_sorted self.old.nodes (node_of node) ≡ true }
-        requires bound { is_free (node_of node).op ≡ false }
+        requires own { (world : World) → is_foreign world (node_of node).op ≡ false }
         ensures made { IfOk result (λ number. made self.old.nodes (node_of node) ≡ record { nodes = self.new.nodes; number = number }) }
         ensures runs { OnOk result ((s : Sequent) (all : List Clause) → Runs s self.old all → Runs s self.new all) }
         ensures unchanged { OnErr result (self.new.nodes ≡ self.old.nodes) }

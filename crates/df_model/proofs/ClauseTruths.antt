@@ -12,7 +12,7 @@ use Rattle.df_meaning.specs.Value.{same_truth}
 use Rattle.df_form.specs.Clause.{Clause, are_literals, literal_truth, clause_truth}
 use Rattle.df_form.proofs.Same.{same_sort_equal}
 use Rattle.df_form.proofs.Values.{AreSorted}
-use Rattle.df_kern.proofs.SoundClauses.{is_held, Holds}
+use Rattle.df_rules.proofs.SoundClauses.{is_held, Holds}
 use Rattle.df_table.specs.TableModel.{is_true}
 use Rattle.df_model.specs.Valuation.{numbers_of_nodes}
 use Rattle.df_model.proofs.NodeNumbers.{table_truth}

@@ -14,9 +14,9 @@ use Rattle.df_form.specs.Clause.{yes, no, clause_truth}
 use Rattle.df_form.proofs.Making.{made_stands, IsNumber, grown_number}
 use Rattle.df_form.proofs.Same.{values_alike}
 use Rattle.df_form.proofs.Values.{grown_get, AreSorted, parts_below, parts_taken}
-use Rattle.df_kern.specs.Bound.{at_most}
-use Rattle.df_kern.specs.Connective.{Added, equal_clause, equal_by_sort, connective_clause}
-use Rattle.df_kern.proofs.SoundNodes.{at_most_sorted}
+use Rattle.df_rules.specs.Bound.{at_most}
+use Rattle.df_rules.specs.Connective.{Added, equal_clause, equal_by_sort, connective_clause}
+use Rattle.df_rules.proofs.SoundNodes.{at_most_sorted}
 use Rattle.df_clause.specs.declared.ground.Ground.{Ground}
 use Rattle.df_clause.specs.GroundClause.{GroundClause}
 use Rattle.df_clause.specs.GroundView.{IsGround}

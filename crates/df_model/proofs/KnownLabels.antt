@@ -9,8 +9,8 @@ use Rattle.df_form.specs.declared.log.Pair.{Pair}
 use Rattle.df_form.specs.Node.{Node}
 use Rattle.df_form.specs.Clause.{yes, same_literal, negation, is_among}
 use Rattle.df_meaning.specs.Value.{same_truth}
-use Rattle.df_kern.specs.Congruence.{equality, negative_equality}
-use Rattle.df_kern.proofs.SoundClauses.{same_literal_is}
+use Rattle.df_rules.specs.Congruence.{equality, negative_equality}
+use Rattle.df_rules.proofs.SoundClauses.{same_literal_is}
 use Rattle.df_cong.specs.HoldingView.{held_equalities}
 use Rattle.df_model.specs.TableNumbers.{has_true}
 

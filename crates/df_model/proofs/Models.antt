@@ -12,9 +12,9 @@ use Rattle.df_form.specs.Clause.{are_literals}
 use Rattle.df_form.specs.Log.{step_of}
 use Rattle.df_form.specs.Sequent.{Sequent, IsSequent}
 use Rattle.df_form.proofs.Values.{AreSorted, grows_not}
-use Rattle.df_kern.specs.Derivation.{begin}
-use Rattle.df_kern.proofs.SoundClauses.{Holds}
-use Rattle.df_kern.proofs.Sound.{Keeps, after_all_keeps}
+use Rattle.df_rules.specs.Derivation.{begin}
+use Rattle.df_rules.proofs.SoundClauses.{Holds}
+use Rattle.df_rules.proofs.Sound.{Keeps, after_all_keeps}
 use Rattle.df_clause.specs.declared.ground.Ground.{Ground}
 use Rattle.df_clause.specs.GroundView.{IsGround, literals_of, state_of}
 use Rattle.df_table.specs.TableModel.{number_at, IsTableModel}

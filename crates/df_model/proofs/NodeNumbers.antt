@@ -15,7 +15,7 @@ use Rattle.df_form.specs.Sorting.{sort_at, sort_of}
 use Rattle.df_form.specs.Truth.{Assignment, has_sort, apply, values_after, values, value_at, truth}
 use Rattle.df_form.proofs.Values.{AreSorted, parts_taken, worth, value_is}
 use Rattle.df_form.proofs.Sorts.{apply_sorted}
-use Rattle.df_kern.proofs.SoundConnectives.{each_below}
+use Rattle.df_rules.proofs.SoundConnectives.{each_below}
 use Rattle.df_table.specs.TableModel.{number_at, is_true}
 use Rattle.df_model.specs.Valuation.{number_of_value, numbers_of_nodes}
 use Rattle.df_model.specs.Numbers.{counts_as_true, number_by}

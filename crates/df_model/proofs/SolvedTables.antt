@@ -21,7 +21,7 @@ use Rattle.df_form.proofs.Tables.{table-take}
 use Rattle.df_form.proofs.Values.{Grows, grown_length, AreSorted, parts_below, parts_taken}
 use Rattle.df_meaning.specs.Value.{same_truth}
 use Rattle.df_row.specs.Value.{rows_hold}
-use Rattle.df_kern.specs.Congruence.{equality, sides_of}
+use Rattle.df_rules.specs.Congruence.{equality, sides_of}
 use Rattle.df_cong.specs.Congruence.{label_at}
 use Rattle.df_cong.specs.Equal.{opposites, equals}
 use Rattle.df_closure.specs.Full.{is_primitive, ArePrimitivesTrue}

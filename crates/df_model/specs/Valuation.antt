@@ -10,8 +10,8 @@ use Rattle.df_form.specs.declared.node.Op.TheVariants as ops
 use Rattle.df_form.specs.Node.{Node, number_of}
 use Rattle.df_form.specs.Truth.{Assignment, has_sort, code_in, code_below, values}
 use Rattle.df_form.specs.Clause.{yes}
-use Rattle.df_kern.specs.declared.known.Known.{Known}
-use Rattle.df_kern.specs.Known.{knows}
+use Rattle.df_rules.specs.declared.known.Known.{Known}
+use Rattle.df_rules.specs.Known.{knows}
 use Rattle.df_row.specs.Row.{fits}
 use Rattle.df_table.specs.TableModel.{number_at}
 pub use Rattle.df_model.specs.TableNumbers.{number_of_truth}

@@ -7,7 +7,7 @@ ghost use Rattle.df_form.specs.World.{world_of};
 ghost use Rattle.df_form.specs.Types.{has_number};
 ghost use Rattle.df_form.specs.Clause.{yes};
 ghost use Rattle.df_form.specs.Truth.{quotient, remainder, code_in};
-ghost use Rattle.df_kern.specs.Known.{knows};
+ghost use Rattle.df_rules.specs.Known.{knows};
 ghost use Rattle.df_row.specs.RowView.{narrow};
 ghost use Rattle.df_table.specs.TableModel.{number_at};
 ghost use Rattle.df_model.specs.Numbers.{is_of_type, truth_by, narrow_by, free_by};
@@ -16,8 +16,8 @@ use crate::parts::{
     are_all_true, is_any_true, is_part_true, is_same_truth, number_at, number_of_truth, part,
 };
 use df_form::{Free, Lit, Node, Op, Sort, World};
-use df_kern::Known;
 use df_lang::Ty;
+use df_rules::Known;
 
 /// Whether a number is of the newtype of this number.
 fn is_of_newtype(world: World, newtype: usize, number: i128) -> bool

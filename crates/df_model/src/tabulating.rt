@@ -7,7 +7,7 @@ ghost use Rattle.df_model.specs.Valuation.{assignment_by, Tabulates};
 use crate::number::next_number;
 use crate::outcome::Valuation;
 use df_form::{Nodes, World};
-use df_kern::Known;
+use df_rules::Known;
 use df_table::Table;
 use std::alloc::{AllocError, Global};
 

@@ -10,7 +10,7 @@ use Rattle.df_form.specs.declared.node.Op.{Op}
 use Rattle.df_form.specs.Node.{Node, same_op}
 use Rattle.df_form.specs.Clause.{clause_truth}
 use Rattle.df_form.proofs.Same.{same_op_equal, same_op-refl}
-use Rattle.df_kern.specs.Derivation.{State}
+use Rattle.df_rules.specs.Derivation.{State}
 use Rattle.df_table.specs.TableModel.{number_at, is_true, is_exact, Agree, IsTableModel}
 use Rattle.df_table.specs.Testing.{all_below, same_at, same_numbers, agree_both, agree, exact_at, agrees_with_all, is_congruent, are_exact, meets}
 

@@ -9,7 +9,7 @@ use Rattle.df_form.specs.Node.{Node}
 use Rattle.df_meaning.specs.Value.{same_truth}
 use Rattle.df_form.specs.Clause.{clause_truth}
 use Rattle.df_row.specs.Row.{literal_number}
-use Rattle.df_kern.specs.Derivation.{State}
+use Rattle.df_rules.specs.Derivation.{State}
 
 -- the number of a node
 abbrev pub number_at : List ℤ → ℕ → ℤ

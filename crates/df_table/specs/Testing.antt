@@ -6,7 +6,7 @@ use Rattle.std.specs.Ordering.{int_eq}
 use Rattle.df_form.specs.declared.log.Pair.{Pair}
 use Rattle.df_form.specs.Node.{Node, same_op}
 use Rattle.df_form.specs.Clause.{clause_truth}
-use Rattle.df_kern.specs.Derivation.{State}
+use Rattle.df_rules.specs.Derivation.{State}
 use Rattle.df_table.specs.TableModel.{number_at, is_true, is_exact}
 
 -- each number below n passes

@@ -7,7 +7,7 @@ use Rattle.df_form.specs.declared.log.Lit.{Lit}
 use Rattle.df_form.specs.Node.{Node}
 use Rattle.df_form.specs.Sorting.{is_formula}
 use Rattle.df_form.specs.Clause.{Clause, negation, same_literal, is_among, are_literals}
-use Rattle.df_kern.specs.Propagation.{left, only, is_empty, if_some, propagates, clauses_at, propagation_of, propagation_line}
+use Rattle.df_rules.specs.Propagation.{left, only, is_empty, if_some, propagates, clauses_at, propagation_of, propagation_line}
 use Rattle.df_trail.specs.Trail.{IsUndecided}
 use Rattle.df_logbuild.proofs.Added.{mapped_append}
 

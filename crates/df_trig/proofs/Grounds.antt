@@ -11,8 +11,8 @@ use Rattle.df_form.specs.Clause.{yes, no}
 use Rattle.df_form.specs.Log.{Hypothesis, Goal, step_of}
 use Rattle.df_form.specs.Sequent.{Sequent, IsSequent}
 use Rattle.df_form.proofs.Values.{grown_get}
-use Rattle.df_kern.specs.Connective.{Added, connective_clause, connective_line}
-use Rattle.df_kern.specs.Derivation.{only_clause}
+use Rattle.df_rules.specs.Connective.{Added, connective_clause, connective_line}
+use Rattle.df_rules.specs.Derivation.{only_clause}
 use Rattle.df_clause.specs.Among.{Among}
 use Rattle.df_clause.specs.Comparing.{is_comparing}
 use Rattle.df_clause.specs.GroundClause.{GroundClause}

@@ -7,8 +7,8 @@ use Rattle.df_form.specs.Clause.{Clause}
 use Rattle.df_form.specs.Log.{Step, Schema}
 use Rattle.df_form.specs.Sequent.{Sequent}
 use Rattle.df_form.proofs.Values.{AreSorted}
-use Rattle.df_kern.specs.Connective.{Added}
-use Rattle.df_kern.specs.Schema.{schema_line}
+use Rattle.df_rules.specs.Connective.{Added}
+use Rattle.df_axiom.specs.Line.{instance_line}
 use Rattle.df_clause.specs.declared.ground.Ground.{Ground}
 use Rattle.df_clause.specs.GroundSet.{GroundSet, with_added, with_line}
 use Rattle.df_clause.specs.GroundView.{set_of}
@@ -23,7 +23,7 @@ module _ (s : Sequent) (old new : Ground) (nodes : List Node) (schema k : ℕ) (
   made = record { nodes = nodes; clauses = old.clauses; lines = old.lines }
 
   -- its nodes were made, and it is kept, or was not new
-  pub schema_kept : (before : ℕ) (line : Step) (clause : Clause) (result : Result (Unit {0}) AllocError) → AreSorted old.nodes → schema_line s.world old.nodes schema k terms ≡ Some (record { nodes = nodes; clause = clause }) → before ≡ length old.nodes → line ≡ Schema schema k terms
+  pub schema_kept : (before : ℕ) (line : Step) (clause : Clause) (result : Result (Unit {0}) AllocError) → AreSorted old.nodes → instance_line s.world old.nodes schema k terms ≡ Some (record { nodes = nodes; clause = clause }) → before ≡ length old.nodes → line ≡ Schema schema k terms
       → Keeps before line None clause made new result → Adds s (Schema schema k terms) (set_of old) (set_of new) result
   schema_kept before line clause (Ok done) sorted found is line_is kept =
       let added : Added = record { nodes = nodes; clause = clause } in
@@ -34,7 +34,7 @@ module _ (s : Sequent) (old new : Ground) (nodes : List Node) (schema k : ℕ) (
       line_left old new nodes before (is_addition s old.nodes (Schema schema k terms) added sorted found).grows is left
 
   -- there is none
-  pub schema_lacks : schema_line s.world old.nodes schema k terms ≡ None → nodes ≡ old.nodes → set_of made ≡ with_line s (set_of old) (Schema schema k terms)
+  pub schema_lacks : instance_line s.world old.nodes schema k terms ≡ None → nodes ≡ old.nodes → set_of made ≡ with_line s (set_of old) (Schema schema k terms)
   schema_lacks none same =
       let here : set_of made ≡ set_of old = λ i. record { nodes = same i; clauses = old.clauses; lines = (set_of old).lines } in
       here ∙ sym (ap (λ (o : Option Added). option_map_or (with_added (set_of old) (Schema schema k terms) None) o (set_of old)) none)

@@ -11,8 +11,6 @@ use Rattle.df_form.proofs.Values.{Grows, grows_twice, grown_get, AreSorted}
 use Rattle.df_axiom.specs.Instance.{Added, instantiated}
 use Rattle.df_axiom.specs.Line.{first_op, line_by, instance_line}
 use Rattle.df_axiom.specs.Schemas.{products_compare, template}
-use Rattle.df_kern.specs.Schema.{schema_line}
-use Rattle.df_kern.proofs.TypeLines.{schema_lines}
 use Rattle.df_clause.specs.Among.{Among}
 use Rattle.df_clause.specs.GroundSet.{GroundSet, with_added, with_line, with_lines}
 use Rattle.df_clause.proofs.Running.{grown_from}
@@ -63,28 +61,27 @@ none_added s f set (m ∷ ns) nothing =
 module _ (s : Sequent) (schema k : ℕ) (op : Op) (start : List Node) (first : ℕ) (last : Option ℕ) (inside : first < length start) (is_op : first_op start (first ∷ []) ≡ Some op) (is_last : last_part start first ≡ last)
     (two : template s.world op schema k ≡ Some products_compare) where
   -- where there is a clause, the second one ends in this last part
-  alike : (nodes : List Node) (m : ℕ) (added : Added) → AreSorted nodes → Grows start nodes → m < length start → schema_line s.world nodes schema k (first ∷ m ∷ []) ≡ Some added → (z : ℕ) × (last ≡ Some z) × (last_part start m ≡ Some z)
+  alike : (nodes : List Node) (m : ℕ) (added : Added) → AreSorted nodes → Grows start nodes → m < length start → instance_line s.world nodes schema k (first ∷ m ∷ []) ≡ Some added → (z : ℕ) × (last ≡ Some z) × (last_part start m ≡ Some z)
   alike nodes m added sorted g less e =
       let terms = first ∷ m ∷ [] in
       let op_now : first_op nodes terms ≡ Some op =
       (let found = get_below start first inside in
       ap (option_map (λ (node : Node). node.op)) (grown_get start nodes g first found.0 found.1) ∙ sym (ap (option_map (λ (node : Node). node.op)) found.1) ∙ is_op) in
-      let line : instance_line s.world nodes schema k terms ≡ Some added = schema_lines s.world nodes sorted schema k terms ∙ e in
-      let by_op = sym (ap (option_and_then (line_by s.world nodes schema k terms)) op_now) ∙ line in
+      let by_op = sym (ap (option_and_then (line_by s.world nodes schema k terms)) op_now) ∙ e in
       let by_template = sym (ap (option_and_then (instantiated nodes terms)) two) ∙ by_op in
       let both = joined nodes first m added sorted by_template in
       (both.0, sym is_last ∙ sym (last_grown start nodes g first inside) ∙ both.1, sym (last_grown start nodes g m less) ∙ both.2)
 
   pub adds_nothing : (set : GroundSet) (m : ℕ) → m < length start → AreSorted set.nodes → Grows start set.nodes → ((z : ℕ) → last ≡ Some z → ends_in start z m ≡ false) → with_line s set (Schema schema k (first ∷ m ∷ [])) ≡ set
-  adds_nothing set m less sorted g other = by (schema_line s.world set.nodes schema k (first ∷ m ∷ [])) refl
+  adds_nothing set m less sorted g other = by (instance_line s.world set.nodes schema k (first ∷ m ∷ [])) refl
     where
-      none : (added : Added) → schema_line s.world set.nodes schema k (first ∷ m ∷ []) ≡ Some added → ⊥
+      none : (added : Added) → instance_line s.world set.nodes schema k (first ∷ m ∷ []) ≡ Some added → ⊥
       none added e =
           let same = alike set.nodes m added sorted g less e in
           let ends : ends_in start same.0 m ≡ (same.0 == same.0) = ap (λ (o : Option ℕ). is_part o same.0) same.2 in
           let itself : (same.0 == same.0) ≡ true = eq-eqb same.0 same.0 refl in
           true≢false (sym (ends ∙ itself) ∙ other same.0 same.1)
 
-      by : (o : Option Added) → schema_line s.world set.nodes schema k (first ∷ m ∷ []) ≡ o → option_map_or (with_added set (Schema schema k (first ∷ m ∷ [])) None) o set ≡ set
+      by : (o : Option Added) → instance_line s.world set.nodes schema k (first ∷ m ∷ []) ≡ o → option_map_or (with_added set (Schema schema k (first ∷ m ∷ [])) None) o set ≡ set
       by None e = refl
       by (Some added) e = absurd (none added e)

@@ -8,10 +8,9 @@ ghost use Rattle.df_form.specs.World.{world_of};
 ghost use Rattle.df_form.specs.Log.{Connective, Schema};
 ghost use Rattle.df_form.specs.Sequent.{Sequent as Claim};
 ghost use Rattle.df_form.specs.SequentView.{sequent_of};
-ghost use Rattle.df_axiom.specs.Line.{first_op};
+ghost use Rattle.df_axiom.specs.Line.{first_op, instance_line};
 ghost use Rattle.df_axiom.specs.Schemas.{products_compare, template};
-ghost use Rattle.df_kern.specs.Schema.{schema_line};
-ghost use Rattle.df_kern.specs.Instance.{Instantiates as InstantiatesLine};
+ghost use Rattle.df_rules.specs.Instance.{Instantiates as InstantiatesLine};
 ghost use Rattle.df_clause.specs.Among.{Among};
 ghost use Rattle.df_clause.specs.GroundSet.{with_line, with_lines, with_meaning, with_meanings};
 ghost use Rattle.df_clause.specs.GroundView.{set_of};
@@ -52,10 +51,8 @@ fn clause_of<X: Schemas>(
     pattern: &Pattern,
     terms: &[Term],
 ) -> Result<Vec<Lit>, AxiomFault>
-    ensures { InstantiatesLine nodes.old nodes.new result (schema_line (world_of world.entry) nodes.old pattern.now.schema pattern.now.clause terms.now) }
+    ensures { InstantiatesLine nodes.old nodes.new result (instance_line (world_of world.entry) nodes.old pattern.now.schema pattern.now.clause terms.now) }
 {
-    // The nodes are a table.
-    let _nodes = nodes.len();
     schemas.instance(alloc, world, nodes, pattern.schema, pattern.clause, terms)
 }
 

@@ -4,8 +4,8 @@ use Rattle.std.specs.List.{list_any}
 use Rattle.df_form.specs.declared.log.Lit.{Lit}
 use Rattle.df_form.specs.Node.{Node}
 use Rattle.df_row.specs.Row.{literal_number}
-use Rattle.df_kern.specs.Congruence.{equality}
-use Rattle.df_kern.specs.CongruenceLine.{is_paired, has_opposites, has_two_numbers}
+use Rattle.df_rules.specs.Congruence.{equality}
+use Rattle.df_rules.specs.CongruenceLine.{is_paired, has_opposites, has_two_numbers}
 
 -- the literal denies an equality whose sides have one label
 abbrev pub is_denied : List Node → (ℕ → ℕ) → Lit → Bool

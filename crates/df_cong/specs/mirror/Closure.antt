@@ -3,9 +3,9 @@ use Rattle.std.specs.Prelude.{◌≡◌, ◌<◌, ◌⊎◌, ◌==◌, ◌&&◌,
 use Rattle.std.specs.List.{AllZip, list_any}
 use Rattle.df_form.specs.declared.log.Pair.{Pair}
 use Rattle.df_form.specs.Node.{Node}
-use Rattle.df_kern.specs.Classes.{InOneClass}
-use Rattle.df_kern.specs.Congruence.{AreCongruent}
-use Rattle.df_kern.specs.CongruenceLine.{is_congruent}
+use Rattle.df_rules.specs.Classes.{InOneClass}
+use Rattle.df_rules.specs.Congruence.{AreCongruent}
+use Rattle.df_rules.specs.CongruenceLine.{is_congruent}
 use Rattle.df_cong.specs.Labels.{HaveOneLabel}
 use Rattle.df_cong.specs.mirror.State.{State, label_of, list_at, entered}
 use Rattle.df_cong.specs.mirror.Partition.{IsPartition, IsJoined}

@@ -1,7 +1,7 @@
 use Rattle.std.proofs.Common.{◌∙◌, subst, ap, true, refl}
 use Rattle.std.specs.List.{list_any}
 use Rattle.df_form.specs.Clause.{Clause}
-use Rattle.df_kern.specs.Known.{knows}
+use Rattle.df_rules.specs.Known.{knows}
 use Rattle.df_closure.specs.Closure.{ground_of}
 use Rattle.df_branch.specs.Filling.{TellsUndecided}
 use Rattle.df_branch.proofs.OpenClauses.{any_known, found}

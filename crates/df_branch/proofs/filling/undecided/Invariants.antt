@@ -1,5 +1,5 @@
 use Rattle.std.proofs.Common.{◌≡◌, take, []}
-use Rattle.df_kern.specs.Known.{knows, left_by}
+use Rattle.df_rules.specs.Known.{knows, left_by}
 use Rattle.df_branch.proofs.filling.undecided.Given as goal
 
 abbrev pub invariant-loop-literal : goal.invariant-loop-literal

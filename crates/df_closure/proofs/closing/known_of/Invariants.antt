@@ -1,5 +1,5 @@
 use Rattle.std.proofs.Common.{take}
-use Rattle.df_kern.specs.Known.{IsSetOf}
+use Rattle.df_rules.specs.Known.{IsSetOf}
 use Rattle.df_closure.proofs.closing.known_of.Given as goal
 
 abbrev pub invariant-loop-literal : goal.invariant-loop-literal

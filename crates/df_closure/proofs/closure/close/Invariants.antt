@@ -1,5 +1,5 @@
 use Rattle.std.proofs.Common.{map}
-use Rattle.df_kern.specs.Known.{knows}
+use Rattle.df_rules.specs.Known.{knows}
 use Rattle.df_closure.specs.Closure.{ground_of}
 use Rattle.df_closure.specs.Closing.{IsClosing, unknown}
 use Rattle.df_closure.proofs.closure.close.Given as goal

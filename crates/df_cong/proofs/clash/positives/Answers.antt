@@ -3,7 +3,7 @@ use Rattle.std.specs.Ordering.{nat_cmp}
 use Rattle.std.specs.BTreeSet.{contains}
 use Rattle.df_form.specs.declared.log.Lit.{Lit}
 use Rattle.df_form.specs.Clause.{no}
-use Rattle.df_kern.proofs.Scans.{any_added}
+use Rattle.df_rules.proofs.Scans.{any_added}
 use Rattle.df_cong.specs.mirror.State.{label_of}
 use Rattle.df_cong.specs.PartitionView.{state_of}
 use Rattle.df_cong.proofs.clash.positives.Goals as goal

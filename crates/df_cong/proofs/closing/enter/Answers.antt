@@ -1,6 +1,6 @@
 use Rattle.std.proofs.Common.{inl, inr, refl, sym, ap, ◌∙◌}
 use Rattle.std.specs.List.{list_any}
-use Rattle.df_kern.proofs.Joining.{on_ok}
+use Rattle.df_rules.proofs.Results.{on_ok}
 use Rattle.df_cong.specs.mirror.State.{label_of}
 use Rattle.df_cong.specs.mirror.Closure.{alike_to}
 use Rattle.df_cong.specs.PartitionView.{state_of}

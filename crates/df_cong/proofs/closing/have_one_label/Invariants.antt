@@ -1,6 +1,6 @@
 use Rattle.std.proofs.Common.{◌≡◌, drop}
 use Rattle.std.specs.Cmp.Lexicographic.{pointwise}
-use Rattle.df_kern.specs.Classes.{is_together}
+use Rattle.df_rules.specs.Classes.{is_together}
 use Rattle.df_cong.specs.mirror.State.{label_of}
 use Rattle.df_cong.specs.PartitionView.{state_of}
 use Rattle.df_cong.proofs.closing.have_one_label.Given as goal

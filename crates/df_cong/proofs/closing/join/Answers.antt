@@ -1,5 +1,5 @@
 use Rattle.std.proofs.Common.{length}
-use Rattle.df_kern.proofs.Joining.{on_ok}
+use Rattle.df_rules.proofs.Results.{on_ok}
 use Rattle.df_cong.specs.mirror.State.{label_of}
 use Rattle.df_cong.specs.PartitionView.{state_of}
 use Rattle.df_cong.proofs.Absorbing.{can_absorb, can_absorb_back, absorbs_at, joins_first, joins_second}

@@ -1,5 +1,5 @@
 use Rattle.std.proofs.Common.{find, ap, ◌∙◌}
-use Rattle.df_kern.proofs.Joining.{on_ok}
+use Rattle.df_rules.proofs.Results.{on_ok}
 use Rattle.df_cong.specs.mirror.State.{label_of}
 use Rattle.df_cong.specs.mirror.Closure.{apart_from}
 use Rattle.df_cong.specs.PartitionView.{state_of}

@@ -1,5 +1,5 @@
 use Rattle.std.proofs.Common.{sym, subst, ◌∙◌}
-use Rattle.df_kern.proofs.Joining.{on_ok}
+use Rattle.df_rules.proofs.Results.{on_ok}
 use Rattle.df_cong.specs.mirror.Closure.{CanJoin}
 use Rattle.df_cong.specs.PartitionView.{state_of}
 use Rattle.df_cong.proofs.Absorbing.{joins_after}

@@ -2,7 +2,7 @@ use Rattle.std.proofs.Common.{List, ℕ, length, refl, sym, subst, ◌∙◌}
 use Rattle.df_cong.specs.mirror.State.{label_of}
 use Rattle.df_cong.specs.mirror.Closure.{Joins}
 use Rattle.df_cong.specs.PartitionView.{state_of}
-use Rattle.df_kern.proofs.Joining.{on_ok}
+use Rattle.df_rules.proofs.Results.{on_ok}
 use Rattle.df_cong.proofs.Holds.{equates_already, equates_joined, ready_joined, can_join}
 use Rattle.df_cong.proofs.Retreating.{extends_none, extends_then}
 use Rattle.df_cong.proofs.holding.equate.Goals as goal

@@ -1,6 +1,6 @@
 use Rattle.std.proofs.Common.{ℕ, List, sym, subst}
 use Rattle.df_form.specs.Node.{node_of}
-use Rattle.df_kern.proofs.Joining.{on_ok}
+use Rattle.df_rules.proofs.Results.{on_ok}
 use Rattle.df_cong.specs.mirror.Users.{AddsUser}
 use Rattle.df_cong.proofs.NumberNodes.{users_more, users_none}
 use Rattle.df_cong.proofs.Parts.{parts_inside}

@@ -1,4 +1,4 @@
-use Rattle.df_kern.proofs.Growth.{number-made, number-grows}
+use Rattle.df_rules.proofs.Growth.{number-made, number-grows}
 use Rattle.df_kern.proofs.bound.at_least_of.Goals as goal
 
 pub comparison-requires : goal.comparison-requires

@@ -1,5 +1,5 @@
 use Rattle.std.proofs.Common.{◌∙◌, ap}
-use Rattle.df_kern.specs.Propagation.{is_empty}
+use Rattle.df_rules.specs.Propagation.{is_empty}
 use Rattle.df_kern.proofs.Ends.{ends-of}
 use Rattle.df_kern.proofs.checker.ends.Goals as goal
 

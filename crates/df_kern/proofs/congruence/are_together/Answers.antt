@@ -1,7 +1,7 @@
 use Rattle.std.proofs.Common.{get_or, refl, sym, ap, ◌∙◌, arith}
-use Rattle.df_kern.specs.Classes.{is_together}
+use Rattle.df_rules.specs.Classes.{is_together}
 use Rattle.df_kern.specs.ClassesView.{class_of}
-use Rattle.df_kern.proofs.Scans.{pair_differs, pair_next}
+use Rattle.df_rules.proofs.Scans.{pair_differs, pair_next}
 use Rattle.df_kern.proofs.congruence.are_together.Goals as goal
 
 pub returns-then-not-branch-clause-together : goal.returns-then-not-branch-clause-together

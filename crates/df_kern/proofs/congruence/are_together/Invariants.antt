@@ -1,6 +1,6 @@
 use Rattle.std.proofs.Common.{◌≡◌, drop}
 use Rattle.std.specs.Cmp.Lexicographic.{pointwise}
-use Rattle.df_kern.specs.Classes.{is_together}
+use Rattle.df_rules.specs.Classes.{is_together}
 use Rattle.df_kern.specs.ClassesView.{class_of}
 use Rattle.df_kern.proofs.congruence.are_together.Given as goal
 

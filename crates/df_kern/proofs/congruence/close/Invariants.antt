@@ -1,5 +1,5 @@
 use Rattle.std.proofs.Common.{◌≡◌, drop}
-use Rattle.df_kern.specs.CongruenceLine.{closed}
+use Rattle.df_rules.specs.CongruenceLine.{closed}
 use Rattle.df_kern.specs.ClassesView.{class_of}
 use Rattle.df_kern.proofs.congruence.close.Given as goal
 

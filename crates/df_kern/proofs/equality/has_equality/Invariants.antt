@@ -1,5 +1,5 @@
 use Rattle.std.proofs.Common.{◌≡◌, drop}
-use Rattle.df_kern.specs.CongruenceLine.{has_equality}
+use Rattle.df_rules.specs.CongruenceLine.{has_equality}
 use Rattle.df_kern.specs.ClassesView.{class_of}
 use Rattle.df_kern.proofs.equality.has_equality.Given as goal
 

@@ -1,6 +1,6 @@
 use Rattle.std.proofs.Common.{◌≡◌, ◌++◌, drop}
 use Rattle.std.specs.List.{filter_map}
-use Rattle.df_kern.specs.Congruence.{negative_equality}
+use Rattle.df_rules.specs.Congruence.{negative_equality}
 use Rattle.df_kern.proofs.equality.negative_equalities.Given as goal
 
 abbrev pub invariant-loop-literal : goal.invariant-loop-literal

@@ -1,4 +1,4 @@
-use Rattle.df_kern.proofs.Sound.{true_schemas, true_connectives}
+use Rattle.df_rules.proofs.Sound.{true_schemas, true_connectives}
 use Rattle.df_kern.proofs.law.clauses_are_true.Goals as goal
 
 pub returns : goal.returns

@@ -1,4 +1,4 @@
-use Rattle.df_kern.proofs.Congruences.{line_is, is_line}
+use Rattle.df_rules.proofs.Congruences.{line_is, is_line}
 use Rattle.df_kern.proofs.law.congruence_lines_are_exact.Goals as goal
 
 pub returns : goal.returns

@@ -1,9 +1,9 @@
 use Rattle.std.proofs.Common.{ℕ, Bool, get_or, refl, sym, ap, ◌∙◌, arith}
 use Rattle.std.specs.Ordering.{nat_cmp}
 use Rattle.std.specs.BTreeMap.{get}
-use Rattle.df_kern.specs.CongruenceLine.{are_different, number_at}
+use Rattle.df_rules.specs.CongruenceLine.{are_different, number_at}
 use Rattle.df_kern.specs.ClassesView.{class_of}
-use Rattle.df_kern.proofs.Scans.{any_found, any_next}
+use Rattle.df_rules.proofs.Scans.{any_found, any_next}
 use Rattle.df_kern.proofs.number.has_other_number.Goals as goal
 
 pub returns-then-branch-clause-other : goal.returns-then-branch-clause-other

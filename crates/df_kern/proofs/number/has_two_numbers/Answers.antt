@@ -1,7 +1,7 @@
 use Rattle.std.proofs.Common.{◌∙◌}
 use Rattle.std.specs.List.{list_any}
-use Rattle.df_kern.specs.CongruenceLine.{are_different, number_at}
-use Rattle.df_kern.proofs.Growth.{if_ok}
+use Rattle.df_rules.specs.CongruenceLine.{are_different, number_at}
+use Rattle.df_rules.proofs.Results.{if_ok}
 use Rattle.df_kern.proofs.number.has_two_numbers.Goals as goal
 
 pub returns : goal.returns

@@ -2,9 +2,9 @@ use Rattle.std.proofs.Common.{ℕ, ◌==◌, List, None, get_or, drop, ◌+◌, 
 use Rattle.std.specs.Option.{option_or}
 use Rattle.std.specs.Ordering.{nat_cmp}
 use Rattle.std.specs.BTreeMap.{get}
-use Rattle.df_kern.specs.CongruenceLine.{number_at, number_in}
+use Rattle.df_rules.specs.CongruenceLine.{number_at, number_in}
 use Rattle.df_kern.specs.ClassesView.{class_of}
-use Rattle.df_kern.proofs.Scans.{left_here, option_moved}
+use Rattle.df_rules.proofs.Scans.{left_here, option_moved}
 use Rattle.df_kern.proofs.number.numbers.Goals as goal
 
 pub loop-member-preserved : goal.loop-member-preserved

@@ -2,7 +2,7 @@ use Rattle.std.proofs.Common.{◌≡◌, ℕ, drop}
 use Rattle.std.specs.Option.{option_or}
 use Rattle.std.specs.Ordering.{nat_cmp}
 use Rattle.std.specs.BTreeMap.{get}
-use Rattle.df_kern.specs.CongruenceLine.{number_in}
+use Rattle.df_rules.specs.CongruenceLine.{number_in}
 use Rattle.df_kern.specs.ClassesView.{class_of}
 use Rattle.df_kern.proofs.number.numbers.Given as goal
 

@@ -1,5 +1,5 @@
 use Rattle.std.proofs.Common.{◌≡◌, ◌++◌, drop}
-use Rattle.df_kern.specs.CongruenceLine.{members}
+use Rattle.df_rules.specs.CongruenceLine.{members}
 use Rattle.df_kern.proofs.number.push_members.Given as goal
 
 abbrev pub invariant-loop-pair : goal.invariant-loop-pair

@@ -4,7 +4,7 @@ use Rattle.std.specs.BTreeSet.{contains}
 use Rattle.df_form.specs.declared.log.Lit.{Lit}
 use Rattle.df_form.specs.Clause.{no}
 use Rattle.df_kern.specs.ClassesView.{class_of}
-use Rattle.df_kern.proofs.Scans.{any_found, any_next}
+use Rattle.df_rules.proofs.Scans.{any_found, any_next}
 use Rattle.df_kern.proofs.opposite.has_opposite.Goals as goal
 
 pub returns-then-branch-clause-opposite : goal.returns-then-branch-clause-opposite

@@ -1,7 +1,7 @@
 use Rattle.std.proofs.Common.{not, ◌&&◌, ◌∙◌}
 use Rattle.std.specs.List.{list_any}
 use Rattle.df_form.specs.declared.log.Lit.{Lit}
-use Rattle.df_kern.proofs.Growth.{if_ok}
+use Rattle.df_rules.proofs.Results.{if_ok}
 use Rattle.df_kern.proofs.opposite.has_opposites.Goals as goal
 
 pub returns-clause-opposites : goal.returns-clause-opposites

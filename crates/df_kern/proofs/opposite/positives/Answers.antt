@@ -4,7 +4,7 @@ use Rattle.std.specs.BTreeSet.{contains}
 use Rattle.df_form.specs.declared.log.Lit.{Lit}
 use Rattle.df_form.specs.Clause.{no}
 use Rattle.df_kern.specs.ClassesView.{class_of}
-use Rattle.df_kern.proofs.Scans.{any_added}
+use Rattle.df_rules.proofs.Scans.{any_added}
 use Rattle.df_kern.proofs.opposite.positives.Goals as goal
 
 pub loop-literal-preserved : goal.loop-literal-preserved

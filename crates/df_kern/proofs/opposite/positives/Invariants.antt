@@ -1,7 +1,7 @@
 use Rattle.std.proofs.Common.{◌≡◌, ℕ, ◌||◌, drop}
 use Rattle.std.specs.Ordering.{nat_cmp}
 use Rattle.std.specs.BTreeSet.{contains}
-use Rattle.df_kern.specs.CongruenceLine.{has_positive}
+use Rattle.df_rules.specs.CongruenceLine.{has_positive}
 use Rattle.df_kern.specs.ClassesView.{class_of}
 use Rattle.df_kern.proofs.opposite.positives.Given as goal
 

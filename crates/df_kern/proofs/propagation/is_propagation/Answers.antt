@@ -1,7 +1,7 @@
 use Rattle.std.proofs.Common.{◌∙◌, sym, subst, map, Bool}
 use Rattle.df_form.specs.Clause.{negation}
-use Rattle.df_kern.specs.Learning.{Learns}
-use Rattle.df_kern.proofs.Learning.{propagation_is, propagation_is_not}
+use Rattle.df_rules.specs.Learning.{Learns}
+use Rattle.df_rules.proofs.Learning.{propagation_is, propagation_is_not}
 use Rattle.df_kern.proofs.propagation.is_propagation.Goals as goal
 
 pub returns-then-not-branch : goal.returns-then-not-branch

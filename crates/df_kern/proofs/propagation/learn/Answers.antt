@@ -1,5 +1,5 @@
 use Rattle.std.proofs.Common.{sym, map, get_or, refl, arith}
-use Rattle.df_kern.proofs.Learning.{misses, stops, learns}
+use Rattle.df_rules.proofs.Learning.{misses, stops, learns}
 use Rattle.df_kern.proofs.propagation.learn.Goals as goal
 
 pub returns-in_default : goal.returns-in_default

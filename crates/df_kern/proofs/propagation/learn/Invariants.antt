@@ -1,5 +1,5 @@
 use Rattle.std.proofs.Common.{map, take}
-use Rattle.df_kern.proofs.Learning.{LearnsSoFar}
+use Rattle.df_rules.proofs.Learning.{LearnsSoFar}
 use Rattle.df_kern.proofs.propagation.learn.Given as goal
 
 abbrev pub invariant-loop-number : goal.invariant-loop-number

@@ -5,8 +5,8 @@ use Rattle.df_form.specs.World.{World, world_of}
 use Rattle.df_form.specs.declared.node.Op.{Op}
 use Rattle.df_form.specs.Node.{node_of}
 use Rattle.df_form.specs.Clause.{yes}
-use Rattle.df_kern.specs.declared.known.Known.{Known}
-use Rattle.df_kern.specs.Known.{knows}
+use Rattle.df_rules.specs.declared.known.Known.{Known}
+use Rattle.df_rules.specs.Known.{knows}
 use Rattle.df_table.specs.TableModel.{number_at}
 use Rattle.df_model.specs.Valuation.{assignment_by}
 use Rattle.df_model.specs.Numbers.{narrow_by, free_by}

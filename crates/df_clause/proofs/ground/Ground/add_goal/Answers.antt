@@ -2,7 +2,7 @@ use Rattle.std.proofs.Common.{ℕ, [], ◌∷◌, Some, refl, ap}
 use Rattle.std.proofs.lemmas.Result.{on_ok_weaker}
 use Rattle.df_form.specs.Clause.{no}
 use Rattle.df_form.specs.Log.{Goal}
-use Rattle.df_kern.specs.Derivation.{only_clause}
+use Rattle.df_rules.specs.Derivation.{only_clause}
 use Rattle.df_clause.proofs.Kept.{claim_kept}
 use Rattle.df_clause.proofs.ground.Ground.add_goal.Goals as goal
 

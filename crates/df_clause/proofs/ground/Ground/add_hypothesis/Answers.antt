@@ -3,7 +3,7 @@ use Rattle.std.specs.Option.{option_map}
 use Rattle.std.proofs.lemmas.Result.{on_ok_weaker}
 use Rattle.df_form.specs.Clause.{yes}
 use Rattle.df_form.specs.Log.{Hypothesis}
-use Rattle.df_kern.specs.Derivation.{only_clause}
+use Rattle.df_rules.specs.Derivation.{only_clause}
 use Rattle.df_clause.proofs.Kept.{claim_kept}
 use Rattle.df_clause.proofs.ground.Ground.add_hypothesis.Goals as goal
 

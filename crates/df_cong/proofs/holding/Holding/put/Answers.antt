@@ -1,6 +1,6 @@
 use Rattle.std.proofs.Common.{refl, sym, subst}
 use Rattle.std.proofs.lemmas.Bool.{not-true, not-false}
-use Rattle.df_kern.proofs.Joining.{on_ok}
+use Rattle.df_rules.proofs.Results.{on_ok}
 use Rattle.df_cong.specs.HoldingView.{Equates}
 use Rattle.df_cong.proofs.Holds.{equates_none, negative_none, positive_puts}
 use Rattle.df_cong.proofs.Retreating.{extends_none}

@@ -1,6 +1,6 @@
 use Rattle.std.proofs.Common.{Ok, List, Vec, Global, map, ap, sym, refl, ◌∙◌}
 use Rattle.df_form.specs.declared.log.Lit.{Lit}
-use Rattle.df_kern.specs.Derivation.{ends_empty}
+use Rattle.df_rules.specs.Derivation.{ends_empty}
 use Rattle.df_kern.proofs.Checks.{proves-goal}
 use Rattle.df_kern.proofs.checker.Checker.finish.Goals as goal
 

@@ -1,6 +1,7 @@
 use Rattle.std.proofs.Common.{ap, ◌∙◌, arith}
 use Rattle.df_kern.specs.ClassesView.{class_of}
-use Rattle.df_kern.proofs.Joining.{on_ok, joins, joins_back, joins_none}
+use Rattle.df_rules.proofs.Results.{on_ok}
+use Rattle.df_kern.proofs.Joining.{joins, joins_back, joins_none}
 use Rattle.df_kern.proofs.classes.Classes.join.Goals as goal
 
 pub link-requires-clause-high : goal.link-requires-clause-high

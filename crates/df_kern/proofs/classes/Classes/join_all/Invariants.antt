@@ -1,5 +1,5 @@
 use Rattle.std.proofs.Common.{◌≡◌, drop}
-use Rattle.df_kern.specs.Classes.{joined_all}
+use Rattle.df_rules.specs.Classes.{joined_all}
 use Rattle.df_kern.specs.ClassesView.{class_of}
 use Rattle.df_kern.proofs.classes.Classes.join_all.Given as goal
 

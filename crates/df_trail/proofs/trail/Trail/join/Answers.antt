@@ -1,6 +1,6 @@
 use Rattle.std.proofs.Common.{◌∙◌, ◌∷◌, ◌++◌, [], Some, sym, ap, subst}
 use Rattle.df_form.specs.Clause.{Clause}
-use Rattle.df_kern.specs.Propagation.{propagation_line}
+use Rattle.df_rules.specs.Propagation.{propagation_line}
 use Rattle.df_logbuild.specs.Runs.{Runs}
 use Rattle.df_logbuild.proofs.Added.{ok_weaker}
 use Rattle.df_trail.specs.Trail.{branch_of}

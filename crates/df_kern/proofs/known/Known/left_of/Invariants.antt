@@ -1,6 +1,0 @@
-use Rattle.std.proofs.Common.{◌≡◌, take}
-use Rattle.df_kern.specs.Known.{knows, left_by, counted}
-use Rattle.df_kern.proofs.known.Known.left_of.Given as goal
-
-abbrev pub invariant-loop-literal : goal.invariant-loop-literal
-invariant-loop-literal l = l.left ≡ counted (left_by (knows l.self) (take l.literal-index l.clause))

@@ -1,0 +1,14 @@
+pub mod Bound
+pub mod Connective
+pub mod Truth
+pub mod Propagation
+pub mod Classes
+pub mod Congruence
+pub mod CongruenceLine
+pub mod Growth
+pub mod Known
+pub mod Learning
+pub mod Instance
+pub mod Answers
+pub mod Connecting
+pub mod Derivation
