@@ -274,9 +274,7 @@ impl<'a> Engine<'a> {
             Op::Code => {
                 self.instantiate(CODES, 0, &[node])?;
                 self.instantiate(CODES, 1, &[node])?;
-                if self.terms.op(first) != Some(Op::Chr) {
-                    self.instantiate(CODES, 2, &[node])?;
-                }
+                self.instantiate(CODES, 2, &[node])?;
             }
             Op::Chr => {
                 if self.terms.op(first) != Some(Op::Code) {

@@ -1,6 +1,7 @@
 //! Where the nodes of sequents stand.
 
 use crate::made::{Made, is_operation, made_like};
+use crate::offset::{Offset, offset_at, offset_of};
 use df_form::Nodes;
 use std::alloc::{AllocError, Global};
 use std::collections::HashMap;
@@ -10,6 +11,8 @@ use std::collections::HashMap;
 #[derive(Drop)]
 pub struct Index {
     places: HashMap<Made, usize>,
+    /// By node.
+    offsets: Vec<Offset>,
     /// How many nodes were met.
     count: usize,
     /// The first product, quotient, remainder or character.
@@ -20,6 +23,7 @@ impl Index {
     pub fn new(alloc: Global) -> Index {
         Index {
             places: HashMap::new(alloc),
+            offsets: Vec::new(alloc),
             count: 0,
             first_operation: None,
         }
@@ -41,7 +45,16 @@ impl Index {
         if let Some(made) = made_like(nodes, number) {
             self.places.insert(made, number)?;
         }
+        if self.offsets.len() == number {
+            let offset = offset_of(nodes, &self.offsets, number);
+            self.offsets.push(offset)?;
+        }
         Ok(())
+    }
+
+    /// What a node is as the sum of another one and a number.
+    pub fn offset(&self, node: usize) -> Offset {
+        offset_at(&self.offsets, node)
     }
 
     /// The node that is like this one, if it is one of so many first ones.

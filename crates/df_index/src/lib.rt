@@ -3,6 +3,8 @@
 
 mod index;
 mod made;
+mod offset;
 
 pub use index::Index;
 pub use made::Made;
+pub use offset::Offset;

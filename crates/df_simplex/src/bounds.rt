@@ -143,7 +143,8 @@ impl Bounds {
         }
     }
 
-    /// Whether a row's bound, which is tighter, is to be taken: after some in a row only where it is so by much.
+    /// Whether a row's bound, which is tighter, is to be taken: after some one after another only where it is so by
+    /// much of what is left, and never where the column has no bound on the other side, since such bounds have no end.
     pub fn is_worthwhile(&self, column: usize, side: Side, constant: i128) -> bool {
         let Some(known) = self.constant(column, side) else {
             return true;
@@ -151,11 +152,10 @@ impl Bounds {
         if self.run_of_rows(column, side) < RUN {
             return true;
         }
-        let span = match self.constant(column, side.opposite()) {
-            Some(other) => known.saturating_add(other),
-            None => known.saturating_abs(),
-        };
-        span / 4 <= known.saturating_sub(constant)
+        match self.constant(column, side.opposite()) {
+            Some(other) => known.saturating_add(other) / 4 <= known.saturating_sub(constant),
+            None => false,
+        }
     }
 
     /// The number of the tightest bound before a number.

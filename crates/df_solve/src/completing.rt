@@ -104,7 +104,7 @@ impl<'a> Search<'a> {
         Ok(true)
     }
 
-    /// Adds the clause that a number is at most a bound, or at least the next number.
+    /// Adds the clause that a number is at most a bound, or at least the next number, and decides the side of 0.
     fn split(&mut self, node: usize, bound: i128) -> Result<Turn, AllocError> {
         let Some(next) = bound.checked_add(1) else {
             return Ok(Turn::GaveUp);
@@ -118,6 +118,10 @@ impl<'a> Search<'a> {
         let conflict = self
             .engine
             .add_clause(literals, Origin::Split { node, bound })?;
+        let side = if bound < 0 { high } else { low };
+        if conflict.is_none() && self.engine.solver.trail.value(side).is_none() {
+            self.engine.decide(side)?;
+        }
         self.after(conflict)
     }
 }

@@ -1,20 +1,13 @@
 //! Where all columns are whole: a counterexample, or what the numbers of operations break.
 
 use crate::candidate::Candidate;
+use crate::grounding::{Key, number_of};
 use crate::modelling::Tabled;
 use crate::refining::Comparison;
 use crate::searching::{Search, Turn};
 use df_form::{Op, Pair};
 use std::alloc::AllocError;
 use std::collections::BTreeMap;
-
-/// The numbers of an operation's parts, and of characters the labels.
-#[derive(Clone, Copy, PartialEq, Eq, PartialOrd, Ord)]
-struct Key {
-    op: u8,
-    first: i128,
-    second: i128,
-}
 
 impl<'a> Search<'a> {
     /// Has a counterexample, or learns of operations. The levels after this one only looked for numbers.
@@ -26,12 +19,20 @@ impl<'a> Search<'a> {
         if !self.engine.has_classes {
             return Ok(Turn::GaveUp);
         }
+        if self.engine.has_unseen_operations() {
+            self.engine.cancel(0)?;
+            return Ok(Turn::On);
+        }
         let cost = self.engine.terms.len().saturating_mul(4);
         self.engine.spend(cost);
         if let Some(pair) = Candidate::of(&self.engine).unequal_operations()? {
             if self.equate(level, pair)? {
                 return Ok(Turn::On);
             }
+        }
+        let signs = self.comparisons_of_signs()?;
+        if !signs.is_empty() {
+            return self.refine(&signs);
         }
         let substitutions = self.substitutions()?;
         if !substitutions.is_empty() {
@@ -51,6 +52,7 @@ impl<'a> Search<'a> {
         let mut is_new = false;
         for pair in pairs {
             if self.may_multiply(*pair) {
+                self.products = self.products.saturating_sub(1);
                 if !is_new {
                     self.engine.cancel(0)?;
                     is_new = true;
@@ -113,19 +115,9 @@ impl<'a> Search<'a> {
     }
 }
 
-/// The operation by a number.
-fn number_of(op: Op) -> Option<u8> {
-    match op {
-        Op::Times => Some(0),
-        Op::Div => Some(1),
-        Op::Mod => Some(2),
-        Op::Chr => Some(3),
-        _ => None,
-    }
-}
-
 impl<'a> Candidate<'a> {
-    fn key(&self, node: usize) -> Option<Key> {
+    /// An operation of the engine's, and the numbers of its parts.
+    pub fn key(&self, node: usize) -> Option<Key> {
         let op = number_of(self.terms.op(node)?)?;
         let first = self.theory.value(self.terms.part(node, 0)?)?;
         let second = match self.terms.part(node, 1) {

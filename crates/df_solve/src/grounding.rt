@@ -1,9 +1,44 @@
 //! The nodes of a ground set among the engine's terms, and their numbers and labels.
 
 use crate::candidate::Candidate;
+use crate::codes::{Codes, is_code};
 use df_form::{Nodes, Op};
 use df_theory::Made;
 use std::alloc::AllocError;
+use std::collections::BTreeMap;
+
+/// An operation, and the numbers of its parts.
+#[derive(Clone, Copy, PartialEq, Eq, PartialOrd, Ord)]
+pub(crate) struct Key {
+    pub op: u8,
+    pub first: i128,
+    pub second: i128,
+}
+
+/// An operation on numbers by a number of its own.
+pub(crate) fn number_of(op: Op) -> Option<u8> {
+    match op {
+        Op::Times => Some(0),
+        Op::Div => Some(1),
+        Op::Mod => Some(2),
+        Op::Chr => Some(3),
+        _ => None,
+    }
+}
+
+/// What nodes are, one after another: equal operations on equal parts are so too.
+#[derive(Drop)]
+pub(crate) struct Grounding {
+    /// By node; 0 for what is no number.
+    pub numbers: Vec<i128>,
+    /// By node.
+    pub labels: Vec<usize>,
+    /// Products, quotients and remainders by their parts.
+    results: BTreeMap<Key, i128>,
+    /// The labels of characters by the numbers of which they are made.
+    characters: BTreeMap<i128, usize>,
+    codes: Codes,
+}
 
 /// The term that is like the node of a number, if there is one.
 pub(crate) fn term_at(terms: &[Option<usize>], number: usize) -> Option<usize> {
@@ -72,37 +107,164 @@ impl<'a> Candidate<'a> {
         Ok(terms)
     }
 
-    /// The numbers of these nodes: the engine's own, and else what their parts give.
-    pub fn numbers_of(
+    /// The operations that the engine knows, and no nodes yet.
+    fn operations(&self) -> Result<Grounding, AllocError> {
+        let mut grounding = Grounding {
+            numbers: Vec::new(self.alloc),
+            labels: Vec::new(self.alloc),
+            results: BTreeMap::new(self.alloc),
+            characters: BTreeMap::new(self.alloc),
+            codes: Codes::new(self.alloc),
+        };
+        for place in 0..self.instances.len() {
+            if let Some(node) = self.instances.operation(place) {
+                self.enter(&mut grounding, node)?;
+            }
+        }
+        Ok(grounding)
+    }
+
+    /// Enters what the engine knows of an operation.
+    fn enter(&self, grounding: &mut Grounding, node: usize) -> Result<(), AllocError> {
+        let part = self.terms.part(node, 0).unwrap_or(0);
+        match self.terms.op(node) {
+            Some(Op::Code) => match self.theory.value(node) {
+                Some(code) => grounding.codes.offer(self.label(part), code),
+                None => Ok(()),
+            },
+            Some(Op::Chr) => match self.theory.value(part) {
+                Some(number) => grounding.enter_character(number, self.label(node)),
+                None => Ok(()),
+            },
+            _ => match (self.key(node), self.theory.value(node)) {
+                (Some(key), Some(number)) => grounding.enter_result(key, number),
+                _ => Ok(()),
+            },
+        }
+    }
+
+    /// The number of the term that is like a node, where the engine knows one.
+    fn known_number(&self, term: Option<usize>) -> Option<i128> {
+        self.theory.value(term?)
+    }
+
+    /// The class of the term that is like a node, where the engine knows one.
+    fn known_label(&self, term: Option<usize>) -> Option<usize> {
+        let term = term?;
+        if self.graph.knows(term) {
+            Some(self.label(term))
+        } else {
+            None
+        }
+    }
+
+    /// The numbers and the labels of these nodes: the engine's own, else those of an operation on equal parts, and
+    /// else what their parts give.
+    pub fn grounded(
         &self,
         nodes: &Nodes,
         terms: &[Option<usize>],
-    ) -> Result<Vec<i128>, AllocError> {
-        let mut numbers: Vec<i128> = Vec::new(self.alloc);
+    ) -> Result<Grounding, AllocError> {
+        let mut grounding = self.operations()?;
         for number in 0..nodes.len() {
-            let found = match term_at(terms, number) {
-                Some(term) => self.theory.value(term),
-                None => None,
-            };
-            let value = match found {
+            let term = term_at(terms, number);
+            let value = match self.known_number(term) {
                 Some(value) => value,
-                None => computed(nodes, &numbers, number),
+                None => grounding.number_of_next(nodes)?,
             };
-            numbers.push(value)?;
-        }
-        Ok(numbers)
-    }
-
-    /// The labels of these nodes: those of the terms like them, and else one of their own.
-    pub fn labels_of(&self, terms: &[Option<usize>]) -> Result<Vec<usize>, AllocError> {
-        let mut labels = Vec::new(self.alloc);
-        for (number, term) in terms.iter().enumerate() {
-            let label = match *term {
-                Some(term) => self.label(term),
+            let own = match term {
+                Some(term) => term,
                 None => self.terms.len().saturating_add(number),
             };
-            labels.push(label)?;
+            let label = match self.known_label(term) {
+                Some(label) => label,
+                None => grounding.label_of_next(nodes, own)?,
+            };
+            grounding.numbers.push(value)?;
+            grounding.labels.push(label)?;
         }
-        Ok(labels)
+        Ok(grounding)
+    }
+}
+
+impl Grounding {
+    fn enter_result(&mut self, key: Key, number: i128) -> Result<(), AllocError> {
+        if !self.results.contains_key(&key) {
+            self.results.insert(key, number)?;
+        }
+        Ok(())
+    }
+
+    fn enter_character(&mut self, number: i128, label: usize) -> Result<(), AllocError> {
+        if !self.characters.contains_key(&number) {
+            self.characters.insert(number, label)?;
+        }
+        if is_code(number) {
+            self.codes.offer(label, number)?;
+        }
+        Ok(())
+    }
+
+    /// The operation of the next node and the numbers of its parts, where it is one on two numbers.
+    fn next_key(&self, nodes: &Nodes) -> Option<Key> {
+        let node = nodes.get(self.numbers.len())?;
+        match (node.op, node.parts.as_slice()) {
+            (Op::Times | Op::Div | Op::Mod, [first, second]) => Some(Key {
+                op: number_of(node.op)?,
+                first: self.numbers.get(*first).copied()?,
+                second: self.numbers.get(*second).copied()?,
+            }),
+            _ => None,
+        }
+    }
+
+    /// The label of the character of which the next node is the code.
+    fn next_character(&self, nodes: &Nodes) -> Option<usize> {
+        let node = nodes.get(self.numbers.len())?;
+        match (node.op, node.parts.as_slice()) {
+            (Op::Code, [part]) => self.labels.get(*part).copied(),
+            _ => None,
+        }
+    }
+
+    /// The number of the next node.
+    fn number_of_next(&mut self, nodes: &Nodes) -> Result<i128, AllocError> {
+        if let Some(label) = self.next_character(nodes) {
+            return self.codes.code(label);
+        }
+        let number = computed(nodes, &self.numbers, self.numbers.len());
+        let Some(key) = self.next_key(nodes) else {
+            return Ok(number);
+        };
+        if let Some(known) = self.results.get(&key) {
+            return Ok(*known);
+        }
+        self.results.insert(key, number)?;
+        Ok(number)
+    }
+
+    /// The number of which the next node is the character.
+    fn next_code(&self, nodes: &Nodes) -> Option<i128> {
+        let node = nodes.get(self.numbers.len())?;
+        match (node.op, node.parts.as_slice()) {
+            (Op::Chr, [part]) => self.numbers.get(*part).copied(),
+            _ => None,
+        }
+    }
+
+    /// The label of the next node; this one, where it is like no other node.
+    fn label_of_next(&mut self, nodes: &Nodes, own: usize) -> Result<usize, AllocError> {
+        let Some(number) = self.next_code(nodes) else {
+            return Ok(own);
+        };
+        if let Some(label) = self.characters.get(&number) {
+            return Ok(*label);
+        }
+        let label = match self.codes.label(number) {
+            Some(label) if is_code(number) => label,
+            _ => own,
+        };
+        self.enter_character(number, label)?;
+        Ok(label)
     }
 }

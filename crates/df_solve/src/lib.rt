@@ -5,6 +5,7 @@
 #![tactic(auto)]
 
 mod candidate;
+mod codes;
 mod completing;
 mod concluding;
 mod grounding;
@@ -12,7 +13,8 @@ mod modelling;
 mod probing;
 mod proposing;
 mod refining;
+mod sampling;
 mod searching;
 
 pub use df_theory::Index;
-pub use proposing::{Proposal, propose};
+pub use proposing::{Counted, Proposal, propose, propose_counted};

@@ -2,17 +2,20 @@
 //! operations have the numbers that it gave them.
 
 use crate::candidate::Candidate;
+use crate::codes::{Codes, is_code};
 use crate::grounding::term_at;
 use df_axiom::Written;
 use df_clause::Ground;
 use df_form::{Lit, Nodes, Op, Pair, Sequent, Sort};
-use df_kern::Known;
 use df_model::{Tabulation, Valuation, tabulate, valuation};
+use df_rules::Known;
 use df_table::Table;
 use df_theory::Column;
 use df_trig::{TrigFault, instances};
 use std::alloc::{AllocError, Global};
-use std::collections::{BTreeMap, BTreeSet};
+
+/// The code of what is made of no code.
+const OTHER: i128 = 68;
 
 /// What the engine has found, as a table.
 #[derive(Drop)]
@@ -42,40 +45,29 @@ fn ground_of(alloc: Global, sequent: &Sequent, rounds: u32) -> Result<Option<Gro
     }
 }
 
-/// The characters' codes: by the labels of classes.
-#[derive(Drop)]
-struct Codes {
-    of_labels: BTreeMap<usize, i128>,
-    used: BTreeSet<i128>,
-}
-
-impl Codes {
-    fn set(&mut self, label: usize, code: i128) -> Result<(), AllocError> {
-        self.of_labels.insert(label, code)?;
-        self.used.insert(code)?;
-        Ok(())
+/// The table of these free terms, where all operations are what their parts make them, if it is a counterexample. It
+/// is of the nodes of instances, too, unless these are too many.
+pub(crate) fn counterexample_of(
+    alloc: Global,
+    sequent: &Sequent,
+    rounds: u32,
+    numbers: &[i128],
+    known: &Known,
+) -> Result<Option<Table>, AllocError> {
+    let world = sequent.world;
+    let own = match valuation(alloc, world, &sequent.nodes, numbers, known)? {
+        Valuation::Table(table) => table,
+        Valuation::Wide => return Ok(None),
+    };
+    if !is_counterexample(sequent, &own) {
+        return Ok(None);
     }
-
-    /// A code that no class has.
-    fn unused(&self) -> i128 {
-        let mut code = 127i128;
-        for _ in 0..127 {
-            if !self.used.contains(&code) {
-                return code;
-            }
-            code = code.saturating_sub(1);
-        }
-        0
-    }
-
-    /// The code of a class, which gets one that is not used if it has none.
-    fn code(&mut self, label: usize) -> Result<i128, AllocError> {
-        if let Some(code) = self.of_labels.get(&label) {
-            return Ok(*code);
-        }
-        let code = self.unused();
-        self.set(label, code)?;
-        Ok(code)
+    let Some(ground) = ground_of(alloc, sequent, rounds)? else {
+        return Ok(Some(own));
+    };
+    match valuation(alloc, world, &ground.nodes, numbers, known)? {
+        Valuation::Table(table) => Ok(Some(table)),
+        Valuation::Wide => Ok(None),
     }
 }
 
@@ -85,22 +77,26 @@ impl<'a> Candidate<'a> {
         self.graph.labels().get(node).copied().unwrap_or(node)
     }
 
-    /// The codes of characters by what operations on them are.
+    /// The codes of characters by what operations on them are. What is made of no code is `D`, whatever the engine
+    /// has as its code.
     fn codes(&self) -> Result<Codes, AllocError> {
-        let mut codes = Codes {
-            of_labels: BTreeMap::new(self.alloc),
-            used: BTreeSet::new(self.alloc),
-        };
+        let mut codes = Codes::new(self.alloc);
         for place in 0..self.instances.len() {
             let node = self.instances.operation(place).unwrap_or(0);
             let part = self.terms.part(node, 0).unwrap_or(0);
-            let found = match self.terms.op(node) {
-                Some(Op::Code) => (self.label(part), self.theory.value(node)),
-                Some(Op::Chr) => (self.label(node), self.theory.value(part)),
-                _ => continue,
-            };
-            if let (label, Some(code)) = found {
-                codes.set(label, code)?;
+            match self.terms.op(node) {
+                Some(Op::Code) => {
+                    if let Some(code) = self.theory.value(node) {
+                        codes.offer(self.label(part), code)?;
+                    }
+                }
+                Some(Op::Chr) => {
+                    if let Some(number) = self.theory.value(part) {
+                        let code = if is_code(number) { number } else { OTHER };
+                        codes.set(self.label(node), code)?;
+                    }
+                }
+                _ => {}
             }
         }
         Ok(codes)
@@ -172,26 +168,12 @@ impl<'a> Candidate<'a> {
         Ok(known)
     }
 
-    /// The table where all operations are what their parts make them, if it is a counterexample. It is of
-    /// the nodes of instances, too, unless these are too many.
+    /// The table of the engine's free terms, if it is a counterexample.
     pub fn counterexample(&self, sequent: &Sequent) -> Result<Option<Table>, AllocError> {
         let numbers = self.numbers_and_codes(sequent)?;
         let known = self.known()?;
-        let world = sequent.world;
-        let own = match valuation(self.alloc, world, &sequent.nodes, &numbers, &known)? {
-            Valuation::Table(table) => table,
-            Valuation::Wide => return Ok(None),
-        };
-        if !is_counterexample(sequent, &own) {
-            return Ok(None);
-        }
-        let Some(ground) = ground_of(self.alloc, sequent, self.instances.rounds)? else {
-            return Ok(Some(own));
-        };
-        match valuation(self.alloc, world, &ground.nodes, &numbers, &known)? {
-            Valuation::Table(table) => Ok(Some(table)),
-            Valuation::Wide => Ok(None),
-        }
+        let rounds = self.instances.rounds;
+        counterexample_of(self.alloc, sequent, rounds, &numbers, &known)
     }
 
     /// The formulas of the sequent that have a value.
@@ -211,10 +193,15 @@ impl<'a> Candidate<'a> {
     fn table_of(&self, sequent: &Sequent, nodes: &Nodes) -> Result<Tabled, AllocError> {
         let own = sequent.nodes.len();
         let terms = self.terms_like(nodes, own)?;
-        let numbers = self.numbers_of(nodes, &terms)?;
-        let labels = self.labels_of(&terms)?;
+        let grounding = self.grounded(nodes, &terms)?;
         let facts = self.valued_in(own)?;
-        match tabulate(self.alloc, nodes, &numbers, &labels, &facts)? {
+        match tabulate(
+            self.alloc,
+            nodes,
+            &grounding.numbers,
+            &grounding.labels,
+            &facts,
+        )? {
             Tabulation::Table(table) if is_counterexample(sequent, &table) => {
                 Ok(Tabled::Table(table))
             }

@@ -1,5 +1,6 @@
 //! What the engine proposes.
 
+use crate::sampling::sampled;
 use crate::searching::{Search, Turn};
 use df_form::{Sequent, Step};
 use df_record::{Recorder, log_of};
@@ -15,6 +16,13 @@ pub enum Proposal {
     /// A table, which is to be a model of its ground set.
     Modelled(Table),
     GaveUp,
+}
+
+/// What the engine proposes, and how many conflicts came before.
+#[derive(Drop)]
+pub struct Counted {
+    pub proposal: Proposal,
+    pub conflicts: u64,
 }
 
 /// How much work each step of a budget is worth,
@@ -33,6 +41,18 @@ pub fn propose(
     steps: u64,
     rounds: u32,
 ) -> Result<Proposal, AllocError> {
+    let counted = propose_counted(alloc, index, sequent, steps, rounds)?;
+    Ok(counted.proposal)
+}
+
+/// The same, and how many conflicts there were.
+pub fn propose_counted(
+    alloc: Global,
+    index: &mut Index,
+    sequent: &Sequent,
+    steps: u64,
+    rounds: u32,
+) -> Result<Counted, AllocError> {
     index.meet(&sequent.nodes)?;
     let fuel = steps.saturating_mul(WORK).saturating_add(BASE);
     look(alloc, index, sequent, fuel, rounds)
@@ -45,7 +65,7 @@ fn look<'a>(
     sequent: &'a Sequent<'a>,
     fuel: u64,
     rounds: u32,
-) -> Result<Proposal, AllocError> {
+) -> Result<Counted, AllocError> {
     let mut search = Search::new(alloc, sequent, index, fuel, rounds);
     let mut turn = search.begin()?;
     for _ in 0..fuel {
@@ -54,15 +74,26 @@ fn look<'a>(
         }
         turn = search.turn()?;
     }
+    let conflicts = search.learned;
+    let proposal = outcome(&mut search, turn, rounds)?;
+    Ok(Counted {
+        proposal,
+        conflicts,
+    })
+}
+
+/// What a search that came to this proposes.
+fn outcome(search: &mut Search, turn: Turn, rounds: u32) -> Result<Proposal, AllocError> {
+    let alloc = search.engine.alloc;
     match turn {
         Turn::Refuted(clause) => {
             let engine = &search.engine;
-            let nodes = sequent.nodes.len();
+            let nodes = search.sequent.nodes.len();
             let recorder = Recorder::new(alloc, &engine.terms, &engine.variables, nodes);
             Ok(Proposal::Proved(log_of(recorder, &engine.solver.book, clause)?))
         }
         Turn::Complete => Ok(proposed(search.table.take())),
-        Turn::On | Turn::GaveUp => Ok(Proposal::GaveUp),
+        Turn::On | Turn::GaveUp => Ok(proposed(sampled(alloc, search.sequent, rounds)?)),
     }
 }
 

@@ -194,6 +194,15 @@ impl<'a> Candidate<'a> {
         })
     }
 
+    /// The comparison by which the product has the sign that its factors give it.
+    fn comparison_of_signs(&self, product: &Product) -> Option<Comparison> {
+        let straight = product.view(false)?;
+        match straight.with_number(0) {
+            Some(found) => Some(found),
+            None => product.view(true)?.with_number(0),
+        }
+    }
+
     fn comparison(&self, product: &Product, products: &[Product]) -> Option<Comparison> {
         for is_turned in [false, true] {
             let view = product.view(is_turned)?;
@@ -242,6 +251,21 @@ impl<'a> Candidate<'a> {
 }
 
 impl<'a> Search<'a> {
+    /// Comparisons that exclude the signs that products have.
+    pub fn comparisons_of_signs(&mut self) -> Result<Vec<Comparison>, AllocError> {
+        let products = Candidate::of(&self.engine).products()?;
+        let mut comparisons = Vec::new(self.engine.alloc);
+        for product in products.iter() {
+            if !product.is_right() {
+                let candidate = Candidate::of(&self.engine);
+                if let Some(comparison) = candidate.comparison_of_signs(product) {
+                    comparisons.push(comparison)?;
+                }
+            }
+        }
+        Ok(comparisons)
+    }
+
     /// Comparisons that exclude the numbers that products have.
     pub fn comparisons(&mut self) -> Result<Vec<Comparison>, AllocError> {
         let products = Candidate::of(&self.engine).products()?;
@@ -313,7 +337,7 @@ impl<'a> Search<'a> {
 
     /// Whether a product of two terms may be made.
     pub fn may_multiply(&self, pair: Pair) -> bool {
-        self.engine.instances.is_within(self.round_of_pair(pair))
+        self.products > 0 && self.engine.instances.is_within(self.round_of_pair(pair))
     }
 
     /// Has a product be known, of which a factor is equal to a factor of another.

@@ -9,6 +9,9 @@ use df_table::Table;
 use df_theory::{Index, Meaning};
 use std::alloc::{AllocError, Global};
 
+/// How many products may be made with sums in place of factors.
+const PRODUCTS: usize = 64;
+
 /// How many conflicts come before the first restart.
 const RESTART: u64 = 100;
 
@@ -29,6 +32,10 @@ pub(crate) struct Search<'a> {
     pub reach: Reach,
     /// Bounds are tried out while this much work is left to do.
     pub reserve: u64,
+    /// How many products may still be made with sums in place of factors.
+    pub products: usize,
+    /// How many conflicts there were.
+    pub learned: u64,
     restarts: u64,
     /// How many conflicts are left before the next restart.
     conflicts: u64,
@@ -78,6 +85,8 @@ impl<'a> Search<'a> {
             chunk: 4,
             reach: Reach::Clauses,
             reserve: 0,
+            products: PRODUCTS,
+            learned: 0,
             restarts: 1,
             conflicts: RESTART,
         }
@@ -100,6 +109,7 @@ impl<'a> Search<'a> {
     }
 
     pub fn learn(&mut self, conflict: usize) -> Result<Turn, AllocError> {
+        self.learned = self.learned.saturating_add(1);
         self.conflicts = self.conflicts.saturating_sub(1);
         match self.engine.learn(conflict)? {
             Lesson::Learned => Ok(Turn::On),

@@ -97,8 +97,15 @@ impl Forms {
         self.linear_of.contains_key(&node)
     }
 
-    /// A part of the node whose linear form is not known yet.
+    /// A node whose linear form is needed first, and is not known yet: a part, or at once what is left of the node
+    /// without all numbers that it adds.
     fn unknown_part(&self, terms: &Terms, node: usize) -> Option<usize> {
+        match terms.offset(node).base {
+            None => return None,
+            Some(base) if base == node => {}
+            Some(base) if self.is_known(base) => return None,
+            Some(base) => return Some(base),
+        }
         match terms.shape(node) {
             Shape::Sum(a, _) if !self.is_known(a) => Some(a),
             Shape::Sum(_, b) | Shape::Multiple(_, b) if !self.is_known(b) => Some(b),
@@ -124,9 +131,40 @@ impl Forms {
         Ok(self.is_known(node))
     }
 
-    /// Makes the linear form of a node from those of its parts. Whether it could.
+    /// The linear form of a node and a number more.
+    fn shifted(&self, base: usize, constant: i128) -> Result<Option<Linear>, AllocError> {
+        let Some(linear) = self.linear(base) else {
+            return Ok(None);
+        };
+        let Some(constant) = linear.constant.checked_add(constant) else {
+            return Ok(None);
+        };
+        Ok(Some(Linear {
+            entries: Vec::from_slice(self.alloc, linear.entries.as_slice())?,
+            constant,
+        }))
+    }
+
+    /// Makes the linear form of a node from those that it needs. Whether it could.
     fn define(&mut self, terms: &Terms, node: usize) -> Result<bool, AllocError> {
-        let linear = match terms.shape(node) {
+        let offset = terms.offset(node);
+        let linear = match offset.base {
+            None => Some(Linear {
+                entries: Vec::new(self.alloc),
+                constant: offset.constant,
+            }),
+            Some(base) if base != node => self.shifted(base, offset.constant)?,
+            Some(_) => self.of_parts(terms, node)?,
+        };
+        match linear {
+            Some(linear) => self.store(node, linear),
+            None => Ok(false),
+        }
+    }
+
+    /// The linear form of a node, from those of its parts.
+    fn of_parts(&mut self, terms: &Terms, node: usize) -> Result<Option<Linear>, AllocError> {
+        Ok(match terms.shape(node) {
             Shape::Number(number) => Some(Linear {
                 entries: Vec::new(self.alloc),
                 constant: number,
@@ -134,11 +172,7 @@ impl Forms {
             Shape::Sum(a, b) => self.weighted(1, a, 1, b)?,
             Shape::Multiple(factor, b) => self.weighted(factor, b, 0, b)?,
             _ => Some(self.unknown(node)?),
-        };
-        match linear {
-            Some(linear) => self.store(node, linear),
-            None => Ok(false),
-        }
+        })
     }
 
     fn store(&mut self, node: usize, linear: Linear) -> Result<bool, AllocError> {

@@ -1,7 +1,7 @@
 //! The nodes of a sequent, and those that clauses make.
 
 use df_form::{Op, Sequent, Sort, World};
-use df_index::{Index, Made};
+use df_index::{Index, Made, Offset};
 use df_lang::Ty;
 use std::alloc::{AllocError, Global};
 use std::collections::HashMap;
@@ -218,6 +218,17 @@ impl<'a> Terms<'a> {
     pub fn made(&self, node: usize) -> Option<Made> {
         let place = node.checked_sub(self.sequent.nodes.len())?;
         self.made.get(place).copied()
+    }
+
+    /// What a node is as the sum of another one and a number; itself, where a clause made it.
+    pub fn offset(&self, node: usize) -> Offset {
+        if node < self.sequent.nodes.len() {
+            return self.index.offset(node);
+        }
+        Offset {
+            base: Some(node),
+            constant: 0,
+        }
     }
 
     /// How many parts a node has.
