@@ -1,9 +1,6 @@
 -- An expression from its first operand: its term and conditions, and then what is made over them.
 use Rattle.df_nenc.proofs.Words.{◌≡◌, ℕ, List, [], ◌++◌, Option, sym, ap, ◌∙◌, subst, true, Expr, Node, Ty, Program, is_expr, Term, Sort, sort_of_type, Environment, Condition, term_of, conditions_under, tree_at, trees_in, path_in, Grows, IsTerm, Stands, IsPath, HasTerm, AreLocals, Gives, Encodes, IsOver, DeclaredCondition}
-use Rattle.df_nenc.proofs.Growing.{grows_not, path_same, locals_same, is_term}
-use Rattle.df_nenc.proofs.Adding.{gives_as, gives_then, gives_alone, gives_over}
-use Rattle.df_nenc.proofs.Parts.{Part, local_tree, env_sorted}
-use Rattle.df_nenc.proofs.Typed.{term_is}
+use Rattle.df_nenc.proofs.Lemmas.{grows_not, path_same, locals_same, is_term, gives_as, gives_then, gives_alone, gives_over, Part, local_tree, env_sorted, term_is}
 
 -- the whole, as it is seen
 pub over_seen : {nodes : List Node} {terms : List ℕ} {whole seen : Expr} → IsOver nodes terms whole → whole ≡ seen → IsOver nodes terms seen

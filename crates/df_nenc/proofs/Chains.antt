@@ -1,12 +1,6 @@
 -- Chains of comparisons: one more link, and the loop over the links.
 use Rattle.df_nenc.proofs.Words.{◌≡◌, ℕ, List, [], ◌∷◌, ◌++◌, Option, Some, refl, sym, ap, ◌∙◌, None, ◌<◌, ◌≤◌, ◌+◌, true, length, drop, get_or, AllByRecursion, Pos, Ty, Comparison, Expr, Links, link, expr_of, DeclaredLink, Node, Term, Truths, term, conjunction, sort_of_type, terms_of, Environment, Condition, term_of, comparisons_of, compared, narrowed_path, conditions_under, conditions_of_links, tree_at, trees_at, trees_in, path_in, Grows, IsFront, IsTerm, Stands, IsPath, may_compare, Encodes, Gives, further, AreLinksOver, DeclaredCondition, links_in}
-use Rattle.df_nenc.proofs.Growing.{tree_stays, path_same, grows_then, stays, grows_not, is_term, term_stays, locals_same, path_stays}
-use Rattle.df_nenc.proofs.Adding.{adds_as}
-use Rattle.df_nenc.proofs.Joining.{terms_with, with_next, trees_next, with_none, all_next}
-use Rattle.df_nenc.proofs.Reaching.{Reached, reached_next, reached_grown, reached_first, reached_last, front_not, front_then, adds_front}
-use Rattle.df_nenc.proofs.Typed.{compared_is}
-use Rattle.df_nenc.proofs.Parts.{Part}
-use Rattle.df_nenc.proofs.Siblings.{links_left, link_part, link_compares, links_stay, links_next, links_done}
+use Rattle.df_nenc.proofs.Lemmas.{tree_stays, path_same, grows_then, stays, grows_not, is_term, term_stays, locals_same, path_stays, adds_as, terms_with, with_next, trees_next, with_none, all_next, Reached, reached_next, reached_grown, reached_first, reached_last, front_not, front_then, adds_front, compared_is, Part, links_left, link_part, link_compares, links_next, links_done}
 
 module _ (tree : Term) (conditions : List Condition) (old now : List Node) (terms : List ℕ) (path last : Option ℕ) (env : Environment) (ty : Ty) (before after : List DeclaredCondition) (c : Comparison) (at : Pos) (e : Expr) (rest : Links) where
   pub chain_next : (n1 n2 next : List Node) (p : Option ℕ) (formulas : List ℕ) (left right f : ℕ) (between : List DeclaredCondition)
@@ -54,7 +48,7 @@ chain_starts {old = old} {before = before} all xs formulas same none over is_pat
 
 pub chain_operand : {old now next : List Node} {terms : List ℕ} {path on last : Option ℕ} {ty : Ty} {first left : ℕ} {formulas : List ℕ} {before after : List DeclaredCondition} {all : Links} (xs : List DeclaredLink) (i : ℕ) (x : DeclaredLink)
     → x ≡ get_or xs i x → i < length xs → Chaining old now terms path on last ty first left formulas before after all (links_in (drop i xs)) → Grows now next → Part (sort_of_type ty) next terms (expr_of x.operand)
-chain_operand xs i x is less s g = let rest = rw (links_next xs i x is less) at s in link_part _ _ _ _ _ _ _ (links_stay _ _ _ g _ _ rest.over)
+chain_operand xs i x is less s g = let rest = rw (links_next xs i x is less) at s in link_part _ _ _ g _ _ _ _ _ rest.over
 
 pub chain_compares : {old now : List Node} {terms : List ℕ} {path on last : Option ℕ} {ty : Ty} {first left : ℕ} {formulas : List ℕ} {before after : List DeclaredCondition} {all : Links} (xs : List DeclaredLink) (i : ℕ) (x : DeclaredLink)
     → x ≡ get_or xs i x → i < length xs → Chaining old now terms path on last ty first left formulas before after all (links_in (drop i xs)) → may_compare ty x.comparison ≡ true

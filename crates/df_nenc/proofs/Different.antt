@@ -37,22 +37,8 @@ sort_again sorts.Truth = refl
 sort_again sorts.Character = refl
 
 op_again : (op : Op) → op_back (op_of op) ≡ op
-op_again (ops.Number n) = refl
 op_again (ops.Free free) = let e = sort_again free.sort in λ i. ops.Free (record { number = free.number; sort = e i })
-op_again ops.Plus = refl
-op_again ops.Times = refl
-op_again ops.Div = refl
-op_again ops.Mod = refl
-op_again ops.Code = refl
-op_again ops.Chr = refl
-op_again (ops.Is ty) = refl
-op_again ops.Equal = refl
-op_again ops.AtMost = refl
-op_again ops.Not = refl
-op_again ops.And = refl
-op_again ops.Or = refl
-op_again ops.Implies = refl
-op_again ops.Iff = refl
+op_again op = refl
 
 abbrev list_of : Terms → List Term
 list_of no_term = []
@@ -82,8 +68,6 @@ record Apart (nodes : List Node) (k : ℕ) : Type 0 where
 
 same_numbers : (nodes : List Node) (k j : ℕ) → Apart nodes k → j ≤ length nodes → (ps qs : List ℕ) → list_all (λ part. nat_lt part k) ps ≡ true → list_all (λ part. nat_lt part j) qs ≡ true → map (tree_at nodes) ps ≡ map (tree_at nodes) qs → ps ≡ qs
 same_numbers nodes k j apart le [] [] all others e = refl
-same_numbers nodes k j apart le [] (q ∷ qs) all others e = cc
-same_numbers nodes k j apart le (p ∷ ps) [] all others e = cc
 same_numbers nodes k j apart le (p ∷ ps) (q ∷ qs) all others e =
     let here = and_parts (nat_lt p k) (list_all (λ part. nat_lt part k) ps) all in
     let there = and_parts (nat_lt q j) (list_all (λ part. nat_lt part j) qs) others in
@@ -92,6 +76,7 @@ same_numbers nodes k j apart le (p ∷ ps) (q ∷ qs) all others e =
     let head : p ≡ q = apart.by p q below (omega arith) (head_same (tree_at nodes p) (tree_at nodes q) (map (tree_at nodes) ps) (map (tree_at nodes) qs) e) in
     let rest : ps ≡ qs = same_numbers nodes k j apart le ps qs here.1 there.1 (tail_same (tree_at nodes p) (tree_at nodes q) (map (tree_at nodes) ps) (map (tree_at nodes) qs) e) in
     λ i. head i ∷ rest i
+same_numbers nodes k j apart le ps qs all others e = cc
 
 one_apart : (nodes : List Node) (m n : ℕ) → IsTable nodes → Apart nodes m → m < length nodes → n < length nodes → tree_at nodes m ≡ tree_at nodes n → m ≡ n
 one_apart nodes m n table apart at_m at_n e =

@@ -1,9 +1,6 @@
 -- Junctions, implications and equivalences: one more member, and what their loops have so far.
 use Rattle.df_nenc.proofs.Words.{◌≡◌, ℕ, List, [], ◌∷◌, ◌++◌, Option, Some, refl, sym, ap, ◌∙◌, AllByRecursion, Pos, JunctionKind, Expr, Members, member, Node, Term, Truths, iff, term, Environment, Condition, term_of, members_of, implication_of, equivalence_of, joined, goes_on, narrowed_path, conditions_under, conditions_of_junction, conditions_of_implication, conditions_of_members, tree_at, trees_at, trees_in, path_in, Grows, IsFront, IsTerm, Stands, IsPath, Encodes, implied_by, AreMembersOver, DeclaredCondition}
-use Rattle.df_nenc.proofs.Growing.{tree_stays, path_same, grows_then, stays}
-use Rattle.df_nenc.proofs.Adding.{adds_as}
-use Rattle.df_nenc.proofs.Joining.{terms_with, with_next, implied_next, trees_next}
-use Rattle.df_nenc.proofs.Reaching.{Reached, reached_next, reached_grown}
+use Rattle.df_nenc.proofs.Lemmas.{tree_stays, path_same, grows_then, stays, adds_as, terms_with, with_next, implied_next, trees_next, Reached, reached_next, reached_grown}
 
 module _ (tree : Term) (conditions : List Condition) (old now : List Node) (terms : List ℕ) (path : Option ℕ) (env : Environment) (before after : List DeclaredCondition) (at : Pos) (e : Expr) (rest : Members) where
   -- the member's operand, at a place whose formula is known

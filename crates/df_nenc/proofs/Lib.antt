@@ -1,4 +1,5 @@
 pub mod Words
+pub mod Lemmas
 pub mod Growing
 pub mod Different
 pub mod Sorts

@@ -1,7 +1,6 @@
 -- Parts of a well-typed expression are well typed, and their terms have the sorts that are asked for.
-use Rattle.df_nenc.proofs.Words.{◌≡◌, ℕ, zero, suc, Bool, true, false, ◌&&◌, List, [], ◌∷◌, slice_get, Option, None, Some, refl, ap, ◌∙◌, option_map_or, same_Some, Pos, Ty, JunctionKind, Expr, Local, Negate, Not, Sum, Product, Junction, Implies, Iff, Chain, As, Convert, Addends, Factors, Members, Links, Program, same_type, is_arithmetic, casts, converts, is_expr, are_addends, are_factors, are_members, are_links, Node, both, three, four, Sort, Numbers, Truths, Term, sort_of_type, term_of, integer_sort, arithmetic_integer, tree_at, trees_in, Grows, HasTerm, AreLocals, counts_as_number, IsOver, AreAddendsOver, AreFactorsOver, AreMembersOver, AreLinksOver}
+use Rattle.df_nenc.proofs.Words.{◌≡◌, ℕ, zero, suc, Bool, true, false, ◌&&◌, List, [], ◌∷◌, slice_get, Option, None, Some, refl, sym, ap, ◌∙◌, option_map_or, same_Some, Pos, Ty, Expr, Local, Negate, Not, Sum, Product, Chain, As, Convert, Addends, Factors, Members, Links, Program, same_type, is_arithmetic, casts, converts, is_expr, are_addends, are_factors, are_members, are_links, Node, both, three, four, Sort, Numbers, Truths, Term, sort_of_type, term_of, integer_sort, arithmetic_integer, tree_at, trees_in, Grows, HasTerm, AreLocals, counts_as_number, IsOver, AreAddendsOver, AreFactorsOver, AreMembersOver, AreLinksOver}
 use Rattle.df_lang.specs.declared.ty.Ty.TheVariants as types
-use Rattle.df_lang.specs.declared.expr.Arrow.{Arrow}
 use Rattle.df_nenc.proofs.Growing.{locals_stay}
 use Rattle.df_nenc.proofs.Typed.{Is, AreSorted, term_is}
 
@@ -69,29 +68,19 @@ module _ (nodes : List Node) (terms : List ℕ) where
       let is = four (same_type own h.ty) (is_arithmetic h.program h.ty) (is_expr h.program h.types h.ty first) (are_factors h.program h.types h.ty rest) h.typed in
       record { program = h.program; types = h.types; ty = h.ty; arithmetic = is.1; typed = is.3; locals = h.locals }
 
-  first_part : (p : Program) (locals : List Ty) (ty : Ty) (first : Expr) (rest : Members) → (same_type ty types.Bool && is_expr p locals types.Bool first && are_members p locals rest) ≡ true → AreLocals nodes locals terms → Part Truths nodes terms first
-  first_part p locals ty first rest typed all = part p locals types.Bool Truths nodes terms first (three (same_type ty types.Bool) (is_expr p locals types.Bool first) (are_members p locals rest) typed).1 refl all
+  -- a level of members: it is a truth, and so is each of them
+  abbrev IsLevel : Expr → Expr → Members → Type 0
+  IsLevel whole first rest = (p : Program) (locals : List Ty) (ty : Ty) → is_expr p locals ty whole ≡ (same_type ty types.Bool && is_expr p locals types.Bool first && are_members p locals rest)
 
-  rest_part : (p : Program) (locals : List Ty) (ty : Ty) (first : Expr) (rest : Members) → (same_type ty types.Bool && is_expr p locals types.Bool first && are_members p locals rest) ≡ true → AreLocals nodes locals terms → AreMembersOver nodes terms rest
-  rest_part p locals ty first rest typed all = record { program = p; types = locals; typed = (three (same_type ty types.Bool) (is_expr p locals types.Bool first) (are_members p locals rest) typed).2; locals = all }
+  pub level_first : (whole first : Expr) (rest : Members) → IsOver nodes terms whole → IsLevel whole first rest → Part Truths nodes terms first
+  level_first whole first rest h level =
+      let is = three (same_type h.ty types.Bool) (is_expr h.program h.types types.Bool first) (are_members h.program h.types rest) (sym (level h.program h.types h.ty) ∙ h.typed) in
+      part h.program h.types types.Bool Truths nodes terms first is.1 refl h.locals
 
-  pub junction_first : (j : JunctionKind) (first : Expr) (rest : Members) → IsOver nodes terms (Junction j first rest) → Part Truths nodes terms first
-  junction_first j first rest h = first_part h.program h.types h.ty first rest h.typed h.locals
-
-  pub junction_rest : (j : JunctionKind) (first : Expr) (rest : Members) → IsOver nodes terms (Junction j first rest) → AreMembersOver nodes terms rest
-  junction_rest j first rest h = rest_part h.program h.types h.ty first rest h.typed h.locals
-
-  pub implies_first : (arrow : Arrow) (first : Expr) (rest : Members) → IsOver nodes terms (Implies arrow first rest) → Part Truths nodes terms first
-  implies_first arrow first rest h = first_part h.program h.types h.ty first rest h.typed h.locals
-
-  pub implies_rest : (arrow : Arrow) (first : Expr) (rest : Members) → IsOver nodes terms (Implies arrow first rest) → AreMembersOver nodes terms rest
-  implies_rest arrow first rest h = rest_part h.program h.types h.ty first rest h.typed h.locals
-
-  pub iff_first : (first : Expr) (rest : Members) → IsOver nodes terms (Iff first rest) → Part Truths nodes terms first
-  iff_first first rest h = first_part h.program h.types h.ty first rest h.typed h.locals
-
-  pub iff_rest : (first : Expr) (rest : Members) → IsOver nodes terms (Iff first rest) → AreMembersOver nodes terms rest
-  iff_rest first rest h = rest_part h.program h.types h.ty first rest h.typed h.locals
+  pub level_rest : (whole first : Expr) (rest : Members) → IsOver nodes terms whole → IsLevel whole first rest → AreMembersOver nodes terms rest
+  level_rest whole first rest h level =
+      let is = three (same_type h.ty types.Bool) (is_expr h.program h.types types.Bool first) (are_members h.program h.types rest) (sym (level h.program h.types h.ty) ∙ h.typed) in
+      record { program = h.program; types = h.types; typed = is.2; locals = h.locals }
 
   pub chain_first : (own : Ty) (first : Expr) (rest : Links) → IsOver nodes terms (Chain own first rest) → Part (sort_of_type own) nodes terms first
   chain_first own first rest h =
@@ -112,15 +101,9 @@ module _ (nodes : List Node) (terms : List ℕ) where
   as_counts source target at e h = counts h.program source target (three (same_type target h.ty) (casts h.program source target) (is_expr h.program h.types source e) h.typed).1
     where
       counts : (p : Program) (source target : Ty) → casts p source target ≡ true → counts_as_number source ≡ true
-      counts p types.Char target c = refl
-      counts p types.Int target c = refl
-      counts p types.Nat target c = refl
-      counts p (types.Newtype id) target c = refl
       counts p types.Bool (types.Newtype id) c = cc
-      counts p types.Bool types.Int c = cc
-      counts p types.Bool types.Nat c = cc
-      counts p types.Bool types.Bool c = cc
-      counts p types.Bool types.Char c = cc
+      counts p types.Bool target c = cc
+      counts p source target c = refl
 
   pub convert_part : (source target : Ty) (at : Pos) (e : Expr) → IsOver nodes terms (Convert source target at e) → Part (sort_of_type source) nodes terms e
   convert_part source target at e h =

@@ -14,26 +14,8 @@ drop_next {X = X} xs i x is less = rw (add-one, drop-cons xs i x) (ap (λ (y : X
 compared_types : (p : Program) (ty : Ty) (c : Comparison) → compares p ty c ≡ true → may_compare ty c ≡ true
 compared_types p ty comparisons.Equal h = refl
 compared_types p ty comparisons.NotEqual h = refl
-compared_types p types.Char comparisons.Less h = refl
-compared_types p types.Char comparisons.AtMost h = refl
-compared_types p types.Char comparisons.Greater h = refl
-compared_types p types.Char comparisons.AtLeast h = refl
-compared_types p types.Int comparisons.Less h = refl
-compared_types p types.Int comparisons.AtMost h = refl
-compared_types p types.Int comparisons.Greater h = refl
-compared_types p types.Int comparisons.AtLeast h = refl
-compared_types p types.Nat comparisons.Less h = refl
-compared_types p types.Nat comparisons.AtMost h = refl
-compared_types p types.Nat comparisons.Greater h = refl
-compared_types p types.Nat comparisons.AtLeast h = refl
-compared_types p (types.Newtype id) comparisons.Less h = refl
-compared_types p (types.Newtype id) comparisons.AtMost h = refl
-compared_types p (types.Newtype id) comparisons.Greater h = refl
-compared_types p (types.Newtype id) comparisons.AtLeast h = refl
-compared_types p types.Bool comparisons.Less h = cc
-compared_types p types.Bool comparisons.AtMost h = cc
-compared_types p types.Bool comparisons.Greater h = cc
-compared_types p types.Bool comparisons.AtLeast h = cc
+compared_types p types.Bool c h = cc
+compared_types p ty c h = refl
 
 module _ (nodes : List Node) (terms : List ℕ) where
   pub addend_part : (o : AddendOperator) (at : Pos) (e : Expr) (rest : Addends) → AreAddendsOver nodes terms (addend o at e rest) → Part Numbers nodes terms e
@@ -46,20 +28,20 @@ module _ (nodes : List Node) (terms : List ℕ) where
       let is = both (is_expr h.program h.types h.ty e) (are_factors h.program h.types h.ty rest) h.typed in
       part h.program h.types h.ty Numbers nodes terms e is.0 (integer_sort h.program h.ty (arithmetic_integer h.program h.ty h.arithmetic)) h.locals
 
-  pub member_part : (at : Pos) (e : Expr) (rest : Members) → AreMembersOver nodes terms (member at e rest) → Part Truths nodes terms e
-  member_part at e rest h =
-      let is = both (is_expr h.program h.types types.Bool e) (are_members h.program h.types rest) h.typed in
-      part h.program h.types types.Bool Truths nodes terms e is.0 refl h.locals
-
-  pub link_part : (ty : Ty) (c : Comparison) (at : Pos) (e : Expr) (rest : Links) → AreLinksOver nodes terms ty (link c at e rest) → Part (sort_of_type ty) nodes terms e
-  link_part ty c at e rest h =
-      let is = three (compares h.program ty c) (is_expr h.program h.types ty e) (are_links h.program h.types ty rest) h.typed in
-      part h.program h.types ty (sort_of_type ty) nodes terms e is.1 refl h.locals
-
   pub link_compares : (ty : Ty) (c : Comparison) (at : Pos) (e : Expr) (rest : Links) → AreLinksOver nodes terms ty (link c at e rest) → may_compare ty c ≡ true
   link_compares ty c at e rest h = compared_types h.program ty c (three (compares h.program ty c) (is_expr h.program h.types ty e) (are_links h.program h.types ty rest) h.typed).0
 
 module _ (before now : List Node) (terms : List ℕ) (g : Grows before now) where
+  member_part : (at : Pos) (e : Expr) (rest : Members) → AreMembersOver before terms (member at e rest) → Part Truths now terms e
+  member_part at e rest h =
+      let is = both (is_expr h.program h.types types.Bool e) (are_members h.program h.types rest) h.typed in
+      part h.program h.types types.Bool Truths now terms e is.0 refl (locals_stay before now h.types terms g h.locals)
+
+  pub link_part : (ty : Ty) (c : Comparison) (at : Pos) (e : Expr) (rest : Links) → AreLinksOver before terms ty (link c at e rest) → Part (sort_of_type ty) now terms e
+  link_part ty c at e rest h =
+      let is = three (compares h.program ty c) (is_expr h.program h.types ty e) (are_links h.program h.types ty rest) h.typed in
+      part h.program h.types ty (sort_of_type ty) now terms e is.1 refl (locals_stay before now h.types terms g h.locals)
+
   pub addends_left : (o : AddendOperator) (at : Pos) (e : Expr) (rest : Addends) → AreAddendsOver before terms (addend o at e rest) → AreAddendsOver now terms rest
   addends_left o at e rest h = record { program = h.program; types = h.types; ty = h.ty; arithmetic = h.arithmetic; typed = (both (is_expr h.program h.types h.ty e) (are_addends h.program h.types h.ty rest) h.typed).1; locals = locals_stay before now h.types terms g h.locals }
 
@@ -72,38 +54,8 @@ module _ (before now : List Node) (terms : List ℕ) (g : Grows before now) wher
   pub links_left : (ty : Ty) (c : Comparison) (at : Pos) (e : Expr) (rest : Links) → AreLinksOver before terms ty (link c at e rest) → AreLinksOver now terms ty rest
   links_left ty c at e rest h = record { program = h.program; types = h.types; typed = (three (compares h.program ty c) (is_expr h.program h.types ty e) (are_links h.program h.types ty rest) h.typed).2; locals = locals_stay before now h.types terms g h.locals }
 
-  pub addends_stay : (rest : Addends) → AreAddendsOver before terms rest → AreAddendsOver now terms rest
-  addends_stay rest h = record { program = h.program; types = h.types; ty = h.ty; arithmetic = h.arithmetic; typed = h.typed; locals = locals_stay before now h.types terms g h.locals }
-
-  pub factors_stay : (rest : Factors) → AreFactorsOver before terms rest → AreFactorsOver now terms rest
-  factors_stay rest h = record { program = h.program; types = h.types; ty = h.ty; arithmetic = h.arithmetic; typed = h.typed; locals = locals_stay before now h.types terms g h.locals }
-
-  pub members_stay : (rest : Members) → AreMembersOver before terms rest → AreMembersOver now terms rest
-  members_stay rest h = record { program = h.program; types = h.types; typed = h.typed; locals = locals_stay before now h.types terms g h.locals }
-
-  pub links_stay : (ty : Ty) (rest : Links) → AreLinksOver before terms ty rest → AreLinksOver now terms ty rest
-  links_stay ty rest h = record { program = h.program; types = h.types; typed = h.typed; locals = locals_stay before now h.types terms g h.locals }
-
-abbrev pub seen_addend : DeclaredAddend → Addend
-seen_addend o = record { operator = o.operator; pos = o.pos; operand = expr_of o.operand }
-
-abbrev pub seen_factor : DeclaredFactor → Factor
-seen_factor o = record { operator = o.operator; pos = o.pos; operand = expr_of o.operand }
-
-abbrev pub seen_member : DeclaredMember → Member
-seen_member o = record { pos = o.pos; operand = expr_of o.operand }
-
 abbrev pub seen_link : DeclaredLink → Link
 seen_link o = record { comparison = o.comparison; pos = o.pos; operand = expr_of o.operand }
-
-pub addend_seen : (o : DeclaredAddend) → addend_of o ≡ seen_addend o
-addend_seen o = search (rules, the_lemmas)
-
-pub factor_seen : (o : DeclaredFactor) → factor_of o ≡ seen_factor o
-factor_seen o = search (rules, the_lemmas)
-
-pub member_seen : (o : DeclaredMember) → member_of o ≡ seen_member o
-member_seen o = search (rules, the_lemmas)
 
 pub link_seen : (o : DeclaredLink) → link_of o ≡ seen_link o
 link_seen o = search (rules, the_lemmas)
@@ -113,20 +65,27 @@ link_seen o = search (rules, the_lemmas)
 pub addends_next : (xs : List DeclaredAddend) (i : ℕ) (x : DeclaredAddend) → x ≡ get_or xs i x → i < length xs → addends_in (drop i xs) ≡ addend x.operator x.pos (expr_of x.operand) (addends_in (drop (i + 1) xs))
 unfolding addends_in
 addends_next xs i x is less =
-    let seen = addend_seen x in
+    let made : Addend = record { operator = x.operator; pos = x.pos; operand = expr_of x.operand } in
+    let seen : addend_of x ≡ made = search (rules, the_lemmas) in
     ap addends_in (drop_next xs i x is less) ∙ (λ k. addends_of (seen k ∷ map addend_of (drop (i + 1) xs)))
 
 pub factors_next : (xs : List DeclaredFactor) (i : ℕ) (x : DeclaredFactor) → x ≡ get_or xs i x → i < length xs → factors_in (drop i xs) ≡ factor x.operator x.pos (expr_of x.operand) (factors_in (drop (i + 1) xs))
 unfolding factors_in
 factors_next xs i x is less =
-    let seen = factor_seen x in
+    let made : Factor = record { operator = x.operator; pos = x.pos; operand = expr_of x.operand } in
+    let seen : factor_of x ≡ made = search (rules, the_lemmas) in
     ap factors_in (drop_next xs i x is less) ∙ (λ k. factors_of (seen k ∷ map factor_of (drop (i + 1) xs)))
 
 pub members_next : (xs : List DeclaredMember) (i : ℕ) (x : DeclaredMember) → x ≡ get_or xs i x → i < length xs → members_in (drop i xs) ≡ member x.pos (expr_of x.operand) (members_in (drop (i + 1) xs))
 unfolding members_in
 members_next xs i x is less =
-    let seen = member_seen x in
+    let made : Member = record { pos = x.pos; operand = expr_of x.operand } in
+    let seen : member_of x ≡ made = search (rules, the_lemmas) in
     ap members_in (drop_next xs i x is less) ∙ (λ k. members_of (seen k ∷ map member_of (drop (i + 1) xs)))
+
+-- the operand of the member there
+pub member_at : {now new : List Node} {terms : List ℕ} (xs : List DeclaredMember) (i : ℕ) (x : DeclaredMember) → x ≡ get_or xs i x → i < length xs → AreMembersOver now terms (members_in (drop i xs)) → Grows now new → Part Truths new terms (expr_of x.operand)
+member_at xs i x is less over g = let rest = rw (members_next xs i x is less) at over in member_part _ _ _ g _ _ _ rest
 
 pub links_next : (xs : List DeclaredLink) (i : ℕ) (x : DeclaredLink) → x ≡ get_or xs i x → i < length xs → links_in (drop i xs) ≡ link x.comparison x.pos (expr_of x.operand) (links_in (drop (i + 1) xs))
 unfolding links_in

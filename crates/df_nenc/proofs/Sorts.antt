@@ -11,22 +11,14 @@ use Rattle.df_nenc.proofs.Trees.{tree_sort}
 
 same : (a b : Sort) → sort_of a ≡ sort_of b → a ≡ b
 same sorts.Number sorts.Number e = refl
-same sorts.Number sorts.Truth e = cc
-same sorts.Number sorts.Character e = cc
-same sorts.Truth sorts.Number e = cc
 same sorts.Truth sorts.Truth e = refl
-same sorts.Truth sorts.Character e = cc
-same sorts.Character sorts.Number e = cc
-same sorts.Character sorts.Truth e = cc
 same sorts.Character sorts.Character e = refl
+same a b e = cc
 
 -- a type has the same sort in both
 pub type_sort : (ty : Ty) → sort_of (form.sort_of_type ty) ≡ sort_of_type ty
-type_sort (types.Newtype id) = refl
-type_sort types.Int = refl
-type_sort types.Nat = refl
 type_sort types.Bool = refl
-type_sort types.Char = refl
+type_sort ty = refl
 
 pub node_sort : (sort : Sort) (nodes : List Node) (n : ℕ) → IsTerm (sort_of sort) nodes n → sort_at nodes n ≡ sort
 node_sort sort nodes n t = same (sort_at nodes n) sort (tree_sort nodes n t.below ∙ t.sort_is)
@@ -65,22 +57,16 @@ no_numbers e = cc
 
 -- the types whose values are compared as numbers or characters
 pub no_truths_of : (ty : Ty) → ((x : ℕ) × (ty ≡ types.Newtype x)) ⊎ ((ty ≡ types.Int) ⊎ ((ty ≡ types.Nat) ⊎ (ty ≡ types.Char))) → sort_of_type ty ≡ Truths → ⊥
-no_truths_of (types.Newtype id) is e = cc
-no_truths_of types.Int is e = cc
-no_truths_of types.Nat is e = cc
-no_truths_of types.Char is e = cc
 no_truths_of types.Bool (inl n) e = let no : types.Bool ≡ types.Newtype n.0 = n.1 in cc
 no_truths_of types.Bool (inr (inl n)) e = cc
 no_truths_of types.Bool (inr (inr (inl n))) e = cc
 no_truths_of types.Bool (inr (inr (inr n))) e = cc
+no_truths_of ty is e = cc
 
 -- a number or a character is tested for its type
 is_tested_one : (ty : Ty) → counts_as_number ty ≡ true → is_tested ty (form.sort_of_type ty ∷ []) ≡ true
-is_tested_one (types.Newtype id) e = refl
-is_tested_one types.Int e = refl
-is_tested_one types.Nat e = refl
-is_tested_one types.Char e = refl
 is_tested_one types.Bool e = e
+is_tested_one ty e = refl
 
 -- that a value is of a type
 pub takes_typed : (ty : Ty) (nodes : List Node) (a : ℕ) → counts_as_number ty ≡ true → IsTerm (sort_of_type ty) nodes a → is_well_sorted nodes (record { op = ops.Is ty; parts = a ∷ [] }) ≡ true

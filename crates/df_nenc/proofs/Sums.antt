@@ -1,11 +1,6 @@
 -- Sums and products: one more member, and loops over the members.
 use Rattle.df_nenc.proofs.Words.{◌≡◌, ℕ, List, ◌++◌, Option, refl, sym, ap, ◌∙◌, ◌<◌, ◌≤◌, ◌+◌, length, drop, get_or, Pos, Ty, AddendOperator, FactorOperator, Expr, Addends, addend, Factors, factor, expr_of, DeclaredAddend, DeclaredFactor, Node, Term, Numbers, Environment, Condition, term_of, sum_of, product_of, summed, multiplied, under, in_range, conditions_under, conditions_of_addends, conditions_of_factors, tree_at, trees_in, path_in, IsTerm, IsPath, Gives, Encodes, conditions_of_factor, AreAddendsOver, AreFactorsOver, DeclaredCondition, Grows, IsFront, addends_in, factors_in}
-use Rattle.df_nenc.proofs.Growing.{tree_stays, grows_not, grows_then, is_term, locals_same, path_same, stands}
-use Rattle.df_nenc.proofs.Adding.{adds_as}
-use Rattle.df_nenc.proofs.Reaching.{Reached, reached_next, reached_first, reached_last, front_not, front_then, adds_front}
-use Rattle.df_nenc.proofs.Typed.{summed_is, multiplied_is}
-use Rattle.df_nenc.proofs.Siblings.{addends_left, factors_left, addend_part, factor_part, addends_next, factors_next, addends_done, factors_done}
-use Rattle.df_nenc.proofs.Parts.{Part}
+use Rattle.df_nenc.proofs.Lemmas.{tree_stays, grows_not, grows_then, is_term, locals_same, path_same, stands, adds_as, Reached, reached_next, reached_first, reached_last, front_not, front_then, adds_front, summed_is, multiplied_is, addends_left, factors_left, addend_part, factor_part, addends_next, factors_next, addends_done, factors_done, Part}
 
 -- the terms of locals and the path are those of the first table
 module _ (tree : Term) (conditions : List Condition) (old now middle next : List Node) (terms : List ℕ) (path : Option ℕ) (env : Environment) (on : Option Term) (ty : Ty) (before after between then : List DeclaredCondition)

@@ -65,21 +65,7 @@ tree_of nodes n one all e =
 
 op_sort : (op : Op) → sort_of (sorting.sort_of op) ≡ sort_of_op (op_of op)
 op_sort (ops.Number n) = refl
-op_sort (ops.Free free) = refl
-op_sort ops.Plus = refl
-op_sort ops.Times = refl
-op_sort ops.Div = refl
-op_sort ops.Mod = refl
-op_sort ops.Code = refl
-op_sort ops.Chr = refl
-op_sort (ops.Is ty) = refl
-op_sort ops.Equal = refl
-op_sort ops.AtMost = refl
-op_sort ops.Not = refl
-op_sort ops.And = refl
-op_sort ops.Or = refl
-op_sort ops.Implies = refl
-op_sort ops.Iff = refl
+op_sort op = refl
 
 -- a node has the sort of its tree
 pub tree_sort : (nodes : List Node) (n : ℕ) → n < length nodes → sort_of (sorting.sort_at nodes n) ≡ sort_of_term (tree_at nodes n)

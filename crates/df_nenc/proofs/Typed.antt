@@ -1,11 +1,12 @@
 -- The term of a well-typed expression has the sort of its type.
-use Rattle.df_nenc.proofs.Words.{◌≡◌, ℕ, nat_lt, Bool, true, false, ◌&&◌, List, slice_get, Option, None, Some, refl, sym, ap, ◌∙◌, option_map_or, Ty, AddendOperator, FactorOperator, JunctionKind, Comparison, Expr, Number, Truth, Character, Local, Negate, Not, Sum, Product, Junction, Implies, Iff, Chain, As, Convert, Addends, no_addend, addend, Factors, no_factor, factor, Members, no_member, member, Links, no_link, link, Program, same_type, is_integer, is_arithmetic, casts, converts, is_expr, are_addends, are_factors, are_members, are_links, both, three, four, Sort, Numbers, Truths, Term, term, conjunction, truth_term, sort_of_type, Environment, term_of, sum_of, product_of, members_of, implication_of, equivalence_of, comparisons_of, summed, multiplied, number_in, value_in, compared, joined, goes_on, integer_sort, arithmetic_integer, converted_sort, sort_of_term, counts_as_number}
+use Rattle.df_nenc.proofs.Words.{◌≡◌, ℕ, nat_lt, Bool, true, false, List, slice_get, Option, None, Some, refl, sym, ap, ◌∙◌, option_map_or, Ty, AddendOperator, FactorOperator, JunctionKind, Comparison, Expr, Number, Truth, Character, Local, Negate, Not, Sum, Product, Junction, Implies, Iff, Chain, As, Convert, Addends, no_addend, addend, Factors, no_factor, factor, Members, no_member, member, Links, no_link, link, Program, same_type, is_integer, is_arithmetic, casts, converts, is_expr, are_addends, are_factors, are_members, are_links, both, three, four, Sort, Numbers, Truths, Term, term, conjunction, truth_term, sort_of_type, Environment, term_of, sum_of, product_of, members_of, implication_of, equivalence_of, comparisons_of, summed, multiplied, number_in, value_in, compared, joined, goes_on, integer_sort, arithmetic_integer, converted_sort, sort_of_term, counts_as_number}
 use Rattle.df_lang.specs.declared.ty.Ty.TheVariants as types
 use Rattle.df_lang.specs.declared.expr.AddendOperator.TheVariants as addends
 use Rattle.df_lang.specs.declared.expr.FactorOperator.TheVariants as factors
 use Rattle.df_lang.specs.declared.expr.Junction.TheVariants as junctions
 use Rattle.df_lang.specs.declared.expr.Comparison.TheVariants as comparisons
 use Rattle.df_meaning.proofs.Types.{same_type_equal}
+use Rattle.std.proofs.lemmas.Bool.{true≢false, and_right}
 
 -- the term is of the sort
 abbrev pub Is : Sort → Term → Type 0
@@ -17,15 +18,8 @@ truth_is false = refl
 
 pub compared_is : (ty : Ty) (c : Comparison) (a b : Term) → Is Truths (compared ty c a b)
 compared_is types.Bool comparisons.Equal a b = refl
-compared_is types.Char comparisons.Equal a b = refl
-compared_is types.Int comparisons.Equal a b = refl
-compared_is types.Nat comparisons.Equal a b = refl
-compared_is (types.Newtype id) comparisons.Equal a b = refl
-compared_is ty comparisons.NotEqual a b = refl
-compared_is ty comparisons.Less a b = refl
-compared_is ty comparisons.AtMost a b = refl
-compared_is ty comparisons.Greater a b = refl
-compared_is ty comparisons.AtLeast a b = refl
+compared_is ty comparisons.Equal a b = refl
+compared_is ty c a b = refl
 
 pub summed_is : (o : AddendOperator) (a b : Term) → Is Numbers (summed o a b)
 summed_is addends.Plus a b = refl
@@ -33,8 +27,7 @@ summed_is addends.Minus a b = refl
 
 pub multiplied_is : (o : FactorOperator) (a b : Term) → Is Numbers (multiplied o a b)
 multiplied_is factors.Times a b = refl
-multiplied_is factors.Divide a b = refl
-multiplied_is factors.Modulo a b = refl
+multiplied_is o a b = refl
 
 sum_is : (env : Environment) (a : Term) (rest : Addends) → Is Numbers a → Is Numbers (sum_of env a rest)
 sum_is env a no_addend h = h
@@ -54,9 +47,8 @@ equivalence_is env a (member at operand rest) h = equivalence_is env _ rest refl
 
 junction_is : (j : JunctionKind) (env : Environment) (a : Term) (rest : Members) → Is Truths a → Is Truths (joined j (term a (members_of env rest)))
 junction_is junctions.And env a no_member h = h
-junction_is junctions.And env a (member at operand rest) h = refl
 junction_is junctions.Or env a no_member h = h
-junction_is junctions.Or env a (member at operand rest) h = refl
+junction_is j env a rest h = refl
 
 chain_is : (env : Environment) (ty : Ty) (a : Term) (rest : Links) → Is Truths (conjunction (comparisons_of env ty a rest))
 chain_is env ty a no_link = refl
@@ -66,29 +58,15 @@ chain_is env ty a (link c at operand (link d next other rest)) = refl
 -- the number that a value counts as is one
 pub number_is : (p : Program) (source target : Ty) (a : Term) → casts p source target ≡ true → Is (sort_of_type source) a → Is Numbers (number_in source a)
 number_is p types.Char target a c h = refl
-number_is p types.Int target a c h = h
-number_is p types.Nat target a c h = h
-number_is p (types.Newtype id) target a c h = h
 number_is p types.Bool (types.Newtype id) a c h = cc
-number_is p types.Bool types.Int a c h = cc
-number_is p types.Bool types.Nat a c h = cc
-number_is p types.Bool types.Bool a c h = cc
-number_is p types.Bool types.Char a c h = cc
+number_is p types.Bool target a c h = cc
+number_is p source target a c h = h
 
 cast_is : (p : Program) (source target : Ty) (a : Term) → casts p source target ≡ true → Is Numbers a → Is (sort_of_type target) (value_in target a)
 cast_is p source types.Char a c h = refl
-cast_is p source types.Int a c h = h
-cast_is p source types.Nat a c h = h
-cast_is p source (types.Newtype id) a c h = h
-cast_is p types.Char types.Bool a c h = cc
-cast_is p types.Int types.Bool a c h = cc
-cast_is p types.Nat types.Bool a c h = cc
-cast_is p types.Bool types.Bool a c h = cc
-cast_is p (types.Newtype id) types.Bool a c h = absurd (no_cast (is_integer p (types.Newtype id)) c)
-  where
-    no_cast : (b : Bool) → (b && false) ≡ true → ⊥
-    no_cast true e = cc
-    no_cast false e = cc
+cast_is p (types.Newtype id) types.Bool a c h = absurd (true≢false (sym c ∙ and_right (is_integer p (types.Newtype id)) false refl))
+cast_is p source types.Bool a c h = cc
+cast_is p source target a c h = h
 
 -- the term of each local has the sort of its type
 pub record AreSorted (locals : List Ty) (env : Environment) : Type 0 where

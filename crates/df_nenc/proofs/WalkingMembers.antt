@@ -1,13 +1,7 @@
 -- Loops over the members of a junction, an implication or an equivalence, by what is left of the list.
 use Rattle.df_nenc.proofs.Words.{◌≡◌, ◌<◌, ◌≤◌, ◌+◌, ℕ, List, [], ◌∷◌, ◌++◌, length, drop, get_or, Option, Some, refl, sym, ap, JunctionKind, Members, expr_of, DeclaredMember, Node, Truths, term, terms_of, iff, members_of, implication_of, equivalence_of, joined, goes_on, narrowed_path, conditions_of_junction, conditions_of_implication, conditions_of_members, tree_at, trees_at, trees_in, path_in, Grows, IsTerm, Stands, IsPath, Gives, Encodes, AreMembersOver, implied_by, members_in, DeclaredCondition}
-use Rattle.df_nenc.proofs.Growing.{grows_then, is_term, path_same, grows_not, term_stays, locals_same, stands}
-use Rattle.df_nenc.proofs.Results.{narrowed_term}
-use Rattle.df_nenc.proofs.Typed.{goes_on_is}
-use Rattle.df_nenc.proofs.Siblings.{member_part, members_stay, members_next, members_done, members_left}
-use Rattle.df_nenc.proofs.Parts.{Part}
+use Rattle.df_nenc.proofs.Lemmas.{grows_then, is_term, path_same, grows_not, term_stays, locals_same, stands, narrowed_term, goes_on_is, member_at, members_next, members_done, members_left, with_none, all_next, reached_grown, reached_first, reached_last, front_not, front_then, adds_front}
 use Rattle.df_nenc.proofs.Junctions.{Junctioning, Implying, Equating, junction_next, implication_next, equivalence_next}
-use Rattle.df_nenc.proofs.Joining.{with_none, all_next}
-use Rattle.df_nenc.proofs.Reaching.{reached_grown, reached_first, reached_last, front_not, front_then, adds_front}
 
 -- ---- a junction
 
@@ -23,10 +17,6 @@ guard_term j now n1 last guard is s = is_term n1 Truths (goes_on j (tree_at now 
 pub next_path : (now n1 : List Node) (on : Option ℕ) (formula p : ℕ) → IsTerm Truths now formula → Stands n1 (narrowed_path (path_in now on) (tree_at now formula)) p → IsPath n1 (Some p)
 next_path now n1 on formula p is s = is_term n1 Truths (narrowed_path (path_in now on) (tree_at now formula)) p s (narrowed_term (path_in now on) (tree_at now formula) is.sort_is)
 
-pub junction_operand : {old now next : List Node} {terms : List ℕ} {path on : Option ℕ} {j : JunctionKind} {first last : ℕ} {formulas : List ℕ} {before after : List DeclaredCondition} {all : Members} (xs : List DeclaredMember) (i : ℕ) (x : DeclaredMember)
-    → x ≡ get_or xs i x → i < length xs → Junctioning old now terms path on j first last formulas before after all (members_in (drop i xs)) → Grows now next → Part Truths next terms (expr_of x.operand)
-junction_operand xs i x is less s g = let rest = rw (members_next xs i x is less) at s in member_part _ _ _ _ _ (members_stay _ _ _ g _ rest.over)
-
 pub junction_steps : {old now n1 n2 next : List Node} {terms : List ℕ} {path on : Option ℕ} {j : JunctionKind} {first last guard p operand : ℕ} {formulas more : List ℕ} {before after between : List DeclaredCondition} {all : Members} (xs : List DeclaredMember) (i : ℕ) (x : DeclaredMember)
     → x ≡ get_or xs i x → i < length xs → AreMembersOver old terms all → Junctioning old now terms path on j first last formulas before after all (members_in (drop i xs))
     → Grows now n1 → Stands n1 (goes_on j (tree_at now last)) guard → Grows n1 n2 → Stands n2 (narrowed_path (path_in n1 on) (tree_at n1 guard)) p
@@ -36,7 +26,7 @@ junction_steps {old = old} {now = now} {n1 = n1} {n2 = n2} {next = next} {terms 
     let here = rw (members_next xs i x is less) at s in
     let to2 = grows_then now n1 n2 g1 g2 in
     let to = grows_then now n2 next to2 h.grows in
-    let part = junction_operand xs i x is less s to2 in
+    let part = member_at xs i x is less s.over to2 in
     let is_path = next_path n1 n2 on guard p (guard_term j now n1 last guard s.last_is guard_is) path_is in
     let operand_is = is_term next Truths _ operand h.stands part.is in
     rw pushed (record {
@@ -64,10 +54,6 @@ pub implication_starts : {old : List Node} {terms : List ℕ} {path : Option ℕ
 implication_starts {old = old} {before = before} all xs premises same none over is_path is =
     rw (same, none) (record { grows = grows_not old; begins = front_not before; over = over; last_is = is; premises_are = tt; path_is = is_path; reached = reached_first _ _ old before })
 
-pub implication_operand : {old now next : List Node} {terms : List ℕ} {path on : Option ℕ} {first last : ℕ} {premises : List ℕ} {before after : List DeclaredCondition} {all : Members} (xs : List DeclaredMember) (i : ℕ) (x : DeclaredMember)
-    → x ≡ get_or xs i x → i < length xs → Implying old now terms path on first last premises before after all (members_in (drop i xs)) → Grows now next → Part Truths next terms (expr_of x.operand)
-implication_operand xs i x is less s g = let rest = rw (members_next xs i x is less) at s in member_part _ _ _ _ _ (members_stay _ _ _ g _ rest.over)
-
 pub implication_steps : {old now n1 next : List Node} {terms : List ℕ} {path on : Option ℕ} {first last p operand : ℕ} {premises more : List ℕ} {before after between : List DeclaredCondition} {all : Members} (xs : List DeclaredMember) (i : ℕ) (x : DeclaredMember)
     → x ≡ get_or xs i x → i < length xs → AreMembersOver old terms all → Implying old now terms path on first last premises before after all (members_in (drop i xs))
     → Grows now n1 → Stands n1 (narrowed_path (path_in now on) (tree_at now last)) p
@@ -76,7 +62,7 @@ pub implication_steps : {old now n1 next : List Node} {terms : List ℕ} {path o
 implication_steps {old = old} {now = now} {n1 = n1} {next = next} {terms = terms} {on = on} {last = last} {p = p} {operand = operand} {premises = premises} {before = before} {after = after} {between = between} xs i x is less over s g path_is h pushed =
     let here = rw (members_next xs i x is less) at s in
     let to = grows_then now n1 next g h.grows in
-    let part = implication_operand xs i x is less s g in
+    let part = member_at xs i x is less s.over g in
     rw pushed (record {
       grows = grows_then old now next s.grows to;
       begins = front_then before after between s.begins (adds_front next _ after between h.adds);
@@ -100,10 +86,6 @@ implication_stops {old = old} {now = now} {new = new} {last = last} {n = n} {pre
 pub equivalence_starts : {old : List Node} {terms : List ℕ} {path : Option ℕ} {first : ℕ} {before : List DeclaredCondition} (all xs : List DeclaredMember)
     → xs ≡ all → AreMembersOver old terms (members_in all) → IsTerm Truths old first → Equating old old terms path first first before before (members_in all) (members_in xs)
 equivalence_starts {old = old} {before = before} all xs same over is = rw same (record { grows = grows_not old; begins = front_not before; over = over; formula_is = is; reached = reached_first _ _ old before })
-
-pub equivalence_operand : {old now : List Node} {terms : List ℕ} {path : Option ℕ} {first formula : ℕ} {before after : List DeclaredCondition} {all : Members} (xs : List DeclaredMember) (i : ℕ) (x : DeclaredMember)
-    → x ≡ get_or xs i x → i < length xs → Equating old now terms path first formula before after all (members_in (drop i xs)) → Part Truths now terms (expr_of x.operand)
-equivalence_operand xs i x is less s = let rest = rw (members_next xs i x is less) at s in member_part _ _ _ _ _ rest.over
 
 pub equivalence_steps : {old now n1 next : List Node} {terms : List ℕ} {path : Option ℕ} {first formula operand n : ℕ} {before after between : List DeclaredCondition} {all : Members} (xs : List DeclaredMember) (i : ℕ) (x : DeclaredMember)
     → x ≡ get_or xs i x → i < length xs → AreMembersOver old terms all → IsPath old path → Equating old now terms path first formula before after all (members_in (drop i xs))

@@ -9,7 +9,7 @@ ghost use Rattle.df_nenc.specs.Tree.{sort_of_term, tree_at};
 ghost use Rattle.df_nenc.specs.Growing.{Grows};
 ghost use Rattle.df_nenc.specs.Standing.{IsTerm, Stands, counts_as_number, may_compare};
 
-use crate::making::two;
+use crate::making::{of_numbers, two};
 use crate::operation::{iff, negation, number_in};
 use df_form::{Formula, Nodes, Op, Term};
 use df_lang::{Comparison, Ty};
@@ -63,7 +63,7 @@ pub fn at_most(
     ensures stands { IfOk result (λ n. Stands nodes.new (trees.at_most (tree_at nodes.old left) (tree_at nodes.old right)) n) }
     ensures grows { Grows nodes.old nodes.new }
 {
-    two(alloc, nodes, Op::AtMost, left, right)
+    of_numbers(alloc, nodes, Op::AtMost, left, right)
 }
 
 /// That the first number is less than the second.

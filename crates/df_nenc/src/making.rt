@@ -2,13 +2,14 @@
 #![tactic(auto, using(crate::proofs::Growing::grows_not, crate::proofs::Growing::grows_then, crate::proofs::Growing::term_stays, crate::proofs::Growing::path_stays))]
 
 ghost use Rattle.std.specs.Prelude.{◌≡◌, true, [], ◌∷◌, map, IfOk};
-ghost use Rattle.df_form.specs.Sorting.{is_well_sorted};
+ghost use Rattle.df_form.specs.Sorting.{is_well_sorted, takes};
+ghost use Rattle.df_form.specs.declared.node.Sort.TheVariants as sorts;
 ghost use Rattle.df_nterm.specs.Term as trees;
 ghost use Rattle.df_nenc.specs.Tree.{op_of, tree_at};
 ghost use Rattle.df_nenc.specs.Growing.{Grows};
-ghost use Rattle.df_nenc.specs.Standing.{Stands};
+ghost use Rattle.df_nenc.specs.Standing.{IsTerm, Stands};
 
-use df_form::{Node, Nodes, Op, Term};
+use df_form::{Formula, Node, Nodes, Op, Term};
 use std::alloc::{AllocError, Global};
 
 /// The number of the operation on these parts, which is added last where it does not stand yet.
@@ -58,4 +59,38 @@ pub(crate) fn two(
     ensures grows { Grows nodes.old nodes.new }
 {
     make(alloc, nodes, op, &[left, right])
+}
+
+/// The number of an operation on two numbers.
+pub(crate) fn of_numbers(
+    alloc: Global,
+    nodes: &mut Nodes,
+    op: Op,
+    left: Term,
+    right: Term,
+) -> Result<Term, AllocError>
+    requires takes { takes op (sorts.Number ∷ sorts.Number ∷ []) ≡ true }
+    requires left { IsTerm trees.Numbers nodes.old left }
+    requires right { IsTerm trees.Numbers nodes.old right }
+    ensures stands { IfOk result (λ n. Stands nodes.new (trees.of_two (op_of op) (tree_at nodes.old left) (tree_at nodes.old right)) n) }
+    ensures grows { Grows nodes.old nodes.new }
+{
+    two(alloc, nodes, op, left, right)
+}
+
+/// The number of an operation on two formulas.
+pub(crate) fn of_formulas(
+    alloc: Global,
+    nodes: &mut Nodes,
+    op: Op,
+    left: Formula,
+    right: Formula,
+) -> Result<Formula, AllocError>
+    requires takes { takes op (sorts.Truth ∷ sorts.Truth ∷ []) ≡ true }
+    requires left { IsTerm trees.Truths nodes.old left }
+    requires right { IsTerm trees.Truths nodes.old right }
+    ensures stands { IfOk result (λ n. Stands nodes.new (trees.of_two (op_of op) (tree_at nodes.old left) (tree_at nodes.old right)) n) }
+    ensures grows { Grows nodes.old nodes.new }
+{
+    two(alloc, nodes, op, left, right)
 }

@@ -10,7 +10,7 @@ ghost use Rattle.df_nenc.specs.Tree.{sort_of, tree_at, trees_at};
 ghost use Rattle.df_nenc.specs.Growing.{Grows};
 ghost use Rattle.df_nenc.specs.Standing.{IsTerm, Stands, counts_as_number};
 
-use crate::making::{make, none, one, two};
+use crate::making::{make, none, of_formulas, of_numbers, one, two};
 use df_form::{Formula, Free, Nodes, Op, Sort, Term};
 use df_lang::{AddendOperator, FactorOperator, Junction, Ty};
 use std::alloc::{AllocError, Global};
@@ -99,9 +99,9 @@ pub(crate) fn multiplied(
     ensures grows { Grows nodes.old nodes.new }
 {
     match operator {
-        FactorOperator::Times => two(alloc, nodes, Op::Times, left, right),
-        FactorOperator::Divide => two(alloc, nodes, Op::Div, left, right),
-        FactorOperator::Modulo => two(alloc, nodes, Op::Mod, left, right),
+        FactorOperator::Times => of_numbers(alloc, nodes, Op::Times, left, right),
+        FactorOperator::Divide => of_numbers(alloc, nodes, Op::Div, left, right),
+        FactorOperator::Modulo => of_numbers(alloc, nodes, Op::Mod, left, right),
     }
 }
 
@@ -159,7 +159,7 @@ pub fn both(
     ensures stands { IfOk result (λ n. Stands nodes.new (trees.both (tree_at nodes.old left) (tree_at nodes.old right)) n) }
     ensures grows { Grows nodes.old nodes.new }
 {
-    two(alloc, nodes, Op::And, left, right)
+    of_formulas(alloc, nodes, Op::And, left, right)
 }
 
 /// That one of two formulas is true.
@@ -174,7 +174,7 @@ pub fn either(
     ensures stands { IfOk result (λ n. Stands nodes.new (trees.either (tree_at nodes.old left) (tree_at nodes.old right)) n) }
     ensures grows { Grows nodes.old nodes.new }
 {
-    two(alloc, nodes, Op::Or, left, right)
+    of_formulas(alloc, nodes, Op::Or, left, right)
 }
 
 /// That the second formula is true where the first one is.
@@ -189,7 +189,7 @@ pub fn implies(
     ensures stands { IfOk result (λ n. Stands nodes.new (trees.implies (tree_at nodes.old left) (tree_at nodes.old right)) n) }
     ensures grows { Grows nodes.old nodes.new }
 {
-    two(alloc, nodes, Op::Implies, left, right)
+    of_formulas(alloc, nodes, Op::Implies, left, right)
 }
 
 /// That two formulas have the same truth.
@@ -204,7 +204,7 @@ pub fn iff(
     ensures stands { IfOk result (λ n. Stands nodes.new (trees.iff (tree_at nodes.old left) (tree_at nodes.old right)) n) }
     ensures grows { Grows nodes.old nodes.new }
 {
-    two(alloc, nodes, Op::Iff, left, right)
+    of_formulas(alloc, nodes, Op::Iff, left, right)
 }
 
 /// That all of these formulas are true: of one it is that formula.

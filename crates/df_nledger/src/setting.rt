@@ -1,11 +1,12 @@
 //! What is passed over.
 
-ghost use Rattle.std.specs.Prelude.{◌≡◌, ◌==◌};
+ghost use Rattle.std.specs.Prelude.{◌≡◌};
 ghost use Rattle.std.specs.Option.{option_map};
 ghost use Rattle.df_lang.specs.DeclView.{method_of};
 ghost use Rattle.df_lang.specs.Groups.{group_at};
 ghost use Rattle.df_lang.specs.Program.{method_at};
 ghost use Rattle.df_lang.specs.View.{program_of};
+ghost use Rattle.df_npass.specs.Statements.{grouped_with};
 
 use df_lang::{Decl, DeclId, Method, Program};
 use std::alloc::Global;
@@ -32,9 +33,9 @@ impl<'a> Setting<'a> {
 
     /// Whether a declaration is in the group of the one that is passed over.
     pub(crate) fn is_inside(&self, number: DeclId) -> bool
-        ensures { result ≡ (group_at self.now.groups.now self.now.number == group_at self.now.groups.now number) }
+        ensures { result ≡ grouped_with (program_of self.now.program.now) self.now.groups.now self.now.number number }
     {
-        self.group(self.number) == self.group(number)
+        number < self.program.decls.len() && self.group(self.number) == self.group(number)
     }
 
     fn group(&self, number: DeclId) -> usize

@@ -1,36 +1,23 @@
 -- Sides of a comparison, and fronts of measures.
 use Rattle.df_nmeas.proofs.Words.{◌≡◌, List, [], ◌∷◌, refl, ℕ, zero, suc, true, ◌<◌, ◌≤◌, length, drop, slice_index_or, sym, ap, ◌∙◌, arith, drop_all, length-map, Term, Sort, Numbers, Truths, Characters, sort_of_type, truth_term, Measured, below_of, same_of, are_below, sort_of_term, tree_at, Grows, Stands, term_stays, tree_stays, Node, one_measured, measured_in, IsMember, AreMembers, pairs_before, in_front_of, DeclaredMeasured}
-use Rattle.df_nmeas.proofs.Pairs.{pairs_left, pairs_first, pairs_second}
+use Rattle.df_nmeas.proofs.Pairs.{pairs_left, pairs_fit}
 
 pub below_is : (s t : Sort) (a b : Term) → sort_of_term (below_of s t a b) ≡ Truths
 below_is Numbers Numbers a b = refl
-below_is Numbers Truths a b = refl
-below_is Numbers Characters a b = refl
-below_is Truths Numbers a b = refl
 below_is Truths Truths a b = refl
-below_is Truths Characters a b = refl
-below_is Characters Numbers a b = refl
-below_is Characters Truths a b = refl
 below_is Characters Characters a b = refl
+below_is s t a b = refl
 
 pub same_is : (s t : Sort) (a b : Term) → sort_of_term (same_of s t a b) ≡ Truths
 same_is Numbers Numbers a b = refl
-same_is Numbers Truths a b = refl
-same_is Numbers Characters a b = refl
-same_is Truths Numbers a b = refl
 same_is Truths Truths a b = refl
-same_is Truths Characters a b = refl
-same_is Characters Numbers a b = refl
-same_is Characters Truths a b = refl
 same_is Characters Characters a b = refl
+same_is s t a b = refl
 
 pub measures_below_is : (now before : List Measured) → sort_of_term (are_below now before) ≡ Truths
-measures_below_is [] before = refl
-measures_below_is (a ∷ more) [] = refl
 measures_below_is (a ∷ []) (b ∷ []) = below_is (sort_of_type a.ty) (sort_of_type b.ty) a.value b.value
-measures_below_is (a ∷ []) (b ∷ c ∷ others) = refl
 measures_below_is (a ∷ d ∷ more) (b ∷ []) = refl
-measures_below_is (a ∷ d ∷ more) (b ∷ c ∷ others) = refl
+measures_below_is now before = refl
 
 pub member_at : (nodes : List Node) (ms : List DeclaredMeasured) (p : ℕ) (d : DeclaredMeasured) → p < length ms → AreMembers nodes ms → IsMember nodes (slice_index_or ms p d)
 member_at nodes [] p d lt all = absurd (omega arith)
@@ -40,13 +27,11 @@ member_at nodes (m ∷ ms) (suc k) d lt all = member_at nodes ms k d (omega arit
 front_at : (nodes : List Node) (now before : List DeclaredMeasured) (p : ℕ) (d : DeclaredMeasured) → p < pairs_before now before
     → are_below (drop p (measured_in nodes now)) (drop p (measured_in nodes before))
     ≡ in_front_of (one_measured nodes (slice_index_or now p d)) (one_measured nodes (slice_index_or before p d)) (are_below (drop (suc p) (measured_in nodes now)) (drop (suc p) (measured_in nodes before)))
-front_at nodes [] before p d lt = absurd (omega arith)
-front_at nodes (x ∷ xs) [] p d lt = absurd (omega arith)
-front_at nodes (x ∷ []) (y ∷ []) zero d lt = absurd (omega arith)
 front_at nodes (x ∷ []) (y ∷ z ∷ ys) zero d lt = refl
 front_at nodes (x ∷ w ∷ xs) (y ∷ []) zero d lt = refl
 front_at nodes (x ∷ w ∷ xs) (y ∷ z ∷ ys) zero d lt = refl
 front_at nodes (x ∷ xs) (y ∷ ys) (suc k) d lt = front_at nodes xs ys k d (pairs_left x y xs ys k lt)
+front_at nodes now before p d lt = absurd (omega arith)
 
 module _ (now before : List DeclaredMeasured) (d : DeclaredMeasured) (old middle new : List Node) where
   one_same : (ms : List DeclaredMeasured) (p : ℕ) → p < length ms → AreMembers old ms → Grows old middle → one_measured middle (slice_index_or ms p d) ≡ one_measured old (slice_index_or ms p d)
@@ -63,8 +48,8 @@ module _ (now before : List DeclaredMeasured) (d : DeclaredMeasured) (old middle
       → Stands new (in_front_of (one_measured middle (slice_index_or now p d)) (one_measured middle (slice_index_or before p d)) (tree_at middle formula)) n
       → tree_at new n ≡ are_below (drop p (measured_in old now)) (drop p (measured_in old before))
   front_goes place p formula n e le is_now is_before g same s =
-      let first = pairs_first now before in
-      let second = pairs_second now before in
+      let first = (pairs_fit now before).0 in
+      let second = (pairs_fit now before).1 in
       let one = one_same now p (omega arith) is_now g in
       let other = one_same before p (omega arith) is_before g in
       let later = same ∙ ap (λ k. are_below (drop k (measured_in old now)) (drop k (measured_in old before))) e in

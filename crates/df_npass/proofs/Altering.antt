@@ -1,33 +1,14 @@
 -- Which locals loops and branches change, and their types.
-use Rattle.std.proofs.Common.{◌≡◌, ℕ, zero, suc, ◌<◌, true, false, List, [], ◌∷◌, ◌++◌, slice_get, Some, refl, subst}
-use Rattle.std.specs.List.{list_all}
-use Rattle.std.specs.Option.{option_map_or}
-use Rattle.df_lang.specs.declared.ty.Ty.{Ty}
-use Rattle.df_lang.specs.Stmt.{Stmts, Branches, no_branch, branch}
-use Rattle.df_lang.specs.Program.{Program}
-use Rattle.df_lang.specs.Typing.{same_type, is_type}
-use Rattle.df_lang.specs.Assignment.{Assigned, Unreached, Reached, has_value}
-use Rattle.df_meaning.specs.Definite.{AreDeclared}
-use Rattle.df_meaning.specs.Modular.{Changed, changed_by_all, changed_by_branches}
-use Rattle.df_meaning.proofs.Cases.{both, joined}
-use Rattle.df_meaning.proofs.Changing.{are_there}
-use Rattle.df_npass.specs.Statements.{declared_by_all, changed_outside, changed_in_branches, changed_outside_if}
-use Rattle.df_npass.proofs.Coming.{IsReached}
-use Rattle.df_npass.proofs.Turning.{list_once}
+use Rattle.df_npass.proofs.Words.{◌≡◌, ℕ, zero, suc, ◌<◌, true, false, List, [], ◌∷◌, ◌++◌, slice_get, Some, refl, ◌∙◌, subst, list_all, option_map_or, Ty, Stmts, Branches, no_branch, branch, Program, same_type, is_type, Assigned, Unreached, Reached, has_value, AreDeclared, Changed, changed_by_all, changed_by_branches, both, joined, are_there, declared_by_all, changed_outside, changed_in_branches, changed_outside_if, list_all-append}
+use Rattle.df_npass.proofs.Lemmas.{list_once, IsReached}
 use Rattle.df_npass.proofs.Turns.{type_there}
+use Rattle.df_lemmas.proofs.Lists.{all_parts}
 
 there_split : (all : List Ty) (cs ds : List Changed) → are_there all (cs ++ ds) ≡ true → (are_there all cs ≡ true) × (are_there all ds ≡ true)
-there_split all [] ds h = (refl, h)
-there_split all (c ∷ cs) ds h =
-    let h = both (option_map_or (same_type c.ty) (slice_get all c.local) false) (are_there all (cs ++ ds)) h in
-    let rest = there_split all cs ds h.1 in
-    (joined (option_map_or (same_type c.ty) (slice_get all c.local) false) (are_there all cs) h.0 rest.0, rest.1)
+there_split all cs ds h = all_parts (λ (c : Changed). option_map_or (same_type c.ty) (slice_get all c.local) false) cs ds h
 
 there_join : (all : List Ty) (cs ds : List Changed) → are_there all cs ≡ true → are_there all ds ≡ true → are_there all (cs ++ ds) ≡ true
-there_join all [] ds h g = g
-there_join all (c ∷ cs) ds h g =
-    let h = both (option_map_or (same_type c.ty) (slice_get all c.local) false) (are_there all cs) h in
-    joined (option_map_or (same_type c.ty) (slice_get all c.local) false) (are_there all (cs ++ ds)) h.0 (there_join all cs ds h.1 g)
+there_join all cs ds h g = list_all-append (λ (c : Changed). option_map_or (same_type c.ty) (slice_get all c.local) false) cs ds ∙ joined (are_there all cs) (are_there all ds) h g
 
 pub outside_there : (all : List Ty) (body : Stmts) → are_there all (changed_by_all body) ≡ true → are_there all (changed_outside body) ≡ true
 outside_there all body h = list_once (λ (c : Changed). option_map_or (same_type c.ty) (slice_get all c.local) false) (declared_by_all body) (changed_by_all body) h

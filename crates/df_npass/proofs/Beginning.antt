@@ -1,48 +1,9 @@
 -- A method begins with its arguments; passing over the whole of it tells of its runs.
-use Rattle.std.proofs.Common.{◌≡◌, ℕ, zero, suc, pos, ◌<◌, ◌≤◌, ◌+◌, true, false, List, [], ◌∷◌, ◌++◌, map, length, slice_get, slice_index_or, Option, None, Some, refl, sym, ◌∙◌, subst, length-append, arith}
-use Rattle.std.proofs.lemmas.Bool.{ltb-true, lt-ltb}
-use Rattle.std.proofs.lemmas.List.{length-map}
-use Rattle.std.specs.Option.{option_map_or}
-use Rattle.df_lang.specs.declared.ty.Ty.{Ty}
-use Rattle.df_lang.specs.Stmt.{Measure}
-use Rattle.df_lang.specs.Program.{Param, Method, Program, types_of}
-use Rattle.df_lang.specs.Measures.{method_measure}
-use Rattle.df_lang.specs.Typing.{is_method, is_well_typed}
-use Rattle.df_lang.specs.Assignment.{at_entry, results_at, unassigned, unassigned_in, reads_of_clauses, reads_of_measures, Flowing, flow_all}
-use Rattle.df_meaning.specs.Value.{Value}
-use Rattle.df_meaning.specs.Outcome.{Outcome, after}
-use Rattle.df_meaning.specs.State.{State, store_with, begin}
-use Rattle.df_meaning.specs.Definite.{AreDeclared}
-use Rattle.df_meaning.specs.Execution.{check_all}
-use Rattle.df_meaning.specs.Whole.{end_of, run_body}
-use Rattle.df_meaning.specs.Modular.{measure_values, modular, modular_run, plain_meaning, Running}
+use Rattle.std.proofs.Common.{slice_index_or}
+use Rattle.df_npass.proofs.Words.{◌≡◌, ℕ, zero, suc, pos, ◌<◌, ◌≤◌, ◌+◌, true, false, List, [], ◌∷◌, ◌++◌, map, length, slice_get, Option, None, Some, refl, sym, ◌∙◌, subst, length-append, arith, ltb-true, lt-ltb, length-map, option_map_or, Ty, Measure, Param, Method, Program, types_of, method_measure, is_method, is_well_typed, at_entry, results_at, unassigned, unassigned_in, reads_of_clauses, reads_of_measures, Flowing, flow_all, Value, Outcome, after, State, store_with, begin, AreDeclared, check_all, end_of, run_body, measure_values, modular, modular_run, plain_meaning, Running, nothing_missing, all_carry, Within, before_all, within_front, first_locals, begun_assigned, program_of_modular, Sort, Numbers, Truths, Characters, Term, literal, sort_of_type, Interpretation, has_sort, Environment, Measured, measured, IsSorted, IsBelow, Said, Way, some_term, is_unset, any_values, assert_measure, pass_all, locals_of, unset, way_in, require_all, ended, setting_of, same_Some}
 use Rattle.df_meaning.specs.declared.kind.Kind.TheVariants as kinds
-use Rattle.df_meaning.proofs.Counting.{nothing_missing}
-use Rattle.df_meaning.proofs.Assigning.{all_carry}
-use Rattle.df_meaning.proofs.Stating.{Within, before_all, within_front}
-use Rattle.df_meaning.proofs.DefiniteRuns.{first_locals, begun_assigned}
-use Rattle.df_meaning.proofs.Modulars.{program_of_modular}
-use Rattle.df_nterm.specs.Term.{Sort, Numbers, Truths, Characters, Term, literal, sort_of_type}
-use Rattle.df_nterm.specs.Meaning.{Interpretation, has_sort}
 use Rattle.df_nterm.specs.Meaning as meanings
-use Rattle.df_nterm.specs.Expressions.{Environment}
-use Rattle.df_nterm.specs.Measuring.{Measured, measured}
-use Rattle.df_nterm.proofs.Sorted.{IsSorted}
-use Rattle.df_nterm.proofs.Below.{IsBelow}
-use Rattle.df_npass.specs.Rules.{Said, Way, some_term, is_unset}
-use Rattle.df_npass.specs.Statements.{any_values, assert_measure, pass_all}
-use Rattle.df_npass.specs.Methods.{locals_of, unset, way_in, require_all, ended, setting_of}
-use Rattle.df_npass.proofs.Playing.{some_equal, Mode, is_taking, Play}
-use Rattle.df_npass.proofs.Proper.{EnvBelow, measured_below}
-use Rattle.df_npass.proofs.Leading.{TermsBelow, any_giving}
-use Rattle.df_npass.proofs.Flowing.{all_flows}
-use Rattle.df_npass.proofs.Reading.{values_at, AreOf, with_handed, SortedAll, Sits, require_then, measures_then}
-use Rattle.df_npass.proofs.Arguments.{of_long}
-use Rattle.df_npass.proofs.Measures.{method_measure_typed}
-use Rattle.df_npass.proofs.Calling.{Contract, contract_of, first_read, measure_read}
-use Rattle.df_npass.proofs.Declaring.{types_after_all}
-use Rattle.df_npass.proofs.Nesting.{nesting_all}
-use Rattle.df_npass.proofs.Returning.{few, HasParameters}
+use Rattle.df_npass.proofs.Runs.{Mode, is_taking, Play, EnvBelow, measured_below, any_giving, over_below, all_flows, values_at, AreOf, with_handed, SortedAll, Sits, require_then, measures_then, method_measure_typed, all_declare, nesting_all, few, HasParameters, by_option, of_long, over_value, Contract, contract_of, first_read, measure_read}
 use Rattle.df_npass.proofs.Passing.{stmts_then}
 use Rattle.df_npass.proofs.Ending.{ended_onward}
 
@@ -63,39 +24,20 @@ unset_sorted i all k ty e =
     subst (λ (o : Option Ty). IsSorted ty (meanings.value i (option_map_or (λ (t : Ty). some_term (sort_of_type t)) o (literal (pos 0))))) (sym e) (some_sorted i (sort_of_type ty))
 
 unset_below : (n : ℕ) (all : List Ty) → EnvBelow n (unset all)
-unset_below n all k = by_type (slice_get all k)
-  where
-    by_type : (o : Option Ty) → IsBelow n (option_map_or (λ (t : Ty). some_term (sort_of_type t)) o (literal (pos 0)))
-    by_type None = refl
-    by_type (Some ty) = some_below n (sort_of_type ty)
-
-over_below : (n : ℕ) (terms : List Term) (env : Environment) → TermsBelow n terms → EnvBelow n env → (k : ℕ) → IsBelow n (slice_index_or terms k (env k))
-over_below n [] env below h k = h k
-over_below n (a ∷ terms) env below h zero = below.0
-over_below n (a ∷ terms) env below h (suc k) = over_below n terms (λ x. env (suc x)) below.1 (λ x. h (suc x)) k
+unset_below n all k = by_option (IsBelow n) (λ (t : Ty). some_term (sort_of_type t)) (slice_get all k) (literal (pos 0)) (λ e. refl) (λ ty e. some_below n (sort_of_type ty))
 
 over_sorted : (i : Interpretation) (tys : List Ty) (terms : List Term) (at : ℕ → Option Ty) (env : Environment) → AreOf i tys terms → ((k : ℕ) (ty : Ty) → slice_get tys k ≡ Some ty → at k ≡ Some ty)
     → ((k : ℕ) (ty : Ty) → at k ≡ Some ty → IsSorted ty (meanings.value i (env k))) → (k : ℕ) (ty : Ty) → at k ≡ Some ty → IsSorted ty (meanings.value i (slice_index_or terms k (env k)))
 over_sorted i [] [] at env of within h k ty e = h k ty e
-over_sorted i [] (a ∷ terms) at env of within h k ty e = absurd of
-over_sorted i (t ∷ tys) [] at env of within h k ty e = absurd of
-over_sorted i (t ∷ tys) (a ∷ terms) at env of within h zero ty e = subst (λ (x : Ty). IsSorted x (meanings.value i a)) (some_equal t ty (sym (within 0 t refl) ∙ e)) of.0.sorted
+over_sorted i (t ∷ tys) (a ∷ terms) at env of within h zero ty e = subst (λ (x : Ty). IsSorted x (meanings.value i a)) (same_Some t ty (sym (within 0 t refl) ∙ e)) of.0.sorted
 over_sorted i (t ∷ tys) (a ∷ terms) at env of within h (suc k) ty e = over_sorted i tys terms (λ x. at (suc x)) (λ x. env (suc x)) of.1 (λ x u f. within (suc x) u f) (λ x u f. h (suc x) u f) k ty e
-
-no_less : (k : ℕ) → k < 0 → ⊥
-no_less k less = omega (arith, less)
+over_sorted i tys terms at env of within h k ty e = absurd of
 
 over_set : (i : Interpretation) (tys : List Ty) (terms : List Term) (env : Environment) → AreOf i tys terms → (k : ℕ) → k < length tys → is_unset (slice_index_or terms k (env k)) ≡ false
-over_set i [] [] env of k less = absurd (no_less k less)
-over_set i [] (a ∷ terms) env of k less = absurd of
-over_set i (t ∷ tys) [] env of k less = absurd of
+over_set i [] [] env of k less = absurd (omega (arith, less))
 over_set i (t ∷ tys) (a ∷ terms) env of zero less = of.0.set
 over_set i (t ∷ tys) (a ∷ terms) env of (suc k) less = over_set i tys terms (λ x. env (suc x)) of.1 k (omega (arith, less))
-
-over_value : (i : Interpretation) (terms : List Term) (env : Environment) (k : ℕ) (v : Value) → slice_get (values_at i terms) k ≡ Some v → meanings.value i (slice_index_or terms k (env k)) ≡ v
-over_value i [] env k v e = cc
-over_value i (a ∷ terms) env zero v e = cc
-over_value i (a ∷ terms) env (suc k) v e = over_value i terms (λ x. env (suc x)) k v e
+over_set i tys terms env of k less = absurd of
 
 -- ---- the whole method
 
@@ -146,7 +88,7 @@ module _ (program : Program) (well : is_well_typed program ≡ true) (groups : L
   begun mode i text of = record {
     there = refl;
     sorted = λ k ty e. over_sorted i parameters terms (slice_get all) (unset all) of (λ x u f. within_parameters.at x u f) (unset_sorted i all) k ty e;
-    holds = λ k v has e. over_value i terms (unset all) k v e;
+    holds = (tt, λ k v has e. over_value i terms (unset all) k v e);
     set = λ k has. over_set i parameters terms (unset all) of k (let less = ltb-true k (few method) has in omega (arith, less, many_parameters));
     present = λ following. begun_assigned (values_at i terms) (store_with text []) (few method) (length-map terms (meanings.value i) ∙ (of_long i parameters terms of ∙ many_parameters));
   }
@@ -170,7 +112,7 @@ module _ (program : Program) (well : is_well_typed program ≡ true) (groups : L
       let params : HasParameters method before = (λ k less. lt-ltb k (few method) less) in
       let entry_below = measured_below n way.env env_is measures in
       let flows_body = all_flows (setting_of program groups number method) way method.body n env_is tt entry_below in
-      let all_types = types_after_all program method 0 method.body tys false contract.body contract.types in
+      let all_types = (all_declare program method 0 method.body tys false contract.body).typed contract.types in
       let carried = all_carry program method method.body tys false before contract.body declared in
       let run_on : List Value → State → Outcome State = (λ entered t. run_body (modular (record { program = program; groups = groups; number = number; entry = entered }) depth) method t) in
       require_then State mode i n program plain refl program_is parameters all within_parameters before way s sits env_is tt method.preconditions (assert_measure way measures ++ (flow.said ++ ended method flow))

@@ -1,61 +1,12 @@
 -- Calls go on from any results that meet what the callee ensures.
-use Rattle.std.proofs.Common.{◌≡◌, ℕ, ◌≤◌, ◌==◌, Bool, true, false, ◌&&◌, if◌then◌else◌, List, [], ◌∷◌, ◌++◌, map, length, Option, Some, refl, sym, ap, ◌∙◌, subst, append_assoc, arith}
-use Rattle.std.proofs.lemmas.List.{length-map}
-use Rattle.std.specs.List.{list_all}
-use Rattle.std.specs.Option.{option_map_or}
-use Rattle.df_base.specs.declared.pos.Pos.{Pos}
-use Rattle.df_lang.specs.declared.ty.Ty.{Ty}
-use Rattle.df_lang.specs.Stmt.{Call, Clause, Measure}
-use Rattle.df_lang.specs.Program.{Method, Program, method_at, types_of}
-use Rattle.df_lang.specs.Groups.{group_at}
-use Rattle.df_lang.specs.Measures.{method_measure}
-use Rattle.df_lang.specs.Typing.{is_type, is_expr, are_clauses, are_measures, are_stmts, is_method, is_well_typed}
-use Rattle.df_lang.specs.Assignment.{reads_of_clauses, reads_of_measures, unassigned}
-use Rattle.df_meaning.specs.declared.kind.Kind.{Kind}
+use Rattle.df_npass.proofs.Words.{◌≡◌, ℕ, ◌≤◌, ◌==◌, nat_lt, Bool, true, false, ◌&&◌, if◌then◌else◌, List, [], ◌∷◌, ◌++◌, map, length, slice_get, Option, Some, refl, sym, ap, ◌∙◌, subst, append_assoc, arith, lt-ltb, length-map, map-append, list_all, option_map_or, Pos, Ty, Call, Clause, Measure, Method, Program, method_at, as_method, types_of, group_at, method_measure, is_type, is_expr, are_clauses, are_measures, are_stmts, is_method, is_well_typed, reads_of_clauses, reads_of_measures, unassigned, Value, truth_of, Outcome, Gives, Wrong, Dismissed, after, Handed, State, store_with, begin, Returned, check_call, assume_each, or_dismissed, measure_values, check_below, handed_results, Running, plain_meaning, check_decrease, assume_returned, modular_call, both, four, place, clauses_read, method_measure_reads, first_locals, first_have, method_typed, Term, Interpretation, Measured, measured, are_below, AreMeasured, IsSorted, SameBelow, value_same, below_orders, Said, Way, over, assert, Setting, grouped_with, assert_clauses, assume_clauses, assert_measure, env_of, any_values, assert_decrease, pass_method_call, slice_get_within}
 use Rattle.df_meaning.specs.declared.kind.Kind.TheVariants as kinds
-use Rattle.df_meaning.specs.Value.{Value, truth_of}
-use Rattle.df_meaning.specs.Outcome.{Outcome, Gives, Wrong, TooDeep, NoChoice, Dismissed, after}
-use Rattle.df_meaning.specs.State.{Handed, State, store_with, begin}
-use Rattle.df_meaning.specs.Meaning.{Returned}
 use Rattle.df_meaning.specs.Order as order
-use Rattle.df_meaning.specs.Whole.{check_call}
-use Rattle.df_meaning.specs.Modular.{assume_all as assume_each, or_dismissed, measure_values, check_below, handed_results, Running, plain_meaning, check_decrease, assume_returned, modular_call}
-use Rattle.df_meaning.proofs.Cases.{both, four}
-use Rattle.df_meaning.proofs.Same.{after_same}
-use Rattle.df_meaning.proofs.Assigning.{place, clauses_read, method_measure_reads}
-use Rattle.df_meaning.proofs.DefiniteRuns.{first_locals, first_have}
-use Rattle.df_meaning.proofs.Wholes.{method_typed}
-use Rattle.df_nterm.specs.Term.{Term}
-use Rattle.df_nterm.specs.Meaning.{Interpretation, truth}
+use Rattle.df_lemmas.proofs.Options.{then_some}
 use Rattle.df_nterm.specs.Meaning as meanings
-use Rattle.df_nterm.specs.Measuring.{Measured, measured, are_below}
-use Rattle.df_nterm.specs.Laws.{AreMeasured}
-use Rattle.df_nterm.proofs.Sorted.{IsSorted}
-use Rattle.df_nterm.proofs.Below.{SameBelow, value_same}
-use Rattle.df_nterm.proofs.Ordering.{below_orders}
-use Rattle.df_npass.specs.Rules.{Said, Way, over, assert}
-use Rattle.df_npass.specs.Statements.{Setting, assert_clauses, assume_clauses, assert_measure, env_of, any_values, assert_decrease, pass_method_call}
-use Rattle.df_npass.proofs.Saying.{path_true}
-use Rattle.df_npass.proofs.Playing.{Mode, Moves, Play, play_as}
-use Rattle.df_npass.proofs.Proper.{PathBelow, EnvBelow, path_grows, MeasureBelow, measured_below, order_below}
-use Rattle.df_npass.proofs.Leading.{TermsBelow, terms_grow, terms_append, env_of_below, any_giving}
-use Rattle.df_npass.proofs.Reading.{values_at, AreOf, with_handed, Sits, checked_then, call_then, assume_then, measures_then}
-use Rattle.df_npass.proofs.Coming.{path_same}
+use Rattle.df_npass.proofs.Lemmas.{path_true, Mode, Moves, Play, play_as, PathBelow, EnvBelow, path_grows, MeasureBelow, measured_below, order_below, TermsBelow, terms_grow, terms_append, env_of_below, any_giving, values_at, AreOf, with_handed, Sits, checked_then, call_then, assume_then, measures_then, after_after, after_either, then_same, path_same, method_measure_typed}
 use Rattle.df_npass.proofs.Taking.{AllSorted, AreResults, returned, results_then}
-use Rattle.df_npass.proofs.Measures.{method_measure_typed}
-use Rattle.df_npass.proofs.Arguments.{of_moves, values_move, of_append, values_append, any_set, params_of, begun_sits, within_itself}
-
--- ---- outcomes
-
-pub after_after : {A B C : Type 0} (o : Outcome A) (f : A → Outcome B) (g : B → Outcome C) → after (after o f) g ≡ after o (λ a. after (f a) g)
-after_after (Gives a) f g = refl
-after_after (Wrong at kind) f g = refl
-after_after TooDeep f g = refl
-after_after NoChoice f g = refl
-after_after Dismissed f g = refl
-
-pub then_same : {A B : Type 0} (o : Outcome A) (f g : A → Outcome B) → ((a : A) → f a ≡ g a) → after o f ≡ after o g
-then_same o f g h = after_same o o f g refl h
+use Rattle.df_npass.proofs.Arguments.{of_moves, values_move, of_append, any_set, params_of, begun_sits, within_itself}
 
 -- ---- the measure on entry
 
@@ -66,10 +17,7 @@ pub record Entered (program : Program) (entry : List Measured) (entered : List V
 
 pub measure_moves : (n : ℕ) (i j : Interpretation) → SameBelow n i j → (members : List Measured) → MeasureBelow n members → map (λ (one : Measured). meanings.value i one.value) members ≡ map (λ (one : Measured). meanings.value j one.value) members
 measure_moves n i j same [] below = refl
-measure_moves n i j same (one ∷ others) below = cons_same _ _ _ _ (value_same n i j same one.value below.0) (measure_moves n i j same others below.1)
-  where
-    cons_same : (v w : Value) (vs ws : List Value) → v ≡ w → vs ≡ ws → v ∷ vs ≡ w ∷ ws
-    cons_same v w vs ws e f = cc
+measure_moves n i j same (one ∷ others) below = λ k. value_same n i j same one.value below.0 k ∷ measure_moves n i j same others below.1 k
 
 pub measured_moves : (n : ℕ) (i j : Interpretation) → SameBelow n i j → (members : List Measured) → MeasureBelow n members → AreMeasured i members → AreMeasured j members
 measured_moves n i j same [] below h = tt
@@ -108,17 +56,17 @@ types_long method = let e = length-map method.parameters (λ param. param.ty) in
 pub measure_read : (program : Program) (method : Method) → are_measures program (types_of method.parameters) method.decreases ≡ true → unassigned (first_locals (length (types_of method.parameters))) (reads_of_measures (Some (method_measure method))) ≡ []
 measure_read program method are = method_measure_reads program (types_of method.parameters) (first_locals (length (types_of method.parameters))) (λ local less. first_have (length (types_of method.parameters)) local less) method are (types_long method)
 
-pub if_after : {A B : Type 0} (b : Bool) (a : A) (at : Pos) (kind : Kind) (f : A → Outcome B) → after (if b then Gives a else Wrong at kind) f ≡ (if b then f a else Wrong at kind)
-if_after true a at kind f = refl
-if_after false a at kind f = refl
+-- what is a method is declared
+declared : (program : Program) (number : ℕ) (method : Method) → method_at program number ≡ Some method → nat_lt number (length program.decls) ≡ true
+declared program number method found = let there = then_some as_method (slice_get program.decls number) method found in lt-ltb number (length program.decls) (slice_get_within program.decls number there.0 there.1)
 
 -- of four parts
 four_parts : {A : Type 0} (xs ys zs ws more : List A) → (xs ++ (ys ++ (zs ++ ws))) ++ more ≡ xs ++ (ys ++ (zs ++ (ws ++ more)))
-four_parts xs ys zs ws more = append_assoc xs (ys ++ (zs ++ ws)) more ∙ ap (λ r. xs ++ r) (append_assoc ys (zs ++ ws) more ∙ ap (λ r. ys ++ r) (append_assoc zs ws more))
+four_parts xs ys zs ws more = simp append_assoc
 
 module _ (B : Type 0) (program : Program) (well : is_well_typed program ≡ true) (groups : List ℕ) (number : ℕ) (entry : List Measured) (entered : List Value) where
   abbrev pub setting : Setting
-  setting = record { program = program; groups = groups; number = number; entry = entry }
+  setting = record { program = program; in_group = grouped_with program groups number; entry = entry }
 
   abbrev pub running : Running
   running = record { program = program; groups = groups; number = number; entry = entered }
@@ -136,18 +84,25 @@ module _ (B : Type 0) (program : Program) (well : is_well_typed program ≡ true
       subst (λ said. Play B mode i n said (λ handed. after (after (measure_values (plain_meaning program) (with_handed s handed) measures) (λ now. check_below at now entered)) (go handed))) (sym (append_assoc (assert_measure way measures) owed more))
       (play_as B mode i n _ _ (λ handed. after (measure_values (plain_meaning program) (with_handed s handed) measures) (λ now. after (check_below at now entered) (go handed))) (λ handed. after_after (measure_values (plain_meaning program) (with_handed s handed) measures) _ (go handed))
       (measures_then B mode i n program (plain_meaning program) refl begun.program_is tys tys (within_itself tys) (first_locals (length tys)) way s sits env path measures (owed ++ more) (λ handed now. after (check_below at now entered) (go handed)) typed read (λ are.
-      play_as B mode i n (owed ++ more) _ (λ handed. if order.are_below now entered then go handed now else Wrong at kinds.Decreases) (λ handed. if_after (order.are_below now entered) now at kinds.Decreases (go handed))
+      play_as B mode i n (owed ++ more) _ (λ handed. if order.are_below now entered then go handed now else Wrong at kinds.Decreases) (λ handed. after_either (order.are_below now entered) (Gives now) (Wrong at kinds.Decreases) (go handed) (Wrong at kinds.Decreases) refl)
       (checked_then B mode i n way.path sits.there path at kinds.Decreases (are_below (measured way.env measures) entry) (order.are_below now entered) more (λ handed. go handed now) (order_below n (measured way.env measures) entry (measured_below n way.env env measures) below)
       (ap (order.are_below now) begun.values ∙ sym (ap truth_of (below_orders i (measured way.env measures) entry are begun.measured))) (h now)))))
 
+  -- what is owed where the groups are the same, and what is checked
+  abbrev Falls : Mode → Interpretation → ℕ → Call → Method → Way → State → List Said → (List Handed → List Value → Outcome B) → Bool → Bool → Type 0
+  Falls mode i n call method way s more go owed checked =
+      Play B mode i n ((if owed then assert_measure way (method_measure method) ++ assert way.path call.pos kinds.Decreases (are_below (measured way.env (method_measure method)) entry) else []) ++ more)
+      (λ handed. after (if checked then after (measure_values (plain_meaning program) (with_handed s handed) (method_measure method)) (λ now. check_below call.pos now entered) else Gives []) (go handed))
+
   decrease_then : (mode : Mode) (i : Interpretation) (n : ℕ) (call : Call) (method : Method) (way : Way) (s : State) (more : List Said) (go : List Handed → List Value → Outcome B)
-      → Contract program method → Entered program entry entered i → MeasureBelow n entry → EnvBelow n way.env → PathBelow n way.path → Sits mode i (types_of method.parameters) way (first_locals (length (types_of method.parameters))) s
+      → method_at program call.callee ≡ Some method → Contract program method → Entered program entry entered i → MeasureBelow n entry → EnvBelow n way.env → PathBelow n way.path → Sits mode i (types_of method.parameters) way (first_locals (length (types_of method.parameters))) s
       → ((now : List Value) → Play B mode i n more (λ handed. go handed now))
       → Play B mode i n (assert_decrease setting call method way ++ more) (λ handed. after (check_decrease running call.pos call.callee method (with_handed s handed)) (go handed))
-  decrease_then mode i n call method way s more go contract begun below env path sits h = by_group (group_at groups number == group_at groups call.callee)
+  decrease_then mode i n call method way s more go found contract begun below env path sits h =
+      let same = group_at groups number == group_at groups call.callee in
+      subst (λ (b : Bool). Falls mode i n call method way s more go (b && same) same) (sym (declared program call.callee method found)) (by_group same)
     where
-      by_group : (b : Bool) → Play B mode i n ((if b then assert_measure way (method_measure method) ++ assert way.path call.pos kinds.Decreases (are_below (measured way.env (method_measure method)) entry) else []) ++ more)
-          (λ handed. after (if b then after (measure_values (plain_meaning program) (with_handed s handed) (method_measure method)) (λ now. check_below call.pos now entered) else Gives []) (go handed))
+      by_group : (b : Bool) → Falls mode i n call method way s more go b b
       by_group true = measure_checked mode i n call.pos (method_measure method) way s (types_of method.parameters) more go begun below env path sits (method_measure_typed program method contract.decreases) (measure_read program method contract.decreases) h
       by_group false = h []
 
@@ -182,9 +137,9 @@ module _ (B : Type 0) (program : Program) (well : is_well_typed program ≡ true
       ∙ then_same (check_decrease running call.pos call.callee method t) _ _ (λ now. after_after (handed_results program method handed) (assume_returned program method vs) go))))
       (call_then B mode i n program plain refl begun.program_is tys tys (within_itself tys) (first_locals (length tys)) inside s sits env path call.pos method.preconditions (falls ++ (results.said ++ (ensured ++ more)))
       (λ handed t. after (check_decrease running call.pos call.callee method t) (λ now. behind handed)) contract.preconditions (first_read program tys method.preconditions contract.preconditions)
-      (decrease_then mode i n call method inside s (results.said ++ (ensured ++ more)) (λ handed now. behind handed) contract begun entry_below env path sits (λ now.
+      (decrease_then mode i n call method inside s (results.said ++ (ensured ++ more)) (λ handed now. behind handed) found contract begun entry_below env path sits (λ now.
       results_then B n way.path program method (ensured ++ more) (λ r. after (assume_returned program method vs r) go) mode i there begun.program_is (λ k j rs later moves given.
-      ensured_then k j rs later moves given contract) giving.grows giving.said.below))))
+      ensured_then k j rs later moves given contract) giving.made.grows giving.made.said.below))))
     where
       ensured_then : (k : Mode) (j : Interpretation) (rs : List Value) (later : List ℕ) → Moves mode i n k j → AreResults j way.path method.results n rs → Contract program method
           → Play B k j (any_values way.path method.results n).fresh (assume_clauses (over (env_of (terms ++ (any_values way.path method.results n).terms)) way) method.postconditions ++ more)
@@ -199,11 +154,11 @@ module _ (B : Type 0) (program : Program) (well : is_well_typed program ≡ true
           let are_all = of_append j (types_of method.parameters) (types_of method.results) terms results.terms (of_moves n i j moves.same (types_of method.parameters) terms below are) are_results in
           let here = sym (path_same n i j moves.same way.path path) ∙ there in
           let program_is = sym moves.same.program ∙ begun.program_is in
-          let vs_are : values_at j whole ≡ values_at i terms ++ rs = values_append j terms results.terms ∙ (ap (λ vs. vs ++ values_at j results.terms) (sym (values_move n i j moves.same terms below)) ∙ ap (λ vs. values_at i terms ++ vs) (sym given.are)) in
+          let vs_are : values_at j whole ≡ values_at i terms ++ rs = map-append (meanings.value j) terms results.terms ∙ (ap (λ vs. vs ++ values_at j results.terms) (sym (values_move n i j moves.same terms below)) ∙ ap (λ vs. values_at i terms ++ vs) (sym given.are)) in
           let sits = subst (λ vs. Sits k j tys (over (env_of whole) way) (first_locals (length tys)) (begin vs (store_with later []))) vs_are (begun_sits k j way tys whole (store_with later []) here are_all) in
-          let env = env_of_below results.fresh whole (terms_append results.fresh terms results.terms (terms_grow n results.fresh terms giving.grows below) giving.terms) in
+          let env = env_of_below results.fresh whole (terms_append results.fresh terms results.terms (terms_grow n results.fresh terms giving.made.grows below) giving.terms) in
           play_as B k j results.fresh _ _ (λ handed. after (or_dismissed (assume_each plain (with_handed (begin (values_at i terms ++ rs) (store_with later [])) handed) method.postconditions)) (λ t. go (returned rs later handed)))
           (λ handed. after_after (or_dismissed (assume_each plain (begin (values_at i terms ++ rs) (store_with later handed)) method.postconditions)) _ go)
-          (assume_then B k j results.fresh program plain refl program_is tys tys (within_itself tys) (first_locals (length tys)) (over (env_of whole) way) (begin (values_at i terms ++ rs) (store_with later [])) sits env (path_grows n results.fresh way.path giving.grows path)
+          (assume_then B k j results.fresh program plain refl program_is tys tys (within_itself tys) (first_locals (length tys)) (over (env_of whole) way) (begin (values_at i terms ++ rs) (store_with later [])) sits env (path_grows n results.fresh way.path giving.made.grows path)
           method.postconditions more (λ handed t. go (returned rs later handed)) contract.postconditions (first_read program tys method.postconditions contract.postconditions)
           (subst (λ vs. Play B k j results.fresh more (λ handed. go (returned vs later handed))) (sym given.are) (h k j later moves are_results)))

@@ -1,42 +1,15 @@
 -- Where runs come to: one of some ways, and the flow of definite assignment there.
-use Rattle.std.proofs.Common.{Bool, ◌≡◌, ◌⊎◌, inl, inr, ℕ, true, false, List, [], ◌∷◌, ◌++◌, Option, None, Some, refl, sym, ◌∙◌, subst}
-use Rattle.std.specs.List.{AllByRecursion}
-use Rattle.df_lang.specs.declared.ty.Ty.{Ty}
-use Rattle.df_lang.specs.Assignment.{Assigned, Unreached, Reached, has_value, join, mark}
-use Rattle.df_meaning.specs.Value.{Value}
-use Rattle.df_meaning.specs.State.{State}
-use Rattle.df_meaning.specs.Definite.{HasValue, AreAssigned}
-use Rattle.df_meaning.proofs.Cases.{both}
-use Rattle.df_nterm.specs.Term.{Term}
-use Rattle.df_nterm.specs.Meaning.{Interpretation}
-use Rattle.df_nterm.specs.Meaning as meanings
-use Rattle.df_nterm.specs.Expressions.{Environment}
-use Rattle.df_nterm.proofs.Sorted.{IsSorted}
-use Rattle.df_nterm.proofs.Below.{SameBelow, value_same}
-use Rattle.df_npass.specs.Rules.{Way}
+use Rattle.df_npass.proofs.Words.{Bool, ◌≡◌, ◌⊎◌, inl, inr, ℕ, true, false, List, [], ◌∷◌, ◌++◌, Option, None, Some, refl, sym, ◌∙◌, subst, Ty, Assigned, Unreached, Reached, has_value, mark, State, HasValue, AreAssigned, both, Term, Interpretation, Environment, IsSorted, SameBelow, value_same, Way, all_joined, ap, assigned_has}
+use Rattle.df_lang.specs.Assignment.{join}
 use Rattle.df_npass.proofs.Saying.{path_true}
 use Rattle.df_npass.proofs.Playing.{Mode, Moves, truth_same}
 use Rattle.df_npass.proofs.Proper.{PathBelow, EnvBelow}
+pub use Rattle.df_npass.proofs.Leading.{AllOff, off_lead}
 use Rattle.df_npass.proofs.Leading.{AllLead}
-use Rattle.df_npass.proofs.Reading.{HoldAll, SortedAll, Sits}
+use Rattle.df_npass.proofs.Reading.{SortedAll, Sits, IsReached}
+use Rattle.std.specs.Option.{is_some}
 
 -- ---- the flow of definite assignment
-
-abbrev pub IsReached : Assigned → Type 0
-IsReached Unreached = ⊥
-IsReached (Reached set) = Unit {0}
-
-pub holds_reached : (i : Interpretation) (env : Environment) (before : Assigned) (s : State) → HoldAll i env before s → IsReached before
-holds_reached i env Unreached s h = h
-holds_reached i env (Reached set) s h = tt
-
-pub hold_at : (i : Interpretation) (env : Environment) (before : Assigned) (s : State) → HoldAll i env before s → (k : ℕ) (v : Value) → has_value before k ≡ true → s.locals k ≡ Some v → meanings.value i (env k) ≡ v
-hold_at i env Unreached s h k v has e = absurd h
-hold_at i env (Reached set) s h k v has e = h k v has e
-
-pub hold_make : (i : Interpretation) (env : Environment) (before : Assigned) (s : State) → IsReached before → ((k : ℕ) (v : Value) → has_value before k ≡ true → s.locals k ≡ Some v → meanings.value i (env k) ≡ v) → HoldAll i env before s
-hold_make i env Unreached s r h = r
-hold_make i env (Reached set) s r h = h
 
 pub assigned_make : (before : Assigned) (s : State) → IsReached before → ((k : ℕ) → has_value before k ≡ true → HasValue s k) → AreAssigned before s
 assigned_make Unreached s r h = r
@@ -80,50 +53,33 @@ pub sits_moves : (a b : Mode) (i j : Interpretation) (n : ℕ) (all : List Ty) (
 sits_moves a b i j n all way before s moves env path h = record {
   there = sym (path_same n i j moves.same way.path path) ∙ h.there;
   sorted = sorted_moves n i j moves.same all way.env env h.sorted;
-  holds = hold_make j way.env before s (holds_reached i way.env before s h.holds) (λ k v has e. sym (value_same n i j moves.same (way.env k) (env k)) ∙ hold_at i way.env before s h.holds k v has e);
+  holds = (h.holds.0, λ k v has e. sym (value_same n i j moves.same (way.env k) (env k)) ∙ h.holds.1 k v has e);
   set = h.set;
   present = λ e. h.present (moves.mode ∙ e);
 }
 
--- where the flow says less
-pub sits_less : (mode : Mode) (i : Interpretation) (all : List Ty) (way : Way) (before after : Assigned) (s : State) → IsReached after → ((k : ℕ) → has_value after k ≡ true → has_value before k ≡ true) → Sits mode i all way before s → Sits mode i all way after s
-sits_less mode i all way before after s reached less h = record {
+-- where the flow says less, and what has a value by it has the one that it had
+pub sits_change : (mode : Mode) (i : Interpretation) (all : List Ty) (way : Way) (before after : Assigned) (s t : State) → IsReached after → ((k : ℕ) → has_value after k ≡ true → (has_value before k ≡ true) × (t.locals k ≡ s.locals k))
+    → Sits mode i all way before s → Sits mode i all way after t
+sits_change mode i all way before after s t reached same h = record {
   there = h.there;
   sorted = h.sorted;
-  holds = hold_make i way.env after s reached (λ k v has e. hold_at i way.env before s h.holds k v (less k has) e);
-  set = λ k has. h.set k (less k has);
-  present = λ e. assigned_make after s reached (λ k has. assigned_at before s (h.present e) k (less k has));
+  holds = (reached, λ k v has e. h.holds.1 k v (same k has).0 (sym (same k has).1 ∙ e));
+  set = λ k has. h.set k (same k has).0;
+  present = λ e. assigned_make after t reached (λ k has. ap is_some (same k has).1 ∙ assigned_has before s k (h.present e) (same k has).0);
 }
-  where
-    assigned_at : (before : Assigned) (s : State) → AreAssigned before s → (k : ℕ) → has_value before k ≡ true → HasValue s k
-    assigned_at Unreached s h k has = absurd h
-    assigned_at (Reached set) s h k has = h k has
+
+pub sits_less : (mode : Mode) (i : Interpretation) (all : List Ty) (way : Way) (before after : Assigned) (s : State) → IsReached after → ((k : ℕ) → has_value after k ≡ true → has_value before k ≡ true) → Sits mode i all way before s → Sits mode i all way after s
+sits_less mode i all way before after s reached less h = sits_change mode i all way before after s s reached (λ k has. (less k has, refl)) h
 
 -- ---- one of some ways
-
-abbrev pub AllOff : Interpretation → List Way → Type 0
-AllOff i ways = AllByRecursion (λ (way : Way). path_true i way.path ≡ false) ways
 
 abbrev pub OneSits : Mode → Interpretation → List Ty → List Way → Assigned → State → Type 0
 OneSits mode i all [] before s = ⊥
 OneSits mode i all (way ∷ ways) before s = (Sits mode i all way before s × AllOff i ways) ⊎ ((path_true i way.path ≡ false) × OneSits mode i all ways before s)
 
 pub off_append : (i : Interpretation) (ways others : List Way) → AllOff i ways → AllOff i others → AllOff i (ways ++ others)
-off_append i [] others h g = g
-off_append i (way ∷ ways) others h g = (h.0, off_append i ways others h.1 g)
-
-pub off_left : (i : Interpretation) (ways others : List Way) → AllOff i (ways ++ others) → AllOff i ways
-off_left i [] others h = tt
-off_left i (way ∷ ways) others h = (h.0, off_left i ways others h.1)
-
-pub off_right : (i : Interpretation) (ways others : List Way) → AllOff i (ways ++ others) → AllOff i others
-off_right i [] others h = h
-off_right i (way ∷ ways) others h = off_right i ways others h.1
-
--- behind a path that is off
-pub off_lead : (i : Interpretation) (n : ℕ) (path : Option Term) (ways : List Way) → AllLead n path ways → path_true i path ≡ false → AllOff i ways
-off_lead i n path [] h e = tt
-off_lead i n path (way ∷ ways) h e = (h.0.off i e, off_lead i n path ways h.1 e)
+off_append i = all_joined (λ (way : Way). path_true i way.path ≡ false)
 
 pub off_moves : (i j : Interpretation) (n : ℕ) (path : Option Term) (ways : List Way) → AllLead n path ways → SameBelow n i j → AllOff i ways → AllOff j ways
 off_moves i j n path [] lead same h = tt
@@ -144,11 +100,4 @@ module _ (mode : Mode) (i : Interpretation) (all : List Ty) where
 
   pub one_reached : (ways : List Way) (before : Assigned) (s : State) → OneSits mode i all ways before s → IsReached before
   one_reached [] before s h = absurd h
-  one_reached (way ∷ ways) before s h = elim h [ inl x ↦ holds_reached i way.env before s x.0.holds | inr x ↦ one_reached ways before s x.1 ]
-
-pub one_moves : (a b : Mode) (i j : Interpretation) (n : ℕ) (all : List Ty) (path : Option Term) (ways : List Way) (before : Assigned) (s : State) → AllLead n path ways → Moves a i n b j → OneSits a i all ways before s → OneSits b j all ways before s
-one_moves a b i j n all path [] before s lead moves h = h
-one_moves a b i j n all path (way ∷ ways) before s lead moves h = elim h [
-  | inl x ↦ inl (sits_moves a b i j n all way before s moves lead.0.env lead.0.path_is x.0, off_moves i j n path ways lead.1 moves.same x.1)
-  | inr x ↦ inr (sym (path_same n i j moves.same way.path lead.0.path_is) ∙ x.0, one_moves a b i j n all path ways before s lead.1 moves x.1)
-]
+  one_reached (way ∷ ways) before s h = elim h [ inl x ↦ x.0.holds.0 | inr x ↦ one_reached ways before s x.1 ]

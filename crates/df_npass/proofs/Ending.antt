@@ -1,57 +1,18 @@
 -- Where a method ends its postconditions are owed.
-use Rattle.std.proofs.Common.{◌≡◌, ◌⊎◌, inl, inr, ℕ, suc, ◌≤◌, ◌<◌, ◌+◌, ◌==◌, Bool, true, false, ◌||◌, List, [], ◌∷◌, ◌++◌, length, Option, None, Some, refl, sym, ap, ◌∙◌, subst, append_assoc, append-nil, arith}
-use Rattle.std.proofs.lemmas.Bool.{eq-eqb, ltb-true, cases_lt}
-use Rattle.std.proofs.lemmas.List.{length-map}
-use Rattle.std.specs.Option.{option_map_or}
-use Rattle.df_lang.specs.declared.ty.Ty.{Ty}
-use Rattle.df_lang.specs.Program.{Param, Method, Program, types_of}
-use Rattle.df_lang.specs.Typing.{same_type, are_clauses}
-use Rattle.df_lang.specs.Assignment.{Assigned, has_value, results_at, unassigned}
+use Rattle.std.proofs.Common.{append-nil}
+use Rattle.df_npass.proofs.Words.{◌≡◌, inl, inr, ℕ, suc, ◌≤◌, ◌<◌, ◌+◌, ◌==◌, true, false, List, [], ◌∷◌, ◌++◌, length, Option, None, Some, refl, sym, ap, ◌∙◌, subst, append_assoc, arith, eq-eqb, ltb-true, cases_lt, or_left, or_right, length-map, map-append, option_map_or, Ty, Param, Method, Program, types_of, same_type, are_clauses, Assigned, has_value, results_at, unassigned, Outcome, Gives, Wrong, TooDeep, NoChoice, Dismissed, after, Handed, State, Meaning, check_all, end_of, Changed, is_changed, joined, are_there, Within, same_self, Term, Interpretation, Said, Way, paths_of, any_path, Joined, join, Flow, ways_of, last_of, at_clause, assert_clauses, way_in, locals_from, ended, true_is_not_false}
 use Rattle.df_meaning.specs.declared.kind.Kind.TheVariants as kinds
-use Rattle.df_meaning.specs.Outcome.{Outcome, Gives, Wrong, TooDeep, NoChoice, Dismissed, after}
-use Rattle.df_meaning.specs.State.{Handed, State}
-use Rattle.df_meaning.specs.Meaning.{Meaning}
 use Rattle.df_meaning.specs.Meaning as flows
-use Rattle.df_meaning.specs.Execution.{check_all}
-use Rattle.df_meaning.specs.Whole.{end_of}
-use Rattle.df_meaning.specs.Modular.{Changed}
-use Rattle.df_meaning.specs.Agreement.{is_changed}
-use Rattle.df_meaning.proofs.Cases.{joined}
-use Rattle.df_meaning.proofs.Changing.{are_there}
-use Rattle.df_meaning.proofs.Stating.{Within, same_self}
-use Rattle.df_nterm.specs.Term.{Term}
-use Rattle.df_nterm.specs.Meaning.{Interpretation}
-use Rattle.df_npass.specs.Rules.{Said, Way, paths_of, any_path, Joined, join}
-use Rattle.df_npass.specs.Statements.{Flow, ways_of, last_of, at_clause, assert_clauses}
-use Rattle.df_npass.specs.Methods.{way_in, locals_from, ended}
-use Rattle.df_npass.proofs.Saying.{AllTrue, all_appended}
-use Rattle.df_npass.proofs.Playing.{Mode, Following, Taking, Moves, Play, play_as, play_silent, play_over}
-use Rattle.df_npass.proofs.Proper.{EnvBelow, env_grows, clauses_proper}
-use Rattle.df_npass.proofs.Leading.{AllLead, append_lead, JoinGoing, join_going, any_path_reaches}
-use Rattle.df_npass.proofs.Staying.{AllStay}
-use Rattle.df_npass.proofs.Flowing.{Flows}
-use Rattle.df_npass.proofs.Reading.{with_handed, SortedAll, check_then}
-use Rattle.df_npass.proofs.Coming.{AllOff, OneSits, off_append, sorted_moves, one_left, one_right, one_less}
-use Rattle.df_npass.proofs.Calling.{first_read}
-use Rattle.df_npass.proofs.Joining.{join_then}
-use Rattle.df_npass.proofs.Leaving.{no_path, one_path, join_off_said, join_off_way}
-use Rattle.df_npass.proofs.Sequencing.{hand, Comes, Onward, ended_then}
-use Rattle.df_npass.proofs.Measures.{get_at, one_longer}
-use Rattle.df_npass.proofs.Returning.{back, HasParameters, back_has}
+use Rattle.df_npass.proofs.Runs.{AllTrue, all_appended, by_option, Mode, Following, Taking, Moves, Play, play_as, play_silent, play_over, EnvBelow, env_grows, clauses_proper, AllLead, append_lead, JoinGoing, join_going, any_path_reaches, AllStay, Flows, with_handed, SortedAll, check_then, AllOff, OneSits, off_append, sorted_moves, one_left, one_right, one_less, get_at, one_longer, back, HasParameters, back_has, first_read, join_then, no_path, one_path, join_off_said, join_off_way, hand, Comes, Onward, ended_then}
 
 -- ---- the first locals
 
 locals_cover : (from : ℕ) (params : List Param) (k : ℕ) → from ≤ k → k < from + length params → is_changed (locals_from from params) k ≡ true
 locals_cover from [] k more less = absurd (omega (arith, more, less))
-locals_cover from (param ∷ params) k more less = by_order (cases_lt k (suc from)) (λ l. locals_cover (suc from) params k l (omega (arith, less)))
-  where
-    or_true : (b : Bool) → (b || true) ≡ true
-    or_true true = refl
-    or_true false = refl
-
-    by_order : (k < suc from) ⊎ (suc from ≤ k) → (suc from ≤ k → is_changed (locals_from (suc from) params) k ≡ true) → is_changed (locals_from from (param ∷ params)) k ≡ true
-    by_order (inl l) g = let same : from ≡ k = omega (arith, l, more) in ap (λ (b : Bool). b || is_changed (locals_from (suc from) params) k) (eq-eqb from k same)
-    by_order (inr l) g = ap (λ (b : Bool). (from == k) || b) (g l) ∙ or_true (from == k)
+locals_cover from (param ∷ params) k more less = elim (cases_lt k (suc from)) [
+  | inl l ↦ or_left (from == k) (is_changed (locals_from (suc from) params) k) (eq-eqb from k (omega (arith, l, more)))
+  | inr l ↦ or_right (from == k) (is_changed (locals_from (suc from) params) k) (locals_cover (suc from) params k l (omega (arith, less)))
+]
 
 locals_there : (all front : List Ty) (params : List Param) → Within (front ++ types_of params) all → are_there all (locals_from (length front) params) ≡ true
 locals_there all front [] within = refl
@@ -60,10 +21,6 @@ locals_there all front (param ∷ params) within =
     joined _ _ (subst (λ (o : Option Ty). option_map_or (same_type param.ty) o false ≡ true) (sym at) (same_self param.ty))
     (subst (λ (k : ℕ). are_there all (locals_from k params) ≡ true) (one_longer front param.ty)
     (locals_there all (front ++ param.ty ∷ []) params (subst (λ (tys : List Ty). Within tys all) (sym (append_assoc front (param.ty ∷ []) (types_of params))) within)))
-
-pub types_append : (params others : List Param) → types_of (params ++ others) ≡ types_of params ++ types_of others
-types_append [] others = refl
-types_append (param ∷ params) others = ap (λ tys. param.ty ∷ tys) (types_append params others)
 
 after_gives : {A : Type 0} (o : Outcome A) → after o (λ a. Gives a) ≡ o
 after_gives (Gives a) = refl
@@ -97,39 +54,34 @@ module _ (program : Program) (own : Method) (all : List Ty) (within : Within (ty
   owed o = option_map_or (λ way. assert_clauses at_clause kinds.Ensures way own.postconditions) o []
 
   leads : AllLead flow.fresh None ways
-  leads = append_lead flow.fresh None flow.returns (ways_of flow.way) flows_body.returns flows_body.way
+  leads = append_lead flow.fresh None flow.returns (ways_of flow.way) flows_body.returns flows_body.ways
 
   here_env : EnvBelow flow.fresh (way_in own).env
-  here_env = env_grows n flow.fresh (way_in own).env flows_body.grows env
+  here_env = env_grows n flow.fresh (way_in own).env flows_body.made.grows env
 
   going : JoinGoing flow.fresh None joined_ways
   going = join_going after_path (way_in own).env changed ways flow.fresh None here_env leads (any_path_reaches flow.fresh None ways leads)
 
   there : are_there all changed ≡ true
-  there = locals_there all [] (own.parameters ++ own.results) (subst (λ (ts : List Ty). Within ts all) (sym (types_append own.parameters own.results)) within)
+  there = locals_there all [] (own.parameters ++ own.results) (subst (λ (ts : List Ty). Within ts all) (sym (map-append (λ (param : Param). param.ty) own.parameters own.results)) within)
 
   many : length tys ≡ length (own.parameters ++ own.results)
-  many = ap length (sym (types_append own.parameters own.results)) ∙ length-map (own.parameters ++ own.results) (λ (param : Param). param.ty)
+  many = ap length (sym (map-append (λ (param : Param). param.ty) own.parameters own.results)) ∙ length-map (own.parameters ++ own.results) (λ (param : Param). param.ty)
 
   cover : (k : ℕ) → has_value (back own) k ≡ true → is_changed changed k ≡ false → AllStay k (way_in own).env ways
   cover k has e =
       let less = ltb-true k (length tys) has in
       let is = locals_cover 0 (own.parameters ++ own.results) k (omega arith) (omega (arith, less, many)) in
-      absurd (differ (is_changed changed k) is e)
-    where
-      differ : (b : Bool) → b ≡ true → b ≡ false → ⊥
-      differ true e f = cc
-      differ false e f = cc
+      absurd (true_is_not_false (is_changed changed k) is e)
 
   -- where no run ends, nothing is said of it
   ended_off : (j : Interpretation) → AllOff j ways → AllTrue j (ended own flow)
   ended_off j off =
       all_appended j joined_ways.said (owed joined_ways.way) (join_off_said j after_path (way_in own).env changed ways flow.fresh off)
-      (by_way joined_ways.way (join_off_way j after_path (way_in own).env changed ways flow.fresh off (λ several. no_path j ways off)) going.way)
-    where
-      by_way : (o : Option Way) → AllOff j (ways_of o) → AllLead joined_ways.fresh None (ways_of o) → AllTrue j (owed o)
-      by_way None off lead = tt
-      by_way (Some way) off lead = (clauses_proper joined_ways.fresh way lead.0.path_is lead.0.env at_clause kinds.Ensures own.postconditions).off j off.0
+      (by_option (AllTrue j) (λ way. assert_clauses at_clause kinds.Ensures way own.postconditions) joined_ways.way [] (λ e. tt) (λ way e.
+      let lead = (subst (λ o. AllLead joined_ways.fresh None (ways_of o)) e going.way).0 in
+      let away = (subst (λ o. AllOff j (ways_of o)) e (join_off_way j after_path (way_in own).env changed ways flow.fresh off (λ several. no_path j ways off))).0 in
+      (clauses_proper joined_ways.fresh way lead.path_is lead.env at_clause kinds.Ensures own.postconditions).off j away))
 
   ended_play : (k : Mode) (j : Interpretation) (t : State) → Moves mode i n k j → OneSits k j all ways (back own) t → Play State k j flow.fresh (ended own flow) (λ handed. check_all m (with_handed t handed) kinds.Ensures own.postconditions)
   ended_play k j t moves one =

@@ -1,33 +1,8 @@
 -- The turn of a loop that is handed in, and the free terms of the locals that it changes.
-use Rattle.std.proofs.Common.{◌≡◌, ℕ, suc, ◌==◌, Bool, true, false, ◌||◌, if◌then◌else◌, List, [], ◌∷◌, slice_get, Option, None, Some, refl, sym, ap, ◌∙◌, subst}
-use Rattle.std.proofs.lemmas.Bool.{eqb-true, eq-eqb}
-use Rattle.std.specs.List.{list_all}
-use Rattle.std.specs.Option.{option_map_or}
-use Rattle.df_lang.specs.declared.ty.Ty.{Ty}
-use Rattle.df_lang.specs.Program.{Program}
-use Rattle.df_lang.specs.Typing.{same_type, is_type, is_well_typed}
-use Rattle.df_meaning.specs.Value.{Value}
-use Rattle.df_meaning.specs.Types.{has_type}
-use Rattle.df_meaning.specs.State.{Locals}
-use Rattle.df_meaning.specs.Modular.{Changed, may_have}
-use Rattle.df_meaning.specs.Agreement.{is_changed}
-use Rattle.df_meaning.proofs.Cases.{both}
-use Rattle.df_meaning.proofs.Types.{same_type_equal}
-use Rattle.df_meaning.proofs.Changing.{are_there}
-use Rattle.df_nterm.specs.Term.{Term}
-use Rattle.df_nterm.specs.Meaning.{Interpretation}
+use Rattle.df_npass.proofs.Words.{◌≡◌, ℕ, suc, ◌==◌, Bool, true, false, if◌then◌else◌, List, [], ◌∷◌, slice_get, Option, None, Some, refl, sym, ap, ◌∙◌, subst, inl, inr, eqb-true, eq-eqb, or_cases, list_all, option_map_or, Ty, Program, same_type, is_type, is_well_typed, Value, has_type, Locals, Changed, may_have, is_changed, both, same_type_equal, are_there, Term, Interpretation, Environment, IsSorted, typed_sorted, SameBelow, value_same, Way, is_unset, over, with_term, assume_type, free_of, havoc, true_is_not_false}
 use Rattle.df_nterm.specs.Meaning as meanings
-use Rattle.df_nterm.specs.Expressions.{Environment}
-use Rattle.df_nterm.proofs.Sorted.{IsSorted, typed_sorted}
-use Rattle.df_nterm.proofs.Below.{SameBelow, value_same}
-use Rattle.df_npass.specs.Rules.{Way, is_unset, over, with_term, assume_type, free_of, havoc}
-use Rattle.df_npass.proofs.Saying.{AllTrue, path_true, all_appended, all_front, all_rest}
-use Rattle.df_npass.proofs.Playing.{same_itself, same_then, AreKnown, known_append}
-use Rattle.df_npass.proofs.Leading.{free_below, suc_more}
-use Rattle.df_npass.proofs.Staying.{havoc_stays}
+use Rattle.df_npass.proofs.Lemmas.{AllTrue, path_true, all_appended, all_front, all_rest, same_itself, same_then, AreKnown, known_append, by_bool, free_below, suc_more, havoc_stays, any_typed, all_may, free_set}
 use Rattle.df_npass.proofs.Taking.{taking, takes_program, free_takes, others_stay, type_true, type_said, free_sorted, type_known}
-use Rattle.df_npass.proofs.Turning.{any_typed, all_may}
-use Rattle.df_npass.proofs.Unset.{free_set}
 
 -- the term of a local is the one that it was given last
 pub at_itself : (env : Environment) (k : ℕ) (a : Term) → with_term env k a k ≡ a
@@ -35,12 +10,7 @@ at_itself env k a = ap (λ (b : Bool). if b then a else env k) (eq-eqb k k refl)
 
 -- the local of a changed one
 pub one_of : (c : Changed) (others : List Changed) (k : ℕ) → is_changed (c ∷ others) k ≡ true → is_changed others k ≡ false → c.local ≡ k
-one_of c others k h e = eqb-true c.local k (first (c.local == k) (is_changed others k) h e)
-  where
-    first : (b d : Bool) → (b || d) ≡ true → d ≡ false → b ≡ true
-    first true d h e = refl
-    first false true h e = cc
-    first false false h e = cc
+one_of c others k h e = elim (or_cases (c.local == k) (is_changed others k) h) [ inl a ↦ eqb-true c.local k a | inr b ↦ absurd (true_is_not_false (is_changed others k) b e) ]
 
 -- its term is free
 last_free : (c : Changed) (others : List Changed) (fresh : ℕ) (way : Way) (k : ℕ) → c.local ≡ k → is_changed others k ≡ false → (havoc (c ∷ others) fresh way).way.env k ≡ free_of fresh c.ty
@@ -50,10 +20,6 @@ last_free c others fresh way k same e =
 type_of_one : (all : List Ty) (c : Changed) (k : ℕ) (ty : Ty) → c.local ≡ k → option_map_or (same_type c.ty) (slice_get all c.local) false ≡ true → slice_get all k ≡ Some ty → c.ty ≡ ty
 type_of_one all c k ty same h e =
     same_type_equal c.ty ty (subst (λ (o : Option Ty). option_map_or (same_type c.ty) o false ≡ true) (ap (slice_get all) same ∙ e) h)
-
-pub by_bool : {P : Type 0} (b : Bool) → (b ≡ true → P) → (b ≡ false → P) → P
-by_bool true f g = f refl
-by_bool false f g = g refl
 
 pub havoc_set : (k : ℕ) (changed : List Changed) (fresh : ℕ) (way : Way) → is_changed changed k ≡ true → is_unset ((havoc changed fresh way).way.env k) ≡ false
 havoc_set k [] fresh way h = cc

@@ -1,26 +1,6 @@
 -- The laws of obligations and modular runs.
-use Rattle.std.proofs.Common.{◌≡◌, ℕ, pos, true, false, [], ◌++◌, Contains, None, Some, ◌+◌, arith, refl, sym, ◌∙◌, subst, le_refl}
-use Rattle.df_base.specs.declared.pos.Pos.{Pos}
-use Rattle.df_lang.specs.Program.{Program, method_at, types_of}
-use Rattle.df_meaning.specs.declared.kind.Kind.{Kind}
-use Rattle.df_meaning.specs.Value.{Value, Truth, Character, Number}
-use Rattle.df_meaning.specs.Types.{have_types}
-use Rattle.df_meaning.specs.Outcome.{Wrong}
-use Rattle.df_meaning.specs.State.{store_with}
-use Rattle.df_meaning.specs.Modular.{modular_run, IsModularlyWrong}
-use Rattle.df_meaning.proofs.Wholes.{method_typed}
-use Rattle.df_nterm.specs.Term.{Sort, Numbers, Truths, Characters, Free}
-use Rattle.df_nterm.specs.Meaning.{Interpretation, has_sort, truth}
-use Rattle.df_npass.specs.Statements.{any_values}
-use Rattle.df_npass.specs.Methods.{pass_method, obligations_of_method}
-use Rattle.df_npass.specs.Laws.{WrongIsRefuted, RefutedIsWrong, ValidIsSafe, SafeIsValid, AllValidIsSafe, RefutedMemberIsWrong, ValidMembersAreSafe}
-use Rattle.df_npass.proofs.Playing.{Following, Taking, apart, all_same, FirstFalse, first_behind, first_rest, known_first}
-use Rattle.df_npass.proofs.Leading.{any_giving}
-use Rattle.df_npass.proofs.Reading.{values_at}
-use Rattle.df_npass.proofs.Taking.{AllSorted, take_all, any_known, any_sorted, any_typed}
-use Rattle.df_npass.proofs.Arguments.{any_set, params_of}
-use Rattle.df_npass.proofs.Handing.{by_bool}
-use Rattle.df_npass.proofs.Nesting.{nesting_all}
+use Rattle.df_npass.proofs.Words.{◌≡◌, ℕ, pos, true, [], ◌++◌, Contains, None, Some, ◌+◌, arith, refl, sym, ◌∙◌, subst, le_refl, Pos, Program, method_at, types_of, Kind, Value, Truth, Character, Number, have_types, Wrong, store_with, modular_run, IsModularlyWrong, method_typed, Sort, Numbers, Truths, Characters, Free, Interpretation, has_sort, truth, any_values, pass_method, obligations_of_method, WrongIsRefuted, RefutedIsWrong, ValidIsSafe, SafeIsValid, AllValidIsSafe, RefutedMemberIsWrong, ValidMembersAreSafe, true_is_not_false, true≢false}
+use Rattle.df_npass.proofs.Runs.{Following, Taking, all_same, FirstFalse, first_behind, first_rest, known_first, by_bool, any_giving, values_at, nesting_all, AllSorted, take_all, any_known, any_sorted, any_typed, any_set, params_of}
 use Rattle.df_npass.proofs.Obligations.{first_refuted, refuted_first, of_declaration, of_method_there, there_of_method}
 use Rattle.df_npass.proofs.Beginning.{behind_arguments, method_play}
 
@@ -53,17 +33,14 @@ wrong_is_refuted program groups number method at kind well definite found wrong 
     let took = take_all start None method.parameters 0 wrong.arguments (subst (λ (p : Program). have_types p (types_of method.parameters) wrong.arguments ≡ true) (sym (some_program program)) wrong.typed) in
     let program_is = sym took.same.program ∙ some_program program in
     let of = params_of took.to method.parameters arguments.terms (subst (λ vs. AllSorted method.parameters vs) (sym took.are) took.sorted) (any_set None method.parameters 0) in
-    let play = method_play program well groups number method is (definite number method found) (Taking wrong.store.handed) took.to wrong.depth wrong.store.text program_is of (λ e. absurd (never e)) in
+    let play = method_play program well groups number method is (definite number method found) (Taking wrong.store.handed) took.to wrong.depth wrong.store.text program_is of (λ e. absurd (true≢false e)) in
     let first = play.blames at kind (subst (λ vs. modular_run program groups wrong.depth number method vs wrong.store ≡ Wrong at kind) (sym took.are) wrong.wrong) in
-    let true_there = all_same arguments.fresh took.to play.to play.same arguments.said giving.said.below took.all in
+    let true_there = all_same arguments.fresh took.to play.to play.same arguments.said giving.made.said.below took.all in
     let refuted = first_refuted play.to number at kind (pass_method program groups number method) [] (first_behind play.to at kind arguments.said (behind_arguments program well groups number method is (definite number method found)) true_there first) tt in (
       refuted.obligation,
       record { owed = refuted.among_them; place = refuted.place; kind_is = refuted.kind_is },
       record { interpretation = play.to; program_is = sym play.same.program ∙ program_is; hypotheses = refuted.hypotheses; goal = refuted.goal },
     )
-  where
-    never : true ≡ false → ⊥
-    never e = cc
 
 pub refuted_is_wrong : RefutedIsWrong
 refuted_is_wrong program groups number method at kind obligation well definite found owed refuted =
@@ -76,23 +53,24 @@ refuted_is_wrong program groups number method at kind obligation well definite f
     let true_there = known_first i at kind arguments.said behind (any_known None method.parameters 0) first in
     let of = params_of i method.parameters arguments.terms (any_sorted i None method.parameters 0) (any_set None method.parameters 0) in
     let play = method_play program well groups number method is (definite number method found) Following i (nesting_all method.body) [] refuted.program_is of (λ e. le_refl (nesting_all method.body)) in
-    record {
+    let wrong : IsModularlyWrong program groups number method at kind = record {
       depth = nesting_all method.body;
       arguments = values_at i arguments.terms;
       store = store_with [] play.new;
       typed = subst (λ (p : Program). have_types p (types_of method.parameters) (values_at i arguments.terms) ≡ true) refuted.program_is (any_typed i None method.parameters 0 refl true_there);
       wrong = play.tells at kind (first_rest i at kind arguments.said behind true_there first);
-    }
+    } in
+    (wrong, refl)
 
 pub valid_is_safe : ValidIsSafe
 valid_is_safe program groups number method well definite found valid at kind wrong =
     let r = wrong_is_refuted program groups number method at kind well definite found wrong in
-    apart (truth r.2.interpretation r.0.goal) (valid r.0 r.1.owed r.2.interpretation r.2.program_is r.2.hypotheses) r.2.goal
+    true_is_not_false (truth r.2.interpretation r.0.goal) (valid r.0 r.1.owed r.2.interpretation r.2.program_is r.2.hypotheses) r.2.goal
 
 pub safe_is_valid : SafeIsValid
 safe_is_valid program groups number method obligation well definite found safe there i program_is hypotheses = by_bool (truth i obligation.goal) (λ e. e) (λ e.
-    absurd (safe obligation.pos obligation.kind (refuted_is_wrong program groups number method obligation.pos obligation.kind obligation well definite found
-    (record { owed = there; place = refl; kind_is = refl }) (record { interpretation = i; program_is = program_is; hypotheses = hypotheses; goal = e }))))
+    absurd (safe obligation.pos obligation.kind ((refuted_is_wrong program groups number method obligation.pos obligation.kind obligation well definite found
+    (record { owed = there; place = refl; kind_is = refl }) (record { interpretation = i; program_is = program_is; hypotheses = hypotheses; goal = e })).0)))
 
 from_none : (k : ℕ) → 0 + k ≡ k
 from_none k = omega arith
@@ -119,5 +97,5 @@ refuted_member_is_wrong program groups obligation well definite there refuted =
       of.method,
       subst (λ (k : ℕ). method_at program k ≡ Some of.method) (sym number) of.found,
       subst (λ (k : ℕ). IsModularlyWrong program groups k of.method obligation.pos obligation.kind) (sym number)
-          (refuted_is_wrong program groups of.k of.method obligation.pos obligation.kind obligation well definite of.found (record { owed = there; place = refl; kind_is = refl }) refuted),
+          ((refuted_is_wrong program groups of.k of.method obligation.pos obligation.kind obligation well definite of.found (record { owed = there; place = refl; kind_is = refl }) refuted).0),
     )

@@ -1,3 +1,6 @@
+pub mod Words
+pub mod Runs
+pub mod Lemmas
 pub mod Saying
 pub mod Proper
 pub mod Playing
@@ -32,4 +35,5 @@ pub mod Obligations
 pub mod Ending
 pub mod Beginning
 pub mod Laws
+pub mod Grouping
 mod Rows

@@ -1,47 +1,10 @@
 -- The one turn of a loop, and what goes on behind the loop.
-use Rattle.std.proofs.Common.{◌≡◌, inl, inr, ℕ, Bool, true, false, not, if◌then◌else◌, List, [], ◌∷◌, ◌++◌, map, Option, None, Some, refl, sym, ap, ◌∙◌, subst, append_assoc}
-use Rattle.std.specs.Option.{option_map_or}
-use Rattle.df_lang.specs.declared.ty.Ty.{Ty}
-use Rattle.df_lang.specs.Stmt.{Measure}
-use Rattle.df_lang.specs.Program.{Program}
-use Rattle.df_lang.specs.Measures.{loop_measure}
-use Rattle.df_lang.specs.Typing.{are_clauses}
-use Rattle.df_lang.specs.Assignment.{Assigned, Unreached, has_value, join as meet, reads_of_clauses, reads_of_measures, unassigned}
+use Rattle.df_npass.proofs.Words.{◌≡◌, inl, inr, ℕ, Bool, true, false, not, if◌then◌else◌, List, [], ◌∷◌, ◌++◌, map, Option, None, Some, refl, sym, ap, ◌∙◌, subst, append_assoc, option_map_or, Ty, Measure, Program, loop_measure, are_clauses, Assigned, Unreached, has_value, meet, reads_of_clauses, reads_of_measures, unassigned, Value, truth_of, Outcome, Wrong, Dismissed, after, Handed, State, Meaning, Loop, check_all, Changed, measure_values, check_below, behind_once, is_changed, are_there, Within, Term, negation, Interpretation, truth, term_of, Measured, measured, are_below, AreMeasured, IsBelow, SameBelow, below_orders, Said, Way, narrowed, assert, paths_of, any_path, Joined, join, Flow, ways_of, last_of, at_clause, assert_clauses, assert_measure, assert_turn, behind_loop, Gives}
 use Rattle.df_meaning.specs.declared.kind.Kind.TheVariants as kinds
-use Rattle.df_meaning.specs.Value.{Value, truth_of}
-use Rattle.df_meaning.specs.Outcome.{Outcome, Wrong, Dismissed, after}
-use Rattle.df_meaning.specs.State.{Handed, State}
-use Rattle.df_meaning.specs.Meaning.{Meaning, Loop}
 use Rattle.df_meaning.specs.Meaning as flows
 use Rattle.df_meaning.specs.Order as order
-use Rattle.df_meaning.specs.Execution.{check_all}
-use Rattle.df_meaning.specs.Modular.{Changed, measure_values, check_below, behind_once}
-use Rattle.df_meaning.specs.Agreement.{is_changed}
-use Rattle.df_meaning.proofs.Changing.{are_there}
-use Rattle.df_meaning.proofs.Stating.{Within}
-use Rattle.df_nterm.specs.Term.{Term, negation}
-use Rattle.df_nterm.specs.Meaning.{Interpretation, truth}
 use Rattle.df_nterm.specs.Meaning as meanings
-use Rattle.df_nterm.specs.Expressions.{term_of}
-use Rattle.df_nterm.specs.Measuring.{Measured, measured, are_below}
-use Rattle.df_nterm.specs.Laws.{AreMeasured}
-use Rattle.df_nterm.proofs.Below.{IsBelow, SameBelow}
-use Rattle.df_nterm.proofs.Ordering.{below_orders}
-use Rattle.df_npass.specs.Rules.{Said, Way, narrowed, assert, paths_of, any_path, Joined, join}
-use Rattle.df_npass.specs.Statements.{Flow, ways_of, last_of, at_clause, assert_clauses, assert_measure, assert_turn, behind_loop}
-use Rattle.df_npass.proofs.Saying.{AllTrue, path_true, all_appended, narrowed_true}
-use Rattle.df_npass.proofs.Playing.{Mode, Moves, moves_here, moves_then, Play, play_as, play_behind, play_later}
-use Rattle.df_npass.proofs.Proper.{PathBelow, EnvBelow, MeasureBelow, env_grows, measured_below, measure_grows, narrowed_below, order_below}
-use Rattle.df_npass.proofs.Leading.{AllLead, lead_grows, farther, narrowed_leads, JoinGoing, join_going, any_path_reaches}
-use Rattle.df_npass.proofs.Staying.{AllStay}
-use Rattle.df_npass.proofs.Flowing.{Flows, turn_proper}
-use Rattle.df_npass.proofs.Reading.{with_handed, SortedAll, Sits, check_then, measures_then, checked_then}
-use Rattle.df_npass.proofs.Coming.{AllOff, OneSits, IsReached, off_lead, off_moves, path_same, sorted_moves, sits_less, one_less, one_reached, reached_left, reached_right, join_left, join_right}
-use Rattle.df_npass.proofs.Measures.{AreTyped}
-use Rattle.df_npass.proofs.Calling.{after_after, then_same, if_after, measure_moves, measured_moves}
-use Rattle.df_npass.proofs.Joining.{join_then}
-use Rattle.df_npass.proofs.Leaving.{no_path, one_path, join_off_said, join_off_way}
-use Rattle.df_npass.proofs.Sequencing.{hand, Comes, Onward, only, ended_then}
+use Rattle.df_npass.proofs.Runs.{AllTrue, path_true, all_appended, narrowed_true, Mode, Moves, moves_here, moves_then, Play, play_as, play_behind, play_later, PathBelow, EnvBelow, MeasureBelow, env_grows, measured_below, measure_grows, narrowed_below, order_below, AllLead, lead_grows, farther, narrowed_leads, JoinGoing, join_going, any_path_reaches, AllStay, Flows, turn_proper, with_handed, SortedAll, Sits, check_then, measures_then, checked_then, after_after, after_either, then_same, IsReached, AllOff, OneSits, off_lead, off_moves, path_same, sorted_moves, sits_less, one_less, one_reached, reached_left, reached_right, join_left, join_right, AreTyped, measure_moves, measured_moves, join_then, no_path, one_path, join_off_said, join_off_way, hand, Comes, Onward, only, ended_then}
 
 pub three_parts : {A : Type 0} (xs ys zs more : List A) → (xs ++ (ys ++ zs)) ++ more ≡ xs ++ (ys ++ (zs ++ more))
 three_parts xs ys zs more = append_assoc xs (ys ++ zs) more ∙ ap (λ r. xs ++ r) (append_assoc ys zs more)
@@ -66,7 +29,7 @@ turn_ends B all program m m_is locals within loop mode i n way before s earlier 
     ∙ then_same (measure_values m u measures) _ _ (λ now. after_after (check_below loop.pos now values) _ go)))
     (check_then B mode i n program m m_is program_is locals all within before way s sits env path kinds.Turn loop.invariants (assert_measure way measures ++ (owed ++ rest)) (λ handed u. after (measure_values m u measures) falls) typed read
     (measures_then B mode i n program m m_is program_is locals all within before way s sits env path measures (owed ++ rest) (λ handed now. falls now) measures_typed measures_read (λ are.
-    play_as B mode i n (owed ++ rest) _ (λ handed. if order.are_below now values then Dismissed else Wrong loop.pos kinds.Decreases) (λ handed. if_after (order.are_below now values) now loop.pos kinds.Decreases (λ checked. Dismissed))
+    play_as B mode i n (owed ++ rest) _ (λ handed. if order.are_below now values then Dismissed else Wrong loop.pos kinds.Decreases) (λ handed. after_either (order.are_below now values) (Gives now) (Wrong loop.pos kinds.Decreases) (λ checked. Dismissed) (Wrong loop.pos kinds.Decreases) refl)
     (checked_then B mode i n way.path sits.there path loop.pos kinds.Decreases (are_below (measured way.env measures) earlier) (order.are_below now values) rest (λ handed. Dismissed) (order_below n (measured way.env measures) earlier (measured_below n way.env env measures) earlier_below)
     (sym (ap truth_of (below_orders i (measured way.env measures) earlier are earlier_measured))) (ended_then B mode i n rest (λ handed. Dismissed) true_behind (λ handed. refl)))))))
 
@@ -102,29 +65,29 @@ module _ (B : Type 0) (all : List Ty) (back : Assigned) (program : Program) (m :
 
   leads : AllLead flow.fresh any.path ways
   leads = (
-    lead_grows n flow.fresh any.path outside flows_body.grows (narrowed_leads n any (negation (term_of any.env loop.guard)) env path (rw (term_is) refl)),
-    farther flow.fresh any.path inside flow.breaks (lead_grows n flow.fresh any.path inside flows_body.grows (narrowed_leads n any (term_of any.env loop.guard) env path term_is)) flows_body.breaks,
+    lead_grows n flow.fresh any.path outside flows_body.made.grows (narrowed_leads n any (negation (term_of any.env loop.guard)) env path (rw (term_is) refl)),
+    farther flow.fresh any.path inside flow.breaks (lead_grows n flow.fresh any.path inside flows_body.made.grows (narrowed_leads n any (term_of any.env loop.guard) env path term_is)) flows_body.breaks,
   )
 
   going : JoinGoing flow.fresh any.path (join after_path outside.env changed ways flow.fresh)
-  going = join_going after_path outside.env changed ways flow.fresh any.path (env_grows n flow.fresh any.env flows_body.grows env) leads (any_path_reaches flow.fresh any.path ways leads)
+  going = join_going after_path outside.env changed ways flow.fresh any.path (env_grows n flow.fresh any.env flows_body.made.grows env) leads (any_path_reaches flow.fresh any.path ways leads)
 
   turn_off : (j : Interpretation) → AllOff j (ways_of flow.way) → AllTrue j turn_said
-  turn_off j off = by_way flow.way off flows_body.way
+  turn_off j off = by_way flow.way off flows_body.ways
     where
       by_way : (o : Option Way) → AllOff j (ways_of o) → AllLead flow.fresh inside.path (ways_of o) → AllTrue j (option_map_or (assert_turn loop.pos loop.invariants measures earlier) o [])
       by_way None off lead = tt
-      by_way (Some on) off lead = (turn_proper flow.fresh loop.pos loop.invariants measures earlier on lead.0.path_is lead.0.env (measure_grows n flow.fresh earlier flows_body.grows (measured_below n any.env env measures))).off j off.0
+      by_way (Some on) off lead = (turn_proper flow.fresh loop.pos loop.invariants measures earlier on lead.0.path_is lead.0.env (measure_grows n flow.fresh earlier flows_body.made.grows (measured_below n any.env env measures))).off j off.0
 
   -- the loop is left
   leave_play : (k : Mode) (j : Interpretation) (t : State) → Moves mode i n k j → OneSits k j all ways (meet before breaks) t → AllOff j (ways_of flow.way) → AllOff j flow.returns
       → Play B k j flow.fresh (turn_said ++ ((join after_path outside.env changed ways flow.fresh).said ++ more)) (λ handed. go (flows.Next (with_handed t handed)))
   leave_play k j t moves one no_way no_return =
       let joined = join after_path outside.env changed ways flow.fresh in
-      play_behind B k j flow.fresh turn_said (joined.said ++ more) (λ handed. go (flows.Next (with_handed t handed))) (λ u same. turn_off u (off_moves j u flow.fresh inside.path (ways_of flow.way) flows_body.way same no_way))
-      (join_then B flow.fresh all after_path any.path outside.env changed (meet before breaks) t k j more (λ handed. go (flows.Next (with_handed t handed))) (sorted_moves n i j moves.same all any.env env sorted) (env_grows n flow.fresh any.env flows_body.grows env) there
+      play_behind B k j flow.fresh turn_said (joined.said ++ more) (λ handed. go (flows.Next (with_handed t handed))) (λ u same. turn_off u (off_moves j u flow.fresh inside.path (ways_of flow.way) flows_body.ways same no_way))
+      (join_then B flow.fresh all after_path any.path outside.env changed (meet before breaks) t k j more (λ handed. go (flows.Next (with_handed t handed))) (sorted_moves n i j moves.same all any.env env sorted) (env_grows n flow.fresh any.env flows_body.made.grows env) there
       ways one leads (λ many. (one_path k j all ways (meet before breaks) t one, (any_path_reaches flow.fresh any.path ways leads).path_is)) cover going (λ w u is moved sits.
-      h.on k u (flows.Next t) (moves_then mode k k i j u n flow.fresh flows_body.grows moves moved)
+      h.on k u (flows.Next t) (moves_then mode k k i j u n flow.fresh flows_body.made.grows moves moved)
       (subst (λ o. OneSits k u all (ways_of o) (meet before breaks) t) (sym is) (inl (sits, tt)), tt, off_moves j u flow.fresh inside.path flow.returns flows_body.returns moved.same no_return)))
 
   -- the guard is false
@@ -137,11 +100,11 @@ module _ (B : Type 0) (all : List Ty) (back : Assigned) (program : Program) (m :
       let run : List Handed → Outcome B = (λ handed. go (flows.Next (with_handed s handed))) in
       let outside_sits : Sits mode i all outside before s = record { there = out; sorted = sits.sorted; holds = sits.holds; set = sits.set; present = sits.present } in
       let off_ways = (λ (xs : List Way) (lead : AllLead flow.fresh inside.path xs). off_lead i flow.fresh inside.path xs lead off) in
-      play_behind B mode i n flow.said (turn_said ++ (joined.said ++ more)) run (λ j same. flows_body.said.off j (sym (path_same n i j same inside.path (narrowed_below n any.path (term_of any.env loop.guard) path term_is)) ∙ off))
-      (play_later B mode i n flow.fresh (turn_said ++ (joined.said ++ more)) run flows_body.grows
+      play_behind B mode i n flow.said (turn_said ++ (joined.said ++ more)) run (λ j same. flows_body.made.said.off j (sym (path_same n i j same inside.path (narrowed_below n any.path (term_of any.env loop.guard) path term_is)) ∙ off))
+      (play_later B mode i n flow.fresh (turn_said ++ (joined.said ++ more)) run flows_body.made.grows
       (leave_play mode i s (moves_here mode i n)
       (one_less mode i all ways before (meet before breaks) s (reached_left before breaks reached) (λ k has. join_left before breaks k reached has) (inl (outside_sits, off_ways flow.breaks flows_body.breaks)))
-      (off_ways (ways_of flow.way) flows_body.way) (off_ways flow.returns flows_body.returns)))
+      (off_ways (ways_of flow.way) flows_body.ways) (off_ways flow.returns flows_body.returns)))
 
   -- the guard is true: the body runs once
   pub inside_onward : truth i (term_of any.env loop.guard) ≡ true → AreMeasured i earlier
@@ -157,11 +120,8 @@ module _ (B : Type 0) (all : List Ty) (back : Assigned) (program : Program) (m :
       out : truth i (term_of any.env loop.guard) ≡ true → path_true i outside.path ≡ false
       out is_true = narrowed_true i any.path (negation (term_of any.env loop.guard)) here ∙ negated i (term_of any.env loop.guard) true is_true
 
-      out_below : PathBelow n outside.path
-      out_below = narrowed_below n any.path (negation (term_of any.env loop.guard)) path (rw (term_is) refl)
-
       off_out : (j : Interpretation) → SameBelow n i j → path_true j outside.path ≡ false
-      off_out j same = sym (path_same n i j same outside.path out_below) ∙ out is_true
+      off_out j same = sym (path_same n i j same outside.path (narrowed_below n any.path (negation (term_of any.env loop.guard)) path (rw (term_is) refl))) ∙ out is_true
 
       behind_true : (j : Interpretation) → SameBelow n i j → AllOff j flow.breaks → AllOff j flow.returns → AllTrue j (joined.said ++ more)
       behind_true j same no_break no_return =
@@ -173,7 +133,7 @@ module _ (B : Type 0) (all : List Ty) (back : Assigned) (program : Program) (m :
 
       by_flow : (k : Mode) (j : Interpretation) (f : flows.Flow) → Moves mode i n k j → Comes k j all back (last_of flow) behind breaks f
           → Play B k j flow.fresh (turn_said ++ (joined.said ++ more)) (λ handed. after (behind_once m loop values (hand f handed)) go)
-      by_flow k j (flows.Next t) moves comes = by_way flow.way comes.0 flows_body.way
+      by_flow k j (flows.Next t) moves comes = by_way flow.way comes.0 flows_body.ways
         where
           by_way : (o : Option Way) → OneSits k j all (ways_of o) behind t → AllLead flow.fresh inside.path (ways_of o)
               → Play B k j flow.fresh (option_map_or (assert_turn loop.pos loop.invariants measures earlier) o [] ++ (joined.said ++ more)) (λ handed. after (behind_once m loop values (flows.Next (with_handed t handed))) go)
@@ -182,13 +142,13 @@ module _ (B : Type 0) (all : List Ty) (back : Assigned) (program : Program) (m :
               let below = measured_below n any.env env measures in
               subst (λ vs. Play B k j flow.fresh (assert_turn loop.pos loop.invariants measures earlier on ++ (joined.said ++ more)) (λ handed. after (behind_once m loop vs (flows.Next (with_handed t handed))) go)) (sym (measure_moves n i j moves.same earlier below))
               (turn_ends B all program m m_is locals within loop k j flow.fresh on before t earlier (joined.said ++ more) go (sym moves.same.program ∙ program_is) lead.0.env lead.0.path_is (sits_less k j all on behind before t reached kept (only k j all on behind t one))
-              typed read measures_typed measures_read (measure_grows n flow.fresh earlier flows_body.grows below) (measured_moves n i j moves.same earlier below are) (behind_true j moves.same comes.1 comes.2))
+              typed read measures_typed measures_read (measure_grows n flow.fresh earlier flows_body.made.grows below) (measured_moves n i j moves.same earlier below are) (behind_true j moves.same comes.1 comes.2))
       by_flow k j (flows.Break t) moves comes =
           let reached_breaks = one_reached k j all flow.breaks breaks t comes.0 in
           leave_play k j t moves (inr (off_out j moves.same, one_less k j all flow.breaks breaks (meet before breaks) t (reached_right before breaks reached_breaks) (λ x has. join_right before breaks x reached_breaks has) comes.0)) comes.1 comes.2
       by_flow k j (flows.Return t) moves comes =
           let off : AllOff j ways = (off_out j moves.same, comes.2) in
           let run : List Handed → Outcome B = (λ handed. go (flows.Return (with_handed t handed))) in
-          play_behind B k j flow.fresh turn_said (joined.said ++ more) run (λ u same. turn_off u (off_moves j u flow.fresh inside.path (ways_of flow.way) flows_body.way same comes.1))
+          play_behind B k j flow.fresh turn_said (joined.said ++ more) run (λ u same. turn_off u (off_moves j u flow.fresh inside.path (ways_of flow.way) flows_body.ways same comes.1))
           (play_behind B k j flow.fresh joined.said more run (λ u same. join_off_said u after_path outside.env changed ways flow.fresh (off_moves j u flow.fresh any.path ways leads same off))
-          (play_later B k j flow.fresh joined.fresh more run going.grows (h.on k j (flows.Return t) moves (comes.0, join_off_way j after_path outside.env changed ways flow.fresh off (λ many. no_path j ways off), tt, refl))))
+          (play_later B k j flow.fresh joined.fresh more run going.made.grows (h.on k j (flows.Return t) moves (comes.0, join_off_way j after_path outside.env changed ways flow.fresh off (λ many. no_path j ways off), tt, refl))))

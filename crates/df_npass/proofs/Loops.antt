@@ -1,71 +1,17 @@
 -- Runs of `print` and of loops.
-use Rattle.std.proofs.Common.{◌≡◌, ℕ, suc, Bool, true, false, ◌&&◌, if◌then◌else◌, List, [], ◌∷◌, ◌++◌, map, length, Option, None, Some, refl, sym, ap, ◌∙◌, subst, append_assoc, le_refl}
-use Rattle.std.specs.List.{list_all, flat_map}
-use Rattle.std.specs.Option.{option_map_or}
-use Rattle.df_base.specs.declared.pos.Pos.{Pos}
-use Rattle.df_lang.specs.declared.ty.Ty.{Ty}
+use Rattle.df_npass.proofs.Words.{◌≡◌, ℕ, suc, Bool, true, false, ◌&&◌, if◌then◌else◌, List, [], ◌∷◌, ◌++◌, map, length, Option, None, Some, refl, sym, ap, ◌∙◌, subst, append_assoc, le_refl, list_all, flat_map, option_map_or, Pos, Ty, Expr, Operand, Text, Shown, Clause, Measure, While, Stmts, Method, Program, loop_measure, is_type, is_expr, are_clauses, are_measures, is_operand, locals_after_all, is_measured, is_stmt, are_stmts, is_well_typed, Assigned, Unreached, has_value, meet, reads, reads_of_operand, reads_of_clauses, reads_of_measures, unassigned, Flowing, flow, flow_all, Value, truth_of, Outcome, Gives, TooDeep, after, State, printed, Meaning, Loop, AreDeclared, evaluate, check_all, print_all, execute, execute_all, turns_with, Running, changed_by_all, assume_each, or_dismissed, measure_values, handed_turn, behind_once, modular_turn, modular_turns, modular, plain_meaning, is_changed, both, four, are_there, all_there, nothing_missing, parted, place, all_carry, Within, before_all, program_of_modular, negation, Interpretation, truth, term_of, Measured, measured, term_below, Said, Way, narrowed, havoc, paths_of, any_path, join, at_clause, assert_clauses, assume_clauses, assert_expr, assert_measure, assert_operand, declared_by_all, changed_outside, last_of, assert_turn, behind_loop, pass_stmt, pass_all}
 use Rattle.df_lang.specs.declared.ty.Ty.TheVariants as types
-use Rattle.df_lang.specs.Expr.{Expr}
-use Rattle.df_lang.specs.Stmt.{Operand, Text, Value as Shown, Clause, Measure, While, Stmts}
-use Rattle.df_lang.specs.Program.{Method, Program}
-use Rattle.df_lang.specs.Measures.{loop_measure}
-use Rattle.df_lang.specs.Typing.{is_type, is_expr, are_clauses, are_measures, is_operand, locals_after_all, is_measured, is_stmt, are_stmts, is_well_typed}
-use Rattle.df_lang.specs.Assignment.{Assigned, Unreached, has_value, join as meet, reads, reads_of_operand, reads_of_clauses, reads_of_measures, unassigned, Flowing, flow, flow_all}
 use Rattle.df_meaning.specs.declared.kind.Kind.TheVariants as kinds
-use Rattle.df_meaning.specs.Value.{Value, truth_of}
 use Rattle.df_meaning.specs.Value as values
-use Rattle.df_meaning.specs.Outcome.{Outcome, Gives, TooDeep, after}
-use Rattle.df_meaning.specs.State.{State, printed}
-use Rattle.df_meaning.specs.Meaning.{Meaning, Loop}
 use Rattle.df_meaning.specs.Meaning as flows
-use Rattle.df_meaning.specs.Definite.{AreDeclared}
-use Rattle.df_meaning.specs.Evaluation.{evaluate}
-use Rattle.df_meaning.specs.Execution.{check_all, print_all, execute, execute_all}
-use Rattle.df_meaning.specs.Whole.{turns_with}
-use Rattle.df_meaning.specs.Modular.{Running, changed_by_all, assume_all as assume_each, or_dismissed, measure_values, handed_turn, behind_once, modular_turn, modular_turns, modular, plain_meaning}
-use Rattle.df_meaning.specs.Agreement.{is_changed}
-use Rattle.df_meaning.proofs.Cases.{both, four}
-use Rattle.df_meaning.proofs.Changing.{are_there, all_there}
-use Rattle.df_meaning.proofs.Counting.{nothing_missing, parted}
-use Rattle.df_meaning.proofs.Assigning.{place, all_carry}
-use Rattle.df_meaning.proofs.Stating.{Within, before_all}
-use Rattle.df_meaning.proofs.Modulars.{program_of_modular}
-use Rattle.df_nterm.specs.Term.{negation}
-use Rattle.df_nterm.specs.Meaning.{Interpretation, truth}
 use Rattle.df_nterm.specs.Meaning as meanings
-use Rattle.df_nterm.specs.Expressions.{term_of}
-use Rattle.df_nterm.specs.Measuring.{Measured, measured}
-use Rattle.df_nterm.proofs.Below.{term_below}
-use Rattle.df_npass.specs.Rules.{Said, Way, narrowed, havoc, paths_of, any_path, join}
 use Rattle.df_npass.specs.Statements as passing
-use Rattle.df_npass.specs.Statements.{goes_on, saying, at_clause, assert_clauses, assume_clauses, assert_expr, assert_measure, assert_operand, pass_call, pass_optional, declared_by_all, each_once, changed_outside, changed_in_branches, changed_outside_if, Parted, ways_of, last_of, first_of, path_behind, rejoined, assert_turn, behind_loop, pass_stmt, pass_all, pass_branches}
-use Rattle.df_npass.proofs.Saying.{narrowed_true}
-use Rattle.df_npass.proofs.Playing.{Mode, is_taking, moves_here, moves_then, same_then, Play, play_as, play_behind}
-use Rattle.df_npass.proofs.Proper.{measure_grows, measure_proper}
-use Rattle.df_npass.proofs.Leading.{narrowed_leads, havoc_going}
-use Rattle.df_npass.proofs.Flowing.{all_flows}
-use Rattle.df_npass.proofs.Staying.{AllStay, all_stay}
-use Rattle.df_npass.proofs.Reading.{with_handed, Sits, expr_then, check_then, assume_then, measures_then}
-use Rattle.df_npass.proofs.Coming.{holds_reached, path_same, join_left}
-use Rattle.df_npass.proofs.Turning.{once_there}
-use Rattle.df_npass.proofs.Turns.{turn_then}
-use Rattle.df_npass.proofs.Measures.{loop_measure_typed, loop_measure_reads}
-use Rattle.df_npass.proofs.Calling.{after_after, then_same, setting, running, entered_moves}
-use Rattle.df_npass.proofs.Standing.{Stands, stands_moves}
-use Rattle.df_npass.proofs.Declaring.{all_past}
+use Rattle.df_npass.proofs.Runs.{narrowed_true, Mode, is_taking, moves_here, moves_then, same_then, Play, play_as, play_behind, measure_grows, measure_proper, narrowed_leads, havoc_going, all_flows, AllStay, all_stay, with_handed, Sits, expr_then, check_then, assume_then, measures_then, after_after, then_same, path_same, join_left, once_there, loop_measure_typed, loop_measure_reads, all_declare, deep_play, decide, back, turn_then, setting, running, entered_moves, Stands, stands_moves, Onward, outside_there, types_there, declared_less}
 use Rattle.df_npass.proofs.Covering.{outside_is}
-use Rattle.df_npass.proofs.Sequencing.{Onward}
 use Rattle.df_npass.proofs.Looping.{three_parts, outside_play, inside_onward}
-use Rattle.df_npass.proofs.Nesting.{deep_play, decide}
-use Rattle.df_npass.proofs.Returning.{back}
-use Rattle.df_npass.proofs.Altering.{outside_there, types_there, declared_less}
-
-five_parts : {A : Type 0} (a b c d e more : List A) → (a ++ (b ++ (c ++ (d ++ e)))) ++ more ≡ a ++ (b ++ (c ++ (d ++ (e ++ more))))
-five_parts a b c d e more =
-    append_assoc a (b ++ (c ++ (d ++ e))) more ∙ ap (λ r. a ++ r) (append_assoc b (c ++ (d ++ e)) more ∙ ap (λ r. b ++ r) (append_assoc c (d ++ e) more ∙ ap (λ r. c ++ r) (append_assoc d e more)))
 
 while_parts : {A : Type 0} (a b c d e f more : List A) → ((a ++ (b ++ (c ++ (d ++ e)))) ++ f) ++ more ≡ a ++ (b ++ (c ++ (d ++ (e ++ (f ++ more)))))
-while_parts a b c d e f more = append_assoc (a ++ (b ++ (c ++ (d ++ e)))) f more ∙ five_parts a b c d e (f ++ more)
+while_parts a b c d e f more = simp append_assoc
 
 module _ (B : Type 0) (program : Program) (well : is_well_typed program ≡ true) (groups : List ℕ) (number : ℕ) (entry : List Measured) (entered : List Value) (own : Method) (all : List Ty) (all_types : list_all (is_type program) all ≡ true) where
   abbrev set : passing.Setting
@@ -74,17 +20,11 @@ module _ (B : Type 0) (program : Program) (well : is_well_typed program ≡ true
   abbrev run : Running
   run = running B program well groups number entry entered
 
-  abbrev Here : Mode → Interpretation → ℕ → Way → Assigned → State → Type 0
-  Here mode i n way before s = Stands program entry entered all mode i n way before s
-
-  abbrev On : Mode → Interpretation → ℕ → Parted → Assigned → Assigned → List Said → (flows.Flow → Outcome B) → Type 0
-  On mode i n parted behind carried more go = Onward B all (back own) mode i n parted behind carried more go
-
   -- ---- `print`
 
   pub print_then : (depth : ℕ) (locals : List Ty) (within : Within locals all) (in_loop : Bool) (before : Assigned) (operands : List Operand) (mode : Mode) (i : Interpretation) (n : ℕ) (way : Way) (s : State) (more : List Said) (go : State → Outcome B)
-      → list_all (is_operand (place program locals own in_loop)) operands ≡ true → unassigned before (flat_map reads_of_operand operands) ≡ [] → Here mode i n way before s
-      → ((t : State) → Here mode i n way before t → Play B mode i n more (λ handed. go (with_handed t handed))) → Play B mode i n (flat_map (assert_operand way) operands ++ more) (λ handed. after (print_all (modular run depth) (with_handed s handed) operands) go)
+      → list_all (is_operand (place program locals own in_loop)) operands ≡ true → unassigned before (flat_map reads_of_operand operands) ≡ [] → Stands program entry entered all mode i n way before s
+      → ((t : State) → Stands program entry entered all mode i n way before t → Play B mode i n more (λ handed. go (with_handed t handed))) → Play B mode i n (flat_map (assert_operand way) operands ++ more) (λ handed. after (print_all (modular run depth) (with_handed s handed) operands) go)
   print_then depth locals within in_loop before [] mode i n way s more go is read here h = h s here
   print_then depth locals within in_loop before (Text cs ∷ others) mode i n way s more go is read here h =
       let is = both (is_operand (place program locals own in_loop) (Text cs)) (list_all (is_operand (place program locals own in_loop)) others) is in
@@ -132,7 +72,7 @@ module _ (B : Type 0) (program : Program) (well : is_well_typed program ≡ true
     there = all_there (plain_meaning program) own body locals all true within parts.3
 
     -- the entry checks, where the depth does not reach a turn
-    pub shallow_play : (mode : Mode) (i : Interpretation) (n : ℕ) (way : Way) (s : State) (more : List Said) (go : flows.Flow → Outcome B) → (is_taking mode ≡ false → ⊥) → Here mode i n way before s
+    pub shallow_play : (mode : Mode) (i : Interpretation) (n : ℕ) (way : Way) (s : State) (more : List Said) (go : flows.Flow → Outcome B) → (is_taking mode ≡ false → ⊥) → Stands program entry entered all mode i n way before s
         → Play B mode i n ((pass_stmt set way (While at guard invariants decreases body) n).said ++ more) (λ handed. after (execute (modular run 0) (with_handed s handed) (While at guard invariants decreases body)) go)
     shallow_play mode i n way s more go not_following here =
         let m = modular run 0 in
@@ -157,10 +97,10 @@ module _ (B : Type 0) (program : Program) (well : is_well_typed program ≡ true
       m_is : m.program ≡ program
       m_is = program_of_modular run depth
 
-      turn_play : (mode : Mode) (i : Interpretation) (n : ℕ) (any : Way) (t : State) (more : List Said) (go : flows.Flow → Outcome B) → Here mode i n any before t
-          → ((w : Way) (said : List Said) (on_go : flows.Flow → Outcome B) → Here mode i n w before t → On mode i n (last_of (pass_all set w body n)) turn.behind turn.breaks said on_go
+      turn_play : (mode : Mode) (i : Interpretation) (n : ℕ) (any : Way) (t : State) (more : List Said) (go : flows.Flow → Outcome B) → Stands program entry entered all mode i n any before t
+          → ((w : Way) (said : List Said) (on_go : flows.Flow → Outcome B) → Stands program entry entered all mode i n w before t → Onward B all (back own) mode i n (last_of (pass_all set w body n)) turn.behind turn.breaks said on_go
           → Play B mode i n ((pass_all set w body n).said ++ said) (λ handed. after (execute_all m (with_handed t handed) body) on_go))
-          → On mode i n (last_of (behind_loop at invariants (loop_measure guard decreases) (measured any.env (loop_measure guard decreases)) (changed_outside body) (narrowed any (negation (term_of any.env guard))) (pass_all set (narrowed any (term_of any.env guard)) body n))) (meet before turn.breaks) Unreached more go
+          → Onward B all (back own) mode i n (last_of (behind_loop at invariants (loop_measure guard decreases) (measured any.env (loop_measure guard decreases)) (changed_outside body) (narrowed any (negation (term_of any.env guard))) (pass_all set (narrowed any (term_of any.env guard)) body n))) (meet before turn.breaks) Unreached more go
           → Play B mode i n (assume_clauses any invariants ++ (assert_expr any guard ++ (assert_measure (narrowed any (term_of any.env guard)) (loop_measure guard decreases) ++ ((behind_loop at invariants (loop_measure guard decreases) (measured any.env (loop_measure guard decreases)) (changed_outside body)
           (narrowed any (negation (term_of any.env guard))) (pass_all set (narrowed any (term_of any.env guard)) body n)).said ++ more)))) (λ handed. after (turned (with_handed t handed)) go)
       turn_play mode i n any t more go here body_play h =
@@ -181,14 +121,14 @@ module _ (B : Type 0) (program : Program) (well : is_well_typed program ≡ true
           let flows_body = all_flows set inside body n inside_leads.env inside_leads.path_is here.below in
           let typed_measures = loop_measure_typed program locals guard decreases parts.0 (measured_is decreases parts.2) in
           let read_measures = loop_measure_reads before guard decreases asks.0 asks.2 in
-          let reached = holds_reached i any.env before t here.sits.holds in
+          let reached = here.sits.holds.0 in
           let rest = flow_in.said ++ (turn_said ++ (joined_said ++ more)) in
           let program_is = here.entered_is.program_is in
           let carried = all_carry program own body locals true before parts.3 declared in
           let less = (λ (k : ℕ) (has : has_value before k ≡ true). declared_less before (length locals) k declared reached has) in
           let cover : (k : ℕ) → has_value (meet before turn.breaks) k ≡ true → is_changed changed k ≡ false → AllStay k any.env (outside ∷ flow_in.breaks) = (λ k has e.
           let has = join_left before turn.breaks k reached has in
-          let same = outside_is set own k body (all_past program own k body locals true parts.3 (less k has)) e in
+          let same = outside_is set own k body ((all_declare program own k body locals true parts.3).past (less k has)) e in
           (refl, (all_stay set inside body n k same).breaks)) in
           let kept = (λ (k : ℕ) (has : has_value before k ≡ true). carried.kept k (less k has) has) in
           let values = map (λ (one : Measured). meanings.value i one.value) earlier in
@@ -201,7 +141,7 @@ module _ (B : Type 0) (program : Program) (well : is_well_typed program ≡ true
           decide B flows.Flow mode i n (counted ++ rest) (λ handed. modular_turn m loop (with_handed t handed)) (λ handed. Gives (flows.Next (with_handed t handed))) go (truth i g)
           (λ is_true.
           let sits : Sits mode i all inside before t = record { there = narrowed_true i any.path g here.sits.there ∙ is_true; sorted = here.sits.sorted; holds = here.sits.holds; set = here.sits.set; present = here.sits.present } in
-          let here_inside : Here mode i n inside before t = record { env = here.env; path = inside_leads.path_is; below = here.below; entered_is = here.entered_is; sits = sits } in
+          let here_inside : Stands program entry entered all mode i n inside before t = record { env = here.env; path = inside_leads.path_is; below = here.below; entered_is = here.entered_is; sits = sits } in
           play_as B mode i n _ _ (λ handed. after (measure_values m (with_handed t handed) measures) (λ now. after (execute_all m (with_handed t handed) body) (λ f. after (behind_once m loop now f) go)))
           (λ handed. after_after (measure_values m (with_handed t handed) measures) _ go ∙ then_same (measure_values m (with_handed t handed) measures) _ _ (λ now. after_after (execute_all m (with_handed t handed) body) (behind_once m loop now) go))
           (measures_then B mode i n program m m_is program_is locals all here_within before inside t sits here.env inside_leads.path_is measures rest (λ handed now. after (execute_all m (with_handed t handed) body) (λ f. after (behind_once m loop now f) go)) typed_measures read_measures (λ are.
@@ -214,10 +154,10 @@ module _ (B : Type 0) (program : Program) (well : is_well_typed program ≡ true
           (outside_play B all (back own) program m m_is locals here_within loop mode i n any changed flow_in before turn.behind turn.breaks more go program_is here.env here.path term_is flows_body parts.1 asks.1 typed_measures read_measures here.sits.sorted
           (outside_there all body there) here.sits.there cover reached kept h t is_false here.sits)))))))
 
-      pub while_play : (mode : Mode) (i : Interpretation) (n : ℕ) (way : Way) (s : State) (more : List Said) (go : flows.Flow → Outcome B) → Here mode i n way before s
-          → ((k : Mode) (j : Interpretation) (fresh : ℕ) (w : Way) (t : State) (said : List Said) (on_go : flows.Flow → Outcome B) → is_taking mode ≡ is_taking k → Here k j fresh w before t → On k j fresh (last_of (pass_all set w body fresh)) turn.behind turn.breaks said on_go
+      pub while_play : (mode : Mode) (i : Interpretation) (n : ℕ) (way : Way) (s : State) (more : List Said) (go : flows.Flow → Outcome B) → Stands program entry entered all mode i n way before s
+          → ((k : Mode) (j : Interpretation) (fresh : ℕ) (w : Way) (t : State) (said : List Said) (on_go : flows.Flow → Outcome B) → is_taking mode ≡ is_taking k → Stands program entry entered all k j fresh w before t → Onward B all (back own) k j fresh (last_of (pass_all set w body fresh)) turn.behind turn.breaks said on_go
           → Play B k j fresh ((pass_all set w body fresh).said ++ said) (λ handed. after (execute_all m (with_handed t handed) body) on_go))
-          → On mode i n (last_of (pass_stmt set way (While at guard invariants decreases body) n)) (meet before turn.breaks) Unreached more go
+          → Onward B all (back own) mode i n (last_of (pass_stmt set way (While at guard invariants decreases body) n)) (meet before turn.breaks) Unreached more go
           → Play B mode i n ((pass_stmt set way (While at guard invariants decreases body) n).said ++ more) (λ handed. after (execute (modular run (suc depth)) (with_handed s handed) (While at guard invariants decreases body)) go)
       while_play mode i n way s more go here body_play h =
           let upper = modular run (suc depth) in
@@ -231,8 +171,8 @@ module _ (B : Type 0) (program : Program) (well : is_well_typed program ≡ true
           let asked = assert_expr any.way guard in
           let counted = assert_measure inside measures in
           let going = havoc_going (changed_outside body) n way here.env here.path in
-          let below = measure_grows n any.fresh entry going.grows here.below in
-          let reached = holds_reached i way.env before s here.sits.holds in
+          let below = measure_grows n any.fresh entry going.made.grows here.below in
+          let reached = here.sits.holds.0 in
           let rest = assumed ++ (asked ++ (counted ++ (loop_said ++ more))) in
           subst (λ said. Play B mode i n said (λ handed. after (execute upper (with_handed s handed) (While at guard invariants decreases body)) go)) (sym (while_parts entry_said any.said assumed asked counted loop_said more))
           (play_as B mode i n _ _ (λ handed. after (check_all upper (with_handed s handed) kinds.Entry invariants) (λ t. after (modular_turns m loop t) go)) (λ handed. after_after (check_all upper (with_handed s handed) kinds.Entry invariants) _ go)
@@ -240,9 +180,9 @@ module _ (B : Type 0) (program : Program) (well : is_well_typed program ≡ true
           (play_as B mode i n _ _ (λ handed. after (handed_turn program (changed_by_all body) (with_handed s handed) handed) (λ u. after (turned u) go))
           (λ handed. after_after (handed_turn m.program (changed_by_all body) (with_handed s handed) handed) turned go ∙ ap (λ q. after (handed_turn q (changed_by_all body) (with_handed s handed) handed) (λ u. after (turned u) go)) m_is)
           (turn_then B program all n way s before (declared_by_all body) (changed_by_all body) here.env here.path there
-          (λ k has c. once_there (declared_by_all body) (changed_by_all body) k (all_past program own k body locals true parts.3 (declared_less before (length locals) k declared reached has)) c)
-          mode i rest (λ u. after (turned u) go) here.entered_is.program_is well (types_there program all (changed_by_all body) all_types there) going.grows going.said.below here.sits (λ k j t moves sits.
+          (λ k has c. once_there (declared_by_all body) (changed_by_all body) k ((all_declare program own k body locals true parts.3).past (declared_less before (length locals) k declared reached has)) c)
+          mode i rest (λ u. after (turned u) go) here.entered_is.program_is well (types_there program all (changed_by_all body) all_types there) going.made.grows going.made.said.below here.sits (λ k j t moves sits.
           turn_play k j any.fresh any.way t more go
           (record { env = going.way.env; path = going.way.path_is; below = below; entered_is = entered_moves program entry entered n i j moves.same here.below here.entered_is; sits = sits })
           (λ w said on_go here_in on. body_play k j any.fresh w t said on_go moves.mode here_in on)
-          (record { on = λ l u f moved comes. h.on l u f (moves_then mode k l i j u n any.fresh going.grows moves moved) comes; over = λ u same ways breaks returns loses. h.over u (same_then n any.fresh i j u going.grows moves.same same) ways breaks returns loses }))))))
+          (record { on = λ l u f moved comes. h.on l u f (moves_then mode k l i j u n any.fresh going.made.grows moves moved) comes; over = λ u same ways breaks returns loses. h.over u (same_then n any.fresh i j u going.made.grows moves.same same) ways breaks returns loses }))))))

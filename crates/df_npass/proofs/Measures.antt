@@ -1,22 +1,8 @@
 -- Measures of well-typed loops and methods are well typed, and read what has a value.
-use Rattle.std.proofs.Common.{◌≡◌, ℕ, suc, true, false, ◌&&◌, List, [], ◌∷◌, ◌++◌, length, slice_get, unwrap_or, Option, None, Some, refl, sym, ap, ◌∙◌, subst, append_assoc}
-use Rattle.std.specs.List.{list_all}
-use Rattle.std.specs.Option.{option_map_or}
-use Rattle.df_base.specs.declared.pos.Pos.{Pos}
-use Rattle.df_lang.specs.declared.ty.Ty.{Ty}
+use Rattle.df_npass.proofs.Words.{◌≡◌, ℕ, suc, true, false, ◌&&◌, List, [], ◌∷◌, ◌++◌, length, slice_get, unwrap_or, Option, None, Some, refl, sym, ap, ◌∙◌, subst, append_assoc, list_all, option_map_or, Pos, Ty, Comparison, Expr, Junction, Chain, no_link, link, Measure, Param, Method, Program, types_of, distance, comparison_measure, guard_measure, measure_of_number, loop_measure, parameters_from, method_measure, same_type, is_type, is_integer, compares, is_expr, are_members, are_links, are_measures, reads, reads_of_members, reads_of_measures, Assigned, unassigned, both, three, joined, parted, joined_uses, same_self}
 use Rattle.df_lang.specs.declared.ty.Ty.TheVariants as types
 use Rattle.df_lang.specs.declared.expr.Junction.TheVariants as junctions
-use Rattle.df_lang.specs.declared.expr.Comparison.{Comparison}
 use Rattle.df_lang.specs.declared.expr.Comparison.TheVariants as comparisons
-use Rattle.df_lang.specs.Expr.{Expr, Junction, Chain, no_link, link}
-use Rattle.df_lang.specs.Stmt.{Measure}
-use Rattle.df_lang.specs.Program.{Param, Method, Program, types_of}
-use Rattle.df_lang.specs.Measures.{distance, comparison_measure, guard_measure, measure_of_number, loop_measure, parameters_from, method_measure}
-use Rattle.df_lang.specs.Typing.{same_type, is_type, is_integer, compares, is_expr, are_members, are_links, are_measures}
-use Rattle.df_lang.specs.Assignment.{reads, reads_of_members, reads_of_measures, Assigned, unassigned}
-use Rattle.df_meaning.proofs.Cases.{both, three, joined}
-use Rattle.df_meaning.proofs.Counting.{parted, joined_uses}
-use Rattle.df_meaning.proofs.Stating.{same_self}
 
 abbrev pub AreTyped : Program → List Ty → List Measure → Type 0
 AreTyped p locals measures = list_all (λ (measure : Measure). is_expr p locals measure.ty measure.value) measures ≡ true
@@ -28,10 +14,7 @@ module _ (p : Program) (locals : List Ty) where
       let are = both (is_type p measure.ty && is_expr p locals measure.ty measure.value) (are_measures p locals (Some others)) are in
       joined _ _ (both (is_type p measure.ty) (is_expr p locals measure.ty measure.value) are.0).1 (clause_typed others are.1)
 
-  -- ---- of methods
-
-  parameter_typed : (from : ℕ) (ty : Ty) (o : Option Ty) → slice_get locals from ≡ o → o ≡ Some ty → option_map_or (same_type ty) (slice_get locals from) false ≡ true
-  parameter_typed from ty o e f = subst (λ (x : Option Ty). option_map_or (same_type ty) x false ≡ true) (sym (e ∙ f)) (same_self ty)
+-- ---- of methods
 
 pub get_at : (front : List Ty) (ty : Ty) (rest : List Ty) → slice_get (front ++ ty ∷ rest) (length front) ≡ Some ty
 get_at [] ty rest = refl
@@ -44,7 +27,7 @@ one_longer (t ∷ ts) ty = ap suc (one_longer ts ty)
 parameters_typed : (p : Program) (locals front : List Ty) (params : List Param) → front ++ types_of params ≡ locals → AreTyped p locals (parameters_from (length front) params)
 parameters_typed p locals front [] e = refl
 parameters_typed p locals front (param ∷ others) e =
-    joined _ _ (parameter_typed p locals (length front) param.ty (slice_get locals (length front)) refl (subst (λ (tys : List Ty). slice_get tys (length front) ≡ Some param.ty) e (get_at front param.ty (types_of others))))
+    joined _ _ (subst (λ (x : Option Ty). option_map_or (same_type param.ty) x false ≡ true) (sym (subst (λ (tys : List Ty). slice_get tys (length front) ≡ Some param.ty) e (get_at front param.ty (types_of others)))) (same_self param.ty))
     (subst (λ (k : ℕ). AreTyped p locals (parameters_from k others)) (one_longer front param.ty)
     (parameters_typed p locals (front ++ param.ty ∷ []) others (append_assoc front (param.ty ∷ []) (types_of others) ∙ e)))
 
@@ -75,24 +58,11 @@ module _ (p : Program) (locals : List Ty) where
   comparison_typed : (ty : Ty) (at : Pos) (a : Expr) (comparison : Comparison) (b : Expr) → compares p ty comparison ≡ true → is_expr p locals ty a ≡ true → is_expr p locals ty b ≡ true → Typed (comparison_measure ty at a comparison b)
   comparison_typed types.Bool at a comparison b c h k = tt
   comparison_typed types.Char at a comparison b c h k = tt
-  comparison_typed types.Int at a comparisons.Less b c h k = distance_typed types.Int at a b c h k
-  comparison_typed types.Int at a comparisons.AtMost b c h k = distance_typed types.Int at a b c h k
-  comparison_typed types.Int at a comparisons.Greater b c h k = distance_typed types.Int at b a c k h
-  comparison_typed types.Int at a comparisons.AtLeast b c h k = distance_typed types.Int at b a c k h
-  comparison_typed types.Int at a comparisons.Equal b c h k = tt
-  comparison_typed types.Int at a comparisons.NotEqual b c h k = tt
-  comparison_typed types.Nat at a comparisons.Less b c h k = distance_typed types.Nat at a b c h k
-  comparison_typed types.Nat at a comparisons.AtMost b c h k = distance_typed types.Nat at a b c h k
-  comparison_typed types.Nat at a comparisons.Greater b c h k = distance_typed types.Nat at b a c k h
-  comparison_typed types.Nat at a comparisons.AtLeast b c h k = distance_typed types.Nat at b a c k h
-  comparison_typed types.Nat at a comparisons.Equal b c h k = tt
-  comparison_typed types.Nat at a comparisons.NotEqual b c h k = tt
-  comparison_typed (types.Newtype id) at a comparisons.Less b c h k = distance_typed (types.Newtype id) at a b c h k
-  comparison_typed (types.Newtype id) at a comparisons.AtMost b c h k = distance_typed (types.Newtype id) at a b c h k
-  comparison_typed (types.Newtype id) at a comparisons.Greater b c h k = distance_typed (types.Newtype id) at b a c k h
-  comparison_typed (types.Newtype id) at a comparisons.AtLeast b c h k = distance_typed (types.Newtype id) at b a c k h
-  comparison_typed (types.Newtype id) at a comparisons.Equal b c h k = tt
-  comparison_typed (types.Newtype id) at a comparisons.NotEqual b c h k = tt
+  comparison_typed ty at a comparisons.Less b c h k = distance_typed ty at a b c h k
+  comparison_typed ty at a comparisons.AtMost b c h k = distance_typed ty at a b c h k
+  comparison_typed ty at a comparisons.Greater b c h k = distance_typed ty at b a c k h
+  comparison_typed ty at a comparisons.AtLeast b c h k = distance_typed ty at b a c k h
+  comparison_typed ty at a comparison b c h k = tt
 
   guard_typed : (guard : Expr) → is_expr p locals types.Bool guard ≡ true → Typed (guard_measure guard)
   guard_typed (Chain ty first (link comparison at operand no_link)) is =

@@ -1,26 +1,14 @@
 -- How deep runs of statements go.
-use Rattle.std.proofs.Common.{◌≡◌, ℕ, zero, suc, ◌+◌, Bool, true, false, if◌then◌else◌, List, refl}
-use Rattle.df_lang.specs.Stmt.{Stmt, Block, Var, Assign, CallOf, If, While, Break, Return, Assert, Print, Stmts, done, next, Branches, no_branch, branch}
-use Rattle.df_meaning.specs.Outcome.{Outcome, TooDeep, after}
-use Rattle.df_meaning.specs.State.{Handed}
-use Rattle.df_meaning.specs.Modular.{Running, modular_call, modular}
-use Rattle.df_nterm.specs.Meaning.{Interpretation}
-use Rattle.df_npass.specs.Rules.{Said}
+use Rattle.df_npass.proofs.Words.{◌≡◌, ℕ, zero, suc, ◌+◌, Bool, true, false, if◌then◌else◌, List, refl, Stmt, Block, If, While, Stmts, done, next, Branches, no_branch, branch, Outcome, TooDeep, after, Handed, Running, modular_call, modular, Interpretation, Said}
 use Rattle.df_npass.proofs.Playing.{Mode, Following, Taking, is_taking, Play, play_silent, not_deep}
 
 -- how many loops are in it: a depth that is enough
 abbrev mutual
   pub nesting : Stmt → ℕ
   nesting (Block at body) = nesting_all body
-  nesting (Var at variables update) = 0
-  nesting (Assign at update) = 0
-  nesting (CallOf call) = 0
   nesting (If branches otherwise) = nesting_branches branches + nesting_all otherwise
   nesting (While at guard invariants decreases body) = suc (nesting_all body)
-  nesting (Break at) = 0
-  nesting (Return at update) = 0
-  nesting (Assert at condition) = 0
-  nesting (Print at operands) = 0
+  nesting stmt = 0
 
   pub nesting_all : Stmts → ℕ
   nesting_all done = 0

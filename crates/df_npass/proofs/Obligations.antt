@@ -1,68 +1,31 @@
 -- The obligation that the first false formula is, and the obligations of declarations.
-use Rattle.std.proofs.Common.{◌≡◌, ◌⊎◌, inl, inr, ℕ, zero, suc, ◌<◌, ◌+◌, true, false, List, [], ◌∷◌, ◌++◌, length, slice_get, slice_index_or, Contains, Some, Bool, ◌||◌, if◌then◌else◌, refl, sym, ap, subst, arith}
+use Rattle.df_npass.proofs.Words.{◌≡◌, ◌⊎◌, inl, inr, ℕ, zero, suc, ◌+◌, true, false, List, [], ◌∷◌, ◌++◌, slice_get, Contains, Some, refl, sym, ap, subst, arith, AllByRecursion, list_any, option_and_then, Pos, Method, Decl, NewtypeDecl, MethodDecl, Program, as_method, Kind, Term, Interpretation, truth, same_term, term_is, Said, Known, Owed, Obligation, known_with, obligations_of, obligations_of_method, obligations_of_decl, obligations_from, all_front, all_joined, none_there, choice, cond_both, or_cases}
 use Rattle.std.proofs.lemmas.List.Elements.{Contains-append_left, Contains-append_right, Contains-append_cases}
-use Rattle.std.specs.List.{AllByRecursion, list_any}
-use Rattle.std.specs.Option.{option_and_then}
-use Rattle.df_base.specs.declared.pos.Pos.{Pos}
-use Rattle.df_lang.specs.Program.{Method, Decl, NewtypeDecl, MethodDecl, Program, as_method}
-use Rattle.df_meaning.specs.declared.kind.Kind.{Kind}
-use Rattle.df_nterm.specs.Term.{Term}
-use Rattle.df_nterm.specs.Meaning.{Interpretation, truth}
-use Rattle.df_nterm.specs.Same.{same_term}
-use Rattle.df_nterm.proofs.Equal.{term_is}
-use Rattle.df_npass.specs.Rules.{Said, Known, Owed}
-use Rattle.df_npass.specs.Methods.{Obligation, known_with, obligations_of, obligations_of_method, obligations_of_decl, obligations_from}
 use Rattle.df_npass.proofs.Playing.{FirstFalse}
+use Rattle.df_lemmas.proofs.Alls.{all_there}
 
 abbrev pub AllHold : Interpretation → List Term → Type 0
 AllHold i formulas = AllByRecursion (λ (formula : Term). truth i formula ≡ true) formulas
 
-hold_appended : (i : Interpretation) (known : List Term) (formula : Term) → AllHold i known → truth i formula ≡ true → AllHold i (known ++ formula ∷ [])
-hold_appended i [] formula h e = (e, tt)
-hold_appended i (x ∷ known) formula h e = (h.0, hold_appended i known formula h.1 e)
-
-hold_before : (i : Interpretation) (known : List Term) (formula : Term) → AllHold i (known ++ formula ∷ []) → AllHold i known × (truth i formula ≡ true)
-hold_before i [] formula h = (tt, h.0)
-hold_before i (x ∷ known) formula h = let rest = hold_before i known formula h.1 in ((h.0, rest.0), rest.1)
-
 -- what is known already is true with the others
 hold_found : (i : Interpretation) (known : List Term) (formula : Term) → list_any (same_term formula) known ≡ true → AllHold i known → truth i formula ≡ true
 hold_found i [] formula e h = cc
-hold_found i (x ∷ known) formula e h = first (same_term formula x) refl e (λ rest. hold_found i known formula rest h.1)
-  where
-    first : (b : Bool) → same_term formula x ≡ b → (b || list_any (same_term formula) known) ≡ true → (list_any (same_term formula) known ≡ true → truth i formula ≡ true) → truth i formula ≡ true
-    first true is e later = subst (λ (y : Term). truth i y ≡ true) (sym (term_is formula x is)) h.0
-    first false is e later = later e
+hold_found i (x ∷ known) formula e h = elim (or_cases (same_term formula x) (list_any (same_term formula) known) e) [
+  | inl is ↦ subst (λ (y : Term). truth i y ≡ true) (sym (term_is formula x is)) h.0
+  | inr rest ↦ hold_found i known formula rest h.1
+]
 
 hold_more : (i : Interpretation) (known : List Term) (formula : Term) → AllHold i known → truth i formula ≡ true → AllHold i (known_with known formula)
-hold_more i known formula h e = by_test (list_any (same_term formula) known)
-  where
-    by_test : (b : Bool) → AllHold i (if b then known else known ++ formula ∷ [])
-    by_test true = h
-    by_test false = hold_appended i known formula h e
+hold_more i known formula h e =
+    choice (AllHold i) (list_any (same_term formula) known) known (known ++ formula ∷ []) h (all_joined (λ (x : Term). truth i x ≡ true) known (formula ∷ []) h (e, tt))
 
 hold_less : (i : Interpretation) (known : List Term) (formula : Term) → AllHold i (known_with known formula) → AllHold i known × (truth i formula ≡ true)
-hold_less i known formula h = by_test (list_any (same_term formula) known) refl h
-  where
-    by_test : (b : Bool) → list_any (same_term formula) known ≡ b → AllHold i (if b then known else known ++ formula ∷ []) → AllHold i known × (truth i formula ≡ true)
-    by_test true e h = (h, hold_found i known formula e h)
-    by_test false e h = hold_before i known formula h
-
-head_there : {X : Type 0} (x : X) (xs : List X) → Contains (x ∷ xs) x
-head_there x xs = (0, omega arith, refl)
-
-rest_there : {X : Type 0} (y : X) (xs : List X) (x : X) → Contains xs x → Contains (y ∷ xs) x
-rest_there y xs x h = (suc h.0, (let less = h.1 in omega (arith, less)), h.2)
+hold_less i known formula = cond_both (list_any (same_term formula) known) known (known ++ formula ∷ []) (λ (x : List Term). AllHold i x → AllHold i known × (truth i formula ≡ true))
+    (λ e h. (h, hold_found i known formula e h)) (λ e h. (all_front (λ (x : Term). truth i x ≡ true) known (formula ∷ []) h, all_there (λ (x : Term). truth i x ≡ true) known [] formula h))
 
 head_or_rest : {X : Type 0} (y : X) (xs : List X) (x : X) → Contains (y ∷ xs) x → (y ≡ x) ⊎ Contains xs x
-head_or_rest {X} y xs x h = by_index h.0 h.1 h.2
-  where
-    by_index : (k : ℕ) → k < suc (length xs) → slice_index_or (y ∷ xs) k x ≡ x → (y ≡ x) ⊎ Contains xs x
-    by_index zero less e = inl e
-    by_index (suc k) less e = inr (k, omega (arith, less), e)
-
-none_there : {X : Type 0} (x : X) → Contains [] x → ⊥
-none_there x h = let less = h.1 in omega (arith, less)
+head_or_rest y xs x (zero, less, e) = inl e
+head_or_rest y xs x (suc k, less, e) = inr (k, omega (arith, less), e)
 
 -- ---- of one declaration
 
@@ -78,7 +41,7 @@ pub record Refutes (i : Interpretation) (number : ℕ) (among : List Obligation)
 
 more_among : (i : Interpretation) (number : ℕ) (first : Obligation) (among : List Obligation) (at : Pos) (kind : Kind) → Refutes i number among at kind → Refutes i number (first ∷ among) at kind
 more_among i number first among at kind r =
-    record { obligation = r.obligation; among_them = rest_there first among r.obligation r.among_them; declaration = r.declaration; place = r.place; kind_is = r.kind_is; hypotheses = r.hypotheses; goal = r.goal }
+    record { obligation = r.obligation; among_them = Contains-append_right (first ∷ []) among r.obligation r.among_them; declaration = r.declaration; place = r.place; kind_is = r.kind_is; hypotheses = r.hypotheses; goal = r.goal }
 
 pub first_refuted : (i : Interpretation) (number : ℕ) (at : Pos) (kind : Kind) (said : List Said) (known : List Term) → FirstFalse i said at kind → AllHold i known → Refutes i number (obligations_of number known said) at kind
 first_refuted i number at kind [] known f h = absurd f
@@ -89,7 +52,7 @@ first_refuted i number at kind (Known formula ∷ others) known f h = elim f [
 first_refuted i number at kind (Owed own what formula ∷ others) known f h = elim f [
   | inl g ↦ more_among i number (record { declaration = number; pos = own; kind = what; hypotheses = known; goal = formula }) (obligations_of number (known_with known formula) others) at kind
       (first_refuted i number at kind others (known_with known formula) g.1 (hold_more i known formula h g.0))
-  | inr g ↦ record { obligation = record { declaration = number; pos = own; kind = what; hypotheses = known; goal = formula }; among_them = head_there _ _; declaration = refl; place = g.1.0; kind_is = g.1.1; hypotheses = h; goal = g.0 }
+  | inr g ↦ record { obligation = record { declaration = number; pos = own; kind = what; hypotheses = known; goal = formula }; among_them = (0, omega arith, refl); declaration = refl; place = g.1.0; kind_is = g.1.1; hypotheses = h; goal = g.0 }
 ]
 
 -- what is known before is among the hypotheses

@@ -1,53 +1,13 @@
 -- Passing over statements tells of their runs.
-use Rattle.std.proofs.Common.{◌≡◌, inl, ℕ, zero, suc, ◌≤◌, ◌+◌, Bool, true, false, not, if◌then◌else◌, List, [], ◌++◌, length, Some, refl, sym, ap, ◌∙◌, subst, append_assoc, arith, le_trans}
-use Rattle.std.specs.List.{list_all, flat_map}
-use Rattle.df_lang.specs.declared.ty.Ty.{Ty}
+use Rattle.df_npass.proofs.Words.{◌≡◌, inl, ℕ, zero, suc, ◌≤◌, ◌+◌, Bool, true, false, not, if◌then◌else◌, List, [], ◌++◌, length, Some, refl, sym, ap, ◌∙◌, subst, append_assoc, arith, le_trans, list_all, flat_map, Ty, Stmt, Block, Var, Assign, CallOf, If, While, Break, Return, Assert, Print, Stmts, done, next, Branches, no_branch, branch, Method, Program, is_type, is_expr, are_clauses, may_update, are_numbered, variable_numbers, variable_types, locals_after, locals_after_all, locals_after_branches, is_measured, is_stmt, are_stmts, are_branches, is_well_typed, Assigned, Unreached, declare, assign_all, reads, reads_of_clauses, reads_of_measures, reads_of_update, unassigned, Flowing, results_at, flow, flow_all, flow_branches, Value, truth_of, Outcome, Gives, Wrong, after, State, AreDeclared, evaluate, declare_all, execute_call, execute_optional, print_all, go_on, goes, execute, execute_all, execute_branches, Running, modular, plain_meaning, both, three, four, stmt_there, nothing_missing, parted, place, carries, declared_more, grows, all_grow, branches_grow, Within, before_all, before_branches, return_updates, program_of_modular, Term, negation, Interpretation, truth, term_of, Measured, IsBelow, term_below, Said, Way, narrowed, assert, join_branches, Moved, goes_on, saying, assert_expr, assert_operand, pass_call, pass_optional, changed_outside_if, last_of, path_behind, pass_stmt, pass_all, pass_branches}
 use Rattle.df_lang.specs.declared.ty.Ty.TheVariants as types
-use Rattle.df_lang.specs.Stmt.{Stmt, Block, Var, Assign, CallOf, If, While, Break, Return, Assert, Print, Stmts, done, next, Branches, no_branch, branch}
-use Rattle.df_lang.specs.Program.{Method, Program}
-use Rattle.df_lang.specs.Typing.{is_type, is_expr, are_clauses, may_update, are_numbered, variable_numbers, variable_types, locals_after, locals_after_all, locals_after_branches, is_measured, is_stmt, are_stmts, are_branches, is_well_typed}
-use Rattle.df_lang.specs.Assignment.{Assigned, Unreached, declare, assign_all, reads, reads_of_clauses, reads_of_measures, reads_of_update, unassigned, Flowing, results_at, flow, flow_all, flow_branches}
 use Rattle.df_meaning.specs.declared.kind.Kind.TheVariants as kinds
-use Rattle.df_meaning.specs.Value.{Value, truth_of}
-use Rattle.df_meaning.specs.Outcome.{Outcome, Gives, Wrong, after}
-use Rattle.df_meaning.specs.State.{State}
-use Rattle.df_meaning.specs.Meaning.{Meaning, Loop}
 use Rattle.df_meaning.specs.Meaning as flows
-use Rattle.df_meaning.specs.Definite.{AreDeclared}
-use Rattle.df_meaning.specs.Evaluation.{evaluate}
-use Rattle.df_meaning.specs.Execution.{declare_all, execute_call, execute_optional, print_all, go_on, goes, execute, execute_all, execute_branches}
-use Rattle.df_meaning.specs.Modular.{Running, modular, plain_meaning}
-use Rattle.df_meaning.proofs.Cases.{both, three, four}
-use Rattle.df_meaning.proofs.Changing.{stmt_there}
-use Rattle.df_meaning.proofs.Counting.{nothing_missing, parted}
-use Rattle.df_meaning.proofs.Assigning.{place, carries, declared_more, grows, all_grow, branches_grow}
-use Rattle.df_meaning.proofs.Stating.{Within, before_all, before_branches, return_updates}
-use Rattle.df_meaning.proofs.Modulars.{program_of_modular}
-use Rattle.df_nterm.specs.Term.{Term, negation}
-use Rattle.df_nterm.specs.Meaning.{Interpretation, truth}
-use Rattle.df_nterm.specs.Expressions.{term_of}
-use Rattle.df_nterm.specs.Measuring.{Measured}
-use Rattle.df_nterm.proofs.Below.{IsBelow, term_below}
-use Rattle.df_npass.specs.Rules.{Said, Way, narrowed, assert, join_branches}
 use Rattle.df_npass.specs.Statements as passing
-use Rattle.df_npass.specs.Rules.{Moved}
-use Rattle.df_npass.specs.Statements.{goes_on, saying, at_clause, assert_clauses, assume_clauses, assert_expr, assert_measure, assert_operand, pass_call, pass_optional, declared_by_all, each_once, changed_outside, changed_in_branches, changed_outside_if, Parted, ways_of, last_of, first_of, path_behind, rejoined, assert_turn, behind_loop, pass_stmt, pass_all, pass_branches}
-use Rattle.df_npass.proofs.Saying.{narrowed_true}
-use Rattle.df_npass.proofs.Playing.{Mode, is_taking, Moves, moves_here, Play, play_as}
-use Rattle.df_npass.proofs.Proper.{narrowed_below, measure_grows, env_grows, path_grows}
-use Rattle.df_npass.proofs.Leading.{call_giving}
-use Rattle.df_npass.proofs.Flowing.{stmt_flows, all_flows, branches_flow}
-use Rattle.df_npass.proofs.Reading.{with_handed, after_if, checked_then, expr_then}
-use Rattle.df_npass.proofs.Coming.{holds_reached, sits_less}
-use Rattle.df_npass.proofs.Calling.{after_after, setting, running, entered_moves}
-use Rattle.df_npass.proofs.Standing.{Stands, stands_moves, declared_stands, declared_handed}
+use Rattle.df_npass.proofs.Runs.{narrowed_true, Mode, is_taking, Moves, moves_here, Play, play_as, narrowed_below, measure_grows, env_grows, path_grows, call_giving, stmt_flows, all_flows, branches_flow, with_handed, after_if, checked_then, expr_then, after_after, sits_less, nesting, nesting_all, nesting_branches, call_of_modular, decide, update_keeps, back, few, HasParameters, back_has, setting, running, entered_moves, Stands, stands_moves, declared_stands, declared_handed, Onward, then_play, if_there}
 use Rattle.df_npass.proofs.Updating.{printed_state, call_plays, optional_then}
 use Rattle.df_npass.proofs.Covering.{if_covers}
-use Rattle.df_npass.proofs.Sequencing.{Onward, then_play}
 use Rattle.df_npass.proofs.Branching.{taken_onward, passed_play, rejoin_onward}
-use Rattle.df_npass.proofs.Nesting.{nesting, nesting_all, nesting_branches, call_of_modular, decide}
-use Rattle.df_npass.proofs.Returning.{update_keeps, back, few, HasParameters, back_has}
-use Rattle.df_npass.proofs.Altering.{if_there}
 use Rattle.df_npass.proofs.Looping.{three_parts}
 use Rattle.df_npass.proofs.Loops.{print_then, shallow_play, while_play}
 
@@ -58,18 +18,12 @@ module _ (B : Type 0) (program : Program) (well : is_well_typed program ≡ true
   abbrev run : Running
   run = running B program well groups number entry entered
 
-  abbrev Here : Mode → Interpretation → ℕ → Way → Assigned → State → Type 0
-  Here mode i n way before s = Stands program entry entered all mode i n way before s
-
-  abbrev On : Mode → Interpretation → ℕ → Parted → Assigned → Assigned → List Said → (flows.Flow → Outcome B) → Type 0
-  On mode i n parted behind carried more go = Onward B all (back own) mode i n parted behind carried more go
-
   -- on to the next statement from where the way leads
-  next_on : (mode : Mode) (i : Interpretation) (n : ℕ) (moved : Moved) (before carried : Assigned) (more : List Said) (go : flows.Flow → Outcome B) → On mode i n (last_of (goes_on moved)) before carried more go
-      → (k : Mode) (j : Interpretation) (t : State) → Moves mode i n k j → Here k j moved.fresh moved.way before t → Play B k j moved.fresh more (λ handed. go (flows.Next (with_handed t handed)))
+  next_on : (mode : Mode) (i : Interpretation) (n : ℕ) (moved : Moved) (before carried : Assigned) (more : List Said) (go : flows.Flow → Outcome B) → Onward B all (back own) mode i n (last_of (goes_on moved)) before carried more go
+      → (k : Mode) (j : Interpretation) (t : State) → Moves mode i n k j → Stands program entry entered all k j moved.fresh moved.way before t → Play B k j moved.fresh more (λ handed. go (flows.Next (with_handed t handed)))
   next_on mode i n moved before carried more go h k j t moves here = h.on k j (flows.Next t) moves (inl (here.sits, tt), tt, tt)
 
-  narrowed_here : (mode : Mode) (i : Interpretation) (n : ℕ) (way : Way) (before : Assigned) (s : State) (formula : Term) → IsBelow n formula → truth i formula ≡ true → Here mode i n way before s → Here mode i n (narrowed way formula) before s
+  narrowed_here : (mode : Mode) (i : Interpretation) (n : ℕ) (way : Way) (before : Assigned) (s : State) (formula : Term) → IsBelow n formula → truth i formula ≡ true → Stands program entry entered all mode i n way before s → Stands program entry entered all mode i n (narrowed way formula) before s
   narrowed_here mode i n way before s formula below e here = record {
     env = here.env;
     path = narrowed_below n way.path formula here.path below;
@@ -87,7 +41,7 @@ module _ (B : Type 0) (program : Program) (well : is_well_typed program ≡ true
   mutual
     pub stmt_then : (stmt : Stmt) (depth : ℕ) (locals : List Ty) (in_loop : Bool) (before : Assigned) (mode : Mode) (i : Interpretation) (n : ℕ) (way : Way) (s : State) (more : List Said) (go : flows.Flow → Outcome B)
         → Within (locals_after locals stmt) all → is_stmt (place program locals own in_loop) stmt ≡ true → AreDeclared (length locals) before → HasParameters own before → few own ≤ length locals → (flow own before stmt).missing ≡ []
-        → (is_taking mode ≡ false → nesting stmt ≤ depth) → Here mode i n way before s → On mode i n (last_of (pass_stmt set way stmt n)) (flow own before stmt).behind (flow own before stmt).breaks more go
+        → (is_taking mode ≡ false → nesting stmt ≤ depth) → Stands program entry entered all mode i n way before s → Onward B all (back own) mode i n (last_of (pass_stmt set way stmt n)) (flow own before stmt).behind (flow own before stmt).breaks more go
         → Play B mode i n ((pass_stmt set way stmt n).said ++ more) (λ handed. after (execute (modular run depth) (with_handed s handed) stmt) go)
     stmt_then (Block at body) depth locals in_loop before mode i n way s more go within is declared params le missing deep here h = stmts_then body depth locals in_loop before mode i n way s more go within is declared params le missing deep here h
     stmt_then (Var at variables update) depth locals in_loop before mode i n way s more go within is declared params le missing deep here h =
@@ -108,7 +62,7 @@ module _ (B : Type 0) (program : Program) (well : is_well_typed program ≡ true
         let giving = call_giving set call way n here.path here.env here.below in
         play_as B mode i n _ _ (λ handed. after (execute_call m (with_handed s handed) call) (λ g. go (flows.Next g.state))) (λ handed. after_after (execute_call m (with_handed s handed) call) _ go)
         (call_plays B program well groups number entry entered m (program_of_modular run depth) (call_of_modular run depth) own locals all within in_loop before mode i n way s call more (λ g. go (flows.Next g.state)) is missing here (λ k j text moves are.
-        next_on mode i n (saying given.said given.fresh way) before Unreached more go h k j (printed_state s text) moves (stands_moves program entry entered all mode k i j n given.fresh way before s (printed_state s text) giving.grows moves (λ x. refl) here)))
+        next_on mode i n (saying given.said given.fresh way) before Unreached more go h k j (printed_state s text) moves (stands_moves program entry entered all mode k i j n given.fresh way before s (printed_state s text) giving.made.grows moves (λ x. refl) here)))
     stmt_then (If branches otherwise) depth locals in_loop before mode i n way s more go within is declared params le missing deep here h =
         let both_is = both (are_branches (place program locals own in_loop) branches) (are_stmts (place program (locals_after_branches locals branches) own in_loop) otherwise) is in
         let deeper : List Ty = locals_after_branches locals branches in
@@ -117,7 +71,7 @@ module _ (B : Type 0) (program : Program) (well : is_well_typed program ≡ true
         let parts = branches_flow set way branches (λ last. pass_all set last otherwise) n here.env here.path here.below (λ last more led grown. all_flows set last otherwise more led.env led.path_is grown) in
         let joined_said = (join_branches (path_behind way parted) way.env changed parted.ways parted.fresh).said in
         let flowing = flow_branches own before branches (flow_all own before otherwise) in
-        let reached = holds_reached i way.env before s here.sits.holds in
+        let reached = here.sits.holds.0 in
         let grown = branches_grow locals branches in
         let there = if_there all branches otherwise (stmt_there (plain_meaning program) own (If branches otherwise) locals all in_loop within is) in
         let inner = rejoin_onward B all (back own) mode i n way parted changed flowing.behind flowing.breaks more go parts here.env here.path here.sits.there here.sits.sorted there
@@ -160,7 +114,7 @@ module _ (B : Type 0) (program : Program) (well : is_well_typed program ≡ true
 
     pub stmts_then : (stmts : Stmts) (depth : ℕ) (locals : List Ty) (in_loop : Bool) (before : Assigned) (mode : Mode) (i : Interpretation) (n : ℕ) (way : Way) (s : State) (more : List Said) (go : flows.Flow → Outcome B)
         → Within (locals_after_all locals stmts) all → are_stmts (place program locals own in_loop) stmts ≡ true → AreDeclared (length locals) before → HasParameters own before → few own ≤ length locals → (flow_all own before stmts).missing ≡ []
-        → (is_taking mode ≡ false → nesting_all stmts ≤ depth) → Here mode i n way before s → On mode i n (last_of (pass_all set way stmts n)) (flow_all own before stmts).behind (flow_all own before stmts).breaks more go
+        → (is_taking mode ≡ false → nesting_all stmts ≤ depth) → Stands program entry entered all mode i n way before s → Onward B all (back own) mode i n (last_of (pass_all set way stmts n)) (flow_all own before stmts).behind (flow_all own before stmts).breaks more go
         → Play B mode i n ((pass_all set way stmts n).said ++ more) (λ handed. after (execute_all (modular run depth) (with_handed s handed) stmts) go)
     stmts_then done depth locals in_loop before mode i n way s more go within is declared params le missing deep here h = next_on mode i n (saying [] n way) before Unreached more go h mode i s (moves_here mode i n) here
     stmts_then (next stmt others) depth locals in_loop before mode i n way s more go within is declared params le missing deep here h =
@@ -175,18 +129,18 @@ module _ (B : Type 0) (program : Program) (well : is_well_typed program ≡ true
         let first = pass_stmt set way stmt n in
         let flows_first = stmt_flows set way stmt n here.env here.path here.below in
         then_play B all (back own) mode i n way.path first (λ on. pass_all set on others first.fresh) one two (λ handed. execute m (with_handed s handed) stmt) more go (λ t. execute_all m t others) flows_first
-        (λ on led. all_flows set on others first.fresh led.env led.path_is (measure_grows n first.fresh entry flows_first.grows here.below))
+        (λ on led. all_flows set on others first.fresh led.env led.path_is (measure_grows n first.fresh entry flows_first.made.grows here.below))
         (λ said on. stmt_then stmt depth locals in_loop before mode i n way s said (λ f. after (goes (λ t. execute_all m t others) f) go) (before_all deeper all others within) is.0 declared params le none.0 (λ e. sum_left (nesting stmt) (nesting_all others) depth (deep e)) here on)
         (λ on k j t led moves sits onward. stmts_then others depth deeper in_loop one.behind k j first.fresh on t more go within is.1 carried.behind (λ x less. carried.kept x (omega (arith, less, le)) (params x less)) (le_trans le grown) none.1
         (λ e. sum_right (nesting stmt) (nesting_all others) depth (deep (moves.mode ∙ e)))
-        (record { env = led.env; path = led.path_is; below = measure_grows n first.fresh entry flows_first.grows here.below; entered_is = entered_moves program entry entered n i j moves.same here.below here.entered_is; sits = sits }) onward) h
+        (record { env = led.env; path = led.path_is; below = measure_grows n first.fresh entry flows_first.made.grows here.below; entered_is = entered_moves program entry entered n i j moves.same here.below here.entered_is; sits = sits }) onward) h
 
     branches_then : (branches : Branches) (otherwise : Stmts) (depth : ℕ) (locals : List Ty) (in_loop : Bool) (before : Assigned) (mode : Mode) (i : Interpretation) (n : ℕ) (way : Way) (s : State) (more : List Said) (go : flows.Flow → Outcome B)
         → Within (locals_after_branches locals branches) all → are_branches (place program locals own in_loop) branches ≡ true → AreDeclared (length locals) before → HasParameters own before → few own ≤ length locals → (flow_branches own before branches (flow_all own before otherwise)).missing ≡ []
         → (is_taking mode ≡ false → nesting_branches branches ≤ depth)
-        → ((fresh : ℕ) (last : Way) (said : List Said) → (flow_all own before otherwise).missing ≡ [] → Here mode i fresh last before s → On mode i fresh (last_of (pass_all set last otherwise fresh)) (flow_all own before otherwise).behind (flow_all own before otherwise).breaks said go
+        → ((fresh : ℕ) (last : Way) (said : List Said) → (flow_all own before otherwise).missing ≡ [] → Stands program entry entered all mode i fresh last before s → Onward B all (back own) mode i fresh (last_of (pass_all set last otherwise fresh)) (flow_all own before otherwise).behind (flow_all own before otherwise).breaks said go
         → Play B mode i fresh ((pass_all set last otherwise fresh).said ++ said) (λ handed. after (execute_all (modular run depth) (with_handed s handed) otherwise) go))
-        → Here mode i n way before s → On mode i n (pass_branches set way branches (λ last. pass_all set last otherwise) n) (flow_branches own before branches (flow_all own before otherwise)).behind (flow_branches own before branches (flow_all own before otherwise)).breaks more go
+        → Stands program entry entered all mode i n way before s → Onward B all (back own) mode i n (pass_branches set way branches (λ last. pass_all set last otherwise) n) (flow_branches own before branches (flow_all own before otherwise)).behind (flow_branches own before branches (flow_all own before otherwise)).breaks more go
         → Play B mode i n ((pass_branches set way branches (λ last. pass_all set last otherwise) n).said ++ more) (λ handed. after (execute_branches (modular run depth) (with_handed s handed) branches (execute_all (modular run depth) (with_handed s handed) otherwise)) go)
     branches_then no_branch otherwise depth locals in_loop before mode i n way s more go within is declared params le missing deep last here h = last n way more missing here h
     branches_then (branch at guard body rest) otherwise depth locals in_loop before mode i n way s more go within is declared params le missing deep last here h =
@@ -208,7 +162,7 @@ module _ (B : Type 0) (program : Program) (well : is_well_typed program ≡ true
         let taken_path = narrowed_below n way.path g here.path term_is in
         let passed_path = narrowed_below n way.path (negation g) here.path negation_is in
         let flows_in = all_flows set taken body n here.env taken_path here.below in
-        let parts = branches_flow set passed rest (λ last. pass_all set last otherwise) flow_in.fresh (env_grows n flow_in.fresh way.env flows_in.grows here.env) (path_grows n flow_in.fresh passed.path flows_in.grows passed_path) (measure_grows n flow_in.fresh entry flows_in.grows here.below)
+        let parts = branches_flow set passed rest (λ last. pass_all set last otherwise) flow_in.fresh (env_grows n flow_in.fresh way.env flows_in.made.grows here.env) (path_grows n flow_in.fresh passed.path flows_in.made.grows passed_path) (measure_grows n flow_in.fresh entry flows_in.made.grows here.below)
         (λ last more led grown. all_flows set last otherwise more led.env led.path_is grown) in
         let grown = all_grow locals body in
         subst (λ said. Play B mode i n said (λ handed. after (execute_branches m (with_handed s handed) (branch at guard body rest) (execute_all m (with_handed s handed) otherwise)) go)) (sym (three_parts asked flow_in.said others.said more))
@@ -222,4 +176,4 @@ module _ (B : Type 0) (program : Program) (well : is_well_typed program ≡ true
         (λ is_false. passed_play B all (back own) mode i n taken.path passed.path flow_in others one two asked more go flows_in parts taken_path passed_path h
         (λ handed. after (execute_branches m (with_handed s handed) rest (execute_all m (with_handed s handed) otherwise)) go) (narrowed_true i way.path g here.sits.there ∙ is_false) (λ onward.
         branches_then rest otherwise depth deeper in_loop before mode i flow_in.fresh passed s more go within is.2 (declared_more (length locals) (length deeper) before grown declared) params (le_trans le grown) none.1 (λ e. sum_right (nesting_all body) (nesting_branches rest) depth (deep e)) last
-        (stands_moves program entry entered all mode mode i i n flow_in.fresh passed before s s flows_in.grows (moves_here mode i n) (λ x. refl) (narrowed_here mode i n way before s (negation g) negation_is (ap not is_false) here)) onward)))))
+        (stands_moves program entry entered all mode mode i i n flow_in.fresh passed before s s flows_in.made.grows (moves_here mode i n) (λ x. refl) (narrowed_here mode i n way before s (negation g) negation_is (ap not is_false) here)) onward)))))

@@ -1,16 +1,6 @@
 -- A run and what is said of it: what is false first tells where the run is wrong. Either the interpretation is given,
 -- and what is handed in is read from it; or what is handed in is given, and the interpretation takes it.
-use Rattle.std.proofs.Common.{if◌then◌else◌, Some, ◌≡◌, ◌⊎◌, inl, inr, ℕ, ◌≤◌, Bool, true, false, ◌&&◌, List, [], ◌∷◌, ◌++◌, refl, sym, ap, ◌∙◌, arith}
-use Rattle.df_base.specs.declared.pos.Pos.{Pos}
-use Rattle.df_meaning.specs.declared.kind.Kind.{Kind}
-use Rattle.df_meaning.specs.Value.{truth_of}
-use Rattle.df_meaning.specs.Outcome.{Outcome, Wrong, TooDeep, Dismissed}
-use Rattle.df_meaning.specs.State.{Handed}
-use Rattle.df_meaning.proofs.Cases.{both}
-use Rattle.df_nterm.specs.Term.{Term}
-use Rattle.df_nterm.specs.Meaning.{Interpretation, truth}
-use Rattle.df_nterm.proofs.Below.{IsBelow, SameBelow, value_same}
-use Rattle.df_npass.specs.Rules.{Said, Known, Owed}
+use Rattle.df_npass.proofs.Words.{◌≡◌, ◌⊎◌, inl, inr, ℕ, ◌≤◌, Bool, true, false, List, [], ◌∷◌, ◌++◌, refl, sym, ap, ◌∙◌, arith, Pos, Kind, truth_of, Outcome, Wrong, TooDeep, Dismissed, Handed, Term, Interpretation, truth, IsBelow, SameBelow, value_same, Said, Known, Owed, true_is_not_false}
 use Rattle.df_npass.proofs.Saying.{formula_of, AllTrue}
 use Rattle.df_npass.proofs.Proper.{AllBelow}
 
@@ -24,16 +14,9 @@ is_taking (Taking handed) = true
 
 -- ---- choices
 
-pub if_true : {A : Type 0} (b : Bool) (x y : A) → b ≡ true → (if b then x else y) ≡ x
-if_true true x y e = refl
-if_true false x y e = cc
-
-pub if_false : {A : Type 0} (b : Bool) (x y : A) → b ≡ false → (if b then x else y) ≡ y
-if_false true x y e = cc
-if_false false x y e = refl
-
-pub some_equal : {A : Type 0} (v w : A) → Some v ≡ Some w → v ≡ w
-some_equal v w e = cc
+pub by_bool : {P : Type 0} (b : Bool) → (b ≡ true → P) → (b ≡ false → P) → P
+by_bool true f g = f refl
+by_bool false f g = g refl
 
 -- ---- interpretations that agree below a number
 
@@ -64,10 +47,6 @@ moves_then a b c i j k n m le h g = record { same = same_then n m i j k le h.sam
 
 -- ---- what is false first
 
-pub apart : (b : Bool) → b ≡ true → b ≡ false → ⊥
-apart true e f = cc
-apart false e f = cc
-
 -- the formula is owed there by the kind
 abbrev pub IsOwedAt : Said → Pos → Kind → Type 0
 IsOwedAt (Known formula) at kind = ⊥
@@ -80,10 +59,10 @@ FirstFalse i (x ∷ others) at kind = ((truth i (formula_of x) ≡ true) × Firs
 
 module _ (i : Interpretation) (at : Pos) (kind : Kind) where
   pub first_tail : (x : Said) (more : List Said) → truth i (formula_of x) ≡ true → FirstFalse i (x ∷ more) at kind → FirstFalse i more at kind
-  first_tail x more e f = elim f [ inl g ↦ g.1 | inr g ↦ absurd (apart (truth i (formula_of x)) e g.0) ]
+  first_tail x more e f = elim f [ inl g ↦ g.1 | inr g ↦ absurd (true_is_not_false (truth i (formula_of x)) e g.0) ]
 
   pub first_head : (x : Said) (more : List Said) → truth i (formula_of x) ≡ false → FirstFalse i (x ∷ more) at kind → IsOwedAt x at kind
-  first_head x more e f = elim f [ inl g ↦ absurd (apart (truth i (formula_of x)) g.0 e) | inr g ↦ g.1 ]
+  first_head x more e f = elim f [ inl g ↦ absurd (true_is_not_false (truth i (formula_of x)) g.0 e) | inr g ↦ g.1 ]
 
   pub first_behind : (said more : List Said) → AllTrue i said → FirstFalse i more at kind → FirstFalse i (said ++ more) at kind
   first_behind [] more all f = f
@@ -122,19 +101,13 @@ abbrev pub Ends : {B : Type 0} → Said → Outcome B → Type 0
 Ends (Known formula) o = o ≡ Dismissed
 Ends (Owed at kind formula) o = o ≡ Wrong at kind
 
-same_wrong : {B : Type 0} (o : Outcome B) (own at : Pos) (what kind : Kind) → o ≡ Wrong own what → own ≡ at → what ≡ kind → o ≡ Wrong at kind
-same_wrong o own at what kind e a k = rw (← a, ← k) e
-
-wrong_same : {B : Type 0} (o : Outcome B) (own at : Pos) (what kind : Kind) → o ≡ Wrong own what → o ≡ Wrong at kind → (own ≡ at) × (what ≡ kind)
-wrong_same o own at what kind e f = let a : own ≡ at = cc in let k : what ≡ kind = cc in (a, k)
-
 ends_wrong : {B : Type 0} (x : Said) (o : Outcome B) (at : Pos) (kind : Kind) → IsOwedAt x at kind → Ends x o → o ≡ Wrong at kind
 ends_wrong (Known formula) o at kind h e = absurd h
-ends_wrong (Owed own what formula) o at kind h e = same_wrong o own at what kind e h.0 h.1
+ends_wrong (Owed own what formula) o at kind h e = e ∙ (λ k. Wrong (h.0 k) (h.1 k))
 
 wrong_owed : {B : Type 0} (x : Said) (o : Outcome B) (at : Pos) (kind : Kind) → Ends x o → o ≡ Wrong at kind → IsOwedAt x at kind
 wrong_owed (Known formula) o at kind e w = absurd (not_wrong at kind e w)
-wrong_owed (Owed own what formula) o at kind e w = wrong_same o own at what kind e w
+wrong_owed (Owed own what formula) o at kind e w = let a : own ≡ at = cc in let k : what ≡ kind = cc in (a, k)
 
 -- the run is another one
 pub play_as : (B : Type 0) (mode : Mode) (i : Interpretation) (n : ℕ) (said : List Said) (run other : List Handed → Outcome B) → ((handed : List Handed) → run handed ≡ other handed) → Play B mode i n said other → Play B mode i n said run
@@ -173,16 +146,12 @@ play_taking B handed i j n m said run le same h = record { to = h.to; same = sam
 -- one formula more: it is true, or it tells how the run ends
 pub said_then : (B : Type 0) (mode : Mode) (i : Interpretation) (n : ℕ) (x : Said) (more : List Said) (run : List Handed → Outcome B) → IsBelow n (formula_of x) → (truth i (formula_of x) ≡ true → Play B mode i n more run)
     → (truth i (formula_of x) ≡ false → (handed : List Handed) → Ends x (run handed)) → Play B mode i n (x ∷ more) run
-said_then B Following i n x more run below h g = by_truth (truth i (formula_of x)) refl
-  where
-    by_truth : (b : Bool) → truth i (formula_of x) ≡ b → Play B Following i n (x ∷ more) run
-    by_truth true e = let p = h e in record { new = p.new; tells = λ at kind f. p.tells at kind (first_tail i at kind x more e f) }
-    by_truth false e = record { new = []; tells = λ at kind f. ends_wrong x (run []) at kind (first_head i at kind x more e f) (g e []) }
-said_then B (Taking handed) i n x more run below h g = by_truth (truth i (formula_of x)) refl
-  where
-    by_truth : (b : Bool) → truth i (formula_of x) ≡ b → Play B (Taking handed) i n (x ∷ more) run
-    by_truth true e = let p = h e in record { to = p.to; same = p.same; blames = λ at kind w. inl (sym (truth_same n i p.to p.same (formula_of x) below) ∙ e, p.blames at kind w) }
-    by_truth false e = record { to = i; same = same_itself n i; blames = λ at kind w. inr (e, wrong_owed x (run handed) at kind (g e handed) w) }
+said_then B Following i n x more run below h g = by_bool (truth i (formula_of x))
+    (λ e. let p = h e in record { new = p.new; tells = λ at kind f. p.tells at kind (first_tail i at kind x more e f) })
+    (λ e. record { new = []; tells = λ at kind f. ends_wrong x (run []) at kind (first_head i at kind x more e f) (g e []) })
+said_then B (Taking handed) i n x more run below h g = by_bool (truth i (formula_of x))
+    (λ e. let p = h e in record { to = p.to; same = p.same; blames = λ at kind w. inl (sym (truth_same n i p.to p.same (formula_of x) below) ∙ e, p.blames at kind w) })
+    (λ e. record { to = i; same = same_itself n i; blames = λ at kind w. inr (e, wrong_owed x (run handed) at kind (g e handed) w) })
 
 -- ---- what is only known
 
@@ -201,26 +170,10 @@ known_first i at kind [] more known f = tt
 known_first i at kind (Known formula ∷ said) more known f = elim f [ inl g ↦ (g.0, known_first i at kind said more known g.1) | inr g ↦ absurd g.1 ]
 known_first i at kind (Owed own what formula ∷ said) more known f = absurd known
 
-abbrev all_true : Interpretation → List Said → Bool
-all_true i [] = true
-all_true i (x ∷ said) = truth i (formula_of x) && all_true i said
-
-all_is : (i : Interpretation) (said : List Said) → all_true i said ≡ true → AllTrue i said
-all_is i [] e = tt
-all_is i (x ∷ said) e = let e = both (truth i (formula_of x)) (all_true i said) e in (e.0, all_is i said e.1)
-
-both_true : (a b : Bool) → a ≡ true → b ≡ true → (a && b) ≡ true
-both_true true b e f = f
-both_true false b e f = cc
-
-is_all : (i : Interpretation) (said : List Said) → AllTrue i said → all_true i said ≡ true
-is_all i [] h = refl
-is_all i (x ∷ said) h = both_true (truth i (formula_of x)) (all_true i said) h.0 (is_all i said h.1)
-
 -- where it is not all true the run is left open
 pub known_then_follow : (B : Type 0) (i : Interpretation) (n : ℕ) (said more : List Said) (run : List Handed → Outcome B) → AreKnown said → (AllTrue i said → Play B Following i n more run) → Play B Following i n (said ++ more) run
-known_then_follow B i n said more run known h = by_all (all_true i said) refl
-  where
-    by_all : (b : Bool) → all_true i said ≡ b → Play B Following i n (said ++ more) run
-    by_all true e = let all = all_is i said e in let p = h all in record { new = p.new; tells = λ at kind f. p.tells at kind (first_rest i at kind said more all f) }
-    by_all false e = record { new = []; tells = λ at kind f. absurd (apart (all_true i said) (is_all i said (known_first i at kind said more known f)) e) }
+known_then_follow B i n [] more run known h = h tt
+known_then_follow B i n (Known formula ∷ said) more run known h = by_bool (truth i formula)
+    (λ e. let p = known_then_follow B i n said more run known (λ all. h (e, all)) in record { new = p.new; tells = λ at kind f. p.tells at kind (first_tail i at kind (Known formula) (said ++ more) e f) })
+    (λ e. record { new = []; tells = λ at kind f. absurd (first_head i at kind (Known formula) (said ++ more) e f) })
+known_then_follow B i n (Owed at kind formula ∷ said) more run known h = absurd known

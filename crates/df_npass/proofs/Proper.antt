@@ -1,21 +1,8 @@
 -- What is said speaks of free terms that stand already, and says nothing of runs that do not come there.
-use Rattle.std.proofs.Common.{◌≡◌, ℕ, ◌≤◌, false, List, [], ◌∷◌, ◌++◌, Option, None, Some, refl}
-use Rattle.std.specs.List.{AllByRecursion, flat_map}
-use Rattle.df_base.specs.declared.pos.Pos.{Pos}
-use Rattle.df_lang.specs.Expr.{Expr}
-use Rattle.df_lang.specs.Stmt.{Clause, Measure, Operand, Text, Value as Shown}
-use Rattle.df_meaning.specs.declared.kind.Kind.{Kind}
-use Rattle.df_nterm.specs.Term.{Term, Terms, no_term, term, terms_of, negation, implies, conjunction, disjunction, truth_term, either, sort_of_type, Numbers, Truths, Characters, Sort}
+use Rattle.df_npass.proofs.Words.{◌≡◌, ℕ, ◌≤◌, false, List, [], ◌∷◌, ◌++◌, Option, None, Some, refl, map, AllByRecursion, flat_map, Pos, Expr, Clause, Measure, Operand, Text, Shown, Kind, Term, either, sort_of_type, Numbers, Truths, Characters, Sort, Interpretation, Environment, Condition, term_of, conditions_of, Measured, measured, below_of, same_of, is_below, is_same, are_below, IsBelow, below_grows, AreBelow, term_below, conditions_below, Said, Way, on_path, narrowed_path, assume, assume_all, assert, assert_all, Known, Owed, assert_clauses, assume_clauses, assert_expr, assert_exprs, assert_measure, assert_operand, all_joined}
 use Rattle.df_nterm.specs.Term as ops
-use Rattle.df_nterm.specs.Meaning.{Interpretation}
-use Rattle.df_nterm.specs.Expressions.{Environment, Condition, term_of, conditions_of}
-use Rattle.df_nterm.specs.Measuring.{Measured, measured, below_of, same_of, is_below, is_same, are_below}
-use Rattle.df_nterm.proofs.Below.{IsBelow, below_grows, AreBelow, two_below, term_below, conditions_below}
 pub use Rattle.df_nterm.proofs.Below.{PathBelow, on_path_below, narrowed_below}
-use Rattle.df_npass.specs.Rules.{Said, Way, on_path, narrowed_path, assume, assume_all, assert, assert_all}
-use Rattle.df_npass.specs.Statements.{assert_clauses, assume_clauses, assert_expr, assert_exprs, assert_measure, assert_operand}
-use Rattle.df_npass.specs.Methods.{require_all}
-use Rattle.df_npass.proofs.Saying.{formula_of, AllTrue, path_true, all_appended, off_path, narrowed_false, assert_off, assume_off}
+use Rattle.df_npass.proofs.Saying.{formula_of, AllTrue, path_true, all_appended, off_path, narrowed_false, all_weaken}
 
 abbrev pub AllBelow : ℕ → List Said → Type 0
 AllBelow n said = AllByRecursion (λ (x : Said). IsBelow n (formula_of x)) said
@@ -30,14 +17,6 @@ pub record Proper (n : ℕ) (path : Option Term) (said : List Said) : Type 0 whe
 
 -- ---- growing
 
-pub below_append : (n : ℕ) (said more : List Said) → AllBelow n said → AllBelow n more → AllBelow n (said ++ more)
-below_append n [] more h g = g
-below_append n (x ∷ said) more h g = (h.0, below_append n said more h.1 g)
-
-pub said_grows : (n m : ℕ) (said : List Said) → n ≤ m → AllBelow n said → AllBelow m said
-said_grows n m [] more h = tt
-said_grows n m (x ∷ said) more h = (below_grows n m more (formula_of x) h.0, said_grows n m said more h.1)
-
 pub path_grows : (n m : ℕ) (path : Option Term) → n ≤ m → PathBelow n path → PathBelow m path
 path_grows n m None more h = tt
 path_grows n m (Some path) more h = below_grows n m more path h
@@ -46,13 +25,13 @@ pub env_grows : (n m : ℕ) (env : Environment) → n ≤ m → EnvBelow n env �
 env_grows n m env more h = λ local. below_grows n m more (env local) (h local)
 
 pub proper_grows : (n m : ℕ) (path : Option Term) (said : List Said) → n ≤ m → Proper n path said → Proper m path said
-proper_grows n m path said more h = record { below = said_grows n m said more h.below; off = h.off }
+proper_grows n m path said more h = record { below = all_weaken (λ (x : Said). IsBelow n (formula_of x)) (λ (x : Said). IsBelow m (formula_of x)) (λ x. below_grows n m more (formula_of x)) said h.below; off = h.off }
 
 pub nothing_proper : (n : ℕ) (path : Option Term) → Proper n path []
 nothing_proper n path = record { below = tt; off = λ i e. tt }
 
 pub append_proper : (n : ℕ) (path : Option Term) (said more : List Said) → Proper n path said → Proper n path more → Proper n path (said ++ more)
-append_proper n path said more h g = record { below = below_append n said more h.below g.below; off = λ i e. all_appended i said more (h.off i e) (g.off i e) }
+append_proper n path said more h g = record { below = all_joined (λ (x : Said). IsBelow n (formula_of x)) said more h.below g.below; off = λ i e. all_appended i said more (h.off i e) (g.off i e) }
 
 -- ---- on paths
 
@@ -66,19 +45,17 @@ known_proper n path formula h g = record { below = (on_path_below n path formula
 pub owed_proper : (n : ℕ) (path : Option Term) (at : Pos) (kind : Kind) (formula : Term) → PathBelow n path → IsBelow n formula → Proper n path (assert path at kind formula)
 owed_proper n path at kind formula h g = record { below = (on_path_below n path formula h g, tt); off = λ i e. (off_path i path formula e, tt) }
 
+conditions_proper : (n : ℕ) (path : Option Term) (say : Condition → Said) → ((c : Condition) → formula_of (say c) ≡ on_path path c.formula) → (cs : List Condition) → PathBelow n path → AreBelow n cs → Proper n path (map say cs)
+conditions_proper n path say is [] h g = nothing_proper n path
+conditions_proper n path say is (c ∷ cs) h g =
+    let more = conditions_proper n path say is cs h g.1 in
+    record { below = (rw (is c) (on_path_below n path c.formula h g.0), more.below); off = λ i e. (rw (is c) (off_path i path c.formula e), more.off i e) }
+
 pub asserted_proper : (n : ℕ) (path : Option Term) (cs : List Condition) → PathBelow n path → AreBelow n cs → Proper n path (assert_all path cs)
-asserted_proper n path cs h g = record { below = each cs g; off = λ i e. assert_off i path cs e }
-  where
-    each : (cs : List Condition) → AreBelow n cs → AllBelow n (assert_all path cs)
-    each [] g = tt
-    each (c ∷ cs) g = (on_path_below n path c.formula h g.0, each cs g.1)
+asserted_proper n path = conditions_proper n path (λ (c : Condition). Owed c.pos c.kind (on_path path c.formula)) (λ c. refl)
 
 pub assumed_proper : (n : ℕ) (path : Option Term) (cs : List Condition) → PathBelow n path → AreBelow n cs → Proper n path (assume_all path cs)
-assumed_proper n path cs h g = record { below = each cs g; off = λ i e. assume_off i path cs e }
-  where
-    each : (cs : List Condition) → AreBelow n cs → AllBelow n (assume_all path cs)
-    each [] g = tt
-    each (c ∷ cs) g = (on_path_below n path c.formula h g.0, each cs g.1)
+assumed_proper n path = conditions_proper n path (λ (c : Condition). Known (on_path path c.formula)) (λ c. refl)
 
 -- what is said of each
 each_proper : {A : Type 0} (n : ℕ) (path : Option Term) (f : A → List Said) → ((a : A) → Proper n path (f a)) → (xs : List A) → Proper n path (flat_map f xs)
@@ -98,9 +75,6 @@ module _ (n : ℕ) (way : Way) (path : PathBelow n way.path) (env : EnvBelow n w
   pub handed_proper : (clauses : List Clause) → Proper n way.path (assume_clauses way clauses)
   handed_proper clauses = each_proper n way.path _ (λ (clause : Clause). append_proper n way.path (assume_all way.path (conditions_of way.env clause.condition)) _
       (assumed_proper n way.path (conditions_of way.env clause.condition) path (conditions_below n way.env env clause.condition)) (known_proper n way.path (term_of way.env clause.condition) path (term_below n way.env env clause.condition))) clauses
-
-  pub required_proper : (clauses : List Clause) → Proper n way.path (require_all way clauses)
-  required_proper clauses = each_proper n way.path _ (λ (clause : Clause). append_proper n way.path (assert_expr way clause.condition) _ (expr_proper clause.condition) (known_proper n way.path (term_of way.env clause.condition) path (term_below n way.env env clause.condition))) clauses
 
   pub measure_proper : (measures : List Measure) → Proper n way.path (assert_measure way measures)
   measure_proper measures = each_proper n way.path _ (λ (measure : Measure). expr_proper measure.value) measures
@@ -122,31 +96,20 @@ measured_below n env h [] = tt
 measured_below n env h (measure ∷ others) = (term_below n env h measure.value, measured_below n env h others)
 
 pub measure_grows : (n m : ℕ) (members : List Measured) → n ≤ m → MeasureBelow n members → MeasureBelow m members
-measure_grows n m [] more h = tt
-measure_grows n m (one ∷ others) more h = (below_grows n m more one.value h.0, measure_grows n m others more h.1)
+measure_grows n m members more = all_weaken (λ (one : Measured). IsBelow n one.value) (λ (one : Measured). IsBelow m one.value) (λ one. below_grows n m more one.value) members
 
 module _ (n : ℕ) where
   below_sorted : (x y : Sort) (a b : Term) → IsBelow n a → IsBelow n b → IsBelow n (below_of x y a b)
   below_sorted Truths Truths a b h g = rw (h, g) refl
   below_sorted Characters Characters a b h g = rw (h, g) refl
   below_sorted Numbers Numbers a b h g = rw (h, g) refl
-  below_sorted Truths Characters a b h g = refl
-  below_sorted Truths Numbers a b h g = refl
-  below_sorted Characters Truths a b h g = refl
-  below_sorted Characters Numbers a b h g = refl
-  below_sorted Numbers Truths a b h g = refl
-  below_sorted Numbers Characters a b h g = refl
+  below_sorted x y a b h g = refl
 
   same_sorted : (x y : Sort) (a b : Term) → IsBelow n a → IsBelow n b → IsBelow n (same_of x y a b)
   same_sorted Truths Truths a b h g = rw (h, g) refl
   same_sorted Characters Characters a b h g = rw (h, g) refl
   same_sorted Numbers Numbers a b h g = rw (h, g) refl
-  same_sorted Truths Characters a b h g = refl
-  same_sorted Truths Numbers a b h g = refl
-  same_sorted Characters Truths a b h g = refl
-  same_sorted Characters Numbers a b h g = refl
-  same_sorted Numbers Truths a b h g = refl
-  same_sorted Numbers Characters a b h g = refl
+  same_sorted x y a b h g = refl
 
   step_below : (a b : Measured) (rest : Term) → IsBelow n a.value → IsBelow n b.value → IsBelow n rest → IsBelow n (either (is_below a b) (ops.both (is_same a b) rest))
   step_below a b rest h g e = rw (below_sorted (sort_of_type a.ty) (sort_of_type b.ty) a.value b.value h g, same_sorted (sort_of_type a.ty) (sort_of_type b.ty) a.value b.value h g, e) refl

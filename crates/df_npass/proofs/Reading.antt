@@ -1,43 +1,11 @@
 -- What is said of expressions, clauses and measures tells of their evaluation, and of what goes on from there.
-use Rattle.std.proofs.Common.{◌≡◌, inl, inr, ℕ, Bool, true, false, if◌then◌else◌, List, [], ◌∷◌, ◌++◌, map, slice_get, Option, Some, refl, sym, ap, ◌∙◌, subst, append_assoc}
-use Rattle.std.specs.List.{flat_map, list_all}
-use Rattle.df_base.specs.declared.pos.Pos.{Pos}
-use Rattle.df_lang.specs.declared.ty.Ty.{Ty}
+use Rattle.df_npass.proofs.Words.{◌≡◌, inl, inr, ℕ, Bool, true, false, if◌then◌else◌, List, [], ◌∷◌, ◌++◌, map, slice_get, Option, Some, refl, sym, ap, ◌∙◌, subst, append_assoc, flat_map, list_all, Pos, Ty, Expr, Clause, Measure, Program, is_expr, are_exprs, are_clauses, Use, Assigned, Unreached, Reached, reads, reads_of_clauses, reads_of_measures, unassigned, Kind, Value, truth_of, Outcome, Gives, Wrong, Dismissed, after, Handed, State, store_with, with_store, AreAssigned, Meaning, evaluate, evaluate_all, check_all, check_call, assume_each, or_dismissed, measure_values, both, Within, parted, use_has, evaluate_counts, not_dismissed, Term, sort_of_type, Interpretation, truth, has_sort, Environment, Condition, term_of, conditions_of, Measured, measured, told, AreMeasured, IsOr, told_after, IsSorted, HoldsOn, term_sorted, IsBelow, AreBelow, term_below, conditions_below, Said, Known, Owed, Way, is_unset, on_path, assume_all, assert_all, assume, assert, at_clause, assert_clauses, assume_clauses, assert_expr, assert_exprs, assert_measure, require_all, has_value}
+use Rattle.df_meaning.proofs.Same.{evaluate_same, after_same}
 use Rattle.df_lang.specs.declared.ty.Ty.TheVariants as types
-use Rattle.df_lang.specs.Expr.{Expr}
-use Rattle.df_lang.specs.Stmt.{Clause, Measure}
-use Rattle.df_lang.specs.Program.{Program}
-use Rattle.df_lang.specs.Typing.{is_expr, are_exprs, are_clauses}
-use Rattle.df_lang.specs.Assignment.{Use, Assigned, Unreached, Reached, reads, reads_of_clauses, reads_of_measures, unassigned}
-use Rattle.df_meaning.specs.declared.kind.Kind.{Kind}
 use Rattle.df_meaning.specs.declared.kind.Kind.TheVariants as kinds
-use Rattle.df_meaning.specs.Value.{Value, truth_of}
-use Rattle.df_meaning.specs.Outcome.{Outcome, Gives, Wrong, Dismissed, after}
 use Rattle.df_meaning.specs.Outcome as outcomes
-use Rattle.df_meaning.specs.State.{Handed, State, store_with, with_store}
-use Rattle.df_meaning.specs.Definite.{AreAssigned}
-use Rattle.df_meaning.specs.Meaning.{Meaning}
-use Rattle.df_meaning.specs.Evaluation.{evaluate}
-use Rattle.df_meaning.specs.Execution.{evaluate_all, check_all}
-use Rattle.df_meaning.specs.Whole.{check_call}
-use Rattle.df_meaning.specs.Modular.{assume_all as assume_each, or_dismissed, measure_values}
-use Rattle.df_meaning.proofs.Cases.{both}
-use Rattle.df_meaning.proofs.Same.{evaluate_same}
-use Rattle.df_meaning.proofs.Stating.{Within}
-use Rattle.df_meaning.proofs.Counting.{parted, use_has, evaluate_counts, not_dismissed}
-use Rattle.df_nterm.specs.Term.{Term, sort_of_type}
-use Rattle.df_nterm.specs.Meaning.{Interpretation, truth, has_sort}
 use Rattle.df_nterm.specs.Meaning as meanings
-use Rattle.df_nterm.specs.Expressions.{Environment, Condition, term_of, conditions_of}
-use Rattle.df_nterm.specs.Measuring.{Measured, measured}
-use Rattle.df_nterm.specs.Laws.{told, AreMeasured}
-use Rattle.df_nterm.proofs.Told.{IsOr, told_after}
 use Rattle.df_nterm.proofs.Laws.{evaluation_or_dismissed}
-use Rattle.df_nterm.proofs.Sorted.{IsSorted, HoldsOn, term_sorted}
-use Rattle.df_nterm.proofs.Below.{IsBelow, AreBelow, term_below, conditions_below}
-use Rattle.df_npass.specs.Rules.{Said, Known, Owed, Way, is_unset, on_path, assume_all, assert_all, assume, assert}
-use Rattle.df_npass.specs.Statements.{at_clause, assert_clauses, assume_clauses, assert_expr, assert_exprs, assert_measure}
-use Rattle.df_npass.specs.Methods.{require_all}
 use Rattle.df_npass.proofs.Saying.{path_true, on_it}
 use Rattle.df_npass.proofs.Playing.{Mode, Following, Taking, is_taking, Play, play_as, play_silent, said_then, not_wrong}
 use Rattle.df_npass.proofs.Proper.{PathBelow, EnvBelow, on_path_below}
@@ -47,10 +15,14 @@ use Rattle.df_npass.proofs.Unset.{SetAll, AllHold, is_set}
 abbrev pub with_handed : State → List Handed → State
 with_handed s handed = with_store s (store_with s.store.text handed)
 
--- the term of each local that has a value by the flow has its value
+-- runs come there by the flow
+abbrev pub IsReached : Assigned → Type 0
+IsReached Unreached = ⊥
+IsReached (Reached set) = Unit {0}
+
+-- and the term of each local that has a value by it has this value
 abbrev pub HoldAll : Interpretation → Environment → Assigned → State → Type 0
-HoldAll i env Unreached s = ⊥
-HoldAll i env (Reached set) s = (local : ℕ) (v : Value) → set local ≡ true → s.locals local ≡ Some v → meanings.value i (env local) ≡ v
+HoldAll i env before s = IsReached before × ((local : ℕ) (v : Value) → has_value before local ≡ true → s.locals local ≡ Some v → meanings.value i (env local) ≡ v)
 
 -- that of each local, also of one without a value, is of the sort of its type
 abbrev pub SortedAll : Interpretation → List Ty → Environment → Type 0
@@ -65,11 +37,10 @@ pub record Sits (mode : Mode) (i : Interpretation) (all : List Ty) (way : Way) (
   pub present : is_taking mode ≡ false → AreAssigned before s
 
 hold_on : (i : Interpretation) (locals all : List Ty) (env : Environment) (s : State) → SortedAll i all env → Within locals all → (before : Assigned) → HoldAll i env before s → (uses : List Use) → unassigned before uses ≡ [] → HoldsOn i locals env s uses
-hold_on i locals all env s sorted within Unreached h uses e = absurd h
-hold_on i locals all env s sorted within (Reached set) h [] e = tt
-hold_on i locals all env s sorted within (Reached set) h (u ∷ uses) e = (
-  record { sorted = λ ty there. sorted u.local ty (within.at u.local ty there); term = λ v there. h u.local v (use_has (Reached set) u uses e) there },
-  hold_on i locals all env s sorted within (Reached set) h uses ((parted (Reached set) (u ∷ []) uses e).1),
+hold_on i locals all env s sorted within before h [] e = tt
+hold_on i locals all env s sorted within before h (u ∷ uses) e = (
+  record { sorted = λ ty there. sorted u.local ty (within.at u.local ty there); term = λ v there. h.1 u.local v (use_has before u uses e) there },
+  hold_on i locals all env s sorted within before h uses ((parted before (u ∷ []) uses e).1),
 )
 
 abbrev pub values_at : Interpretation → List Term → List Value
@@ -95,32 +66,29 @@ pub record IsTerm (i : Interpretation) (env : Environment) (e : Expr) (ty : Ty) 
 pub three_parts : {A : Type 0} (xs ys zs ws : List A) → ((xs ++ ys) ++ zs) ++ ws ≡ xs ++ (ys ++ (zs ++ ws))
 three_parts xs ys zs ws = append_assoc (xs ++ ys) zs ws ∙ append_assoc xs ys (zs ++ ws)
 
+-- ---- outcomes
+
+pub after_after : {A B C : Type 0} (o : Outcome A) (f : A → Outcome B) (g : B → Outcome C) → after (after o f) g ≡ after o (λ a. after (f a) g)
+after_after (Gives a) f g = refl
+after_after (Wrong at kind) f g = refl
+after_after outcomes.TooDeep f g = refl
+after_after outcomes.NoChoice f g = refl
+after_after Dismissed f g = refl
+
+pub then_same : {A B : Type 0} (o : Outcome A) (f g : A → Outcome B) → ((a : A) → f a ≡ g a) → after o f ≡ after o g
+then_same o f g h = after_same o o f g refl h
+
+pub after_either : {A B : Type 0} (b : Bool) (p q : Outcome A) (f : A → Outcome B) (r : Outcome B) → after q f ≡ r → after (if b then p else q) f ≡ (if b then after p f else r)
+after_either true p q f r e = refl
+after_either false p q f r e = e
+
 -- what is decided by a value is gone on from
 pub after_if : {A B : Type 0} (o : Outcome Value) (p q : Outcome A) (f : A → Outcome B) (r : Outcome B) → after q f ≡ r → after (after o (λ v. if truth_of v then p else q)) f ≡ after o (λ v. if truth_of v then after p f else r)
-after_if (Gives v) p q f r e = by_truth (truth_of v)
-  where
-    by_truth : (b : Bool) → after (if b then p else q) f ≡ (if b then after p f else r)
-    by_truth true = refl
-    by_truth false = e
-after_if (Wrong at kind) p q f r e = refl
-after_if outcomes.TooDeep p q f r e = refl
-after_if outcomes.NoChoice p q f r e = refl
-after_if Dismissed p q f r e = refl
+after_if o p q f r e = after_after o (λ v. if truth_of v then p else q) f ∙ then_same o _ _ (λ v. after_either (truth_of v) p q f r e)
 
 -- a value and then the others
 pub after_listed : {B : Type 0} (o : Outcome Value) (p : Outcome (List Value)) (f : List Value → Outcome B) → after (after o (λ v. after p (λ vs. Gives (v ∷ vs)))) f ≡ after o (λ v. after p (λ vs. f (v ∷ vs)))
-after_listed (Gives v) p f = by_others p
-  where
-    by_others : (p : Outcome (List Value)) → after (after p (λ vs. Gives (v ∷ vs))) f ≡ after p (λ vs. f (v ∷ vs))
-    by_others (Gives vs) = refl
-    by_others (Wrong at kind) = refl
-    by_others outcomes.TooDeep = refl
-    by_others outcomes.NoChoice = refl
-    by_others Dismissed = refl
-after_listed (Wrong at kind) p f = refl
-after_listed outcomes.TooDeep p f = refl
-after_listed outcomes.NoChoice p f = refl
-after_listed Dismissed p f = refl
+after_listed o p f = after_after o (λ v. after p (λ vs. Gives (v ∷ vs))) f ∙ then_same o _ _ (λ v. after_after p (λ vs. Gives (v ∷ vs)) f)
 
 module _ (B : Type 0) (mode : Mode) (i : Interpretation) (n : ℕ) where
   abbrev Plays : List Said → (List Handed → Outcome B) → Type 0
@@ -135,9 +103,6 @@ module _ (B : Type 0) (mode : Mode) (i : Interpretation) (n : ℕ) where
         (λ e. let is : truth i c.formula ≡ true = sym (on_it i path c.formula there) ∙ e in
         play_as B mode i n (assert_all path cs ++ more) _ (λ handed. told i cs (run handed)) (λ handed. ap (λ b. if b then told i cs (run handed) else Wrong c.pos c.kind) is) (told_all cs more run below.1 (λ all. h (is, all))))
         (λ e handed. ap (λ b. if b then told i cs (run handed) else Wrong c.pos c.kind) (sym (on_it i path c.formula there) ∙ e))
-
-    pub told_then : (cs : List Condition) (more : List Said) (run : List Handed → Outcome B) → AreBelow n cs → Plays more run → Plays (assert_all path cs ++ more) (λ handed. told i cs (run handed))
-    told_then cs more run below h = told_all cs more run below (λ all. h)
 
     -- a formula decides between going on, where it is true, and being wrong
     pub checked_true : (at : Pos) (kind : Kind) (formula : Term) (b : Bool) (more : List Said) (run : List Handed → Outcome B) → IsBelow n formula → b ≡ truth i formula → (b ≡ true → Plays more run)

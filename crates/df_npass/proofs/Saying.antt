@@ -1,11 +1,7 @@
 -- Formulas that are said: what is true of all, and of those that are said of runs on a path.
-use Rattle.std.proofs.Common.{◌≡◌, true, false, List, [], ◌∷◌, ◌++◌, Option}
-use Rattle.std.specs.List.{AllByRecursion}
-use Rattle.df_nterm.specs.Term.{Term}
-use Rattle.df_nterm.specs.Meaning.{Interpretation, truth}
-use Rattle.df_nterm.specs.Expressions.{Condition}
+use Rattle.df_npass.proofs.Words.{◌≡◌, true, List, [], ◌∷◌, ◌++◌, Option, None, Some, refl, AllByRecursion, Term, Interpretation, truth, Said, Known, Owed, all_back, all_joined, option_map_or}
 pub use Rattle.df_nterm.proofs.Paths.{path_true, off_path, on_it, narrowed_true, narrowed_false}
-use Rattle.df_npass.specs.Rules.{Said, Known, Owed, assume_all, assert_all}
+use Rattle.df_lemmas.proofs.Alls as alls
 
 abbrev pub formula_of : Said → Term
 formula_of (Known formula) = formula
@@ -17,23 +13,20 @@ AllTrue i said = AllByRecursion (λ (x : Said). truth i (formula_of x) ≡ true)
 -- ---- all that is said
 
 pub all_appended : (i : Interpretation) (said more : List Said) → AllTrue i said → AllTrue i more → AllTrue i (said ++ more)
-all_appended i [] more h g = g
-all_appended i (x ∷ said) more h g = (h.0, all_appended i said more h.1 g)
+all_appended i = all_joined (λ (x : Said). truth i (formula_of x) ≡ true)
 
 pub all_front : (i : Interpretation) (said more : List Said) → AllTrue i (said ++ more) → AllTrue i said
-all_front i [] more h = tt
-all_front i (x ∷ said) more h = (h.0, all_front i said more h.1)
+all_front i = alls.all_front (λ (x : Said). truth i (formula_of x) ≡ true)
 
 pub all_rest : (i : Interpretation) (said more : List Said) → AllTrue i (said ++ more) → AllTrue i more
-all_rest i [] more h = h
-all_rest i (x ∷ said) more h = all_rest i said more h.1
+all_rest i = all_back (λ (x : Said). truth i (formula_of x) ≡ true)
 
--- ---- on a path
+-- what has a property has a weaker one
+pub all_weaken : {A : Type 0} (P Q : A → Type 0) → ((a : A) → P a → Q a) → (xs : List A) → AllByRecursion P xs → AllByRecursion Q xs
+all_weaken P Q f [] h = tt
+all_weaken P Q f (x ∷ xs) h = (f x h.0, all_weaken P Q f xs h.1)
 
-pub assert_off : (i : Interpretation) (path : Option Term) (cs : List Condition) → path_true i path ≡ false → AllTrue i (assert_all path cs)
-assert_off i path [] e = tt
-assert_off i path (c ∷ cs) e = (off_path i path c.formula e, assert_off i path cs e)
-
-pub assume_off : (i : Interpretation) (path : Option Term) (cs : List Condition) → path_true i path ≡ false → AllTrue i (assume_all path cs)
-assume_off i path [] e = tt
-assume_off i path (c ∷ cs) e = (off_path i path c.formula e, assume_off i path cs e)
+-- what is done with what may be there
+pub by_option : {A B : Type 0} (P : B → Type 0) (f : A → B) (o : Option A) (d : B) → (o ≡ None → P d) → ((a : A) → o ≡ Some a → P (f a)) → P (option_map_or f o d)
+by_option P f None d none some = none refl
+by_option P f (Some a) d none some = some a refl

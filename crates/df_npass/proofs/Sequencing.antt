@@ -1,24 +1,7 @@
 -- Where a statement leads a run, and what goes on from there; statements one after the other.
-use Rattle.std.proofs.Common.{◌≡◌, inl, inr, ℕ, Bool, true, false, ◌||◌, List, [], ◌∷◌, ◌++◌, Option, None, Some, refl, sym, ◌∙◌, subst, append_assoc}
-use Rattle.std.specs.Option.{option_map_or}
-use Rattle.df_lang.specs.declared.ty.Ty.{Ty}
-use Rattle.df_lang.specs.Assignment.{Assigned, join as meet, Flowing}
-use Rattle.df_meaning.specs.Outcome.{Outcome, Dismissed, after}
-use Rattle.df_meaning.specs.State.{Handed, State}
+use Rattle.df_npass.proofs.Words.{◌≡◌, inl, inr, ℕ, true, false, ◌||◌, List, [], ◌∷◌, ◌++◌, Option, None, Some, refl, sym, ◌∙◌, subst, append_assoc, option_map_or, Ty, Assigned, meet, Flowing, Unreached, Outcome, Dismissed, after, Handed, State, goes, Term, Interpretation, SameBelow, Said, Way, Flow, followed_by, Parted, ways_of, last_of, or_left, or_right}
 use Rattle.df_meaning.specs.Meaning as flows
-use Rattle.df_meaning.specs.Execution.{goes}
-use Rattle.df_nterm.specs.Term.{Term}
-use Rattle.df_nterm.specs.Meaning.{Interpretation}
-use Rattle.df_nterm.proofs.Below.{SameBelow}
-use Rattle.df_npass.specs.Rules.{Said, Way}
-use Rattle.df_npass.specs.Statements.{Flow, followed_by, Parted, ways_of, last_of}
-use Rattle.df_npass.proofs.Saying.{AllTrue, path_true, all_appended}
-use Rattle.df_npass.proofs.Playing.{Mode, Following, Taking, Moves, moves_then, same_then, Play, play_as, play_behind, play_later, play_over, play_silent, not_wrong}
-use Rattle.df_npass.proofs.Leading.{Leads, AllLead}
-use Rattle.df_npass.proofs.Flowing.{Flows}
-use Rattle.df_npass.proofs.Reading.{with_handed, Sits}
-use Rattle.df_npass.proofs.Coming.{AllOff, OneSits, off_append, off_lead, off_moves, path_same, one_left, one_right, one_less, one_reached, reached_left, reached_right, join_left, join_right}
-use Rattle.df_npass.proofs.Calling.{after_after}
+use Rattle.df_npass.proofs.Lemmas.{AllTrue, path_true, all_appended, Mode, Following, Taking, Moves, moves_then, same_then, Play, play_as, play_behind, play_later, play_over, play_silent, not_wrong, Leads, AllLead, Flows, Parts, with_handed, Sits, after_after, AllOff, OneSits, off_append, off_lead, off_moves, path_same, one_left, one_right, one_less, one_reached, reached_left, reached_right, join_left, join_right}
 
 -- with this still to be handed in
 abbrev pub hand : flows.Flow → List Handed → flows.Flow
@@ -37,14 +20,6 @@ pub record Onward (B : Type 0) (all : List Ty) (back : Assigned) (mode : Mode) (
   pub on : (k : Mode) (j : Interpretation) (f : flows.Flow) → Moves mode i n k j → Comes k j all back parted behind carried f → Play B k j parted.fresh more (λ handed. go (hand f handed))
   pub over : (j : Interpretation) → SameBelow n i j → AllOff j parted.ways → AllOff j parted.breaks → AllOff j parted.returns → parted.loses ≡ true → AllTrue j more
 
-pub or_left : (a b : Bool) → a ≡ true → (a || b) ≡ true
-or_left true b e = refl
-or_left false b e = cc
-
-pub or_right : (a b : Bool) → b ≡ true → (a || b) ≡ true
-or_right true b e = refl
-or_right false b e = e
-
 -- the run ends where all that is said behind is true
 pub ended_then : (B : Type 0) (mode : Mode) (i : Interpretation) (n : ℕ) (said : List Said) (run : List Handed → Outcome B) → AllTrue i said → ((handed : List Handed) → run handed ≡ Dismissed) → Play B mode i n said run
 ended_then B Following i n said run all d = play_over B i n said run all
@@ -53,6 +28,56 @@ ended_then B (Taking handed) i n said run all d = play_silent B i n said (run ha
 -- the one way
 pub only : (mode : Mode) (i : Interpretation) (all : List Ty) (way : Way) (before : Assigned) (s : State) → OneSits mode i all (way ∷ []) before s → Sits mode i all way before s
 only mode i all way before s h = elim h [ inl x ↦ x.0 | inr x ↦ absurd x.1 ]
+
+-- ---- one of two
+
+abbrev pub beside : List Said → ℕ → Parted → Parted → Parted
+beside said fresh one other = record { said = said; fresh = fresh; ways = one.ways ++ other.ways; breaks = one.breaks ++ other.breaks; returns = one.returns ++ other.returns; loses = one.loses || other.loses }
+
+-- no run leads out
+pub record Off (i : Interpretation) (parted : Parted) : Type 0 where
+  pub ways : AllOff i parted.ways
+  pub breaks : AllOff i parted.breaks
+  pub returns : AllOff i parted.returns
+
+pub leads_off : (i : Interpretation) (n : ℕ) (path : Option Term) (parted : Parted) → Parts n path parted → path_true i path ≡ false → Off i parted
+leads_off i n path parted parts e = record {
+  ways = off_lead i parted.fresh path parted.ways parts.ways e;
+  breaks = off_lead i parted.fresh path parted.breaks parts.breaks e;
+  returns = off_lead i parted.fresh path parted.returns parts.returns e;
+}
+
+pub both_off : (i : Interpretation) (said : List Said) (fresh : ℕ) (one other : Parted) → Off i one → Off i other → Off i (beside said fresh one other)
+both_off i said fresh one other h g =
+    record { ways = off_append i one.ways other.ways h.ways g.ways; breaks = off_append i one.breaks other.breaks h.breaks g.breaks; returns = off_append i one.returns other.returns h.returns g.returns }
+
+module _ (mode : Mode) (i : Interpretation) (all : List Ty) (back : Assigned) (said : List Said) (fresh : ℕ) (one other : Parted) (a b c d : Assigned) where
+  left : (ways others : List Way) (x y : Assigned) (t : State) → OneSits mode i all ways x t → AllOff i others → OneSits mode i all (ways ++ others) (meet x y) t
+  left ways others x y t h off =
+      let reached = one_reached mode i all ways x t h in
+      one_left mode i all ways others (meet x y) t (one_less mode i all ways x (meet x y) t (reached_left x y reached) (λ k has. join_left x y k reached has) h) off
+
+  right : (ways others : List Way) (x y : Assigned) (t : State) → AllOff i ways → OneSits mode i all others y t → OneSits mode i all (ways ++ others) (meet x y) t
+  right ways others x y t off h =
+      let reached = one_reached mode i all others y t h in
+      one_right mode i all ways others (meet x y) t off (one_less mode i all others y (meet x y) t (reached_right x y reached) (λ k has. join_right x y k reached has) h)
+
+  -- a run that leads out of the one alone, or out of the other
+  pub comes_left : (f : flows.Flow) → Comes mode i all back one a c f → Off i other → Comes mode i all back (beside said fresh one other) (meet a b) (meet c d) f
+  comes_left (flows.Next t) comes off = (left one.ways other.ways a b t comes.0 off.ways, off_append i one.breaks other.breaks comes.1 off.breaks, off_append i one.returns other.returns comes.2 off.returns)
+  comes_left (flows.Break t) comes off =
+      (left one.breaks other.breaks c d t comes.0 off.breaks, off_append i one.ways other.ways comes.1 off.ways, off_append i one.returns other.returns comes.2 off.returns, or_left one.loses other.loses comes.3)
+  comes_left (flows.Return t) comes off =
+      (one_left mode i all one.returns other.returns back t comes.0 off.returns, off_append i one.ways other.ways comes.1 off.ways, off_append i one.breaks other.breaks comes.2 off.breaks, or_left one.loses other.loses comes.3)
+
+  pub comes_right : (f : flows.Flow) → Off i one → Comes mode i all back other b d f → Comes mode i all back (beside said fresh one other) (meet a b) (meet c d) f
+  comes_right (flows.Next t) off comes = (right one.ways other.ways a b t off.ways comes.0, off_append i one.breaks other.breaks off.breaks comes.1, off_append i one.returns other.returns off.returns comes.2)
+  comes_right (flows.Break t) off comes =
+      (right one.breaks other.breaks c d t off.breaks comes.0, off_append i one.ways other.ways off.ways comes.1, off_append i one.returns other.returns off.returns comes.2, or_right one.loses other.loses comes.3)
+  comes_right (flows.Return t) off comes =
+      (one_right mode i all one.returns other.returns back t off.returns comes.0, off_append i one.ways other.ways off.ways comes.1, off_append i one.breaks other.breaks off.breaks comes.2, or_right one.loses other.loses comes.3)
+
+-- ---- one after another
 
 module _ (B : Type 0) (all : List Ty) (back : Assigned) (mode : Mode) (i : Interpretation) (n : ℕ) (path : Option Term) (first : Flow) (second : Way → Flow) (one two : Flowing) (run : List Handed → Outcome flows.Flow) (more : List Said) (go : flows.Flow → Outcome B) (next : State → Outcome flows.Flow) where
   abbrev on_next : flows.Flow → Outcome B
@@ -80,72 +105,49 @@ module _ (B : Type 0) (all : List Ty) (back : Assigned) (mode : Mode) (i : Inter
     past : (j : Interpretation) → AllOff j (ways_of first.way) → (path_true j on.path ≡ false)
     past j off = (subst (λ o. AllOff j (ways_of o)) is off).0
 
-    rest_off : (j : Interpretation) → path_true j on.path ≡ false → AllOff j (ways_of rest.way) × AllOff j rest.breaks × AllOff j rest.returns
-    rest_off j e = (off_lead j rest.fresh on.path (ways_of rest.way) flows_second.way e, off_lead j rest.fresh on.path rest.breaks flows_second.breaks e, off_lead j rest.fresh on.path rest.returns flows_second.returns e)
+    -- out of the first alone no run goes on
+    abbrev leaving : Parted
+    leaving = record { said = first.said; fresh = first.fresh; ways = []; breaks = first.breaks; returns = first.returns; loses = first.loses }
+
+    rest_off : (j : Interpretation) → path_true j on.path ≡ false → Off j (last_of rest)
+    rest_off j e = leads_off j first.fresh on.path (last_of rest) flows_second e
 
     skipped : (k : Mode) (j : Interpretation) (f : flows.Flow) → path_true j on.path ≡ false → Play B k j rest.fresh more (λ handed. go (hand f handed)) → Play B k j first.fresh (rest.said ++ more) (λ handed. go (hand f handed))
     skipped k j f off p =
-        play_behind B k j first.fresh rest.said more (λ handed. go (hand f handed)) (λ u same. flows_second.said.off u (sym (path_same first.fresh j u same on.path lead.path_is) ∙ off)) (play_later B k j first.fresh rest.fresh more (λ handed. go (hand f handed)) flows_second.grows p)
+        play_behind B k j first.fresh rest.said more (λ handed. go (hand f handed)) (λ u same. flows_second.made.said.off u (sym (path_same first.fresh j u same on.path lead.path_is) ∙ off)) (play_later B k j first.fresh rest.fresh more (λ handed. go (hand f handed)) flows_second.made.grows p)
 
     -- from the second on
     second_onward : (k : Mode) (j : Interpretation) → Moves mode i n k j → AllOff j first.breaks → AllOff j first.returns → Onward B all back k j first.fresh (last_of rest) two.behind two.breaks more go
     second_onward k j moves no_break no_return = record {
-      on = by_flow;
-      over = λ u same ways breaks returns loses. h.over u (same_then n first.fresh i j u flows_first.grows moves.same same) ways (off_append u first.breaks rest.breaks (still j u same first.breaks flows_first.breaks no_break) breaks)
-          (off_append u first.returns rest.returns (still j u same first.returns flows_first.returns no_return) returns) (or_right first.loses rest.loses loses);
+      on = λ l u f moved comes. h.on l u f (moves_then mode k l i j u n first.fresh flows_first.made.grows moves moved)
+          (comes_right l u all back (first.said ++ rest.said) rest.fresh leaving (last_of rest) Unreached two.behind one.breaks two.breaks f (still u moved.same) comes);
+      over = λ u same ways breaks returns loses.
+          let off = both_off u (first.said ++ rest.said) rest.fresh leaving (last_of rest) (still u same) (record { ways = ways; breaks = breaks; returns = returns }) in
+          h.over u (same_then n first.fresh i j u flows_first.made.grows moves.same same) off.ways off.breaks off.returns (or_right first.loses rest.loses loses);
     }
       where
-        still : (j u : Interpretation) → SameBelow first.fresh j u → (ways : List Way) → AllLead first.fresh path ways → AllOff j ways → AllOff u ways
-        still j u same ways leads off = off_moves j u first.fresh path ways leads same off
-
-        by_flow : (l : Mode) (u : Interpretation) (f : flows.Flow) → Moves k j first.fresh l u → Comes l u all back (last_of rest) two.behind two.breaks f → Play B l u rest.fresh more (λ handed. go (hand f handed))
-        by_flow l u (flows.Next t) moved comes =
-            h.on l u (flows.Next t) (moves_then mode k l i j u n first.fresh flows_first.grows moves moved)
-            (comes.0, off_append u first.breaks rest.breaks (still j u moved.same first.breaks flows_first.breaks no_break) comes.1, off_append u first.returns rest.returns (still j u moved.same first.returns flows_first.returns no_return) comes.2)
-        by_flow l u (flows.Break t) moved comes =
-            let reached = one_reached l u all rest.breaks two.breaks t comes.0 in
-            h.on l u (flows.Break t) (moves_then mode k l i j u n first.fresh flows_first.grows moves moved) (
-              one_right l u all first.breaks rest.breaks (meet one.breaks two.breaks) t (still j u moved.same first.breaks flows_first.breaks no_break)
-                  (one_less l u all rest.breaks two.breaks (meet one.breaks two.breaks) t (reached_right one.breaks two.breaks reached) (λ x has. join_right one.breaks two.breaks x reached has) comes.0),
-              comes.1,
-              off_append u first.returns rest.returns (still j u moved.same first.returns flows_first.returns no_return) comes.2,
-              or_right first.loses rest.loses comes.3,
-            )
-        by_flow l u (flows.Return t) moved comes =
-            h.on l u (flows.Return t) (moves_then mode k l i j u n first.fresh flows_first.grows moves moved) (
-              one_right l u all first.returns rest.returns back t (still j u moved.same first.returns flows_first.returns no_return) comes.0,
-              comes.1,
-              off_append u first.breaks rest.breaks (still j u moved.same first.breaks flows_first.breaks no_break) comes.2,
-              or_right first.loses rest.loses comes.3,
-            )
+        still : (u : Interpretation) → SameBelow first.fresh j u → Off u leaving
+        still u same = record { ways = tt; breaks = off_moves j u first.fresh path first.breaks flows_first.breaks same no_break; returns = off_moves j u first.fresh path first.returns flows_first.returns same no_return }
 
     first_onward : ((k : Mode) (j : Interpretation) (t : State) → Moves mode i n k j → Sits k j all on one.behind t → Onward B all back k j first.fresh (last_of rest) two.behind two.breaks more go → Play B k j first.fresh (rest.said ++ more) (λ handed. after (next (with_handed t handed)) go))
         → Onward B all back mode i n (last_of first) one.behind one.breaks (rest.said ++ more) on_next
     first_onward go_second = record {
       on = by_flow;
       over = λ j same ways breaks returns loses.
-          let off = past j ways in
-          let others = rest_off j off in
-          all_appended j rest.said more (flows_second.said.off j off) (h.over j same others.0 (off_append j first.breaks rest.breaks breaks others.1) (off_append j first.returns rest.returns returns others.2) (or_left first.loses rest.loses loses));
+          let away = past j ways in
+          let off = both_off j (first.said ++ rest.said) rest.fresh leaving (last_of rest) (record { ways = tt; breaks = breaks; returns = returns }) (rest_off j away) in
+          all_appended j rest.said more (flows_second.made.said.off j away) (h.over j same off.ways off.breaks off.returns (or_left first.loses rest.loses loses));
     }
       where
+        by_leaving : (k : Mode) (j : Interpretation) (f : flows.Flow) → Moves mode i n k j → AllOff j (ways_of first.way) → Comes k j all back leaving Unreached one.breaks f → Play B k j first.fresh (rest.said ++ more) (λ handed. go (hand f handed))
+        by_leaving k j f moves off comes =
+            let away = past j off in
+            skipped k j f away (h.on k j f moves (comes_left k j all back (first.said ++ rest.said) rest.fresh leaving (last_of rest) Unreached two.behind one.breaks two.breaks f comes (rest_off j away)))
+
         by_flow : (k : Mode) (j : Interpretation) (f : flows.Flow) → Moves mode i n k j → Comes k j all back (last_of first) one.behind one.breaks f → Play B k j first.fresh (rest.said ++ more) (λ handed. on_next (hand f handed))
         by_flow k j (flows.Next t) moves comes = go_second k j t moves (only k j all on one.behind t (subst (λ o. OneSits k j all (ways_of o) one.behind t) is comes.0)) (second_onward k j moves comes.1 comes.2)
-        by_flow k j (flows.Break t) moves comes =
-            let off = past j comes.1 in
-            let others = rest_off j off in
-            let reached = one_reached k j all first.breaks one.breaks t comes.0 in
-            skipped k j (flows.Break t) off (h.on k j (flows.Break t) moves (
-              one_left k j all first.breaks rest.breaks (meet one.breaks two.breaks) t (one_less k j all first.breaks one.breaks (meet one.breaks two.breaks) t (reached_left one.breaks two.breaks reached) (λ x has. join_left one.breaks two.breaks x reached has) comes.0) others.1,
-              others.0,
-              off_append j first.returns rest.returns comes.2 others.2,
-              or_left first.loses rest.loses comes.3,
-            ))
-        by_flow k j (flows.Return t) moves comes =
-            let off = past j comes.1 in
-            let others = rest_off j off in
-            skipped k j (flows.Return t) off (h.on k j (flows.Return t) moves
-            (one_left k j all first.returns rest.returns back t comes.0 others.2, others.0, off_append j first.breaks rest.breaks comes.2 others.1, or_left first.loses rest.loses comes.3))
+        by_flow k j (flows.Break t) moves comes = by_leaving k j (flows.Break t) moves comes.1 (comes.0, tt, comes.2, comes.3)
+        by_flow k j (flows.Return t) moves comes = by_leaving k j (flows.Return t) moves comes.1 (comes.0, tt, comes.2, comes.3)
 
   pub then_play : Flows n path first → ((on : Way) → Leads first.fresh path on → Flows first.fresh on.path (second on))
       → ((said : List Said) → Onward B all back mode i n (last_of first) one.behind one.breaks said on_next → Play B mode i n (first.said ++ said) (λ handed. after (run handed) on_next))
@@ -159,6 +161,6 @@ module _ (B : Type 0) (all : List Ty) (back : Assigned) (mode : Mode) (i : Inter
       by_way : (o : Option Way) → first.way ≡ o → Onward B all back mode i n (last_of (whole o)) two.behind (meet one.breaks two.breaks) more go → Play B mode i n ((whole o).said ++ more) (λ handed. after (run handed) on_next)
       by_way None e h = play_first more (alone flows_first h e)
       by_way (Some on) e h =
-          let lead = (subst (λ o. AllLead first.fresh path (ways_of o)) e flows_first.way).0 in
+          let lead = (subst (λ o. AllLead first.fresh path (ways_of o)) e flows_first.ways).0 in
           subst (λ said. Play B mode i n said (λ handed. after (run handed) on_next)) (sym (append_assoc first.said (second on).said more))
           (play_first ((second on).said ++ more) (first_onward flows_first on e lead (flows_second on lead) h (λ k j t moves sits onward. play_second on k j t lead moves sits onward)))

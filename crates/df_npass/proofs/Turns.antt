@@ -1,35 +1,8 @@
 -- A turn of a loop that is handed in goes on from any values of the locals that the loop changes.
-use Rattle.std.proofs.Common.{◌≡◌, ℕ, ◌≤◌, Bool, true, false, if◌then◌else◌, List, [], ◌∷◌, ◌++◌, slice_get, is_some, Option, None, Some, refl, sym, ap, ◌∙◌, subst}
-use Rattle.std.specs.List.{list_all}
-use Rattle.std.specs.Option.{option_map_or}
-use Rattle.df_lang.specs.declared.ty.Ty.{Ty}
-use Rattle.df_lang.specs.Program.{Program}
-use Rattle.df_lang.specs.Typing.{same_type, is_type, is_well_typed}
-use Rattle.df_lang.specs.Assignment.{Assigned, has_value}
-use Rattle.df_meaning.specs.Value.{Value}
-use Rattle.df_meaning.specs.Types.{has_type}
-use Rattle.df_meaning.specs.Outcome.{Outcome, Dismissed, after}
-use Rattle.df_meaning.specs.State.{Handed, Given as HandedGiven, Turned, State, Locals, store_with, with_store}
-use Rattle.df_meaning.specs.Modular.{Changed, may_have, handed_turn}
-use Rattle.df_meaning.specs.Agreement.{is_changed}
-use Rattle.df_meaning.proofs.Cases.{both, joined}
-use Rattle.df_meaning.proofs.Types.{same_type_equal}
-use Rattle.df_meaning.proofs.Changing.{are_there}
-use Rattle.df_meaning.proofs.Counting.{assigned_has}
-use Rattle.df_nterm.specs.Meaning.{Interpretation}
+use Rattle.df_npass.proofs.Words.{◌≡◌, ℕ, ◌≤◌, Bool, true, false, if◌then◌else◌, List, [], ◌∷◌, ◌++◌, slice_get, is_some, Option, None, Some, refl, sym, ap, ◌∙◌, subst, list_all, option_map_or, Ty, Program, same_type, is_type, is_well_typed, Assigned, has_value, Value, has_type, Outcome, Dismissed, after, Handed, HandedGiven, Turned, State, Locals, store_with, with_store, Changed, may_have, handed_turn, is_changed, both, joined, same_type_equal, are_there, assigned_has, Interpretation, IsSorted, value_same, Said, Way, is_unset, over, with_term, free_of, havoc, each_once, cond-false, cond-true, true≢false, same_Some}
 use Rattle.df_nterm.specs.Meaning as meanings
-use Rattle.df_nterm.proofs.Sorted.{IsSorted}
-use Rattle.df_nterm.proofs.Below.{value_same}
-use Rattle.df_npass.specs.Rules.{Said, Way, is_unset, over, with_term, free_of, havoc}
-use Rattle.df_npass.specs.Statements.{each_once}
-use Rattle.df_npass.proofs.Saying.{AllTrue, path_true}
-use Rattle.df_npass.proofs.Playing.{if_true, if_false, some_equal, Mode, Following, Taking, is_taking, Moves, moves_here, all_same, Play, play_silent, play_handed, play_took, play_taking, play_behind, not_wrong, known_then_follow}
-use Rattle.df_npass.proofs.Proper.{PathBelow, EnvBelow, AllBelow}
-use Rattle.df_npass.proofs.Reading.{with_handed, Sits}
-use Rattle.df_npass.proofs.Staying.{havoc_stays, once_less}
-use Rattle.df_npass.proofs.Coming.{holds_reached, hold_at, hold_make, assigned_make, path_same}
-use Rattle.df_npass.proofs.Turning.{turned_state, all_may, turned_is, turned_store, turned_local, list_once}
-use Rattle.df_npass.proofs.Handing.{by_bool, havoc_set, havoc_sorted, havoc_typed, havoc_known, take_turn}
+use Rattle.df_npass.proofs.Lemmas.{AllTrue, path_true, Mode, Following, Taking, is_taking, Moves, moves_here, all_same, Play, play_silent, play_handed, play_took, play_taking, play_behind, not_wrong, known_then_follow, by_bool, PathBelow, EnvBelow, AllBelow, with_handed, Sits, havoc_stays, once_less, assigned_make, path_same, turned_state, all_may, turned_is, turned_store, turned_local, list_once}
+use Rattle.df_npass.proofs.Handing.{havoc_set, havoc_sorted, havoc_typed, havoc_known, take_turn}
 
 pub havoc_path : (changed : List Changed) (fresh : ℕ) (way : Way) → (havoc changed fresh way).way.path ≡ way.path
 havoc_path [] fresh way = refl
@@ -57,11 +30,11 @@ module _ (B : Type 0) (p : Program) (all : List Ty) (n : ℕ) (way : Way) (s : S
   given_turn : (locals : Locals) (text : List ℕ) (handed : List Handed) (go : State → Outcome B) → all_may p every locals ≡ true
       → after (handed_turn p every (with_handed s (Turned locals text ∷ handed)) (Turned locals text ∷ handed)) go ≡ go (with_handed (state_of locals text) handed)
   given_turn locals text handed go may =
-      ap (λ o. after o go) (turned_is p every locals (with_store s (store_with text handed)) ∙ if_true (all_may p every locals) _ _ may) ∙ ap go (turned_store every locals s (store_with text handed))
+      ap (λ o. after o go) (turned_is p every locals (with_store s (store_with text handed)) ∙ cond-true (all_may p every locals) _ _ may) ∙ ap go (turned_store every locals s (store_with text handed))
 
   no_turn : (locals : Locals) (text : List ℕ) (handed : List Handed) (go : State → Outcome B) → all_may p every locals ≡ false
       → after (handed_turn p every (with_handed s (Turned locals text ∷ handed)) (Turned locals text ∷ handed)) go ≡ Dismissed
-  no_turn locals text handed go may = ap (λ o. after o go) (turned_is p every locals (with_store s (store_with text handed)) ∙ if_false (all_may p every locals) _ _ may)
+  no_turn locals text handed go may = ap (λ o. after o go) (turned_is p every locals (with_store s (store_with text handed)) ∙ cond-false (all_may p every locals) _ _ may)
 
   module _ (env : EnvBelow n way.env) (path : PathBelow n way.path) (there : are_there all every ≡ true)
       (covers : (k : ℕ) → has_value before k ≡ true → is_changed every k ≡ true → is_changed changed k ≡ true) where
@@ -75,14 +48,17 @@ module _ (B : Type 0) (p : Program) (all : List Ty) (n : ℕ) (way : Way) (s : S
           there = ap (path_true j) (havoc_path changed n way) ∙ (sym (path_same n i j moves.same way.path path) ∙ sits.there);
           sorted = λ k ty e. by_bool (is_changed changed k) (λ c. havoc_sorted j all k ty e changed n way once c) (λ c.
               subst (λ x. IsSorted ty (meanings.value j x)) (sym (havoc_stays changed n way k c)) (subst (λ v. IsSorted ty v) (value_same n i j moves.same (way.env k) (env k)) (sits.sorted k ty e)));
-          holds = hold_make j turning.env before (state_of locals text) (holds_reached i way.env before s sits.holds) (λ k v has e.
-              let e = sym (turned_local every locals s k) ∙ e in
-              by_bool (is_changed every k) (λ c. are k v (covers k has c) (sym (if_true (is_changed every k) (locals k) (s.locals k) c) ∙ e)) (λ c.
-              ap (meanings.value j) (havoc_stays changed n way k (once_less out every k c)) ∙ (sym (value_same n i j moves.same (way.env k) (env k)) ∙ hold_at i way.env before s sits.holds k v has (sym (if_false (is_changed every k) (locals k) (s.locals k) c) ∙ e))));
+          holds = (
+            sits.holds.0,
+            λ k v has e.
+                let e = sym (turned_local every locals s k) ∙ e in
+                by_bool (is_changed every k) (λ c. are k v (covers k has c) (sym (cond-true (is_changed every k) (locals k) (s.locals k) c) ∙ e)) (λ c.
+                ap (meanings.value j) (havoc_stays changed n way k (once_less out every k c)) ∙ (sym (value_same n i j moves.same (way.env k) (env k)) ∙ sits.holds.1 k v has (sym (cond-false (is_changed every k) (locals k) (s.locals k) c) ∙ e))),
+          );
           set = λ k has. by_bool (is_changed changed k) (λ c. havoc_set k changed n way c) (λ c. subst (λ x. is_unset x ≡ false) (sym (havoc_stays changed n way k c)) (sits.set k has));
-          present = λ following. assigned_make before (state_of locals text) (holds_reached i way.env before s sits.holds) (λ k has.
-              ap is_some (turned_local every locals s k) ∙ by_bool (is_changed every k) (λ c. ap is_some (if_true (is_changed every k) (locals k) (s.locals k) c) ∙ have following k (covers k has c)) (λ c.
-              ap is_some (if_false (is_changed every k) (locals k) (s.locals k) c) ∙ assigned_has before s k (sits.present (moves.mode ∙ following)) has));
+          present = λ following. assigned_make before (state_of locals text) sits.holds.0 (λ k has.
+              ap is_some (turned_local every locals s k) ∙ by_bool (is_changed every k) (λ c. ap is_some (cond-true (is_changed every k) (locals k) (s.locals k) c) ∙ have following k (covers k has c)) (λ c.
+              ap is_some (cond-false (is_changed every k) (locals k) (s.locals k) c) ∙ assigned_has before s k (sits.present (moves.mode ∙ following)) has));
         }
 
     -- what the interpretation hands in
@@ -96,9 +72,9 @@ module _ (B : Type 0) (p : Program) (all : List Ty) (n : ℕ) (way : Way) (s : S
         let once = list_once (λ (d : Changed). option_map_or (same_type d.ty) (slice_get all d.local) false) out every there in
         joined (may_have p c.ty (read i c.local)) (all_may p cs (read i))
         (by_bool (is_changed changed c.local)
-        (λ e. ap (may_have p c.ty) (if_true (is_changed changed c.local) _ _ e)
+        (λ e. ap (may_have p c.ty) (cond-true (is_changed changed c.local) _ _ e)
         ∙ subst (λ q. has_type q c.ty (meanings.value i (turning.env c.local)) ≡ true) program (havoc_typed i all c.local c.ty (type_there all c are.0) changed n way once here said e))
-        (λ e. ap (may_have p c.ty) (if_false (is_changed changed c.local) _ _ e)))
+        (λ e. ap (may_have p c.ty) (cond-false (is_changed changed c.local) _ _ e)))
         (may_read i program here said cs are.1)
 
     pub turn_then : (mode : Mode) (i : Interpretation) (more : List Said) (go : State → Outcome B) → i.program ≡ p → is_well_typed p ≡ true → list_all (λ (c : Changed). is_type p c.ty) every ≡ true
@@ -111,8 +87,8 @@ module _ (B : Type 0) (p : Program) (all : List Ty) (n : ℕ) (way : Way) (s : S
         play_handed B i n more _ (λ handed. go (with_handed (state_of (read i) []) handed)) (Turned (read i) []) (λ handed. given_turn (read i) [] handed go may)
         (h Following i (state_of (read i) []) (moves_here Following i n)
         (turned_sits Following Following i i (moves_here Following i n) sits (read i) []
-        (λ k v c e. some_equal _ v (sym (if_true (is_changed changed k) (Some (meanings.value i (turning.env k))) None c) ∙ e))
-        (λ following k c. ap is_some (if_true (is_changed changed k) (Some (meanings.value i (turning.env k))) None c)))))
+        (λ k v c e. same_Some _ v (sym (cond-true (is_changed changed k) (Some (meanings.value i (turning.env k))) None c) ∙ e))
+        (λ following k c. ap is_some (cond-true (is_changed changed k) (Some (meanings.value i (turning.env k))) None c)))))
     turn_then (Taking []) i more go program well are grows below sits h = play_silent B i n _ _ (λ at kind w. not_wrong at kind refl w)
     turn_then (Taking (HandedGiven vs text ∷ rest)) i more go program well are grows below sits h = play_silent B i n _ _ (λ at kind w. not_wrong at kind refl w)
     turn_then (Taking (Turned locals text ∷ rest)) i more go program well are grows below sits h = by_may (all_may p every locals) refl
@@ -129,7 +105,4 @@ module _ (B : Type 0) (p : Program) (all : List Ty) (n : ℕ) (way : Way) (s : S
             (play_taking B rest i took.to n fresh (said ++ more) run grows took.same
             (play_behind B (Taking rest) took.to fresh said more run (λ j agrees. all_same fresh took.to j agrees said below took.all)
             (h (Taking rest) took.to (state_of locals text) moves
-            (turned_sits (Taking (Turned locals text ∷ rest)) (Taking rest) i took.to moves sits locals text (λ k v c f. took.are k v c f) (λ following. absurd (taking_not following))))))
-          where
-            taking_not : true ≡ false → ⊥
-            taking_not c = cc
+            (turned_sits (Taking (Turned locals text ∷ rest)) (Taking rest) i took.to moves sits locals text (λ k v c f. took.are k v c f) (λ following. absurd (true≢false following))))))

@@ -1,8 +1,5 @@
 -- Locals without a value: no expression with a value has the term of one.
-use Rattle.std.proofs.Common.{◌≡◌, ℕ, pos, negsuc, Bool, true, false, ◌&&◌, ◌||◌, List, [], None, refl, ap, subst}
-use Rattle.std.specs.List.{AllByRecursion}
-use Rattle.df_base.specs.declared.pos.Pos.{Pos}
-use Rattle.df_lang.specs.declared.ty.Ty.{Ty}
+use Rattle.df_npass.proofs.Words.{◌≡◌, ℕ, pos, negsuc, Bool, true, false, ◌&&◌, ◌||◌, List, [], None, refl, ap, subst, AllByRecursion, Pos, Ty, Comparison, Expr, Local, Negate, Not, Sum, Product, Junction, Implies, Iff, Chain, As, Convert, Addends, no_addend, addend, Factors, no_factor, factor, Members, no_member, member, Links, no_link, link, Assigned, has_value, reads, reads_of_addends, reads_of_factors, reads_of_members, unassigned, parted, use_has, Term, term, of_one, literal, iff, at_most, conjunction, same_term, Interpretation, truth, Environment, Condition, term_of, sum_of, product_of, members_of, implication_of, equivalence_of, comparisons_of, summed, multiplied, number_in, value_in, equal_in, compared, under, in_range, narrowing, conditions_of, conditions_of_addends, conditions_of_factors, conditions_of_junction, conditions_of_implication, conditions_of_members, term_is, all_left, all_right, some_term, is_unset, free_of, false_from_ne_true, false≢true, or_parts}
 use Rattle.df_lang.specs.declared.ty.Ty.TheVariants as types
 use Rattle.df_lang.specs.declared.expr.AddendOperator.{AddendOperator}
 use Rattle.df_lang.specs.declared.expr.AddendOperator.TheVariants as addends
@@ -10,19 +7,11 @@ use Rattle.df_lang.specs.declared.expr.FactorOperator.{FactorOperator}
 use Rattle.df_lang.specs.declared.expr.FactorOperator.TheVariants as factors
 use Rattle.df_lang.specs.declared.expr.Junction.{Junction as JunctionKind}
 use Rattle.df_lang.specs.declared.expr.Junction.TheVariants as junctions
-use Rattle.df_lang.specs.declared.expr.Comparison.{Comparison}
 use Rattle.df_lang.specs.declared.expr.Comparison.TheVariants as comparisons
-use Rattle.df_lang.specs.Expr.{Expr, Number, Truth, Character, Local, Negate, Not, Sum, Product, Junction, Implies, Iff, Chain, As, Convert, Addends, no_addend, addend, Factors, no_factor, factor, Members, no_member, member, Links, no_link, link}
-use Rattle.df_lang.specs.Assignment.{Assigned, has_value, reads, reads_of_addends, reads_of_factors, reads_of_members, reads_of_links, unassigned}
-use Rattle.df_meaning.proofs.Counting.{parted, use_has}
-use Rattle.df_nterm.specs.Term.{Term, term, of_one, literal, iff, at_most, both, conjunction}
+use Rattle.df_lang.specs.Expr.{Number, Truth, Character}
+use Rattle.df_nterm.specs.Term.{both}
 use Rattle.df_nterm.specs.Term as ops
-use Rattle.df_nterm.specs.Same.{same_term}
-use Rattle.df_nterm.specs.Meaning.{Interpretation, truth}
-use Rattle.df_nterm.specs.Expressions.{Environment, Condition, term_of, sum_of, product_of, members_of, implication_of, equivalence_of, comparisons_of, summed, multiplied, number_in, value_in, equal_in, compared, joined, under, in_range, narrowing, conditions_of, conditions_of_addends, conditions_of_factors, conditions_of_junction, conditions_of_implication, conditions_of_members, conditions_of_links}
-use Rattle.df_nterm.proofs.Equal.{term_is}
-use Rattle.df_nterm.proofs.Told.{all_left, all_right}
-use Rattle.df_npass.specs.Rules.{some_term, is_unset, free_of}
+use Rattle.df_nterm.specs.Expressions.{joined}
 
 -- each local that has a value by the flow has another term
 abbrev pub SetAll : Environment → Assigned → Type 0
@@ -34,41 +23,24 @@ AllHold i cs = AllByRecursion (λ (c : Condition). truth i c.formula ≡ true) c
 pub free_set : (ty : Ty) (n : ℕ) → is_unset (free_of n ty) ≡ false
 free_set ty n = refl
 
-or_last : (x y : Bool) → (x || y) ≡ false → y ≡ false
-or_last true y e = cc
-or_last false y e = e
-
 -- ---- characters
 
-no_truth : false ≡ true → ⊥
-no_truth e = cc
-
-decided : (b : Bool) → (b ≡ true → ⊥) → b ≡ false
-decided true h = absurd (h refl)
-decided false h = refl
-
 no_code : (i : Interpretation) (a : Term) → a ≡ literal (negsuc 0) → truth i (both (at_most (literal (pos 0)) a) (at_most a (literal (pos 127)))) ≡ true → ⊥
-no_code i a e h = no_truth (subst (λ (x : Term). truth i (both (at_most (literal (pos 0)) x) (at_most x (literal (pos 127)))) ≡ true) e h)
+no_code i a e h = false≢true (subst (λ (x : Term). truth i (both (at_most (literal (pos 0)) x) (at_most x (literal (pos 127)))) ≡ true) e h)
 
 chr_set : (a : Term) → same_term a (literal (negsuc 0)) ≡ false → is_unset (of_one ops.Chr a) ≡ false
 chr_set a e = ap (λ (b : Bool). b && true) e
 
 code_set : (a : Term) → is_unset a ≡ false → is_unset (of_one ops.Code a) ≡ false
-code_set a h = ap (λ (b : Bool). ((b && true) || false) || false) (or_last (same_term a (some_term ops.Numbers) || same_term a (some_term ops.Truths)) (same_term a (some_term ops.Characters)) h)
+code_set a h = ap (λ (b : Bool). ((b && true) || false) || false) (or_parts (same_term a (some_term ops.Numbers) || same_term a (some_term ops.Truths)) (same_term a (some_term ops.Characters)) h).1
 
 number_set : (source : Ty) (a : Term) → is_unset a ≡ false → is_unset (number_in source a) ≡ false
 number_set types.Char a h = code_set a h
-number_set types.Bool a h = h
-number_set types.Int a h = h
-number_set types.Nat a h = h
-number_set (types.Newtype id) a h = h
+number_set source a h = h
 
 value_set : (i : Interpretation) (target : Ty) (at : Pos) (a : Term) → is_unset a ≡ false → AllHold i (under None (in_range target at a)) → is_unset (value_in target a) ≡ false
-value_set i types.Char at a h holds = chr_set a (decided (same_term a (literal (negsuc 0))) (λ e. no_code i a (term_is a (literal (negsuc 0)) e) holds.0))
-value_set i types.Bool at a h holds = h
-value_set i types.Int at a h holds = h
-value_set i types.Nat at a h holds = h
-value_set i (types.Newtype id) at a h holds = h
+value_set i types.Char at a h holds = chr_set a (false_from_ne_true (same_term a (literal (negsuc 0))) (λ e. no_code i a (term_is a (literal (negsuc 0)) e) holds.0))
+value_set i target at a h holds = h
 
 -- ---- operators
 
@@ -78,23 +50,15 @@ summed_set addends.Minus a b = refl
 
 multiplied_set : (operator : FactorOperator) (a b : Term) → is_unset (multiplied operator a b) ≡ false
 multiplied_set factors.Times a b = refl
-multiplied_set factors.Divide a b = refl
-multiplied_set factors.Modulo a b = refl
+multiplied_set operator a b = refl
 
 equal_set : (ty : Ty) (a b : Term) → is_unset (equal_in ty a b) ≡ false
 equal_set types.Bool a b = refl
-equal_set types.Char a b = refl
-equal_set types.Int a b = refl
-equal_set types.Nat a b = refl
-equal_set (types.Newtype id) a b = refl
+equal_set ty a b = refl
 
 compared_set : (ty : Ty) (comparison : Comparison) (a b : Term) → is_unset (compared ty comparison a b) ≡ false
 compared_set ty comparisons.Equal a b = equal_set ty a b
-compared_set ty comparisons.NotEqual a b = refl
-compared_set ty comparisons.Less a b = refl
-compared_set ty comparisons.AtMost a b = refl
-compared_set ty comparisons.Greater a b = refl
-compared_set ty comparisons.AtLeast a b = refl
+compared_set ty comparison a b = refl
 
 module _ (env : Environment) where
   sum_set : (a : Term) (rest : Addends) → is_unset a ≡ false → is_unset (sum_of env a rest) ≡ false

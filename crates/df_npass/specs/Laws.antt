@@ -1,5 +1,5 @@
 -- Obligations and modular runs.
-use Rattle.std.specs.Prelude.{◌≡◌, ℕ, true, false, List, Contains, Some}
+use Rattle.std.specs.Prelude.{◌≡◌, ℕ, true, false, List, map, Contains, None, Some}
 use Rattle.std.specs.List.{AllByRecursion}
 use Rattle.df_base.specs.declared.pos.Pos.{Pos}
 use Rattle.df_lang.specs.Groups.{AreGroups}
@@ -7,9 +7,11 @@ use Rattle.df_lang.specs.Program.{Method, Program, method_at}
 use Rattle.df_lang.specs.Typing.{is_well_typed}
 use Rattle.df_lang.specs.Assignment.{IsDefinitelyAssigned}
 use Rattle.df_meaning.specs.declared.kind.Kind.{Kind}
+use Rattle.df_meaning.specs.Value.{Value}
 use Rattle.df_meaning.specs.Modular.{IsModularlyWrong, IsModularlySafe, IsSafe}
 use Rattle.df_nterm.specs.Term.{Term}
-use Rattle.df_nterm.specs.Meaning.{Interpretation, truth}
+use Rattle.df_nterm.specs.Meaning.{Interpretation, value, truth}
+use Rattle.df_npass.specs.Statements.{any_values}
 use Rattle.df_npass.specs.Methods.{Obligation, obligations_of_method, obligations}
 
 -- an interpretation over the program makes the hypotheses true and the goal false
@@ -37,12 +39,16 @@ WrongIsRefuted = (program : Program) (groups : List ℕ) (number : ℕ) (method 
     → IsModularlyWrong program groups number method pos kind
     → (obligation : Obligation) × IsOwed program groups number method pos kind obligation × IsRefuted program obligation
 
--- and where an obligation is refuted, a modular run is wrong there by its kind
+-- the values that an interpretation gives to the parameters of a method, in order
+abbrev pub arguments_in : Interpretation → Method → List Value
+arguments_in i method = map (value i) (any_values None method.parameters 0).terms
+
+-- and where an obligation is refuted, a modular run on the arguments of the interpretation is wrong there by its kind
 abbrev pub RefutedIsWrong : Type 0
 RefutedIsWrong = (program : Program) (groups : List ℕ) (number : ℕ) (method : Method) (pos : Pos) (kind : Kind) (obligation : Obligation)
     → is_well_typed program ≡ true → IsDefinitelyAssigned program → method_at program number ≡ Some method
-    → IsOwed program groups number method pos kind obligation → IsRefuted program obligation
-    → IsModularlyWrong program groups number method pos kind
+    → IsOwed program groups number method pos kind obligation → (refuted : IsRefuted program obligation)
+    → (wrong : IsModularlyWrong program groups number method pos kind) × (wrong.arguments ≡ arguments_in refuted.interpretation method)
 
 -- so where all obligations of a method are valid, no modular run of it is wrong
 abbrev pub ValidIsSafe : Type 0
@@ -74,3 +80,7 @@ ValidMembersAreSafe = (program : Program) (groups : List ℕ) (number : ℕ) (me
     → is_well_typed program ≡ true → IsDefinitelyAssigned program → method_at program number ≡ Some method
     → ((obligation : Obligation) → Contains (obligations program groups) obligation → obligation.declaration ≡ number → IsValid program obligation)
     → IsModularlySafe program groups number method
+
+-- All groups of a program give it the same obligations.
+abbrev pub OneListOfObligations : Type 0
+OneListOfObligations = (program : Program) (groups others : List ℕ) → AreGroups program groups → AreGroups program others → obligations program groups ≡ obligations program others

@@ -16,7 +16,7 @@ use Rattle.df_nterm.specs.Same.{same_term}
 use Rattle.df_nterm.specs.Expressions.{Environment, term_of, conditions_of}
 use Rattle.df_nterm.specs.Measuring.{measured}
 use Rattle.df_npass.specs.Rules.{Said, Known, Owed, Way, some_term, assume, assert_all, paths_of, any_path, join}
-use Rattle.df_npass.specs.Statements.{Setting, Flow, ways_of, at_clause, assert_clauses, assert_measure, any_values, pass_all}
+use Rattle.df_npass.specs.Statements.{Setting, grouped_with, Flow, ways_of, at_clause, assert_clauses, assert_measure, any_values, pass_all}
 
 -- the types of all locals of a method, by their numbers
 abbrev pub locals_of : Method → List Ty
@@ -47,14 +47,17 @@ ended method flow =
     joined.said ++ option_map_or (λ way. assert_clauses at_clause kinds.Ensures way method.postconditions) joined.way []
 
 abbrev pub setting_of : Program → List ℕ → ℕ → Method → Setting
-setting_of program groups number method = record { program = program; groups = groups; number = number; entry = measured (way_in method).env (method_measure method) }
+setting_of program groups number method = record { program = program; in_group = grouped_with program groups number; entry = measured (way_in method).env (method_measure method) }
 
-abbrev pub pass_method : Program → List ℕ → ℕ → Method → List Said
-pass_method program groups number method =
+abbrev pub pass_within : Setting → Method → List Said
+pass_within setting method =
     let arguments = any_values None method.parameters 0 in
     let way = way_in method in
-    let flow = pass_all (setting_of program groups number method) way method.body arguments.fresh in
+    let flow = pass_all setting way method.body arguments.fresh in
     arguments.said ++ (require_all way method.preconditions ++ (assert_measure way (method_measure method) ++ (flow.said ++ ended method flow)))
+
+abbrev pub pass_method : Program → List ℕ → ℕ → Method → List Said
+pass_method program groups number method = pass_within (setting_of program groups number method) method
 
 -- what is to be shown at a place: where the hypotheses are true, the goal is
 pub record Obligation : Type 0 where

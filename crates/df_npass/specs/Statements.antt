@@ -1,5 +1,5 @@
 -- Passing over statements: what is owed in the order of evaluation, and what is known then.
-use Rattle.std.specs.Prelude.{ℕ, suc, pos, Bool, true, false, ◌==◌, ◌||◌, if◌then◌else◌, List, [], ◌∷◌, ◌++◌, map, filter, slice_index_or, Option, None, Some}
+use Rattle.std.specs.Prelude.{ℕ, suc, pos, nat_lt, Bool, true, false, ◌==◌, ◌&&◌, ◌||◌, if◌then◌else◌, List, [], ◌∷◌, ◌++◌, length, map, filter, slice_index_or, Option, None, Some}
 use Rattle.std.specs.Option.{option_map_or}
 use Rattle.std.specs.List.{list_any, flat_map}
 use Rattle.df_base.specs.declared.pos.Pos.{Pos}
@@ -17,13 +17,16 @@ use Rattle.df_nterm.specs.Expressions.{Environment, term_of, conditions_of, equa
 use Rattle.df_nterm.specs.Measuring.{Measured, measured, are_below}
 use Rattle.df_npass.specs.Rules.{Said, Way, Moved, narrowed, over, with_term, assume, assert, assert_all, assume_all, assume_type, free_of, havoc, paths_of, any_path, join, join_branches}
 
--- what is passed over: the declaration of a program by its number, and its measure on entry; and the group of each
--- declaration
+-- what is passed over: a program, which of its declarations are in the group of the one that is passed over, and the
+-- measure of this one on entry
 pub record Setting : Type 0 where
   pub program : Program
-  pub groups : List ℕ
-  pub number : ℕ
+  pub in_group : ℕ → Bool
   pub entry : List Measured
+
+-- by the group of each declaration, those that are in the group of one
+abbrev pub grouped_with : Program → List ℕ → ℕ → ℕ → Bool
+grouped_with program groups number other = nat_lt other (length program.decls) && (group_at groups number == group_at groups other)
 
 -- What a statement says, and where it leads: the way to the next one, if any run goes on there; the ways out of the
 -- loop around it; and those out of the method. Some runs that came may not go on: they leave, or end in a loop.
@@ -102,7 +105,7 @@ any_values path (param ∷ others) fresh =
 -- inside the group the callee's measure is below that of the declaration
 abbrev pub assert_decrease : Setting → Call → Method → Way → List Said
 assert_decrease setting call method way =
-    if group_at setting.groups setting.number == group_at setting.groups call.callee
+    if setting.in_group call.callee
     then assert_measure way (method_measure method) ++ assert way.path call.pos kinds.Decreases (are_below (measured way.env (method_measure method)) setting.entry)
     else []
 

@@ -2,7 +2,7 @@
 //! obligations of well-typed programs that obey definite assignment have to do with modular runs.
 #![tactic(auto)]
 
-ghost use Rattle.df_npass.specs.Laws.{WrongIsRefuted, RefutedIsWrong, ValidIsSafe, SafeIsValid, AllValidIsSafe, RefutedMemberIsWrong, ValidMembersAreSafe};
+ghost use Rattle.df_npass.specs.Laws.{WrongIsRefuted, RefutedIsWrong, ValidIsSafe, SafeIsValid, AllValidIsSafe, RefutedMemberIsWrong, ValidMembersAreSafe, OneListOfObligations};
 
 /// Where a modular run of a method is wrong, an obligation of that kind at that place is refuted: by an
 /// interpretation that makes all its hypotheses true and its goal false.
@@ -10,8 +10,8 @@ pub fn wrong_is_refuted()
     ensures { WrongIsRefuted }
 {}
 
-/// Where an obligation of a method is refuted, a modular run of it is wrong at its place by its kind, on arguments
-/// and on what is handed in at calls and loops that the interpretation gives.
+/// Where an obligation of a method is refuted, a modular run of it is wrong at its place by its kind, on the arguments
+/// that the interpretation gives and on something that is handed in at calls and loops.
 pub fn refuted_is_wrong()
     ensures { RefutedIsWrong }
 {}
@@ -39,4 +39,9 @@ pub fn refuted_member_is_wrong()
 /// Where all obligations of a program that are of one method are valid, no modular run of that method is wrong.
 pub fn valid_members_are_safe()
     ensures { ValidMembersAreSafe }
+{}
+
+/// All groups of a program give it the same obligations: whether a callee is in the group of its caller is one answer.
+pub fn one_list_of_obligations()
+    ensures { OneListOfObligations }
 {}

@@ -1,7 +1,5 @@
 use Rattle.df_nenc.proofs.Words.{ap, ◌∙◌, Numbers, sort_of_type, AtMost, number_in}
-use Rattle.df_nenc.proofs.Growing.{term_stays, stays, is_term, tree_stays}
-use Rattle.df_nenc.proofs.Results.{two_as}
-use Rattle.df_nenc.proofs.Typed.{counted_number}
+use Rattle.df_nenc.proofs.Lemmas.{term_stays, stays, is_term, tree_stays, two_as, counted_number}
 use Rattle.df_nenc.proofs.comparison.at_most_in.Goals as goal
 
 pub number_in-requires-2 : goal.number_in-requires-2

@@ -1,7 +1,6 @@
 use Rattle.df_nenc.proofs.Words.{refl, Truths}
 use Rattle.df_nterm.specs.Term.{Not}
-use Rattle.df_nenc.proofs.Growing.{is_term}
-use Rattle.df_nenc.proofs.Results.{one_as}
+use Rattle.df_nenc.proofs.Lemmas.{is_term, one_as}
 use Rattle.df_nenc.proofs.comparison.less.Goals as goal
 
 pub negation-requires : goal.negation-requires

@@ -1,6 +1,5 @@
 use Rattle.df_nenc.proofs.Words.{refl, ◌∙◌, Numbers, Truths, And, at_most}
-use Rattle.df_nenc.proofs.Growing.{grows_then, stays, is_term, tree_stays, term_stays}
-use Rattle.df_nenc.proofs.Results.{two_as}
+use Rattle.df_nenc.proofs.Lemmas.{grows_then, stays, is_term, tree_stays, term_stays, two_as}
 use Rattle.df_nenc.proofs.condition.is_code.Goals as goal
 
 pub at_most-requires-2-clause-left : goal.at_most-requires-2-clause-left

@@ -1,6 +1,5 @@
 use Rattle.df_nenc.proofs.Words.{tree_at, path_in}
-use Rattle.df_nenc.proofs.Reaching.{front_more}
-use Rattle.df_nenc.proofs.Results.{pushed}
+use Rattle.df_nenc.proofs.Lemmas.{front_more, pushed}
 use Rattle.df_nenc.proofs.condition.owe.Goals as goal
 
 pub returns-clause-adds : goal.returns-clause-adds

@@ -1,6 +1,5 @@
 use Rattle.df_nenc.proofs.Words.{refl, Truths, condition, under}
-use Rattle.df_nenc.proofs.Growing.{is_term, path_same}
-use Rattle.df_nenc.proofs.Narrowing.{owed_as}
+use Rattle.df_nenc.proofs.Lemmas.{is_term, path_same, owed_as}
 use Rattle.df_meaning.specs.declared.kind.Kind.TheVariants as kinds
 use Rattle.df_nenc.proofs.condition.owe_code.Goals as goal
 

@@ -1,6 +1,5 @@
 use Rattle.df_nenc.proofs.Words.{sym, ap, ◌∙◌, [], tree_at, path_in, under}
-use Rattle.df_nenc.proofs.Adding.{adds_none, adds_as}
-use Rattle.df_nenc.proofs.Narrowing.{owed_as, narrowed, not_narrowed, narrowed_number}
+use Rattle.df_nenc.proofs.Lemmas.{adds_none, adds_as, owed_as, narrowed, not_narrowed, narrowed_number}
 use Rattle.df_nenc.proofs.condition.owe_narrowing.Goals as goal
 
 pub owe_range-requires-clause-number : goal.owe_range-requires-clause-number

@@ -1,7 +1,5 @@
 use Rattle.df_nenc.proofs.Words.{sym, refl, ap, ◌∙◌, Numbers, Truths, equal, negation, condition, under}
-use Rattle.df_nenc.proofs.Growing.{grows_then, term_stays, is_term, tree_stays, path_same}
-use Rattle.df_nenc.proofs.Narrowing.{owed_as}
-use Rattle.df_nenc.proofs.Sorts.{no_numbers}
+use Rattle.df_nenc.proofs.Lemmas.{grows_then, term_stays, is_term, tree_stays, path_same, owed_as, no_numbers}
 use Rattle.df_meaning.specs.declared.kind.Kind.TheVariants as kinds
 use Rattle.df_nenc.proofs.condition.owe_nonzero.Goals as goal
 

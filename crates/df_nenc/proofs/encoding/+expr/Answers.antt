@@ -1,13 +1,9 @@
 use Rattle.df_nenc.proofs.Words.{◌≡◌, ◌<◌, length, to_z, of_z, [], ◌∷◌, ◌++◌, get_or, refl, sym, ap, ◌∙◌, rules, subst, AllByRecursion, w128, to_z-of_z, slice_get_within, get_or_from_slice_get, the_lemmas, expr_of, As, Chain, Character, Convert, Iff, Implies, Junction, Local, Negate, Not, Number, Product, Sum, Truth, Numbers, Truths, sort_of_type, conjunction, literal, negation, negative, term, comparisons_of, conditions_of_addends, conditions_of_factors, conditions_of_implication, conditions_of_junction, conditions_of_links, conditions_of_members, equivalence_of, implication_of, in_range, joined, members_of, narrowing, number_in, product_of, sum_of, under, value_in, tree_at, path_in, IsTerm, IsOver, Gives, Encodes}
 use Rattle.df_nenc.specs.Views.{addends_in, factors_in, members_in, links_in}
-use Rattle.df_nenc.proofs.Growing.{grows_not, grows_then, term_stays, path_stays}
-use Rattle.df_nenc.proofs.Adding.{gives_alone, gives_owing}
-use Rattle.df_nenc.proofs.Results.{if_ok}
-use Rattle.df_nenc.proofs.Parts.{local_term, negate_part, not_part, sum_first, sum_rest, product_first, product_rest, junction_first, junction_rest, implies_first, implies_rest, iff_first, iff_rest, chain_first, chain_rest, as_part, as_counts, convert_part}
+use Rattle.df_nenc.proofs.Lemmas.{grows_not, grows_then, term_stays, path_stays, gives_alone, gives_owing, if_ok, over_stays, local_term, negate_part, not_part, sum_first, sum_rest, product_first, product_rest, level_first, level_rest, chain_first, chain_rest, as_part, as_counts, convert_part, member_at}
 use Rattle.df_nenc.proofs.Cases.{over_seen, operand_term, then_encodes, over_encodes, local_encodes}
-use Rattle.df_nenc.proofs.Siblings.{addends_stay, factors_stay, members_stay, links_stay}
 use Rattle.df_nenc.proofs.Sums.{sum_starts, sum_operand, sum_steps, sum_stops, product_starts, product_operand, product_steps, product_stops}
-use Rattle.df_nenc.proofs.WalkingMembers.{guard_term, next_path, junction_starts, junction_operand, junction_steps, junction_stops, implication_starts, implication_operand, implication_steps, implication_stops, equivalence_starts, equivalence_operand, equivalence_steps, equivalence_stops}
+use Rattle.df_nenc.proofs.WalkingMembers.{guard_term, next_path, junction_starts, junction_steps, junction_stops, implication_starts, implication_steps, implication_stops, equivalence_starts, equivalence_steps, equivalence_stops}
 use Rattle.df_nenc.proofs.Chains.{chain_starts, chain_operand, chain_compares, chain_steps, chain_stops}
 use Rattle.df_nenc.proofs.encoding.+expr.Goals as goal
 
@@ -29,31 +25,22 @@ sum-with_addend-requires-clause-total t c = term_stays Numbers c.loop-addend.nod
 -- ---- expressions
 
 pub encode-encode-requires : goal.encode-encode-requires
-encode-encode-requires t c =
-    let over : IsOver c.args.nodes.now c.args.terms.now (Negate c.in-Negate.ty c.in-Negate.pos (expr_of c.deref.result.now)) = over_seen c.requires.over (search (rules, the_lemmas)) in
-    (search (rules, the_lemmas), ((negate_part _ _ _ _ _ over).over, c.requires.path))
+encode-encode-requires t c = (search (rules, the_lemmas), ((negate_part c.args.nodes.now c.args.terms.now c.in-Negate.ty c.in-Negate.pos (expr_of c.deref.result.now) (over_seen c.requires.over (search (rules, the_lemmas)))).over, c.requires.path))
 
 pub encode-negated-requires-clause-operand : goal.encode-negated-requires-clause-operand
-encode-negated-requires-clause-operand t c =
-    let over : IsOver c.args.nodes.now c.args.terms.now (Negate c.in-Negate.ty c.in-Negate.pos (expr_of c.deref.result.now)) = over_seen c.requires.over (search (rules, the_lemmas)) in
-    operand_term Numbers c.args.nodes.now c.encode.new.nodes c.args.terms.now c.args.path (expr_of c.deref.result.now) c.in_ok-operand-in-Negate.operand c.args.out.now.items c.encode.new.out.items (negate_part _ _ _ _ _ over) c.in_ok-operand-in-Negate.ensures.encodes
+encode-negated-requires-clause-operand t c = operand_term Numbers c.args.nodes.now c.encode.new.nodes c.args.terms.now c.args.path (expr_of c.deref.result.now) c.in_ok-operand-in-Negate.operand c.args.out.now.items c.encode.new.out.items (negate_part c.args.nodes.now c.args.terms.now c.in-Negate.ty c.in-Negate.pos (expr_of c.deref.result.now) (over_seen c.requires.over (search (rules, the_lemmas)))) c.in_ok-operand-in-Negate.ensures.encodes
 
 pub encode-returns-in_ok-operand-in-Negate-clause-encodes : goal.encode-returns-in_ok-operand-in-Negate-clause-encodes
 encode-returns-in_ok-operand-in-Negate-clause-encodes t c =
     let is : expr_of c.args.expr.now ≡ Negate c.in-Negate.ty c.in-Negate.pos (expr_of c.deref.result.now) = search (rules, the_lemmas) in
-    let over = over_seen c.requires.over is in
     if_ok c.negated.result _ _ c.negated.ensures.gives (λ n g. subst (λ whole. Encodes c.args.nodes.now c.negated.new.nodes c.args.terms.now c.args.path whole n c.args.out.now.items c.negated.new.out.items) (sym is)
-    (then_encodes c.args.nodes.now c.encode.new.nodes c.negated.new.nodes c.args.terms.now c.args.path (expr_of c.deref.result.now) (Negate c.in-Negate.ty c.in-Negate.pos (expr_of c.deref.result.now)) c.in_ok-operand-in-Negate.operand n c.args.out.now.items c.encode.new.out.items c.negated.new.out.items (λ env a. negative a) (λ env on a. under on (in_range c.in-Negate.ty c.in-Negate.pos (negative a))) over c.requires.path c.in_ok-operand-in-Negate.ensures.encodes g))
+    (then_encodes c.args.nodes.now c.encode.new.nodes c.negated.new.nodes c.args.terms.now c.args.path (expr_of c.deref.result.now) (Negate c.in-Negate.ty c.in-Negate.pos (expr_of c.deref.result.now)) c.in_ok-operand-in-Negate.operand n c.args.out.now.items c.encode.new.out.items c.negated.new.out.items (λ env a. negative a) (λ env on a. under on (in_range c.in-Negate.ty c.in-Negate.pos (negative a))) (over_seen c.requires.over is) c.requires.path c.in_ok-operand-in-Negate.ensures.encodes g))
 
 pub encode-encode-requires-in-Not : goal.encode-encode-requires-in-Not
-encode-encode-requires-in-Not t c =
-    let over : IsOver c.args.nodes.now c.args.terms.now (Not c.in-Not.pos (expr_of c.deref-in-Not.result.now)) = over_seen c.requires.over (search (rules, the_lemmas)) in
-    (search (rules, the_lemmas), ((not_part _ _ _ _ over).over, c.requires.path))
+encode-encode-requires-in-Not t c = (search (rules, the_lemmas), ((not_part c.args.nodes.now c.args.terms.now c.in-Not.pos (expr_of c.deref-in-Not.result.now) (over_seen c.requires.over (search (rules, the_lemmas)))).over, c.requires.path))
 
 pub encode-negation-requires : goal.encode-negation-requires
-encode-negation-requires t c =
-    let over : IsOver c.args.nodes.now c.args.terms.now (Not c.in-Not.pos (expr_of c.deref-in-Not.result.now)) = over_seen c.requires.over (search (rules, the_lemmas)) in
-    operand_term Truths c.args.nodes.now c.encode-in-Not.new.nodes c.args.terms.now c.args.path (expr_of c.deref-in-Not.result.now) c.in_ok-operand-in-Not.operand c.args.out.now.items c.encode-in-Not.new.out.items (not_part _ _ _ _ over) c.in_ok-operand-in-Not.ensures.encodes
+encode-negation-requires t c = operand_term Truths c.args.nodes.now c.encode-in-Not.new.nodes c.args.terms.now c.args.path (expr_of c.deref-in-Not.result.now) c.in_ok-operand-in-Not.operand c.args.out.now.items c.encode-in-Not.new.out.items (not_part c.args.nodes.now c.args.terms.now c.in-Not.pos (expr_of c.deref-in-Not.result.now) (over_seen c.requires.over (search (rules, the_lemmas)))) c.in_ok-operand-in-Not.ensures.encodes
 
 pub encode-returns-in_ok-operand-in-Not-clause-encodes : goal.encode-returns-in_ok-operand-in-Not-clause-encodes
 encode-returns-in_ok-operand-in-Not-clause-encodes t c =
@@ -63,162 +50,132 @@ encode-returns-in_ok-operand-in-Not-clause-encodes t c =
 
 pub encode-encode-requires-in-Sum : goal.encode-encode-requires-in-Sum
 unfolding addends_in
-encode-encode-requires-in-Sum t c =
-    let over : IsOver c.args.nodes.now c.args.terms.now (Sum c.in-Sum.ty (expr_of c.deref-in-Sum.result.now) (addends_in c.in-Sum.rest.items)) = over_seen c.requires.over (search (rules, the_lemmas)) in
-    (search (rules, the_lemmas), ((sum_first _ _ _ _ _ over).over, c.requires.path))
+encode-encode-requires-in-Sum t c = (search (rules, the_lemmas), ((sum_first c.args.nodes.now c.args.terms.now c.in-Sum.ty (expr_of c.deref-in-Sum.result.now) (addends_in c.in-Sum.rest.items) (over_seen c.requires.over (search (rules, the_lemmas)))).over, c.requires.path))
 
 pub encode-sum-requires : goal.encode-sum-requires
 unfolding addends_in
 encode-sum-requires t c =
     let over : IsOver c.args.nodes.now c.args.terms.now (Sum c.in-Sum.ty (expr_of c.deref-in-Sum.result.now) (addends_in c.in-Sum.rest.items)) = over_seen c.requires.over (search (rules, the_lemmas)) in
-    (search (rules, the_lemmas), (addends_stay c.args.nodes.now c.encode-in-Sum.new.nodes c.args.terms.now c.in_ok-first-in-Sum.ensures.encodes.grows (addends_in c.in-Sum.rest.items) (sum_rest _ _ _ _ _ over), (path_stays c.args.nodes.now c.encode-in-Sum.new.nodes c.args.path c.in_ok-first-in-Sum.ensures.encodes.grows c.requires.path, operand_term Numbers c.args.nodes.now c.encode-in-Sum.new.nodes c.args.terms.now c.args.path (expr_of c.deref-in-Sum.result.now) c.in_ok-first-in-Sum.first c.args.out.now.items c.encode-in-Sum.new.out.items (sum_first _ _ _ _ _ over) c.in_ok-first-in-Sum.ensures.encodes)))
+    (search (rules, the_lemmas), (sum_rest _ _ _ _ _ (over_stays c.args.nodes.now c.encode-in-Sum.new.nodes c.args.terms.now _ c.in_ok-first-in-Sum.ensures.encodes.grows over), (path_stays c.args.nodes.now c.encode-in-Sum.new.nodes c.args.path c.in_ok-first-in-Sum.ensures.encodes.grows c.requires.path, operand_term Numbers c.args.nodes.now c.encode-in-Sum.new.nodes c.args.terms.now c.args.path (expr_of c.deref-in-Sum.result.now) c.in_ok-first-in-Sum.first c.args.out.now.items c.encode-in-Sum.new.out.items (sum_first _ _ _ _ _ over) c.in_ok-first-in-Sum.ensures.encodes)))
 
 pub encode-returns-in_ok-first-in-Sum-clause-encodes : goal.encode-returns-in_ok-first-in-Sum-clause-encodes
 unfolding addends_in
 encode-returns-in_ok-first-in-Sum-clause-encodes t c =
     let is : expr_of c.args.expr.now ≡ Sum c.in-Sum.ty (expr_of c.deref-in-Sum.result.now) (addends_in c.in-Sum.rest.items) = search (rules, the_lemmas) in
-    let over = over_seen c.requires.over is in
     if_ok c.sum.result _ _ c.sum.ensures.gives (λ n g. subst (λ whole. Encodes c.args.nodes.now c.sum.new.nodes c.args.terms.now c.args.path whole n c.args.out.now.items c.sum.new.out.items) (sym is)
-    (then_encodes c.args.nodes.now c.encode-in-Sum.new.nodes c.sum.new.nodes c.args.terms.now c.args.path (expr_of c.deref-in-Sum.result.now) (Sum c.in-Sum.ty (expr_of c.deref-in-Sum.result.now) (addends_in c.in-Sum.rest.items)) c.in_ok-first-in-Sum.first n c.args.out.now.items c.encode-in-Sum.new.out.items c.sum.new.out.items (λ env a. sum_of env a (addends_in c.in-Sum.rest.items)) (λ env on a. conditions_of_addends env on c.in-Sum.ty a (addends_in c.in-Sum.rest.items)) over c.requires.path c.in_ok-first-in-Sum.ensures.encodes g))
+    (then_encodes c.args.nodes.now c.encode-in-Sum.new.nodes c.sum.new.nodes c.args.terms.now c.args.path (expr_of c.deref-in-Sum.result.now) (Sum c.in-Sum.ty (expr_of c.deref-in-Sum.result.now) (addends_in c.in-Sum.rest.items)) c.in_ok-first-in-Sum.first n c.args.out.now.items c.encode-in-Sum.new.out.items c.sum.new.out.items (λ env a. sum_of env a (addends_in c.in-Sum.rest.items)) (λ env on a. conditions_of_addends env on c.in-Sum.ty a (addends_in c.in-Sum.rest.items)) (over_seen c.requires.over is) c.requires.path c.in_ok-first-in-Sum.ensures.encodes g))
 
 pub encode-encode-requires-in-Product : goal.encode-encode-requires-in-Product
 unfolding factors_in
-encode-encode-requires-in-Product t c =
-    let over : IsOver c.args.nodes.now c.args.terms.now (Product c.in-Product.ty (expr_of c.deref-in-Product.result.now) (factors_in c.in-Product.rest.items)) = over_seen c.requires.over (search (rules, the_lemmas)) in
-    (search (rules, the_lemmas), ((product_first _ _ _ _ _ over).over, c.requires.path))
+encode-encode-requires-in-Product t c = (search (rules, the_lemmas), ((product_first c.args.nodes.now c.args.terms.now c.in-Product.ty (expr_of c.deref-in-Product.result.now) (factors_in c.in-Product.rest.items) (over_seen c.requires.over (search (rules, the_lemmas)))).over, c.requires.path))
 
 pub encode-product-requires : goal.encode-product-requires
 unfolding factors_in
 encode-product-requires t c =
     let over : IsOver c.args.nodes.now c.args.terms.now (Product c.in-Product.ty (expr_of c.deref-in-Product.result.now) (factors_in c.in-Product.rest.items)) = over_seen c.requires.over (search (rules, the_lemmas)) in
-    (search (rules, the_lemmas), (factors_stay c.args.nodes.now c.encode-in-Product.new.nodes c.args.terms.now c.in_ok-first-in-Product.ensures.encodes.grows (factors_in c.in-Product.rest.items) (product_rest _ _ _ _ _ over), (path_stays c.args.nodes.now c.encode-in-Product.new.nodes c.args.path c.in_ok-first-in-Product.ensures.encodes.grows c.requires.path, operand_term Numbers c.args.nodes.now c.encode-in-Product.new.nodes c.args.terms.now c.args.path (expr_of c.deref-in-Product.result.now) c.in_ok-first-in-Product.first c.args.out.now.items c.encode-in-Product.new.out.items (product_first _ _ _ _ _ over) c.in_ok-first-in-Product.ensures.encodes)))
+    (search (rules, the_lemmas), (product_rest _ _ _ _ _ (over_stays c.args.nodes.now c.encode-in-Product.new.nodes c.args.terms.now _ c.in_ok-first-in-Product.ensures.encodes.grows over), (path_stays c.args.nodes.now c.encode-in-Product.new.nodes c.args.path c.in_ok-first-in-Product.ensures.encodes.grows c.requires.path, operand_term Numbers c.args.nodes.now c.encode-in-Product.new.nodes c.args.terms.now c.args.path (expr_of c.deref-in-Product.result.now) c.in_ok-first-in-Product.first c.args.out.now.items c.encode-in-Product.new.out.items (product_first _ _ _ _ _ over) c.in_ok-first-in-Product.ensures.encodes)))
 
 pub encode-returns-in_ok-first-in-Product-clause-encodes : goal.encode-returns-in_ok-first-in-Product-clause-encodes
 unfolding factors_in
 encode-returns-in_ok-first-in-Product-clause-encodes t c =
     let is : expr_of c.args.expr.now ≡ Product c.in-Product.ty (expr_of c.deref-in-Product.result.now) (factors_in c.in-Product.rest.items) = search (rules, the_lemmas) in
-    let over = over_seen c.requires.over is in
     if_ok c.product.result _ _ c.product.ensures.gives (λ n g. subst (λ whole. Encodes c.args.nodes.now c.product.new.nodes c.args.terms.now c.args.path whole n c.args.out.now.items c.product.new.out.items) (sym is)
-    (then_encodes c.args.nodes.now c.encode-in-Product.new.nodes c.product.new.nodes c.args.terms.now c.args.path (expr_of c.deref-in-Product.result.now) (Product c.in-Product.ty (expr_of c.deref-in-Product.result.now) (factors_in c.in-Product.rest.items)) c.in_ok-first-in-Product.first n c.args.out.now.items c.encode-in-Product.new.out.items c.product.new.out.items (λ env a. product_of env a (factors_in c.in-Product.rest.items)) (λ env on a. conditions_of_factors env on c.in-Product.ty a (factors_in c.in-Product.rest.items)) over c.requires.path c.in_ok-first-in-Product.ensures.encodes g))
+    (then_encodes c.args.nodes.now c.encode-in-Product.new.nodes c.product.new.nodes c.args.terms.now c.args.path (expr_of c.deref-in-Product.result.now) (Product c.in-Product.ty (expr_of c.deref-in-Product.result.now) (factors_in c.in-Product.rest.items)) c.in_ok-first-in-Product.first n c.args.out.now.items c.encode-in-Product.new.out.items c.product.new.out.items (λ env a. product_of env a (factors_in c.in-Product.rest.items)) (λ env on a. conditions_of_factors env on c.in-Product.ty a (factors_in c.in-Product.rest.items)) (over_seen c.requires.over is) c.requires.path c.in_ok-first-in-Product.ensures.encodes g))
 
 pub encode-encode-requires-in-Junction : goal.encode-encode-requires-in-Junction
 unfolding members_in
-encode-encode-requires-in-Junction t c =
-    let over : IsOver c.args.nodes.now c.args.terms.now (Junction c.in-Junction.junction (expr_of c.deref-in-Junction.result.now) (members_in c.in-Junction.rest.items)) = over_seen c.requires.over (search (rules, the_lemmas)) in
-    (search (rules, the_lemmas), ((junction_first _ _ _ _ _ over).over, c.requires.path))
+encode-encode-requires-in-Junction t c = (search (rules, the_lemmas), ((level_first c.args.nodes.now c.args.terms.now (Junction c.in-Junction.junction (expr_of c.deref-in-Junction.result.now) (members_in c.in-Junction.rest.items)) (expr_of c.deref-in-Junction.result.now) (members_in c.in-Junction.rest.items) (over_seen c.requires.over (search (rules, the_lemmas))) (λ p locals ty. refl)).over, c.requires.path))
 
 pub encode-junction_of-requires : goal.encode-junction_of-requires
 unfolding members_in
 encode-junction_of-requires t c =
     let over : IsOver c.args.nodes.now c.args.terms.now (Junction c.in-Junction.junction (expr_of c.deref-in-Junction.result.now) (members_in c.in-Junction.rest.items)) = over_seen c.requires.over (search (rules, the_lemmas)) in
-    (search (rules, the_lemmas), (members_stay c.args.nodes.now c.encode-in-Junction.new.nodes c.args.terms.now c.in_ok-first-in-Junction.ensures.encodes.grows (members_in c.in-Junction.rest.items) (junction_rest _ _ _ _ _ over), (path_stays c.args.nodes.now c.encode-in-Junction.new.nodes c.args.path c.in_ok-first-in-Junction.ensures.encodes.grows c.requires.path, operand_term Truths c.args.nodes.now c.encode-in-Junction.new.nodes c.args.terms.now c.args.path (expr_of c.deref-in-Junction.result.now) c.in_ok-first-in-Junction.first c.args.out.now.items c.encode-in-Junction.new.out.items (junction_first _ _ _ _ _ over) c.in_ok-first-in-Junction.ensures.encodes)))
+    (search (rules, the_lemmas), (level_rest _ _ _ (expr_of c.deref-in-Junction.result.now) (members_in c.in-Junction.rest.items) (over_stays c.args.nodes.now c.encode-in-Junction.new.nodes c.args.terms.now _ c.in_ok-first-in-Junction.ensures.encodes.grows over) (λ p locals ty. refl), (path_stays c.args.nodes.now c.encode-in-Junction.new.nodes c.args.path c.in_ok-first-in-Junction.ensures.encodes.grows c.requires.path, operand_term Truths c.args.nodes.now c.encode-in-Junction.new.nodes c.args.terms.now c.args.path (expr_of c.deref-in-Junction.result.now) c.in_ok-first-in-Junction.first c.args.out.now.items c.encode-in-Junction.new.out.items (level_first _ _ _ (expr_of c.deref-in-Junction.result.now) (members_in c.in-Junction.rest.items) over (λ p locals ty. refl)) c.in_ok-first-in-Junction.ensures.encodes)))
 
 pub encode-returns-in_ok-first-in-Junction-clause-encodes : goal.encode-returns-in_ok-first-in-Junction-clause-encodes
 unfolding members_in
 encode-returns-in_ok-first-in-Junction-clause-encodes t c =
     let is : expr_of c.args.expr.now ≡ Junction c.in-Junction.junction (expr_of c.deref-in-Junction.result.now) (members_in c.in-Junction.rest.items) = search (rules, the_lemmas) in
-    let over = over_seen c.requires.over is in
     if_ok c.junction_of.result _ _ c.junction_of.ensures.gives (λ n g. subst (λ whole. Encodes c.args.nodes.now c.junction_of.new.nodes c.args.terms.now c.args.path whole n c.args.out.now.items c.junction_of.new.out.items) (sym is)
-    (then_encodes c.args.nodes.now c.encode-in-Junction.new.nodes c.junction_of.new.nodes c.args.terms.now c.args.path (expr_of c.deref-in-Junction.result.now) (Junction c.in-Junction.junction (expr_of c.deref-in-Junction.result.now) (members_in c.in-Junction.rest.items)) c.in_ok-first-in-Junction.first n c.args.out.now.items c.encode-in-Junction.new.out.items c.junction_of.new.out.items (λ env a. joined c.in-Junction.junction (term a (members_of env (members_in c.in-Junction.rest.items)))) (λ env on a. conditions_of_junction env on c.in-Junction.junction a (members_in c.in-Junction.rest.items)) over c.requires.path c.in_ok-first-in-Junction.ensures.encodes g))
+    (then_encodes c.args.nodes.now c.encode-in-Junction.new.nodes c.junction_of.new.nodes c.args.terms.now c.args.path (expr_of c.deref-in-Junction.result.now) (Junction c.in-Junction.junction (expr_of c.deref-in-Junction.result.now) (members_in c.in-Junction.rest.items)) c.in_ok-first-in-Junction.first n c.args.out.now.items c.encode-in-Junction.new.out.items c.junction_of.new.out.items (λ env a. joined c.in-Junction.junction (term a (members_of env (members_in c.in-Junction.rest.items)))) (λ env on a. conditions_of_junction env on c.in-Junction.junction a (members_in c.in-Junction.rest.items)) (over_seen c.requires.over is) c.requires.path c.in_ok-first-in-Junction.ensures.encodes g))
 
 pub encode-encode-requires-in-Implies : goal.encode-encode-requires-in-Implies
 unfolding members_in
-encode-encode-requires-in-Implies t c =
-    let over : IsOver c.args.nodes.now c.args.terms.now (Implies c.in-Implies.arrow (expr_of c.deref-in-Implies.result.now) (members_in c.in-Implies.rest.items)) = over_seen c.requires.over (search (rules, the_lemmas)) in
-    (search (rules, the_lemmas), ((implies_first _ _ _ _ _ over).over, c.requires.path))
+encode-encode-requires-in-Implies t c = (search (rules, the_lemmas), ((level_first c.args.nodes.now c.args.terms.now (Implies c.in-Implies.arrow (expr_of c.deref-in-Implies.result.now) (members_in c.in-Implies.rest.items)) (expr_of c.deref-in-Implies.result.now) (members_in c.in-Implies.rest.items) (over_seen c.requires.over (search (rules, the_lemmas))) (λ p locals ty. refl)).over, c.requires.path))
 
 pub encode-implication-requires : goal.encode-implication-requires
 unfolding members_in
 encode-implication-requires t c =
     let over : IsOver c.args.nodes.now c.args.terms.now (Implies c.in-Implies.arrow (expr_of c.deref-in-Implies.result.now) (members_in c.in-Implies.rest.items)) = over_seen c.requires.over (search (rules, the_lemmas)) in
-    (search (rules, the_lemmas), (members_stay c.args.nodes.now c.encode-in-Implies.new.nodes c.args.terms.now c.in_ok-first-in-Implies.ensures.encodes.grows (members_in c.in-Implies.rest.items) (implies_rest _ _ _ _ _ over), (path_stays c.args.nodes.now c.encode-in-Implies.new.nodes c.args.path c.in_ok-first-in-Implies.ensures.encodes.grows c.requires.path, operand_term Truths c.args.nodes.now c.encode-in-Implies.new.nodes c.args.terms.now c.args.path (expr_of c.deref-in-Implies.result.now) c.in_ok-first-in-Implies.first c.args.out.now.items c.encode-in-Implies.new.out.items (implies_first _ _ _ _ _ over) c.in_ok-first-in-Implies.ensures.encodes)))
+    (search (rules, the_lemmas), (level_rest _ _ _ (expr_of c.deref-in-Implies.result.now) (members_in c.in-Implies.rest.items) (over_stays c.args.nodes.now c.encode-in-Implies.new.nodes c.args.terms.now _ c.in_ok-first-in-Implies.ensures.encodes.grows over) (λ p locals ty. refl), (path_stays c.args.nodes.now c.encode-in-Implies.new.nodes c.args.path c.in_ok-first-in-Implies.ensures.encodes.grows c.requires.path, operand_term Truths c.args.nodes.now c.encode-in-Implies.new.nodes c.args.terms.now c.args.path (expr_of c.deref-in-Implies.result.now) c.in_ok-first-in-Implies.first c.args.out.now.items c.encode-in-Implies.new.out.items (level_first _ _ _ (expr_of c.deref-in-Implies.result.now) (members_in c.in-Implies.rest.items) over (λ p locals ty. refl)) c.in_ok-first-in-Implies.ensures.encodes)))
 
 pub encode-returns-in_ok-first-in-Implies-clause-encodes : goal.encode-returns-in_ok-first-in-Implies-clause-encodes
 unfolding members_in
 encode-returns-in_ok-first-in-Implies-clause-encodes t c =
     let is : expr_of c.args.expr.now ≡ Implies c.in-Implies.arrow (expr_of c.deref-in-Implies.result.now) (members_in c.in-Implies.rest.items) = search (rules, the_lemmas) in
-    let over = over_seen c.requires.over is in
     if_ok c.implication.result _ _ c.implication.ensures.gives (λ n g. subst (λ whole. Encodes c.args.nodes.now c.implication.new.nodes c.args.terms.now c.args.path whole n c.args.out.now.items c.implication.new.out.items) (sym is)
-    (then_encodes c.args.nodes.now c.encode-in-Implies.new.nodes c.implication.new.nodes c.args.terms.now c.args.path (expr_of c.deref-in-Implies.result.now) (Implies c.in-Implies.arrow (expr_of c.deref-in-Implies.result.now) (members_in c.in-Implies.rest.items)) c.in_ok-first-in-Implies.first n c.args.out.now.items c.encode-in-Implies.new.out.items c.implication.new.out.items (λ env a. implication_of env a (members_in c.in-Implies.rest.items)) (λ env on a. conditions_of_implication env on a (members_in c.in-Implies.rest.items)) over c.requires.path c.in_ok-first-in-Implies.ensures.encodes g))
+    (then_encodes c.args.nodes.now c.encode-in-Implies.new.nodes c.implication.new.nodes c.args.terms.now c.args.path (expr_of c.deref-in-Implies.result.now) (Implies c.in-Implies.arrow (expr_of c.deref-in-Implies.result.now) (members_in c.in-Implies.rest.items)) c.in_ok-first-in-Implies.first n c.args.out.now.items c.encode-in-Implies.new.out.items c.implication.new.out.items (λ env a. implication_of env a (members_in c.in-Implies.rest.items)) (λ env on a. conditions_of_implication env on a (members_in c.in-Implies.rest.items)) (over_seen c.requires.over is) c.requires.path c.in_ok-first-in-Implies.ensures.encodes g))
 
 pub encode-encode-requires-in-Iff : goal.encode-encode-requires-in-Iff
 unfolding members_in
-encode-encode-requires-in-Iff t c =
-    let over : IsOver c.args.nodes.now c.args.terms.now (Iff (expr_of c.deref-in-Iff.result.now) (members_in c.in-Iff.rest.items)) = over_seen c.requires.over (search (rules, the_lemmas)) in
-    (search (rules, the_lemmas), ((iff_first _ _ _ _ over).over, c.requires.path))
+encode-encode-requires-in-Iff t c = (search (rules, the_lemmas), ((level_first c.args.nodes.now c.args.terms.now (Iff (expr_of c.deref-in-Iff.result.now) (members_in c.in-Iff.rest.items)) (expr_of c.deref-in-Iff.result.now) (members_in c.in-Iff.rest.items) (over_seen c.requires.over (search (rules, the_lemmas))) (λ p locals ty. refl)).over, c.requires.path))
 
 pub encode-equivalence-requires : goal.encode-equivalence-requires
 unfolding members_in
 encode-equivalence-requires t c =
     let over : IsOver c.args.nodes.now c.args.terms.now (Iff (expr_of c.deref-in-Iff.result.now) (members_in c.in-Iff.rest.items)) = over_seen c.requires.over (search (rules, the_lemmas)) in
-    (search (rules, the_lemmas), (members_stay c.args.nodes.now c.encode-in-Iff.new.nodes c.args.terms.now c.in_ok-first-in-Iff.ensures.encodes.grows (members_in c.in-Iff.rest.items) (iff_rest _ _ _ _ over), (path_stays c.args.nodes.now c.encode-in-Iff.new.nodes c.args.path c.in_ok-first-in-Iff.ensures.encodes.grows c.requires.path, operand_term Truths c.args.nodes.now c.encode-in-Iff.new.nodes c.args.terms.now c.args.path (expr_of c.deref-in-Iff.result.now) c.in_ok-first-in-Iff.first c.args.out.now.items c.encode-in-Iff.new.out.items (iff_first _ _ _ _ over) c.in_ok-first-in-Iff.ensures.encodes)))
+    (search (rules, the_lemmas), (level_rest _ _ _ (expr_of c.deref-in-Iff.result.now) (members_in c.in-Iff.rest.items) (over_stays c.args.nodes.now c.encode-in-Iff.new.nodes c.args.terms.now _ c.in_ok-first-in-Iff.ensures.encodes.grows over) (λ p locals ty. refl), (path_stays c.args.nodes.now c.encode-in-Iff.new.nodes c.args.path c.in_ok-first-in-Iff.ensures.encodes.grows c.requires.path, operand_term Truths c.args.nodes.now c.encode-in-Iff.new.nodes c.args.terms.now c.args.path (expr_of c.deref-in-Iff.result.now) c.in_ok-first-in-Iff.first c.args.out.now.items c.encode-in-Iff.new.out.items (level_first _ _ _ (expr_of c.deref-in-Iff.result.now) (members_in c.in-Iff.rest.items) over (λ p locals ty. refl)) c.in_ok-first-in-Iff.ensures.encodes)))
 
 pub encode-returns-in_ok-first-in-Iff-clause-encodes : goal.encode-returns-in_ok-first-in-Iff-clause-encodes
 unfolding members_in
 encode-returns-in_ok-first-in-Iff-clause-encodes t c =
     let is : expr_of c.args.expr.now ≡ Iff (expr_of c.deref-in-Iff.result.now) (members_in c.in-Iff.rest.items) = search (rules, the_lemmas) in
-    let over = over_seen c.requires.over is in
     if_ok c.equivalence.result _ _ c.equivalence.ensures.gives (λ n g. subst (λ whole. Encodes c.args.nodes.now c.equivalence.new.nodes c.args.terms.now c.args.path whole n c.args.out.now.items c.equivalence.new.out.items) (sym is)
-    (then_encodes c.args.nodes.now c.encode-in-Iff.new.nodes c.equivalence.new.nodes c.args.terms.now c.args.path (expr_of c.deref-in-Iff.result.now) (Iff (expr_of c.deref-in-Iff.result.now) (members_in c.in-Iff.rest.items)) c.in_ok-first-in-Iff.first n c.args.out.now.items c.encode-in-Iff.new.out.items c.equivalence.new.out.items (λ env a. equivalence_of env a (members_in c.in-Iff.rest.items)) (λ env on a. conditions_of_members env on (members_in c.in-Iff.rest.items)) over c.requires.path c.in_ok-first-in-Iff.ensures.encodes g))
+    (then_encodes c.args.nodes.now c.encode-in-Iff.new.nodes c.equivalence.new.nodes c.args.terms.now c.args.path (expr_of c.deref-in-Iff.result.now) (Iff (expr_of c.deref-in-Iff.result.now) (members_in c.in-Iff.rest.items)) c.in_ok-first-in-Iff.first n c.args.out.now.items c.encode-in-Iff.new.out.items c.equivalence.new.out.items (λ env a. equivalence_of env a (members_in c.in-Iff.rest.items)) (λ env on a. conditions_of_members env on (members_in c.in-Iff.rest.items)) (over_seen c.requires.over is) c.requires.path c.in_ok-first-in-Iff.ensures.encodes g))
 
 pub encode-encode-requires-in-Chain : goal.encode-encode-requires-in-Chain
 unfolding links_in
-encode-encode-requires-in-Chain t c =
-    let over : IsOver c.args.nodes.now c.args.terms.now (Chain c.in-Chain.ty (expr_of c.deref-in-Chain.result.now) (links_in c.in-Chain.rest.items)) = over_seen c.requires.over (search (rules, the_lemmas)) in
-    (search (rules, the_lemmas), ((chain_first _ _ _ _ _ over).over, c.requires.path))
+encode-encode-requires-in-Chain t c = (search (rules, the_lemmas), ((chain_first c.args.nodes.now c.args.terms.now c.in-Chain.ty (expr_of c.deref-in-Chain.result.now) (links_in c.in-Chain.rest.items) (over_seen c.requires.over (search (rules, the_lemmas)))).over, c.requires.path))
 
 pub encode-chain-requires : goal.encode-chain-requires
 unfolding links_in
 encode-chain-requires t c =
     let over : IsOver c.args.nodes.now c.args.terms.now (Chain c.in-Chain.ty (expr_of c.deref-in-Chain.result.now) (links_in c.in-Chain.rest.items)) = over_seen c.requires.over (search (rules, the_lemmas)) in
-    (search (rules, the_lemmas), (links_stay c.args.nodes.now c.encode-in-Chain.new.nodes c.args.terms.now c.in_ok-first-in-Chain.ensures.encodes.grows c.in-Chain.ty (links_in c.in-Chain.rest.items) (chain_rest _ _ _ _ _ over), (path_stays c.args.nodes.now c.encode-in-Chain.new.nodes c.args.path c.in_ok-first-in-Chain.ensures.encodes.grows c.requires.path, operand_term (sort_of_type c.in-Chain.ty) c.args.nodes.now c.encode-in-Chain.new.nodes c.args.terms.now c.args.path (expr_of c.deref-in-Chain.result.now) c.in_ok-first-in-Chain.first c.args.out.now.items c.encode-in-Chain.new.out.items (chain_first _ _ _ _ _ over) c.in_ok-first-in-Chain.ensures.encodes)))
+    (search (rules, the_lemmas), (chain_rest _ _ _ _ _ (over_stays c.args.nodes.now c.encode-in-Chain.new.nodes c.args.terms.now _ c.in_ok-first-in-Chain.ensures.encodes.grows over), (path_stays c.args.nodes.now c.encode-in-Chain.new.nodes c.args.path c.in_ok-first-in-Chain.ensures.encodes.grows c.requires.path, operand_term (sort_of_type c.in-Chain.ty) c.args.nodes.now c.encode-in-Chain.new.nodes c.args.terms.now c.args.path (expr_of c.deref-in-Chain.result.now) c.in_ok-first-in-Chain.first c.args.out.now.items c.encode-in-Chain.new.out.items (chain_first _ _ _ _ _ over) c.in_ok-first-in-Chain.ensures.encodes)))
 
 pub encode-returns-in_ok-first-in-Chain-clause-encodes : goal.encode-returns-in_ok-first-in-Chain-clause-encodes
 unfolding links_in
 encode-returns-in_ok-first-in-Chain-clause-encodes t c =
     let is : expr_of c.args.expr.now ≡ Chain c.in-Chain.ty (expr_of c.deref-in-Chain.result.now) (links_in c.in-Chain.rest.items) = search (rules, the_lemmas) in
-    let over = over_seen c.requires.over is in
     if_ok c.chain.result _ _ c.chain.ensures.gives (λ n g. subst (λ whole. Encodes c.args.nodes.now c.chain.new.nodes c.args.terms.now c.args.path whole n c.args.out.now.items c.chain.new.out.items) (sym is)
-    (then_encodes c.args.nodes.now c.encode-in-Chain.new.nodes c.chain.new.nodes c.args.terms.now c.args.path (expr_of c.deref-in-Chain.result.now) (Chain c.in-Chain.ty (expr_of c.deref-in-Chain.result.now) (links_in c.in-Chain.rest.items)) c.in_ok-first-in-Chain.first n c.args.out.now.items c.encode-in-Chain.new.out.items c.chain.new.out.items (λ env a. conjunction (comparisons_of env c.in-Chain.ty a (links_in c.in-Chain.rest.items))) (λ env on a. conditions_of_links env on c.in-Chain.ty a (links_in c.in-Chain.rest.items)) over c.requires.path c.in_ok-first-in-Chain.ensures.encodes g))
+    (then_encodes c.args.nodes.now c.encode-in-Chain.new.nodes c.chain.new.nodes c.args.terms.now c.args.path (expr_of c.deref-in-Chain.result.now) (Chain c.in-Chain.ty (expr_of c.deref-in-Chain.result.now) (links_in c.in-Chain.rest.items)) c.in_ok-first-in-Chain.first n c.args.out.now.items c.encode-in-Chain.new.out.items c.chain.new.out.items (λ env a. conjunction (comparisons_of env c.in-Chain.ty a (links_in c.in-Chain.rest.items))) (λ env on a. conditions_of_links env on c.in-Chain.ty a (links_in c.in-Chain.rest.items)) (over_seen c.requires.over is) c.requires.path c.in_ok-first-in-Chain.ensures.encodes g))
 
 pub encode-encode-requires-in-As : goal.encode-encode-requires-in-As
-encode-encode-requires-in-As t c =
-    let over : IsOver c.args.nodes.now c.args.terms.now (As c.in-As.source c.in-As.target c.in-As.pos (expr_of c.deref-in-As.result.now)) = over_seen c.requires.over (search (rules, the_lemmas)) in
-    (search (rules, the_lemmas), ((as_part _ _ _ _ _ _ over).over, c.requires.path))
+encode-encode-requires-in-As t c = (search (rules, the_lemmas), ((as_part c.args.nodes.now c.args.terms.now c.in-As.source c.in-As.target c.in-As.pos (expr_of c.deref-in-As.result.now) (over_seen c.requires.over (search (rules, the_lemmas)))).over, c.requires.path))
 
 pub encode-cast-requires-clause-value : goal.encode-cast-requires-clause-value
-encode-cast-requires-clause-value t c =
-    let over : IsOver c.args.nodes.now c.args.terms.now (As c.in-As.source c.in-As.target c.in-As.pos (expr_of c.deref-in-As.result.now)) = over_seen c.requires.over (search (rules, the_lemmas)) in
-    operand_term (sort_of_type c.in-As.source) c.args.nodes.now c.encode-in-As.new.nodes c.args.terms.now c.args.path (expr_of c.deref-in-As.result.now) c.in_ok-operand-in-As.operand c.args.out.now.items c.encode-in-As.new.out.items (as_part _ _ _ _ _ _ over) c.in_ok-operand-in-As.ensures.encodes
+encode-cast-requires-clause-value t c = operand_term (sort_of_type c.in-As.source) c.args.nodes.now c.encode-in-As.new.nodes c.args.terms.now c.args.path (expr_of c.deref-in-As.result.now) c.in_ok-operand-in-As.operand c.args.out.now.items c.encode-in-As.new.out.items (as_part c.args.nodes.now c.args.terms.now c.in-As.source c.in-As.target c.in-As.pos (expr_of c.deref-in-As.result.now) (over_seen c.requires.over (search (rules, the_lemmas)))) c.in_ok-operand-in-As.ensures.encodes
 
 pub encode-cast-requires-clause-source : goal.encode-cast-requires-clause-source
-encode-cast-requires-clause-source t c =
-    let over : IsOver c.args.nodes.now c.args.terms.now (As c.in-As.source c.in-As.target c.in-As.pos (expr_of c.deref-in-As.result.now)) = over_seen c.requires.over (search (rules, the_lemmas)) in
-    as_counts _ _ _ _ _ _ over
+encode-cast-requires-clause-source t c = as_counts c.args.nodes.now c.args.terms.now c.in-As.source c.in-As.target c.in-As.pos (expr_of c.deref-in-As.result.now) (over_seen c.requires.over (search (rules, the_lemmas)))
 
 pub encode-returns-in_ok-operand-in-As-clause-encodes : goal.encode-returns-in_ok-operand-in-As-clause-encodes
 encode-returns-in_ok-operand-in-As-clause-encodes t c =
     let is : expr_of c.args.expr.now ≡ As c.in-As.source c.in-As.target c.in-As.pos (expr_of c.deref-in-As.result.now) = search (rules, the_lemmas) in
-    let over = over_seen c.requires.over is in
     if_ok c.cast.result _ _ c.cast.ensures.gives (λ n g. subst (λ whole. Encodes c.args.nodes.now c.cast.new.nodes c.args.terms.now c.args.path whole n c.args.out.now.items c.cast.new.out.items) (sym is)
-    (then_encodes c.args.nodes.now c.encode-in-As.new.nodes c.cast.new.nodes c.args.terms.now c.args.path (expr_of c.deref-in-As.result.now) (As c.in-As.source c.in-As.target c.in-As.pos (expr_of c.deref-in-As.result.now)) c.in_ok-operand-in-As.operand n c.args.out.now.items c.encode-in-As.new.out.items c.cast.new.out.items (λ env a. value_in c.in-As.target (number_in c.in-As.source a)) (λ env on a. under on (in_range c.in-As.target c.in-As.pos (number_in c.in-As.source a))) over c.requires.path c.in_ok-operand-in-As.ensures.encodes g))
+    (then_encodes c.args.nodes.now c.encode-in-As.new.nodes c.cast.new.nodes c.args.terms.now c.args.path (expr_of c.deref-in-As.result.now) (As c.in-As.source c.in-As.target c.in-As.pos (expr_of c.deref-in-As.result.now)) c.in_ok-operand-in-As.operand n c.args.out.now.items c.encode-in-As.new.out.items c.cast.new.out.items (λ env a. value_in c.in-As.target (number_in c.in-As.source a)) (λ env on a. under on (in_range c.in-As.target c.in-As.pos (number_in c.in-As.source a))) (over_seen c.requires.over is) c.requires.path c.in_ok-operand-in-As.ensures.encodes g))
 
 pub encode-encode-requires-in-Convert : goal.encode-encode-requires-in-Convert
-encode-encode-requires-in-Convert t c =
-    let over : IsOver c.args.nodes.now c.args.terms.now (Convert c.in-Convert.source c.in-Convert.target c.in-Convert.pos (expr_of c.deref-in-Convert.result.now)) = over_seen c.requires.over (search (rules, the_lemmas)) in
-    (search (rules, the_lemmas), ((convert_part _ _ _ _ _ _ over).over, c.requires.path))
+encode-encode-requires-in-Convert t c = (search (rules, the_lemmas), ((convert_part c.args.nodes.now c.args.terms.now c.in-Convert.source c.in-Convert.target c.in-Convert.pos (expr_of c.deref-in-Convert.result.now) (over_seen c.requires.over (search (rules, the_lemmas)))).over, c.requires.path))
 
 pub encode-owe_narrowing-requires-clause-value : goal.encode-owe_narrowing-requires-clause-value
-encode-owe_narrowing-requires-clause-value t c =
-    let over : IsOver c.args.nodes.now c.args.terms.now (Convert c.in-Convert.source c.in-Convert.target c.in-Convert.pos (expr_of c.deref-in-Convert.result.now)) = over_seen c.requires.over (search (rules, the_lemmas)) in
-    operand_term (sort_of_type c.in-Convert.source) c.args.nodes.now c.encode-in-Convert.new.nodes c.args.terms.now c.args.path (expr_of c.deref-in-Convert.result.now) c.in_ok-operand-in-Convert.operand c.args.out.now.items c.encode-in-Convert.new.out.items (convert_part _ _ _ _ _ _ over) c.in_ok-operand-in-Convert.ensures.encodes
+encode-owe_narrowing-requires-clause-value t c = operand_term (sort_of_type c.in-Convert.source) c.args.nodes.now c.encode-in-Convert.new.nodes c.args.terms.now c.args.path (expr_of c.deref-in-Convert.result.now) c.in_ok-operand-in-Convert.operand c.args.out.now.items c.encode-in-Convert.new.out.items (convert_part c.args.nodes.now c.args.terms.now c.in-Convert.source c.in-Convert.target c.in-Convert.pos (expr_of c.deref-in-Convert.result.now) (over_seen c.requires.over (search (rules, the_lemmas)))) c.in_ok-operand-in-Convert.ensures.encodes
 
 pub encode-returns-in_ok-owe_narrowing-in-Convert-clause-encodes : goal.encode-returns-in_ok-owe_narrowing-in-Convert-clause-encodes
 encode-returns-in_ok-owe_narrowing-in-Convert-clause-encodes t c =
     let is : expr_of c.args.expr.now ≡ Convert c.in-Convert.source c.in-Convert.target c.in-Convert.pos (expr_of c.deref-in-Convert.result.now) = search (rules, the_lemmas) in
-    let over = over_seen c.requires.over is in
     subst (λ whole. Encodes c.args.nodes.now c.owe_narrowing.new.nodes c.args.terms.now c.args.path whole c.in_ok-operand-in-Convert.operand c.args.out.now.items c.owe_narrowing.new.out.items) (sym is)
-    (then_encodes c.args.nodes.now c.encode-in-Convert.new.nodes c.owe_narrowing.new.nodes c.args.terms.now c.args.path (expr_of c.deref-in-Convert.result.now) (Convert c.in-Convert.source c.in-Convert.target c.in-Convert.pos (expr_of c.deref-in-Convert.result.now)) c.in_ok-operand-in-Convert.operand c.in_ok-operand-in-Convert.operand c.args.out.now.items c.encode-in-Convert.new.out.items c.owe_narrowing.new.out.items (λ env a. a) (λ env on a. under on (narrowing c.in-Convert.source c.in-Convert.target c.in-Convert.pos a)) over c.requires.path c.in_ok-operand-in-Convert.ensures.encodes (gives_owing (tree_at c.encode-in-Convert.new.nodes c.in_ok-operand-in-Convert.operand) _ c.encode-in-Convert.new.nodes c.encode-in-Convert.new.nodes c.owe_narrowing.new.nodes c.in_ok-operand-in-Convert.operand c.encode-in-Convert.new.out.items c.owe_narrowing.new.out.items (grows_not c.encode-in-Convert.new.nodes) c.owe_narrowing.ensures.grows (record { below = c.in_ok-operand-in-Convert.ensures.encodes.stands.below; tree_is = refl }) c.in_ok-owe_narrowing-in-Convert.ensures.adds))
+    (then_encodes c.args.nodes.now c.encode-in-Convert.new.nodes c.owe_narrowing.new.nodes c.args.terms.now c.args.path (expr_of c.deref-in-Convert.result.now) (Convert c.in-Convert.source c.in-Convert.target c.in-Convert.pos (expr_of c.deref-in-Convert.result.now)) c.in_ok-operand-in-Convert.operand c.in_ok-operand-in-Convert.operand c.args.out.now.items c.encode-in-Convert.new.out.items c.owe_narrowing.new.out.items (λ env a. a) (λ env on a. under on (narrowing c.in-Convert.source c.in-Convert.target c.in-Convert.pos a)) (over_seen c.requires.over is) c.requires.path c.in_ok-operand-in-Convert.ensures.encodes (gives_owing (tree_at c.encode-in-Convert.new.nodes c.in_ok-operand-in-Convert.operand) _ c.encode-in-Convert.new.nodes c.encode-in-Convert.new.nodes c.owe_narrowing.new.nodes c.in_ok-operand-in-Convert.operand c.encode-in-Convert.new.out.items c.owe_narrowing.new.out.items (grows_not c.encode-in-Convert.new.nodes) c.owe_narrowing.ensures.grows (record { below = c.in_ok-operand-in-Convert.ensures.encodes.stands.below; tree_is = refl }) c.in_ok-owe_narrowing-in-Convert.ensures.adds))
 
 pub encode-returns-in-Number-clause-encodes : goal.encode-returns-in-Number-clause-encodes
 encode-returns-in-Number-clause-encodes t c =
@@ -252,8 +209,7 @@ encode-offset_bounds-terms-local t c =
 pub encode-returns-in-Local-clause-encodes : goal.encode-returns-in-Local-clause-encodes
 encode-returns-in-Local-clause-encodes t c =
     let is : expr_of c.args.expr.now ≡ Local c.in-Local.local c.in-Local.name c.in-Local.pos = search (rules, the_lemmas) in
-    let over = over_seen c.requires.over is in
-    let t = (local_term _ _ _ _ _ over).1 in
+    let t = (local_term _ _ _ _ _ (over_seen c.requires.over is)).1 in
     subst (λ whole. Encodes c.args.nodes.now c.args.nodes.now c.args.terms.now c.args.path whole (get_or c.args.terms.now c.in-Local.local 0) c.args.out.now.items c.args.out.now.items) (sym is) (local_encodes c.args.nodes.now c.args.terms.now c.in-Local.local (get_or c.args.terms.now c.in-Local.local 0) _ c.args.out.now.items t (get_or_from_slice_get c.args.terms.now c.in-Local.local t.number 0 t.at))
 
 -- ---- sums
@@ -263,20 +219,16 @@ sum-loop-addend-init t c = sum_starts c.args.rest.now.items c.deref-addend-items
 
 pub sum-encode-requires : goal.sum-encode-requires
 sum-encode-requires t c =
-    let l = c.loop-addend in
-    let part = sum_operand c.deref-addend-items.result.now l.addend-index c.addend-item.result c.addend-item.is c.loop-addend-test.true l.invariant in
-    (search (rules, the_lemmas), (part.over, path_stays c.args.nodes.now l.nodes c.args.path l.invariant.grows c.requires.path))
+    let part = sum_operand c.deref-addend-items.result.now c.loop-addend.addend-index c.addend-item.result c.addend-item.is c.loop-addend-test.true c.loop-addend.invariant in
+    (search (rules, the_lemmas), (part.over, path_stays c.args.nodes.now c.loop-addend.nodes c.args.path c.loop-addend.invariant.grows c.requires.path))
 
 pub sum-with_addend-requires-clause-operand : goal.sum-with_addend-requires-clause-operand
 sum-with_addend-requires-clause-operand t c =
-    let l = c.loop-addend in
-    let part = sum_operand c.deref-addend-items.result.now l.addend-index c.addend-item.result c.addend-item.is c.loop-addend-test.true l.invariant in
-    operand_term Numbers l.nodes c.encode.new.nodes c.args.terms.now c.args.path (expr_of c.addend-item.result.operand) c.in_ok-operand.operand l.out.items c.encode.new.out.items part c.in_ok-operand.ensures.encodes
+    let part = sum_operand c.deref-addend-items.result.now c.loop-addend.addend-index c.addend-item.result c.addend-item.is c.loop-addend-test.true c.loop-addend.invariant in
+    operand_term Numbers c.loop-addend.nodes c.encode.new.nodes c.args.terms.now c.args.path (expr_of c.addend-item.result.operand) c.in_ok-operand.operand c.loop-addend.out.items c.encode.new.out.items part c.in_ok-operand.ensures.encodes
 
 pub sum-loop-addend-preserved : goal.sum-loop-addend-preserved
-sum-loop-addend-preserved t c =
-    let l = c.loop-addend in
-    sum_steps c.deref-addend-items.result.now l.addend-index c.addend-item.result c.addend-item.is c.loop-addend-test.true c.requires.over c.requires.path l.invariant c.in_ok-operand.ensures.encodes c.in_ok-total.ensures.gives
+sum-loop-addend-preserved t c = sum_steps c.deref-addend-items.result.now c.loop-addend.addend-index c.addend-item.result c.addend-item.is c.loop-addend-test.true c.requires.over c.requires.path c.loop-addend.invariant c.in_ok-operand.ensures.encodes c.in_ok-total.ensures.gives
 
 pub sum-returns-clause-gives : goal.sum-returns-clause-gives
 sum-returns-clause-gives t c = sum_stops c.deref-addend-items.result.now c.loop-addend.addend-index c.loop-addend-test.false c.loop-addend.invariant
@@ -288,20 +240,16 @@ product-loop-factor-init t c = product_starts c.args.rest.now.items c.deref-fact
 
 pub product-encode-requires : goal.product-encode-requires
 product-encode-requires t c =
-    let l = c.loop-factor in
-    let part = product_operand c.deref-factor-items.result.now l.factor-index c.factor-item.result c.factor-item.is c.loop-factor-test.true l.invariant in
-    (search (rules, the_lemmas), (part.over, path_stays c.args.nodes.now l.nodes c.args.path l.invariant.grows c.requires.path))
+    let part = product_operand c.deref-factor-items.result.now c.loop-factor.factor-index c.factor-item.result c.factor-item.is c.loop-factor-test.true c.loop-factor.invariant in
+    (search (rules, the_lemmas), (part.over, path_stays c.args.nodes.now c.loop-factor.nodes c.args.path c.loop-factor.invariant.grows c.requires.path))
 
 pub product-with_factor-requires-clause-operand : goal.product-with_factor-requires-clause-operand
 product-with_factor-requires-clause-operand t c =
-    let l = c.loop-factor in
-    let part = product_operand c.deref-factor-items.result.now l.factor-index c.factor-item.result c.factor-item.is c.loop-factor-test.true l.invariant in
-    operand_term Numbers l.nodes c.encode.new.nodes c.args.terms.now c.args.path (expr_of c.factor-item.result.operand) c.in_ok-operand.operand l.out.items c.encode.new.out.items part c.in_ok-operand.ensures.encodes
+    let part = product_operand c.deref-factor-items.result.now c.loop-factor.factor-index c.factor-item.result c.factor-item.is c.loop-factor-test.true c.loop-factor.invariant in
+    operand_term Numbers c.loop-factor.nodes c.encode.new.nodes c.args.terms.now c.args.path (expr_of c.factor-item.result.operand) c.in_ok-operand.operand c.loop-factor.out.items c.encode.new.out.items part c.in_ok-operand.ensures.encodes
 
 pub product-loop-factor-preserved : goal.product-loop-factor-preserved
-product-loop-factor-preserved t c =
-    let l = c.loop-factor in
-    product_steps c.deref-factor-items.result.now l.factor-index c.factor-item.result c.factor-item.is c.loop-factor-test.true c.requires.over c.requires.path l.invariant c.in_ok-operand.ensures.encodes c.in_ok-product.ensures.gives
+product-loop-factor-preserved t c = product_steps c.deref-factor-items.result.now c.loop-factor.factor-index c.factor-item.result c.factor-item.is c.loop-factor-test.true c.requires.over c.requires.path c.loop-factor.invariant c.in_ok-operand.ensures.encodes c.in_ok-product.ensures.gives
 
 pub product-returns-clause-gives : goal.product-returns-clause-gives
 product-returns-clause-gives t c = product_stops c.deref-factor-items.result.now c.loop-factor.factor-index c.loop-factor-test.false c.loop-factor.invariant
@@ -321,22 +269,18 @@ junction_of-narrowed_path-requires-clause-formula t c = guard_term c.args.juncti
 
 pub junction_of-encode-requires : goal.junction_of-encode-requires
 junction_of-encode-requires t c =
-    let l = c.loop-member in
-    let part = junction_operand c.deref-member-items.result.now l.member-index c.member-item.result c.member-item.is c.loop-member-test.true l.invariant (grows_then l.nodes c.goes_on.new.nodes c.narrowed_path.new.nodes c.goes_on.ensures.grows c.narrowed_path.ensures.grows) in
-    let guard = guard_term c.args.junction l.nodes c.goes_on.new.nodes l.last c.in_ok-guard.guard l.invariant.last_is c.in_ok-guard.ensures.stands in
-    (search (rules, the_lemmas), (part.over, next_path c.goes_on.new.nodes c.narrowed_path.new.nodes l.path c.in_ok-guard.guard c.in_ok-narrowed.narrowed guard c.in_ok-narrowed.ensures.stands))
+    let part = member_at c.deref-member-items.result.now c.loop-member.member-index c.member-item.result c.member-item.is c.loop-member-test.true c.loop-member.invariant.over (grows_then c.loop-member.nodes c.goes_on.new.nodes c.narrowed_path.new.nodes c.goes_on.ensures.grows c.narrowed_path.ensures.grows) in
+    let guard = guard_term c.args.junction c.loop-member.nodes c.goes_on.new.nodes c.loop-member.last c.in_ok-guard.guard c.loop-member.invariant.last_is c.in_ok-guard.ensures.stands in
+    (search (rules, the_lemmas), (part.over, next_path c.goes_on.new.nodes c.narrowed_path.new.nodes c.loop-member.path c.in_ok-guard.guard c.in_ok-narrowed.narrowed guard c.in_ok-narrowed.ensures.stands))
 
 pub junction_of-loop-member-preserved : goal.junction_of-loop-member-preserved
-junction_of-loop-member-preserved t c =
-    let l = c.loop-member in
-    junction_steps c.deref-member-items.result.now l.member-index c.member-item.result c.member-item.is c.loop-member-test.true c.requires.over l.invariant c.goes_on.ensures.grows c.in_ok-guard.ensures.stands c.narrowed_path.ensures.grows c.in_ok-narrowed.ensures.stands c.in_ok-last.ensures.encodes c.in_ok-push-2.ensures.items
+junction_of-loop-member-preserved t c = junction_steps c.deref-member-items.result.now c.loop-member.member-index c.member-item.result c.member-item.is c.loop-member-test.true c.requires.over c.loop-member.invariant c.goes_on.ensures.grows c.in_ok-guard.ensures.stands c.narrowed_path.ensures.grows c.in_ok-narrowed.ensures.stands c.in_ok-last.ensures.encodes c.in_ok-push-2.ensures.items
 
 pub junction_of-joined-requires : goal.junction_of-joined-requires
 junction_of-joined-requires t c = subst (AllByRecursion (IsTerm Truths c.loop-member.nodes)) (sym c.deref.ensures.value) c.loop-member.invariant.formulas_are
 
 pub junction_of-returns-clause-gives : goal.junction_of-returns-clause-gives
-junction_of-returns-clause-gives t c =
-    if_ok c.joined.result _ _ c.joined.ensures.stands (λ n s. junction_stops c.deref-member-items.result.now c.loop-member.member-index c.deref.result.now c.loop-member-test.false c.loop-member.invariant c.deref.ensures.value c.joined.ensures.grows s)
+junction_of-returns-clause-gives t c = if_ok c.joined.result _ _ c.joined.ensures.stands (λ n s. junction_stops c.deref-member-items.result.now c.loop-member.member-index c.deref.result.now c.loop-member-test.false c.loop-member.invariant c.deref.ensures.value c.joined.ensures.grows s)
 
 -- ---- implications
 
@@ -351,14 +295,11 @@ implication-narrowed_path-requires-clause-formula t c = c.loop-member.invariant.
 
 pub implication-encode-requires : goal.implication-encode-requires
 implication-encode-requires t c =
-    let l = c.loop-member in
-    let part = implication_operand c.deref-member-items.result.now l.member-index c.member-item.result c.member-item.is c.loop-member-test.true l.invariant c.narrowed_path.ensures.grows in
-    (search (rules, the_lemmas), (part.over, next_path l.nodes c.narrowed_path.new.nodes l.path l.last c.in_ok-narrowed.narrowed l.invariant.last_is c.in_ok-narrowed.ensures.stands))
+    let part = member_at c.deref-member-items.result.now c.loop-member.member-index c.member-item.result c.member-item.is c.loop-member-test.true c.loop-member.invariant.over c.narrowed_path.ensures.grows in
+    (search (rules, the_lemmas), (part.over, next_path c.loop-member.nodes c.narrowed_path.new.nodes c.loop-member.path c.loop-member.last c.in_ok-narrowed.narrowed c.loop-member.invariant.last_is c.in_ok-narrowed.ensures.stands))
 
 pub implication-loop-member-preserved : goal.implication-loop-member-preserved
-implication-loop-member-preserved t c =
-    let l = c.loop-member in
-    implication_steps c.deref-member-items.result.now l.member-index c.member-item.result c.member-item.is c.loop-member-test.true c.requires.over l.invariant c.narrowed_path.ensures.grows c.in_ok-narrowed.ensures.stands c.in_ok-last.ensures.encodes c.in_ok-push.ensures.items
+implication-loop-member-preserved t c = implication_steps c.deref-member-items.result.now c.loop-member.member-index c.member-item.result c.member-item.is c.loop-member-test.true c.requires.over c.loop-member.invariant c.narrowed_path.ensures.grows c.in_ok-narrowed.ensures.stands c.in_ok-last.ensures.encodes c.in_ok-push.ensures.items
 
 pub implication-implied-requires-clause-premises : goal.implication-implied-requires-clause-premises
 implication-implied-requires-clause-premises t c = c.loop-member.invariant.premises_are
@@ -367,8 +308,7 @@ pub implication-implied-requires-clause-last : goal.implication-implied-requires
 implication-implied-requires-clause-last t c = c.loop-member.invariant.last_is
 
 pub implication-returns-clause-gives : goal.implication-returns-clause-gives
-implication-returns-clause-gives t c =
-    if_ok c.implied.result _ _ c.implied.ensures.stands (λ n s. implication_stops c.deref-member-items.result.now c.loop-member.member-index c.loop-member-test.false c.loop-member.invariant c.implied.ensures.grows s)
+implication-returns-clause-gives t c = if_ok c.implied.result _ _ c.implied.ensures.stands (λ n s. implication_stops c.deref-member-items.result.now c.loop-member.member-index c.loop-member-test.false c.loop-member.invariant c.implied.ensures.grows s)
 
 -- ---- equivalences
 
@@ -377,20 +317,16 @@ equivalence-loop-member-init t c = equivalence_starts c.args.rest.now.items c.de
 
 pub equivalence-encode-requires : goal.equivalence-encode-requires
 equivalence-encode-requires t c =
-    let l = c.loop-member in
-    let part = equivalence_operand c.deref-member-items.result.now l.member-index c.member-item.result c.member-item.is c.loop-member-test.true l.invariant in
-    (search (rules, the_lemmas), (part.over, path_stays c.args.nodes.now l.nodes c.args.path l.invariant.grows c.requires.path))
+    let part = member_at c.deref-member-items.result.now c.loop-member.member-index c.member-item.result c.member-item.is c.loop-member-test.true c.loop-member.invariant.over (grows_not c.loop-member.nodes) in
+    (search (rules, the_lemmas), (part.over, path_stays c.args.nodes.now c.loop-member.nodes c.args.path c.loop-member.invariant.grows c.requires.path))
 
 pub equivalence-iff-requires-clause-right : goal.equivalence-iff-requires-clause-right
 equivalence-iff-requires-clause-right t c =
-    let l = c.loop-member in
-    let part = equivalence_operand c.deref-member-items.result.now l.member-index c.member-item.result c.member-item.is c.loop-member-test.true l.invariant in
-    operand_term Truths l.nodes c.encode.new.nodes c.args.terms.now c.args.path (expr_of c.member-item.result.operand) c.in_ok-operand.operand l.out.items c.encode.new.out.items part c.in_ok-operand.ensures.encodes
+    let part = member_at c.deref-member-items.result.now c.loop-member.member-index c.member-item.result c.member-item.is c.loop-member-test.true c.loop-member.invariant.over (grows_not c.loop-member.nodes) in
+    operand_term Truths c.loop-member.nodes c.encode.new.nodes c.args.terms.now c.args.path (expr_of c.member-item.result.operand) c.in_ok-operand.operand c.loop-member.out.items c.encode.new.out.items part c.in_ok-operand.ensures.encodes
 
 pub equivalence-loop-member-preserved : goal.equivalence-loop-member-preserved
-equivalence-loop-member-preserved t c =
-    let l = c.loop-member in
-    equivalence_steps c.deref-member-items.result.now l.member-index c.member-item.result c.member-item.is c.loop-member-test.true c.requires.over c.requires.path l.invariant c.in_ok-operand.ensures.encodes c.iff.ensures.grows c.in_ok-formula.ensures.stands
+equivalence-loop-member-preserved t c = equivalence_steps c.deref-member-items.result.now c.loop-member.member-index c.member-item.result c.member-item.is c.loop-member-test.true c.requires.over c.requires.path c.loop-member.invariant c.in_ok-operand.ensures.encodes c.iff.ensures.grows c.in_ok-formula.ensures.stands
 
 pub equivalence-returns-clause-gives : goal.equivalence-returns-clause-gives
 equivalence-returns-clause-gives t c = equivalence_stops c.deref-member-items.result.now c.loop-member.member-index c.loop-member-test.false c.loop-member.invariant
@@ -408,30 +344,22 @@ chain-further-requires-clause-last t c = c.loop-link.invariant.last_is
 
 pub chain-encode-requires : goal.chain-encode-requires
 chain-encode-requires t c =
-    let l = c.loop-link in
-    let part = chain_operand c.deref-link-items.result.now l.link-index c.link-item.result c.link-item.is c.loop-link-test.true l.invariant c.further.ensures.grows in
+    let part = chain_operand c.deref-link-items.result.now c.loop-link.link-index c.link-item.result c.link-item.is c.loop-link-test.true c.loop-link.invariant c.further.ensures.grows in
     (search (rules, the_lemmas), (part.over, c.in_ok-path.ensures.is_path))
 
 pub chain-compared-requires-clause-compares : goal.chain-compared-requires-clause-compares
-chain-compared-requires-clause-compares t c =
-    let l = c.loop-link in
-    chain_compares c.deref-link-items.result.now l.link-index c.link-item.result c.link-item.is c.loop-link-test.true l.invariant
+chain-compared-requires-clause-compares t c = chain_compares c.deref-link-items.result.now c.loop-link.link-index c.link-item.result c.link-item.is c.loop-link-test.true c.loop-link.invariant
 
 pub chain-compared-requires-clause-left : goal.chain-compared-requires-clause-left
-chain-compared-requires-clause-left t c =
-    let l = c.loop-link in
-    term_stays (sort_of_type c.args.ty) l.nodes c.encode.new.nodes l.left (grows_then l.nodes c.further.new.nodes c.encode.new.nodes c.further.ensures.grows c.encode.ensures.grows) l.invariant.left_is
+chain-compared-requires-clause-left t c = term_stays (sort_of_type c.args.ty) c.loop-link.nodes c.encode.new.nodes c.loop-link.left (grows_then c.loop-link.nodes c.further.new.nodes c.encode.new.nodes c.further.ensures.grows c.encode.ensures.grows) c.loop-link.invariant.left_is
 
 pub chain-compared-requires-clause-right : goal.chain-compared-requires-clause-right
 chain-compared-requires-clause-right t c =
-    let l = c.loop-link in
-    let part = chain_operand c.deref-link-items.result.now l.link-index c.link-item.result c.link-item.is c.loop-link-test.true l.invariant c.further.ensures.grows in
-    operand_term (sort_of_type c.args.ty) c.further.new.nodes c.encode.new.nodes c.args.terms.now c.in_ok-path.path (expr_of c.link-item.result.operand) c.in_ok-right.right l.out.items c.encode.new.out.items part c.in_ok-right.ensures.encodes
+    let part = chain_operand c.deref-link-items.result.now c.loop-link.link-index c.link-item.result c.link-item.is c.loop-link-test.true c.loop-link.invariant c.further.ensures.grows in
+    operand_term (sort_of_type c.args.ty) c.further.new.nodes c.encode.new.nodes c.args.terms.now c.in_ok-path.path (expr_of c.link-item.result.operand) c.in_ok-right.right c.loop-link.out.items c.encode.new.out.items part c.in_ok-right.ensures.encodes
 
 pub chain-loop-link-preserved : goal.chain-loop-link-preserved
-chain-loop-link-preserved t c =
-    let l = c.loop-link in
-    chain_steps c.deref-link-items.result.now l.link-index c.link-item.result c.link-item.is c.loop-link-test.true c.requires.over l.invariant c.further.ensures.grows c.in_ok-path.ensures.path c.in_ok-path.ensures.is_path c.in_ok-right.ensures.encodes c.compared.ensures.grows c.in_ok-formula.ensures.stands c.in_ok-push.ensures.items
+chain-loop-link-preserved t c = chain_steps c.deref-link-items.result.now c.loop-link.link-index c.link-item.result c.link-item.is c.loop-link-test.true c.requires.over c.loop-link.invariant c.further.ensures.grows c.in_ok-path.ensures.path c.in_ok-path.ensures.is_path c.in_ok-right.ensures.encodes c.compared.ensures.grows c.in_ok-formula.ensures.stands c.in_ok-push.ensures.items
 
 pub chain-all_of-requires : goal.chain-all_of-requires
 chain-all_of-requires t c = subst (AllByRecursion (IsTerm Truths c.loop-link.nodes)) (sym c.deref.ensures.value) c.loop-link.invariant.formulas_are

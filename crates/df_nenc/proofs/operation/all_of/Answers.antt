@@ -1,6 +1,5 @@
 use Rattle.df_nenc.proofs.Words.{arith, trees_at, conjunction, terms_of}
-use Rattle.df_nenc.proofs.Sorts.{takes_all}
-use Rattle.df_nenc.proofs.Results.{stands_as, conjunction_long, trees_long}
+use Rattle.df_nenc.proofs.Lemmas.{takes_all, stands_as, conjunction_long, trees_long}
 use Rattle.df_nenc.proofs.operation.all_of.Goals as goal
 
 pub make-requires : goal.make-requires

@@ -1,9 +1,7 @@
 use Rattle.df_nenc.proofs.Words.{refl, ap, ◌∙◌, arith, w128, to_z_pos, Numbers, Chr, literal}
 use Rattle.df_form.specs.declared.node.Op.TheVariants as ops
 use Rattle.df_form.specs.declared.node.Sort.TheVariants as sorts
-use Rattle.df_nenc.proofs.Growing.{is_term}
-use Rattle.df_nenc.proofs.Sorts.{takes_one}
-use Rattle.df_nenc.proofs.Results.{one_as}
+use Rattle.df_nenc.proofs.Lemmas.{is_term, takes_one, one_as}
 use Rattle.df_nenc.proofs.operation.character.Goals as goal
 
 pub one-requires : goal.one-requires

@@ -1,9 +1,7 @@
 use Rattle.df_nenc.proofs.Words.{refl, Numbers, Times}
 use Rattle.df_form.specs.declared.node.Op.TheVariants as ops
 use Rattle.df_form.specs.declared.node.Sort.TheVariants as sorts
-use Rattle.df_nenc.proofs.Growing.{term_stays, is_term, tree_stays}
-use Rattle.df_nenc.proofs.Sorts.{takes_two}
-use Rattle.df_nenc.proofs.Results.{two_as}
+use Rattle.df_nenc.proofs.Lemmas.{term_stays, is_term, tree_stays, takes_two, two_as}
 use Rattle.df_nenc.proofs.operation.negative.Goals as goal
 
 pub two-requires : goal.two-requires

@@ -1,6 +1,5 @@
 use Rattle.df_nenc.proofs.Words.{arith, trees_at, disjunction, terms_of}
-use Rattle.df_nenc.proofs.Sorts.{takes_any}
-use Rattle.df_nenc.proofs.Results.{stands_as, disjunction_long, trees_long}
+use Rattle.df_nenc.proofs.Lemmas.{takes_any, stands_as, disjunction_long, trees_long}
 use Rattle.df_nenc.proofs.operation.one_of.Goals as goal
 
 pub make-requires : goal.make-requires

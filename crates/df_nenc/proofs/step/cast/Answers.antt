@@ -1,8 +1,5 @@
 use Rattle.df_nenc.proofs.Words.{Numbers, in_range, under, value_in}
-use Rattle.df_nenc.proofs.Growing.{is_term, term_stays}
-use Rattle.df_nenc.proofs.Results.{owing}
-use Rattle.df_nenc.proofs.Typed.{counted_number}
-use Rattle.df_nenc.proofs.Adding.{owed_over}
+use Rattle.df_nenc.proofs.Lemmas.{is_term, term_stays, owing, counted_number, owed_over}
 use Rattle.df_nenc.proofs.step.cast.Goals as goal
 
 pub value_in-requires : goal.value_in-requires

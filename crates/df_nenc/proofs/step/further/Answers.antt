@@ -1,6 +1,5 @@
 use Rattle.df_nenc.proofs.Words.{◌≡◌, sym, subst, refl, ap, Some, Truths, path_in, IsPath, further}
-use Rattle.df_nenc.proofs.Growing.{is_term}
-use Rattle.df_nenc.proofs.Results.{narrowed_term}
+use Rattle.df_nenc.proofs.Lemmas.{is_term, narrowed_term}
 use Rattle.df_nenc.proofs.step.further.Goals as goal
 
 pub narrowed_path-requires-clause-formula : goal.narrowed_path-requires-clause-formula

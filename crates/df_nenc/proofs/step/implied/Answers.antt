@@ -1,6 +1,5 @@
 use Rattle.df_nenc.proofs.Words.{subst, refl, rules, [], ◌∷◌, AllByRecursion, Truths, IsTerm, all_back}
-use Rattle.df_nenc.proofs.Growing.{grows_not}
-use Rattle.df_nenc.proofs.Adding.{implied_step, implied_end}
+use Rattle.df_nenc.proofs.Lemmas.{grows_not, implied_step, implied_end}
 use Rattle.df_nenc.proofs.step.implied.Goals as goal
 
 pub loop-premise-init : goal.loop-premise-init

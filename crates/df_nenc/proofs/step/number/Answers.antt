@@ -1,6 +1,5 @@
 use Rattle.df_nenc.proofs.Words.{◌≡◌, ℤ, to_z, of_z, refl, rules, subst, w128, to_z-of_z, Numbers, literal, in_range, under, path_in, Gives}
-use Rattle.df_nenc.proofs.Growing.{is_term}
-use Rattle.df_nenc.proofs.Results.{owing}
+use Rattle.df_nenc.proofs.Lemmas.{is_term, owing}
 use Rattle.df_nenc.proofs.step.number.Goals as goal
 
 pub owe_range-requires-clause-number : goal.owe_range-requires-clause-number

@@ -1,7 +1,5 @@
 use Rattle.df_nenc.proofs.Words.{Numbers, in_range, under}
-use Rattle.df_nenc.proofs.Growing.{is_term}
-use Rattle.df_nenc.proofs.Results.{owing}
-use Rattle.df_nenc.proofs.Typed.{summed_is}
+use Rattle.df_nenc.proofs.Lemmas.{is_term, owing, summed_is}
 use Rattle.df_nenc.proofs.step.with_addend.Goals as goal
 
 pub owe_range-requires-clause-number : goal.owe_range-requires-clause-number

@@ -1,7 +1,5 @@
 use Rattle.df_nenc.proofs.Words.{tree_at, Numbers}
-use Rattle.df_nenc.proofs.Adding.{owing_factor}
-use Rattle.df_nenc.proofs.Growing.{term_stays, is_term}
-use Rattle.df_nenc.proofs.Typed.{multiplied_is}
+use Rattle.df_nenc.proofs.Lemmas.{owing_factor, term_stays, is_term, multiplied_is}
 use Rattle.df_nenc.proofs.step.with_factor.Goals as goal
 
 pub owe_divisor-requires-clause-number : goal.owe_divisor-requires-clause-number

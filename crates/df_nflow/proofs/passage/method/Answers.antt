@@ -1,5 +1,6 @@
 use Rattle.df_nflow.proofs.Words.{◌++◌, List, [], refl, sym, ap, ◌∙◌, subst, method_of, program_of, Changed, pass_all, begun, ended_over, standing_of, Standing, Passes, are_over, changed_in}
 use Rattle.df_meaning.proofs.Wholes.{method_typed}
+use Rattle.df_npass.specs.Statements.{grouped_with}
 use Rattle.df_nflow.proofs.Entering.{body_over, exits_at}
 use Rattle.df_nflow.proofs.Methods.{whole_said}
 use Rattle.df_nflow.proofs.passage.method.Goals as goal
@@ -27,7 +28,7 @@ returns c =
     let passed = standing_of c.in_ok-passed.passed in
     let last = standing_of c.stmts.new.self in
     let on = c.in_ok-onward.onward in
-    let flow = λ (s : Standing). pass_all (record { program = program; groups = c.args.groups.now; number = c.args.number; entry = s.entry }) s.way m.body s.fresh in
+    let flow = λ (s : Standing). pass_all (record { program = program; in_group = grouped_with program c.args.groups.now c.args.number; entry = s.entry }) s.way m.body s.fresh in
     let passes : Passes [] (changed_in c.deref.result.now) passed (flow passed) last on.goes_on on.loses = c.in_ok-onward.ensures.passes in
     let body = subst (λ (s : Standing). Passes [] (changed_in c.deref.result.now) s (flow s) last on.goes_on on.loses) c.in_ok-passed.ensures passes in
     let exits = ap changed_in (c.deref.ensures.value ∙ sym c.deref-2.ensures.value) in

@@ -1,5 +1,5 @@
 use Rattle.df_nmeas.proofs.Words.{◌≡◌, ◌<◌, ◌-◌, length, drop, refl, sym, subst, arith, rules, Truths, grows_then, is_term, pairs_before}
-use Rattle.df_nmeas.proofs.Pairs.{pairs_first, pairs_second, pairs_end}
+use Rattle.df_nmeas.proofs.Pairs.{pairs_fit, pairs_end}
 use Rattle.df_nmeas.proofs.Sides.{measures_below_is, member_stays, front_goes}
 use Rattle.df_nmeas.proofs.order.below.Goals as goal
 
@@ -16,30 +16,30 @@ loop-place-init c = record {
 
 pub offset_bounds-now-place : goal.offset_bounds-now-place
 offset_bounds-now-place c =
-    let first = pairs_first c.args.now.now c.args.before.now in
+    let first = (pairs_fit c.args.now.now c.args.before.now).0 in
     let less : c.loop-place.place - 1 < length c.args.now.now = omega arith in
     search (rules, less)
 
 pub bounds-now-place : goal.bounds-now-place
-bounds-now-place c = let first = pairs_first c.args.now.now c.args.before.now in omega arith
+bounds-now-place c = let first = (pairs_fit c.args.now.now c.args.before.now).0 in omega arith
 
 pub offset_bounds-before-place : goal.offset_bounds-before-place
 offset_bounds-before-place c =
-    let second = pairs_second c.args.now.now c.args.before.now in
+    let second = (pairs_fit c.args.now.now c.args.before.now).1 in
     let less : c.loop-place.place - 1 < length c.args.before.now = omega arith in
     search (rules, less)
 
 pub bounds-before-place : goal.bounds-before-place
-bounds-before-place c = let second = pairs_second c.args.now.now c.args.before.now in omega arith
+bounds-before-place c = let second = (pairs_fit c.args.now.now c.args.before.now).1 in omega arith
 
 pub in_front-requires-clause-now : goal.in_front-requires-clause-now
 in_front-requires-clause-now c =
-    let first = pairs_first c.args.now.now c.args.before.now in
+    let first = (pairs_fit c.args.now.now c.args.before.now).0 in
     member_stays c.args.now.now c.args.before.now _ c.args.nodes.now c.loop-place.nodes c.loop-place.nodes c.args.now.now (c.loop-place.place - 1) (omega arith) c.requires.now c.loop-place.invariant.grows
 
 pub in_front-requires-clause-before : goal.in_front-requires-clause-before
 in_front-requires-clause-before c =
-    let second = pairs_second c.args.now.now c.args.before.now in
+    let second = (pairs_fit c.args.now.now c.args.before.now).1 in
     member_stays c.args.now.now c.args.before.now _ c.args.nodes.now c.loop-place.nodes c.loop-place.nodes c.args.before.now (c.loop-place.place - 1) (omega arith) c.requires.before c.loop-place.invariant.grows
 
 pub loop-place-preserved : goal.loop-place-preserved
