@@ -13,6 +13,7 @@ pub mod StepsWritten
 pub mod SumsRead
 pub mod TextRead
 pub mod TextWritten
+pub mod TwoHalves
 pub mod WordsRead
 pub mod WordsWritten
 mod PairsLeft

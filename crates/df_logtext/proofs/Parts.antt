@@ -1,8 +1,11 @@
 -- Logs one after another.
-use Rattle.std.proofs.Common.{◌≡◌, ℕ, suc, ◌+◌, ◌<◌, List, [], ◌∷◌, ◌++◌, map, length, take, get_or, sym, ap, ◌∙◌, append_assoc, add-zero, arith}
+use Rattle.std.proofs.Common.{◌≡◌, ℕ, suc, ◌+◌, ◌<◌, List, [], ◌∷◌, ◌++◌, map, length, take, get_or, sym, ap, subst, ◌∙◌, append_assoc, add-zero, arith}
+use Rattle.std.specs.List.{AllByRecursion}
 use Rattle.std.proofs.lemmas.Grind.{flat_map-append}
 use Rattle.std.proofs.lemmas.List.{append-nil, take_more, length-take-le, map-append, length-map}
+use Rattle.df_lemmas.proofs.Alls.{all_joined}
 use Rattle.df_form.specs.Log.{Step}
+use Rattle.df_logtext.specs.HasText.{HasNumbers, HaveNumbers}
 use Rattle.df_logtext.specs.LogText.{ended, part_lines, parts_lines, text_of_lines}
 
 -- one more log
@@ -26,3 +29,11 @@ parts_step names view logs n x h is =
     let m : map view (take (n + 1) logs) ≡ map view (take n logs) ++ view x ∷ [] = ap (map view) t ∙ map-append view (take n logs) (x ∷ []) in
     let len : 1 + length (map view (take n logs)) ≡ n + 1 = omega (arith, length-map (take n logs) view, length-take-le n logs (omega arith)) in
     ap (λ ls. text_of_lines (parts_lines names 1 ls)) m ∙ parts_text_more names 1 (n + 1) (map view (take n logs)) (view x) len
+
+-- the numbers of one more log fit
+pub numbers_step : {X : Type 0} (view : X → List Step) (logs : List X) (n : ℕ) (x : X) → n < length logs → x ≡ get_or logs n x
+    → HaveNumbers (map view (take n logs)) → AllByRecursion HasNumbers (view x) → HaveNumbers (map view (take (n + 1) logs))
+numbers_step view logs n x h is so_far here =
+    let t : take (n + 1) logs ≡ take n logs ++ x ∷ [] = take_more logs n x h ∙ ap (λ y. take n logs ++ y ∷ []) (sym is) in
+    let m : map view (take (n + 1) logs) ≡ map view (take n logs) ++ view x ∷ [] = ap (map view) t ∙ map-append view (take n logs) (x ∷ []) in
+    subst HaveNumbers (sym m) (all_joined (λ (log : List Step). AllByRecursion HasNumbers log) (map view (take n logs)) (view x ∷ []) so_far (here, tt))

@@ -59,16 +59,47 @@ HasPair p = IsIndex p.left × IsIndex p.right
 abbrev pub HasCombination : Combination → Type 0
 HasCombination c = IsWide c.divisor × AllByRecursion HasMultiple c.members
 
+-- the numbers of a step fit, and of the operation of a node that it makes this holds
+abbrev pub HasLineWith : (Op → Type 0) → Step → Type 0
+HasLineWith has (Hypothesis number) = IsIndex number
+HasLineWith has Goal = Unit {0}
+HasLineWith has (Connective node clause) = IsIndex node × IsIndex clause
+HasLineWith has (Schema schema clause terms) = (schema < 2 ^ 8) × (clause < 2 ^ 32) × AllByRecursion IsIndex terms
+HasLineWith has (Propagation clauses conclusion) = AllByRecursion IsIndex clauses × AllByRecursion HasLiteral conclusion
+HasLineWith has (Congruence conclusion pairs) = AllByRecursion HasLiteral conclusion × AllByRecursion HasPair pairs
+HasLineWith has (Linear conclusion combinations) = AllByRecursion HasLiteral conclusion × AllByRecursion HasCombination combinations
+HasLineWith has (Split node bound) = IsIndex node × IsWide bound
+HasLineWith has (Make node) = has node.op × AllByRecursion IsIndex node.parts
+
 abbrev pub HasLine : List (List ℕ) → Step → Type 0
-HasLine names (Hypothesis number) = IsIndex number
-HasLine names Goal = Unit {0}
-HasLine names (Connective node clause) = IsIndex node × IsIndex clause
-HasLine names (Schema schema clause terms) = (schema < 2 ^ 8) × (clause < 2 ^ 32) × AllByRecursion IsIndex terms
-HasLine names (Propagation clauses conclusion) = AllByRecursion IsIndex clauses × AllByRecursion HasLiteral conclusion
-HasLine names (Congruence conclusion pairs) = AllByRecursion HasLiteral conclusion × AllByRecursion HasPair pairs
-HasLine names (Linear conclusion combinations) = AllByRecursion HasLiteral conclusion × AllByRecursion HasCombination combinations
-HasLine names (Split node bound) = IsIndex node × IsWide bound
-HasLine names (Make node) = HasWord names node.op × AllByRecursion IsIndex node.parts
+HasLine names step = HasLineWith (HasWord names) step
 
 abbrev pub HaveText : List (List ℕ) → List (List Step) → Type 0
 HaveText names logs = AllByRecursion (λ log. AllByRecursion (HasLine names) log) logs
+
+-- ---- its two halves
+
+-- an operation's number fits
+abbrev pub HasNumber : Op → Type 0
+HasNumber (ops.Number number) = IsWide number
+HasNumber op = Unit {0}
+
+-- all numbers fit
+abbrev pub HasNumbers : Step → Type 0
+HasNumbers step = HasLineWith HasNumber step
+
+abbrev pub HaveNumbers : List (List Step) → Type 0
+HaveNumbers logs = AllByRecursion (λ log. AllByRecursion HasNumbers log) logs
+
+-- the operation of a node that is made is no free term, and its type has a name
+abbrev pub HasNamedOp : List (List ℕ) → Op → Type 0
+HasNamedOp names (ops.Free free) = ⊥
+HasNamedOp names (ops.Is ty) = HasName names ty
+HasNamedOp names op = Unit {0}
+
+abbrev pub HasNames : List (List ℕ) → Step → Type 0
+HasNames names (Make node) = HasNamedOp names node.op
+HasNames names step = Unit {0}
+
+abbrev pub HaveNames : List (List ℕ) → List (List Step) → Type 0
+HaveNames names logs = AllByRecursion (λ log. AllByRecursion (HasNames names) log) logs

@@ -1,10 +1,11 @@
 //! Lines of steps that are written.
 
-ghost use Rattle.std.specs.Prelude.{◌≡◌, ◌++◌, ◌∷◌, [], map, slice_get, unwrap_or, codes, OnOk};
-ghost use Rattle.std.specs.List.{flat_map};
+ghost use Rattle.std.specs.Prelude.{◌≡◌, ◌<◌, ◌^◌, ◌++◌, ◌∷◌, [], map, slice_get, unwrap_or, codes, OnOk};
+ghost use Rattle.std.specs.List.{flat_map, AllByRecursion};
 ghost use Rattle.std.specs.Fmt.{decimal, signed_decimal};
 ghost use Rattle.df_form.specs.Log.{step_of, combination_of};
 ghost use Rattle.df_form.specs.Node.{node_of};
+ghost use Rattle.df_logtext.specs.HasText.{IsIndex, IsWide, HasLiteral, HasPair, HasCombination, HasNumber, HasNumbers};
 ghost use Rattle.df_logtext.specs.Joined.{behind};
 ghost use Rattle.df_logtext.specs.StepText.{literal_word, pair_words, combination_words, type_name, op_word, op_number, node_words, letter as letter_of, arguments, step_line};
 ghost use Rattle.df_logtext.specs.LogText.{ended};
@@ -50,7 +51,8 @@ fn push_type(text: &mut Vec<u8>, names: &[String], ty: Ty) -> Result<(), AllocEr
 }
 
 fn push_op(text: &mut Vec<u8>, names: &[String], op: Op) -> Result<(), AllocError>
-    ensures { OnOk result (text.new.items ≡ text.old.items ++ behind 32 (op_word (names_of names.now) op ∷ op_number op)) }
+    ensures written { OnOk result (text.new.items ≡ text.old.items ++ behind 32 (op_word (names_of names.now) op ∷ op_number op)) }
+    ensures numbers { OnOk result (HasNumber op) }
 {
     match op {
         Op::Number(number) => {
@@ -76,7 +78,8 @@ fn push_op(text: &mut Vec<u8>, names: &[String], op: Op) -> Result<(), AllocErro
 }
 
 fn push_node(text: &mut Vec<u8>, names: &[String], node: &Node) -> Result<(), AllocError>
-    ensures { OnOk result (text.new.items ≡ text.old.items ++ behind 32 (node_words (names_of names.now) (node_of node.now))) }
+    ensures written { OnOk result (text.new.items ≡ text.old.items ++ behind 32 (node_words (names_of names.now) (node_of node.now))) }
+    ensures numbers { OnOk result (HasNumber node.now.op × AllByRecursion IsIndex node.now.parts.items) }
 {
     push_op(text, names, node.op)?;
     push_numbers(text, &node.parts)
@@ -88,7 +91,8 @@ fn push_schema(
     clause: u32,
     terms: &[usize],
 ) -> Result<(), AllocError>
-    ensures { OnOk result (text.new.items ≡ text.old.items ++ behind 32 (decimal schema ∷ decimal clause ∷ map decimal terms.now)) }
+    ensures written { OnOk result (text.new.items ≡ text.old.items ++ behind 32 (decimal schema ∷ decimal clause ∷ map decimal terms.now)) }
+    ensures numbers { OnOk result ((schema < 2 ^ 8) × (clause < 2 ^ 32) × AllByRecursion IsIndex terms.now) }
 {
     push_number(text, schema.into())?;
     push_number(text, clause.into())?;
@@ -100,7 +104,8 @@ fn push_propagation(
     clauses: &[usize],
     conclusion: &[Lit],
 ) -> Result<(), AllocError>
-    ensures { OnOk result (text.new.items ≡ text.old.items ++ behind 32 (map decimal clauses.now ++ codes ":" ∷ map literal_word conclusion.now)) }
+    ensures written { OnOk result (text.new.items ≡ text.old.items ++ behind 32 (map decimal clauses.now ++ codes ":" ∷ map literal_word conclusion.now)) }
+    ensures numbers { OnOk result (AllByRecursion IsIndex clauses.now × AllByRecursion HasLiteral conclusion.now) }
 {
     push_numbers(text, clauses)?;
     push_word(text, b":")?;
@@ -108,7 +113,8 @@ fn push_propagation(
 }
 
 fn push_congruence(text: &mut Vec<u8>, conclusion: &[Lit], pairs: &[Pair]) -> Result<(), AllocError>
-    ensures { OnOk result (text.new.items ≡ text.old.items ++ behind 32 (map literal_word conclusion.now ++ codes ":" ∷ flat_map pair_words pairs.now)) }
+    ensures written { OnOk result (text.new.items ≡ text.old.items ++ behind 32 (map literal_word conclusion.now ++ codes ":" ∷ flat_map pair_words pairs.now)) }
+    ensures numbers { OnOk result (AllByRecursion HasLiteral conclusion.now × AllByRecursion HasPair pairs.now) }
 {
     push_literals(text, conclusion)?;
     push_word(text, b":")?;
@@ -120,7 +126,8 @@ fn push_linear(
     conclusion: &[Lit],
     combinations: &[Combination],
 ) -> Result<(), AllocError>
-    ensures { OnOk result (text.new.items ≡ text.old.items ++ behind 32 (map literal_word conclusion.now ++ codes ":" ∷ flat_map combination_words (map combination_of combinations.now))) }
+    ensures written { OnOk result (text.new.items ≡ text.old.items ++ behind 32 (map literal_word conclusion.now ++ codes ":" ∷ flat_map combination_words (map combination_of combinations.now))) }
+    ensures numbers { OnOk result (AllByRecursion HasLiteral conclusion.now × AllByRecursion HasCombination (map combination_of combinations.now)) }
 {
     push_literals(text, conclusion)?;
     push_word(text, b":")?;
@@ -128,14 +135,16 @@ fn push_linear(
 }
 
 fn push_two(text: &mut Vec<u8>, first: usize, second: usize) -> Result<(), AllocError>
-    ensures { OnOk result (text.new.items ≡ text.old.items ++ behind 32 (decimal first ∷ decimal second ∷ [])) }
+    ensures written { OnOk result (text.new.items ≡ text.old.items ++ behind 32 (decimal first ∷ decimal second ∷ [])) }
+    ensures numbers { OnOk result (IsIndex first × IsIndex second) }
 {
     push_number(text, first as u64)?;
     push_number(text, second as u64)
 }
 
 fn push_split(text: &mut Vec<u8>, node: usize, bound: i128) -> Result<(), AllocError>
-    ensures { OnOk result (text.new.items ≡ text.old.items ++ behind 32 (decimal node ∷ signed_decimal bound ∷ [])) }
+    ensures written { OnOk result (text.new.items ≡ text.old.items ++ behind 32 (decimal node ∷ signed_decimal bound ∷ [])) }
+    ensures numbers { OnOk result (IsIndex node × IsWide bound) }
 {
     push_number(text, node as u64)?;
     push_integer(text, bound)
@@ -158,7 +167,8 @@ fn letter(step: &Step) -> &'static [u8]
 }
 
 fn push_arguments(text: &mut Vec<u8>, names: &[String], step: &Step) -> Result<(), AllocError>
-    ensures { OnOk result (text.new.items ≡ text.old.items ++ behind 32 (arguments (names_of names.now) (step_of step.now))) }
+    ensures written { OnOk result (text.new.items ≡ text.old.items ++ behind 32 (arguments (names_of names.now) (step_of step.now))) }
+    ensures numbers { OnOk result (HasNumbers (step_of step.now)) }
 {
     match step {
         Step::Hypothesis(number) => push_number(text, *number as u64),
@@ -185,7 +195,8 @@ fn push_arguments(text: &mut Vec<u8>, names: &[String], step: &Step) -> Result<(
 
 /// The line of a step.
 pub fn push_step(text: &mut Vec<u8>, names: &[String], step: &Step) -> Result<(), AllocError>
-    ensures { OnOk result (text.new.items ≡ text.old.items ++ ended (step_line (names_of names.now) (step_of step.now))) }
+    ensures written { OnOk result (text.new.items ≡ text.old.items ++ ended (step_line (names_of names.now) (step_of step.now))) }
+    ensures numbers { OnOk result (HasNumbers (step_of step.now)) }
 {
     text.extend_from_slice(letter(step))?;
     push_arguments(text, names, step)?;

@@ -1,9 +1,10 @@
 //! Words that are written: each behind a blank.
 
 ghost use Rattle.std.specs.Prelude.{◌≡◌, ◌++◌, ◌∷◌, [], map, OnOk};
-ghost use Rattle.std.specs.List.{flat_map};
+ghost use Rattle.std.specs.List.{flat_map, AllByRecursion};
 ghost use Rattle.std.specs.Fmt.{decimal, signed_decimal};
 ghost use Rattle.df_form.specs.Log.{combination_of};
+ghost use Rattle.df_logtext.specs.HasText.{IsIndex, HasLiteral, HasPair, HasMultiple, HasCombination};
 ghost use Rattle.df_logtext.specs.Joined.{behind};
 ghost use Rattle.df_logtext.specs.StepText.{literal_word, pair_words, multiple_text, sum_words, combination_words};
 
@@ -56,7 +57,8 @@ pub fn push_integer(text: &mut Vec<u8>, number: i128) -> Result<(), AllocError>
 
 /// Numbers from 0 on.
 pub fn push_numbers(text: &mut Vec<u8>, numbers: &[usize]) -> Result<(), AllocError>
-    ensures { OnOk result (text.new.items ≡ text.old.items ++ behind 32 (map decimal numbers.now)) }
+    ensures written { OnOk result (text.new.items ≡ text.old.items ++ behind 32 (map decimal numbers.now)) }
+    ensures numbers { OnOk result (AllByRecursion IsIndex numbers.now) }
 {
     for number in numbers {
         push_number(text, *number as u64)?;
@@ -65,7 +67,8 @@ pub fn push_numbers(text: &mut Vec<u8>, numbers: &[usize]) -> Result<(), AllocEr
 }
 
 fn push_literal(text: &mut Vec<u8>, literal: Lit) -> Result<(), AllocError>
-    ensures { OnOk result (text.new.items ≡ text.old.items ++ behind 32 (literal_word literal ∷ [])) }
+    ensures written { OnOk result (text.new.items ≡ text.old.items ++ behind 32 (literal_word literal ∷ [])) }
+    ensures numbers { OnOk result (HasLiteral literal) }
 {
     if literal.positive {
         text.extend_from_slice(b" +")?;
@@ -77,7 +80,8 @@ fn push_literal(text: &mut Vec<u8>, literal: Lit) -> Result<(), AllocError>
 
 /// Literals.
 pub fn push_literals(text: &mut Vec<u8>, literals: &[Lit]) -> Result<(), AllocError>
-    ensures { OnOk result (text.new.items ≡ text.old.items ++ behind 32 (map literal_word literals.now)) }
+    ensures written { OnOk result (text.new.items ≡ text.old.items ++ behind 32 (map literal_word literals.now)) }
+    ensures numbers { OnOk result (AllByRecursion HasLiteral literals.now) }
 {
     for literal in literals {
         push_literal(text, *literal)?;
@@ -86,7 +90,8 @@ pub fn push_literals(text: &mut Vec<u8>, literals: &[Lit]) -> Result<(), AllocEr
 }
 
 fn push_pair(text: &mut Vec<u8>, pair: &Pair) -> Result<(), AllocError>
-    ensures { OnOk result (text.new.items ≡ text.old.items ++ behind 32 (pair_words pair.now)) }
+    ensures written { OnOk result (text.new.items ≡ text.old.items ++ behind 32 (pair_words pair.now)) }
+    ensures numbers { OnOk result (HasPair pair.now) }
 {
     push_number(text, pair.left as u64)?;
     push_number(text, pair.right as u64)
@@ -94,7 +99,8 @@ fn push_pair(text: &mut Vec<u8>, pair: &Pair) -> Result<(), AllocError>
 
 /// Pairs.
 pub fn push_pairs(text: &mut Vec<u8>, pairs: &[Pair]) -> Result<(), AllocError>
-    ensures { OnOk result (text.new.items ≡ text.old.items ++ behind 32 (flat_map pair_words pairs.now)) }
+    ensures written { OnOk result (text.new.items ≡ text.old.items ++ behind 32 (flat_map pair_words pairs.now)) }
+    ensures numbers { OnOk result (AllByRecursion HasPair pairs.now) }
 {
     for pair in pairs {
         push_pair(text, pair)?;
@@ -107,7 +113,8 @@ fn push_multiple(
     separator: &[u8],
     multiple: &Multiple,
 ) -> Result<(), AllocError>
-    ensures { OnOk result (text.new.items ≡ text.old.items ++ (separator.now ++ multiple_text multiple.now)) }
+    ensures written { OnOk result (text.new.items ≡ text.old.items ++ (separator.now ++ multiple_text multiple.now)) }
+    ensures numbers { OnOk result (HasMultiple multiple.now) }
 {
     text.extend_from_slice(separator)?;
     push_signed_digits(text, multiple.factor)?;
@@ -116,7 +123,8 @@ fn push_multiple(
 }
 
 fn push_more_multiples(text: &mut Vec<u8>, multiples: &[Multiple]) -> Result<(), AllocError>
-    ensures { OnOk result (text.new.items ≡ text.old.items ++ behind 43 (map multiple_text multiples.now)) }
+    ensures written { OnOk result (text.new.items ≡ text.old.items ++ behind 43 (map multiple_text multiples.now)) }
+    ensures numbers { OnOk result (AllByRecursion HasMultiple multiples.now) }
 {
     for multiple in multiples {
         push_multiple(text, b"+", multiple)?;
@@ -126,7 +134,8 @@ fn push_more_multiples(text: &mut Vec<u8>, multiples: &[Multiple]) -> Result<(),
 
 /// A sum, if it has members.
 fn push_sum(text: &mut Vec<u8>, multiples: &[Multiple]) -> Result<(), AllocError>
-    ensures { OnOk result (text.new.items ≡ text.old.items ++ behind 32 (sum_words multiples.now)) }
+    ensures written { OnOk result (text.new.items ≡ text.old.items ++ behind 32 (sum_words multiples.now)) }
+    ensures numbers { OnOk result (AllByRecursion HasMultiple multiples.now) }
 {
     match multiples {
         [] => Ok(()),
@@ -138,7 +147,8 @@ fn push_sum(text: &mut Vec<u8>, multiples: &[Multiple]) -> Result<(), AllocError
 }
 
 fn push_combination(text: &mut Vec<u8>, combination: &Combination) -> Result<(), AllocError>
-    ensures { OnOk result (text.new.items ≡ text.old.items ++ behind 32 (combination_words (combination_of combination.now))) }
+    ensures written { OnOk result (text.new.items ≡ text.old.items ++ behind 32 (combination_words (combination_of combination.now))) }
+    ensures numbers { OnOk result (HasCombination (combination_of combination.now)) }
 {
     push_integer(text, combination.divisor)?;
     push_sum(text, &combination.members)
@@ -146,7 +156,8 @@ fn push_combination(text: &mut Vec<u8>, combination: &Combination) -> Result<(),
 
 /// Combinations of rows.
 pub fn push_combinations(text: &mut Vec<u8>, combinations: &[Combination]) -> Result<(), AllocError>
-    ensures { OnOk result (text.new.items ≡ text.old.items ++ behind 32 (flat_map combination_words (map combination_of combinations.now))) }
+    ensures written { OnOk result (text.new.items ≡ text.old.items ++ behind 32 (flat_map combination_words (map combination_of combinations.now))) }
+    ensures numbers { OnOk result (AllByRecursion HasCombination (map combination_of combinations.now)) }
 {
     for combination in combinations {
         push_combination(text, combination)?;

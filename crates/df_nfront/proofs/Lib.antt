@@ -3,6 +3,9 @@ mod InRange
 mod MachineNames
 mod Named
 mod Declared
+mod DistinctNames
+mod DeclaredOnce
+mod OwnNames
 mod Sources
 mod OneRefusal
 mod Refusals

@@ -7,7 +7,7 @@ use Rattle.std.proofs.lemmas.Option.{slice_get-get_or, slice_get_within}
 use Rattle.df_lemmas.proofs.Alls.{all_front, all_back}
 use Rattle.df_base.specs.Names.{same_text}
 use Rattle.df_base.proofs.NamesLemmas.{same_text-equal}
-use Rattle.df_tok.specs.Lexeme.{IsIdentifier}
+use Rattle.df_tok.specs.Lexeme.{IsIdentifier, IsWord}
 use Rattle.df_tok.specs.declared.token.Kind.{Kind}
 use Rattle.df_tok.specs.declared.token.Kind.TheVariants as kinds
 use Rattle.df_tok.specs.Token.{Token, HasKind, IsNamed}
@@ -21,12 +21,13 @@ use Rattle.df_ntyping.specs.FileNodes.{declared_name}
 use Rattle.df_nfront.specs.Source.{IsRead}
 use Rattle.df_nfront.proofs.TokenKinds.{HasItsKind, pieces_all}
 
--- the name stands for an identifier, and not for `_`
+-- the name stands for an identifier, and neither for `_` nor for a word of the language
 pub record IsOwn (names : List (List ℕ)) (name : ℕ) : Type 0 where
   pub text : List ℕ
   pub at : slice_get names name ≡ Some text
   pub identifier : IsIdentifier text
   pub differs : text ≢ codes "_"
+  pub no_word : IsWord text → ⊥
 
 -- ---- tokens
 
@@ -47,7 +48,7 @@ IsOwnPiece names (Characters characters) = Unit {0}
 own_kind : (before : List (List ℕ)) (text : List ℕ) (kind : Kind) (after last : List (List ℕ)) → HasKind before text kind after
     → ((n : ℕ) (one : List ℕ) → slice_get after n ≡ Some one → slice_get last n ≡ Some one) → IsOwnKind last kind
 own_kind before text (kinds.Name name) after last h stay =
-    record { text = text; at = stay name text (named_text before text name after h.4); identifier = h.0; differs = h.1 }
+    record { text = text; at = stay name text (named_text before text name after h.4); identifier = h.0; differs = h.1; no_word = h.2 }
 own_kind before text (kinds.Outside name) after last h stay = tt
 own_kind before text kinds.Wildcard after last h stay = tt
 own_kind before text (kinds.Word word) after last h stay = tt

@@ -1,4 +1,5 @@
 pub mod Source
+pub mod Naming
 pub mod Refused
 pub mod Line
 pub mod Told

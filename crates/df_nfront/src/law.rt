@@ -4,6 +4,7 @@ ghost use Rattle.std.specs.Prelude.{◌≡◌, ℕ, List};
 ghost use Rattle.df_base.specs.declared.refusal.Refusal.{Refusal};
 ghost use Rattle.df_lang.specs.Program as pure;
 ghost use Rattle.df_nfront.specs.Source.{IsLawful, IsUnlawful, HasNames};
+ghost use Rattle.df_nfront.specs.Naming.{AreNamed};
 ghost use Rattle.df_nfront.specs.Refused.{IsRefused};
 ghost use Rattle.df_nfront.specs.Told.{TellTheSame};
 
@@ -45,4 +46,10 @@ pub fn one_refusal()
 /// The methods of a lawful source have names that the machine takes: identifiers, none of them `_` alone.
 pub fn methods_have_names()
     ensures { (source : List ℕ) (program : pure.Program) → IsLawful source program → HasNames program }
+{}
+
+/// What a lawful source declares has names of its own: identifiers, none of them a word of the language, and no two of them
+/// the same.
+pub fn declarations_have_names()
+    ensures { (source : List ℕ) (program : pure.Program) → IsLawful source program → AreNamed program }
 {}

@@ -5,6 +5,8 @@ mod law;
 mod line;
 mod reading;
 
-pub use law::{methods_have_names, one_program, one_refusal, refused_is_unlawful};
+pub use law::{
+    declarations_have_names, methods_have_names, one_program, one_refusal, refused_is_unlawful,
+};
 pub use line::{pos_text, refusal_line};
 pub use reading::read;

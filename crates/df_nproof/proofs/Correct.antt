@@ -4,7 +4,7 @@ use Rattle.df_hoare.specs.Total.{SafeIsCorrect}
 use Rattle.df_lang.specs.Program.{Program}
 use Rattle.df_form.specs.Log.{Step}
 use Rattle.df_form.specs.Sequent.{Sequent, IsSequent, IsValid}
-use Rattle.df_kern.specs.Derivation.{Derives}
+use Rattle.df_rules.specs.Derivation.{Derives}
 use Rattle.df_nowed.specs.Laws.{ValidSequentsAreValidObligations}
 use Rattle.df_npass.specs.Laws.{AllValidIsSafe}
 use Rattle.df_npass.specs.Laws as trees

@@ -75,7 +75,7 @@ module _ (program : Program) where
   confirmed o part h = record {
     sequent = h.sequent;
     is_of = h.is_of;
-    proves = record { taken = record { log = log_of part.items; derives = h.derives; steps = refl }; derives = h.derives };
+    proves = record { derives = h.derives; steps = refl };
   }
 
   judges : (params : List Param) (budget : Budget) (os : List Obligation) (parts : List (Vec declared.Step)) → AreDerived program os (logs_of parts) → Judges program params budget os [] (map proof_with parts)

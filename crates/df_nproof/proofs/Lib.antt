@@ -8,3 +8,4 @@ pub mod Declarations
 pub mod Unread
 pub mod Parts
 pub mod Logs
+pub mod NamedSteps

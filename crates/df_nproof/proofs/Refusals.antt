@@ -5,7 +5,7 @@ use Rattle.std.proofs.lemmas.Option.{slice_get_within}
 use Rattle.df_lang.specs.Program.{Program}
 use Rattle.df_form.specs.Log.{Step}
 use Rattle.df_form.specs.Sequent.{Sequent, IsNumbered}
-use Rattle.df_kern.specs.Derivation.{Derives}
+use Rattle.df_rules.specs.Derivation.{Derives}
 use Rattle.df_kern.specs.Refusal.{Refusal, refusal}
 use Rattle.df_nenc.specs.Laws.{OneNodeForATree}
 use Rattle.df_npass.specs.Methods.{Obligation}

@@ -4,7 +4,7 @@ use Rattle.df_lang.specs.Groups.{AreGroups}
 use Rattle.df_lang.specs.Program.{Program}
 use Rattle.df_form.specs.Log.{Step}
 use Rattle.df_form.specs.Sequent.{Sequent}
-use Rattle.df_kern.specs.Derivation.{Derives}
+use Rattle.df_rules.specs.Derivation.{Derives}
 use Rattle.df_npass.specs.Methods.{Obligation, obligations}
 use Rattle.df_nverdict.specs.Sequents.{IsSequentOf}
 

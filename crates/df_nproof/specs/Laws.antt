@@ -6,11 +6,13 @@ use Rattle.df_lang.specs.Program.{Program}
 use Rattle.df_lang.specs.Typing.{is_well_typed}
 use Rattle.df_meaning.specs.Correct.{AreCorrect}
 use Rattle.df_form.specs.Log.{Step}
+use Rattle.df_logtext.specs.HasText.{HaveNumbers, HaveText}
 use Rattle.df_npass.specs.Methods.{Obligation, obligations}
 use Rattle.df_report.specs.Report.{Outcome}
 use Rattle.df_search.specs.declared.found.Budget.{Budget}
 use Rattle.df_nverdict.specs.declared.judging.Proof.{Proof}
 use Rattle.df_nverdict.specs.Verdict.{IsJudged, AreVerdicts, are_verified}
+use Rattle.df_nproof.specs.Names.{names_in, HaveTypeNames}
 use Rattle.df_nproof.specs.Derived.{AreDerived}
 use Rattle.df_nproof.specs.Refused.{IsRefusedAt}
 use Rattle.df_nproof.specs.Proofs.{logs_in}
@@ -37,3 +39,8 @@ OutcomesAre = (program : Program) (groups : List ℕ) (budget : Budget) (outcome
 abbrev pub DerivedIsNotRefused : Type 0
 DerivedIsNotRefused = (program : Program) (os : List Obligation) (parts : List (List Step)) (number step : ℕ)
     → AreDerived program os parts → IsRefusedAt program os parts number step → ⊥
+
+-- logs that derive obligations, and whose numbers fit, have a text
+abbrev pub DerivedHaveText : Type 0
+DerivedHaveText = (program : Program) (os : List Obligation) (logs : List (List Step))
+    → HaveTypeNames program → AreDerived program os logs → HaveNumbers logs → HaveText (names_in program) logs

@@ -1,6 +1,6 @@
 //! What logs of programs are worth.
 
-ghost use Rattle.df_nproof.specs.Laws.{ProofsAreCorrect, LogsOfVerdictsDerive, OutcomesAre, DerivedIsNotRefused};
+ghost use Rattle.df_nproof.specs.Laws.{ProofsAreCorrect, LogsOfVerdictsDerive, OutcomesAre, DerivedIsNotRefused, DerivedHaveText};
 
 use df_hoare::safe_is_correct;
 use df_kern::{derivations_are_valid, logs_derive_or_are_refused};
@@ -35,3 +35,9 @@ pub fn derived_is_not_refused()
     one_node_for_a_tree();
     logs_derive_or_are_refused();
 }
+
+/// Logs that derive obligations have a text: what the kernel takes makes no free term, and no test for a type that the
+/// program has not.
+pub fn derived_logs_have_text()
+    ensures { DerivedHaveText }
+{}

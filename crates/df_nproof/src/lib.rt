@@ -10,6 +10,9 @@ mod reading;
 mod writing;
 
 pub use fault::CheckFault;
-pub use law::{derived_is_not_refused, logs_of_verdicts_derive, outcomes_are, proofs_are_correct};
+pub use law::{
+    derived_is_not_refused, derived_logs_have_text, logs_of_verdicts_derive, outcomes_are,
+    proofs_are_correct,
+};
 pub use reading::check;
 pub use writing::text;

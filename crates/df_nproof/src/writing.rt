@@ -2,6 +2,7 @@
 
 ghost use Rattle.std.specs.Prelude.{◌≡◌, ◌++◌, map, IfOk, OnOk};
 ghost use Rattle.df_lang.specs.View.{program_of};
+ghost use Rattle.df_logtext.specs.HasText.{HaveNumbers};
 ghost use Rattle.df_logtext.specs.LogText.{log_text};
 ghost use Rattle.df_logtext.specs.View.{logs_of};
 ghost use Rattle.df_nproof.specs.Names.{names_in};
@@ -39,7 +40,9 @@ fn logs(alloc: Global, proofs: Vec<Vec<Proof>>) -> Result<Vec<Vec<Step>>, AllocE
 /// The text of the logs of proofs, in their order, where types have their names from the program. It fails for want of
 /// memory.
 pub fn text(alloc: Global, program: &Program, proofs: Vec<Vec<Proof>>) -> Result<Vec<u8>, Memory>
-    ensures { IfOk result (λ text. text.items ≡ log_text (names_in (program_of program.now)) (logs_in (map (λ of_method. of_method.items) proofs.items))) }
+    ensures written { IfOk result (λ text. text.items ≡ log_text (names_in (program_of program.now)) (logs_in (map (λ of_method. of_method.items) proofs.items))) }
+    // Their steps hold numbers that fit a text.
+    ensures numbers { OnOk result (HaveNumbers (logs_in (map (λ of_method. of_method.items) proofs.items))) }
 {
     let names = names(alloc, program)?;
     let logs = logs(alloc, proofs)?;

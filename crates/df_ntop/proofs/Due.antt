@@ -17,6 +17,7 @@ use Rattle.df_nerase.specs.Erasing.{method_number}
 use Rattle.df_nerase.specs.First.{IsFirst, BrokenIsNotNative}
 use Rattle.df_nfront.specs.Source.{IsLawful, IsUnlawful, byte_limit}
 use Rattle.df_nfront.specs.Refused.{IsRefused}
+use Rattle.df_npass.specs.Laws.{OneListOfObligations}
 use Rattle.df_nproof.specs.Laws.{DerivedIsNotRefused}
 use Rattle.df_nproof.specs.Verified.{verified_outcomes}
 use Rattle.df_report.specs.Report.{summary}
@@ -44,7 +45,7 @@ module _ (call : Call)
     (broken : BrokenIsNotNative)
     (one_text : (names : List (List ℕ)) (one other : List (List Step)) (bytes : List ℕ) → IsText names one bytes → IsText names other bytes → one ≡ other)
     (no_text : (names : List (List ℕ)) (logs : List (List Step)) (bytes : List ℕ) (number : ℕ) → IsBad names bytes number → IsText names logs bytes → ⊥)
-    (not_refused : DerivedIsNotRefused) where
+    (not_refused : DerivedIsNotRefused) (one_list : OneListOfObligations) where
   abbrev Due : Command → List ℕ → LogFile → Status → Type 0
   Due command source log status = IsDue command source log status call.out
 
@@ -121,7 +122,7 @@ module _ (call : Call)
   -- ---- by commands, over the log that is there
 
   goes_on : (program : Program) (proof : Option (List ℕ)) (log : LogFile) (status : Status) (then_due : Type 0) → ProvesBy program log → then_due → complete.ProofIsDue program proof log status then_due
-  goes_on program proof log status then_due proves go = proves_due one_text no_text not_refused program proof log status then_due proves go
+  goes_on program proof log status then_due proves go = proves_due one_text no_text not_refused one_list program proof log status then_due proves go
 
   done_due : (command : Command) (source : List ℕ) (log : LogFile) → HoldsSource call.files.held command source → HoldsLog call.files.held (log_of command) log → IsDone call command → Due command source log statuses.Done
   done_due (Verify file budget) source log there there_log is =
@@ -256,15 +257,15 @@ module _ (call : Call)
   }
 
   -- a log that is refused
-  module _ (program : Program) (log : LogFile) (some : log ≡ NoLog → ⊥) (wrong : IsWrong one_text no_text not_refused program log) where
+  module _ (program : Program) (log : LogFile) (some : log ≡ NoLog → ⊥) (wrong : IsWrong one_text no_text not_refused one_list program log) where
     bad_proof_due : (proof : Option (List ℕ)) (then_due : Type 0) → IsLogFile call.files proof log → complete.ProofIsDue program proof log statuses.BadLog then_due
     bad_proof_due None then_due is = absurd (unlogged call.files log is some)
-    bad_proof_due (Some name) then_due is = wrong_due one_text no_text not_refused program log then_due wrong
+    bad_proof_due (Some name) then_due is = wrong_due one_text no_text not_refused one_list program log then_due wrong
 
     bad_log_due : (command : Command) → IsReady command program → IsLogFile call.files (log_of command) log → DueOn command program log statuses.BadLog
     bad_log_due (Verify file budget) ready is = absurd (unlogged call.files log is some)
     bad_log_due (Prove file budget) ready is = absurd (unlogged call.files log is some)
-    bad_log_due (Check file name) ready is = wrong_due one_text no_text not_refused program log (statuses.BadLog ≡ statuses.Done) wrong
+    bad_log_due (Check file name) ready is = wrong_due one_text no_text not_refused one_list program log (statuses.BadLog ≡ statuses.Done) wrong
     bad_log_due (Build file proof budget) ready is = record {
       not_native = λ h. absurd (h (ready.native refl));
       native = λ native. bad_proof_due proof _ is;
@@ -282,11 +283,11 @@ module _ (call : Call)
   program_due command program log status line is (not_native pos rule compiled first) = not_native_due command program log pos rule compiled first
   program_due command program log status line is (no_main run native none) = no_main_due command program log run native none
   program_due command program log status line is (too_large ready long) =
-      bad_log_due program log (λ e. absurd cc) (long_is_wrong one_text no_text not_refused program log long) command ready is
+      bad_log_due program log (λ e. absurd cc) (long_is_wrong one_text no_text not_refused one_list program log long) command ready is
   program_due command program log status line is (not_a_log bytes number ready there bad) =
-      bad_log_due program log (λ e. absurd cc) (no_text_is_wrong one_text no_text not_refused program log bytes number there bad) command ready is
+      bad_log_due program log (λ e. absurd cc) (no_text_is_wrong one_text no_text not_refused one_list program log bytes number there bad) command ready is
   program_due command program log status line is (bad_part bytes obligation place ready there bad) =
-      bad_log_due program log (λ e. absurd cc) (part_is_wrong one_text no_text not_refused program log bytes obligation place there bad) command ready is
+      bad_log_due program log (λ e. absurd cc) (part_is_wrong one_text no_text not_refused one_list program log bytes obligation place there bad) command ready is
 
   -- ---- with a source, the files and the words
 

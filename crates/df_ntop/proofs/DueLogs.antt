@@ -4,10 +4,10 @@ use Rattle.df_base.specs.Outside.{Contents, bytes_of}
 use Rattle.df_base.specs.declared.status.Status.{Status}
 use Rattle.df_base.specs.declared.status.Status.TheVariants as statuses
 use Rattle.df_form.specs.Log.{Step}
-use Rattle.df_lang.specs.Groups.{AreGroups}
 use Rattle.df_lang.specs.Program.{Program}
 use Rattle.df_logtext.specs.BadLog.{IsText, IsBad}
-use Rattle.df_npass.specs.Methods.{obligations}
+use Rattle.df_npass.specs.Laws.{OneListOfObligations}
+use Rattle.df_npass.specs.Methods.{Obligation, obligations}
 use Rattle.df_nproof.specs.Names.{names_in}
 use Rattle.df_nproof.specs.Derived.{AreDerived, AreProofs}
 use Rattle.df_nproof.specs.Checking.{HasBadPart}
@@ -56,10 +56,7 @@ unlogged files (Log bytes) is some = is
 module _
     (one_text : (names : List (List ℕ)) (one other : List (List Step)) (bytes : List ℕ) → IsText names one bytes → IsText names other bytes → one ≡ other)
     (no_text : (names : List (List ℕ)) (logs : List (List Step)) (bytes : List ℕ) (number : ℕ) → IsBad names bytes number → IsText names logs bytes → ⊥)
-    (not_refused : DerivedIsNotRefused) (program : Program) where
-  abbrev DerivesAll : List (List Step) → Type 0
-  DerivesAll logs = (groups : List ℕ) → AreGroups program groups → AreDerived program (obligations program groups) logs
-
+    (not_refused : DerivedIsNotRefused) (one_list : OneListOfObligations) (program : Program) where
   -- ---- a log that derives all
 
   log_proves_due : (log : LogFile) (status : Status) (goes_on : Type 0) → ProvesBy program log → goes_on → LogIsDue program log status goes_on
@@ -90,7 +87,7 @@ module _
 
   -- why it can't derive all
   abbrev pub IsWrong : LogFile → Type 0
-  IsWrong log = (bytes : List ℕ) (logs : List (List Step)) → log ≡ Log bytes → IsText (names_in program) logs bytes → DerivesAll logs → ⊥
+  IsWrong log = (bytes : List ℕ) (logs : List (List Step)) → log ≡ Log bytes → IsText (names_in program) logs bytes → AreProofs program logs → ⊥
 
   pub wrong_due : (log : LogFile) (goes_on : Type 0) → IsWrong log → LogIsDue program log statuses.BadLog goes_on
   wrong_due log goes_on wrong = record {
@@ -113,5 +110,6 @@ module _
       let same : other ≡ bytes = cc in
       let refused = bad.refused in
       let whole = one_text (names_in program) logs bad.parts bytes (subst (IsText (names_in program) logs) same text) bad.is_text in
+      let derived = subst (λ (os : List Obligation). AreDerived program os logs) (one_list program all.groups refused.groups all.are_groups refused.are_groups) all.derived in
       not_refused program (obligations program refused.groups) bad.parts obligation step
-      (subst (AreDerived program (obligations program refused.groups)) whole (all refused.groups refused.are_groups)) refused.refused
+      (subst (AreDerived program (obligations program refused.groups)) whole derived) refused.refused

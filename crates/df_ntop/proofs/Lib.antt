@@ -16,3 +16,5 @@ pub mod Headline
 pub mod Limits
 pub mod Counting
 pub mod Checked
+pub mod TypeNames
+pub mod TakenProof

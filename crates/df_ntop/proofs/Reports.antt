@@ -10,7 +10,9 @@ use Rattle.df_nverdict.specs.declared.judging.Proof.{Proof}
 use Rattle.df_nverdict.specs.declared.verdict.Judged.{Judged}
 use Rattle.df_nverdict.specs.Verdict.{AreVerdicts, are_verified}
 use Rattle.df_nverdict.specs.View.{outcomes_in, proofs_in}
-use Rattle.df_nproof.specs.Laws.{LogsOfVerdictsDerive}
+use Rattle.df_npass.specs.Methods.{obligations}
+use Rattle.df_nproof.specs.Laws.{LogsOfVerdictsDerive, DerivedHaveText}
+use Rattle.df_nproof.specs.Names.{HaveTypeNames}
 use Rattle.df_nproof.specs.Proofs.{logs_in}
 use Rattle.df_ntop.specs.declared.proving.Attempt.{Attempt}
 use Rattle.df_ntop.specs.declared.proving.Attempt.TheVariants as attempts
@@ -31,12 +33,15 @@ module _ (program : Program) (budget : search.Budget) where
   is_last_line outcomes verified text last verdict told = record { outcomes = outcomes; verdict = verdict; verified_is = sym told.verified_is; text_is = told.last_is }
 
   -- logs, or a report with a failure
-  pub attempts_so : LogsOfVerdictsDerive → (judged : Judged) (groups : List ℕ) (attempt : Attempt) → AreGroups program groups → AreVerdicts program groups budget (outcomes_in judged) (proofs_in judged) → (are_verified (outcomes_in judged) ≡ true → AreCorrect program) → IsAttempt program judged attempt → Attempts program as_budget attempt
-  attempts_so derive judged groups (attempts.Logs text) are_groups verdicts correct is = record {
-    logs = logs_in (proofs_in judged);
-    proofs = record { groups = groups; are_groups = are_groups; derived = derive program groups budget (outcomes_in judged) (proofs_in judged) verdicts is.0 };
-    correct = correct is.0;
-    text_is = is.1;
-  }
-  attempts_so derive judged groups (attempts.Failure report) are_groups verdicts correct is =
+  pub attempts_so : LogsOfVerdictsDerive → DerivedHaveText → HaveTypeNames program → (judged : Judged) (groups : List ℕ) (attempt : Attempt) → AreGroups program groups → AreVerdicts program groups budget (outcomes_in judged) (proofs_in judged) → (are_verified (outcomes_in judged) ≡ true → AreCorrect program) → IsAttempt program judged attempt → Attempts program as_budget attempt
+  attempts_so derive have named judged groups (attempts.Logs text) are_groups verdicts correct is =
+      let logs = logs_in (proofs_in judged) in
+      let derived = derive program groups budget (outcomes_in judged) (proofs_in judged) verdicts is.0 in
+      record {
+        logs = logs;
+        proofs = record { groups = groups; are_groups = are_groups; derived = derived };
+        correct = correct is.0;
+        is_text = record { have = have program (obligations program groups) logs named derived is.2; text = is.1 };
+      }
+  attempts_so derive have named judged groups (attempts.Failure report) are_groups verdicts correct is =
       (is.0, is_report (outcomes_in judged) report.verified report.text.items report.last.items (is_verdict groups (outcomes_in judged) (proofs_in judged) are_groups verdicts correct) is.1)

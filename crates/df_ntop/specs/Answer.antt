@@ -9,8 +9,7 @@ use Rattle.df_form.specs.Log.{Step}
 use Rattle.df_lang.specs.Groups.{AreGroups}
 use Rattle.df_lang.specs.Native.{IsNative}
 use Rattle.df_lang.specs.Program.{Program}
-use Rattle.df_logtext.specs.BadLog.{IsBad}
-use Rattle.df_logtext.specs.LogText.{log_text}
+use Rattle.df_logtext.specs.BadLog.{IsText, IsBad}
 use Rattle.df_meaning.specs.Correct.{AreCorrect}
 use Rattle.df_ncmd.specs.Line.{Budget, Command, Verify, Prove, Check, Build, Run, Bulk}
 use Rattle.df_report.specs.Report.{Outcome, report_text, summary}
@@ -73,12 +72,12 @@ pub record IsLastLine (program : Program) (budget : Budget) (verified : Bool) (t
   pub verified_is : are_verified outcomes ≡ verified
   pub text_is : text ≡ summary outcomes
 
--- The text of the logs of a program: one for each obligation, in order, which derives it. So each method is correct.
+-- A text of logs of a program: one for each obligation, in order, which derives it. So each method is correct.
 pub record IsProofText (program : Program) (text : List ℕ) : Type 0 where
   pub logs : List (List Step)
   pub proofs : AreProofs program logs
   pub correct : AreCorrect program
-  pub text_is : text ≡ log_text (names_in program) logs
+  pub is_text : IsText (names_in program) logs text
 
 -- where there is a log, its parts derive the obligations of the program, one each
 abbrev pub ProvesBy : Program → LogFile → Type 0

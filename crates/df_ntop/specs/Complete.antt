@@ -6,7 +6,6 @@ use Rattle.df_base.specs.declared.refusal.Refusal.{Refusal}
 use Rattle.df_base.specs.declared.status.Status.{Status}
 use Rattle.df_base.specs.declared.status.Status.TheVariants as statuses
 use Rattle.df_form.specs.Log.{Step}
-use Rattle.df_lang.specs.Groups.{AreGroups}
 use Rattle.df_lang.specs.Native.{IsNative}
 use Rattle.df_lang.specs.Program.{Program}
 use Rattle.df_logtext.specs.BadLog.{IsText}
@@ -17,9 +16,8 @@ use Rattle.df_nerase.specs.Erasing.{method_number}
 use Rattle.df_nfront.specs.Source.{IsLawful, byte_limit}
 use Rattle.df_nfront.specs.Refused.{IsRefused}
 use Rattle.df_gen.specs.GeneratedSource.{generated_source}
-use Rattle.df_npass.specs.Methods.{obligations}
 use Rattle.df_nproof.specs.Names.{names_in}
-use Rattle.df_nproof.specs.Derived.{AreDerived, AreProofs}
+use Rattle.df_nproof.specs.Derived.{AreProofs}
 use Rattle.df_nproof.specs.Verified.{verified_outcomes}
 use Rattle.df_report.specs.Report.{summary}
 use Rattle.df_ntop.specs.Call.{Stream, Call, Takes}
@@ -64,8 +62,7 @@ pub record LogIsDue (program : Program) (log : LogFile) (status : Status) (goes_
   pub too_large : log ≡ TooLong → status ≡ statuses.BadLog
   pub not_a_log : (bytes : List ℕ) → log ≡ Log bytes → ((logs : List (List Step)) → IsText (names_in program) logs bytes → ⊥) → status ≡ statuses.BadLog
   pub not_derived : (bytes : List ℕ) (logs : List (List Step)) → log ≡ Log bytes → IsText (names_in program) logs bytes → (AreProofs program logs → ⊥) → status ≡ statuses.BadLog
-  pub derived : (bytes : List ℕ) (logs : List (List Step)) → log ≡ Log bytes → IsText (names_in program) logs bytes
-      → ((groups : List ℕ) → AreGroups program groups → AreDerived program (obligations program groups) logs) → goes_on
+  pub derived : (bytes : List ℕ) (logs : List (List Step)) → log ≡ Log bytes → IsText (names_in program) logs bytes → AreProofs program logs → goes_on
 
 -- without a log all is proved, or the report tells of a failure
 abbrev pub ProofIsDue : Program → Option (List ℕ) → LogFile → Status → Type 0 → Type 0

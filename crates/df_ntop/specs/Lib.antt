@@ -10,6 +10,7 @@ pub mod Headline
 pub mod Proved
 pub mod Answer
 pub mod Complete
+pub mod HandsOn
 pub mod Telling
 pub mod Ending
 pub mod Proving

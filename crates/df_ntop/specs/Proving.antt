@@ -1,6 +1,7 @@
 -- What proving a program answers.
 use Rattle.std.specs.Prelude.{◌≡◌, ℕ, Bool, true, false, List}
 use Rattle.df_lang.specs.Program.{Program}
+use Rattle.df_logtext.specs.HasText.{HaveNumbers}
 use Rattle.df_logtext.specs.LogText.{log_text}
 use Rattle.df_ncmd.specs.Line.{Budget}
 use Rattle.df_report.specs.Report.{Outcome, report_text, summary}
@@ -21,7 +22,7 @@ pub record Reports (outcomes : List Outcome) (verified : Bool) (text last : List
 
 -- of verdicts the text of their logs, or the report
 abbrev pub IsAttempt : Program → Judged → Attempt → Type 0
-IsAttempt program judged (attempts.Logs text) = (are_verified (outcomes_in judged) ≡ true) × (text.items ≡ log_text (names_in program) (logs_in (proofs_in judged)))
+IsAttempt program judged (attempts.Logs text) = (are_verified (outcomes_in judged) ≡ true) × (text.items ≡ log_text (names_in program) (logs_in (proofs_in judged))) × HaveNumbers (logs_in (proofs_in judged))
 IsAttempt program judged (attempts.Failure report) = (report.verified ≡ false) × Reports (outcomes_in judged) report.verified report.text.items report.last.items
 
 -- of a program the text of a log for each obligation, or a report with a failure

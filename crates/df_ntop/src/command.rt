@@ -23,6 +23,7 @@ use df_gen::source;
 use df_ncmd::{Command, LineFault, limits, line};
 use df_nerase::broken_is_not_native;
 use df_nfront::{one_program, refused_is_unlawful};
+use df_npass::one_list_of_obligations;
 use df_nproof::{derived_is_not_refused, logs_of_verdicts_derive};
 
 /// Loads the files of a command, and carries out the command.
@@ -209,6 +210,7 @@ pub fn top<F: Files, O: Sink, E: Sink>(
     broken_is_not_native();
     logs_of_verdicts_derive();
     derived_is_not_refused();
+    one_list_of_obligations();
     df_logtext::one_text();
     df_logtext::bad_is_no_text();
     answer(alloc, words, files, out, err)

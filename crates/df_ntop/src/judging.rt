@@ -5,6 +5,7 @@ ghost use Rattle.df_lang.specs.View.{program_of};
 ghost use Rattle.df_ncmd.specs.Line as lines;
 ghost use Rattle.df_ncmd.specs.Line.{IsBudget};
 ghost use Rattle.df_ncmd.specs.View.{command_of};
+ghost use Rattle.df_nproof.specs.Names.{HaveTypeNames};
 ghost use Rattle.df_ntop.specs.Call.{Stream, IsSilent, stream, streams};
 ghost use Rattle.df_ntop.specs.Command.{file_of, log_of, log_name_of, budget_of as budget_in};
 ghost use Rattle.df_ntop.specs.Ending.{Ends, of_program};
@@ -50,6 +51,7 @@ pub(crate) fn prove_file<O: Sink, E: Sink>(
 ) -> End
     requires prove { command_of command.now ≡ lines.Prove (file_of (command_of command.now)) (budget_in (command_of command.now)) }
     requires budget { IsBudget (budget_in (command_of command.now)) }
+    requires names { HaveTypeNames (program_of program.now.program) }
     ensures ends { (log : LogsOf) → Ends (of_program (command_of command.now) log (program_of program.now.program)) (streams O.Sink out.old out.new E.Sink err.old err.new) result }
     ensures counts { (O.fault_count out.old ≤ O.fault_count out.new) × (E.fault_count err.old ≤ E.fault_count err.new) }
     ensures stays { (O.takes_memory out.new ≡ O.takes_memory out.old) × (E.takes_memory err.new ≡ E.takes_memory err.old) }

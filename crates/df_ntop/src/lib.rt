@@ -6,6 +6,7 @@ mod command;
 mod ending;
 mod entries;
 mod judging;
+mod law;
 mod loading;
 mod logs;
 mod machine;
@@ -17,4 +18,5 @@ mod sources;
 mod telling;
 
 pub use command::top;
+pub use law::proof_is_taken;
 pub use telling::tell_memory;

@@ -4,6 +4,7 @@ ghost use Rattle.std.specs.Prelude.{◌≡◌, ◌≤◌, IfOk, map};
 ghost use Rattle.df_report.specs.Report.{count_unproved};
 ghost use Rattle.df_report.specs.View.{outcome_of};
 ghost use Rattle.df_lang.specs.View.{program_of};
+ghost use Rattle.df_nproof.specs.Names.{HaveTypeNames};
 ghost use Rattle.df_nverdict.specs.Verdict.{are_verified};
 ghost use Rattle.df_ntop.specs.Proving.{Reports, IsAttempt, Attempts};
 ghost use Rattle.df_ntop.specs.Answer.{IsReport, IsLastLine};
@@ -11,7 +12,7 @@ ghost use Rattle.df_ntop.specs.Answer.{IsReport, IsLastLine};
 use df_base::{Global, Memory};
 use df_groups::groups;
 use df_nghost::Checked;
-use df_nproof::{logs_of_verdicts_derive, text};
+use df_nproof::{derived_logs_have_text, logs_of_verdicts_derive, text};
 use df_nverdict::{Judged, verdicts};
 use df_report::{Outcome, last_line, lines};
 use df_search::Budget;
@@ -97,10 +98,12 @@ pub(crate) fn prove_with_logs(
     program: &Checked,
     budget: Budget,
 ) -> Result<Attempt, Memory>
-    requires { 1 ≤ budget.steps }
+    requires steps { 1 ≤ budget.steps }
+    requires names { HaveTypeNames (program_of program.now.program) }
     ensures { IfOk result (Attempts (program_of program.now.program) (record { steps = budget.steps; rounds = budget.rounds })) }
 {
     logs_of_verdicts_derive();
+    derived_logs_have_text();
     let groups = groups(alloc, &program.program)?;
     let judged = verdicts(alloc, program, groups.as_slice(), budget)?;
     logs_or_report(alloc, program, judged)

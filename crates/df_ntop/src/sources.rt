@@ -5,6 +5,7 @@ ghost use Rattle.df_lang.specs.View.{program_of};
 ghost use Rattle.df_nback.specs.Compiled.{has_names};
 ghost use Rattle.df_ncmd.specs.Line.{IsBudget};
 ghost use Rattle.df_ncmd.specs.View.{command_of};
+ghost use Rattle.df_nproof.specs.Names.{HaveTypeNames};
 ghost use Rattle.df_ntop.specs.Call.{streams};
 ghost use Rattle.df_ntop.specs.Command.{log_of, budget_of as budget_in};
 ghost use Rattle.df_ntop.specs.Ending.{Ends, of_program, of_source};
@@ -20,7 +21,7 @@ use crate::telling::told;
 use df_base::{Global, Names, Sink, Status, Stop};
 use df_nback::methods_by_number_have_names;
 use df_ncmd::Command;
-use df_nfront::{methods_have_names, read, refusal_line};
+use df_nfront::{declarations_have_names, methods_have_names, read, refusal_line};
 use df_nghost::Checked;
 
 /// Carries out the command on a program.
@@ -34,6 +35,7 @@ fn end_program<O: Sink, E: Sink>(
 ) -> End
     requires budget { IsBudget (budget_in (command_of command.now)) }
     requires names { has_names (program_of program.now.program) ≡ true }
+    requires types { HaveTypeNames (program_of program.now.program) }
     requires named { IsNamed (log_of (command_of command.now)) (log_file_of log.now) }
     ensures ends { Ends (of_program (command_of command.now) (log_file_of log.now) (program_of program.now.program)) (streams O.Sink out.old out.new E.Sink err.old err.new) result }
     ensures counts { (O.fault_count out.old ≤ O.fault_count out.new) × (E.fault_count err.old ≤ E.fault_count err.new) }
@@ -64,6 +66,7 @@ pub(crate) fn end_source<O: Sink, E: Sink>(
     ensures counts { (O.fault_count out.old ≤ O.fault_count out.new) × (E.fault_count err.old ≤ E.fault_count err.new) }
     ensures stays { (O.takes_memory out.new ≡ O.takes_memory out.old) × (E.takes_memory err.new ≡ E.takes_memory err.old) }
 {
+    declarations_have_names();
     methods_have_names();
     methods_by_number_have_names();
     let Ok(mut names) = Names::new(alloc) else {

@@ -9,7 +9,7 @@ use Rattle.df_meaning.specs.Modular.{IsModularlySafe}
 use Rattle.df_hoare.specs.Total.{SafeIsCorrect}
 use Rattle.df_form.specs.Log.{Step, step_of}
 use Rattle.df_form.specs.Sequent.{Sequent, IsSequent, IsValid}
-use Rattle.df_kern.specs.Derivation.{Derives}
+use Rattle.df_rules.specs.Derivation.{Derives}
 use Rattle.df_npass.specs.Methods.{Obligation, obligations_of_method}
 use Rattle.df_npass.specs.Laws.{ValidIsSafe}
 use Rattle.df_npass.specs.Laws as trees
@@ -91,5 +91,5 @@ module _ (valid : (s : Sequent) (log : List Step) → IsSequent s → Derives s 
 -- what refutes the sequent of an obligation makes a modular run wrong
 pub is_wrong : RefutedSequentsAreRefutedObligations → trees.RefutedIsWrong → RefutedIsWrong
 is_wrong refuted wrong program groups number method o s depth assignment typed definite there contains is_of hypotheses goal =
-    wrong program groups number method o.pos o.kind o typed definite there (record { owed = contains; place = refl; kind_is = refl })
-    (subst (trees.IsRefuted program) is_of.owed (refuted program o.declaration o.pos o.kind s depth assignment is_of.world hypotheses goal))
+    (wrong program groups number method o.pos o.kind o typed definite there (record { owed = contains; place = refl; kind_is = refl })
+    (subst (trees.IsRefuted program) is_of.owed (refuted program o.declaration o.pos o.kind s depth assignment is_of.world hypotheses goal))).0

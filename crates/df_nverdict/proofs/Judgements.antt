@@ -1,19 +1,14 @@
 -- What is judged one by one is judged in all.
-use Rattle.std.proofs.Common.{◌≡◌, ⊎_elim, inl, inr, ◌↔◌, ℕ, zero, suc, ◌+◌, ◌<◌, ◌≤◌, List, [], ◌∷◌, ◌++◌, map, length, take, get_or, Vec, string_bytes, Option, None, Some, Err, refl, sym, ap, subst, ◌∙◌, arith}
+use Rattle.std.proofs.Common.{◌≡◌, ⊎_elim, inl, inr, ℕ, zero, suc, ◌+◌, ◌<◌, ◌≤◌, List, [], ◌∷◌, ◌++◌, map, length, take, get_or, Vec, string_bytes, None, Some, refl, sym, ap, subst, ◌∙◌, arith}
 use Rattle.std.specs.List.{AllByRecursion}
 use Rattle.std.specs.declared.alloc.Global.{Global}
 use Rattle.std.proofs.lemmas.List.{take_more, take_all, map-append}
 use Rattle.df_base.specs.declared.pos.Pos.{Pos}
 use Rattle.df_lang.specs.Program.{Param, Program}
-use Rattle.df_form.specs.Log.{Step}
 use Rattle.df_form.specs.Sequent.{Sequent}
 use Rattle.df_form.specs.SequentView.{sequent_of}
 use Rattle.df_form.specs.World.{of_program, world_of}
 use Rattle.df_form.specs.declared.sequent.Sequent as declared_sequent
-use Rattle.df_kern.specs.declared.fault.KernFault.{KernFault}
-use Rattle.df_kern.specs.declared.fault.KernFault.TheVariants.{Refused}
-use Rattle.df_kern.specs.Derivation.{Derives}
-use Rattle.df_kern.specs.Refusal.{Refusal, refusal, Answers}
 use Rattle.df_meaning.specs.Kind.{word_of}
 use Rattle.df_npass.specs.Methods.{Obligation}
 use Rattle.df_nowed.specs.Laws.{obligation_of}
@@ -31,15 +26,6 @@ use Rattle.df_nverdict.specs.declared.judging.Proof.{Proof}
 use Rattle.df_nverdict.specs.Sequents.{IsSequentOf}
 use Rattle.df_nverdict.specs.Verdict.{IsEvidence, IsFailureOf, IsConfirmed, Judges, none, proved, failed}
 use Rattle.df_nverdict.specs.Judging.{Finds, Adds}
-
-nothing_is_refused : (refused : Option Refusal) (at broken : ℕ) (fault : KernFault) → fault ≡ Refused at broken → Answers refused (Err fault) → refused ≡ None → ⊥
-nothing_is_refused refused at broken fault is answers derived =
-    let told : Answers refused (Err (Refused at broken)) = subst (λ (f : KernFault). Answers refused (Err f)) is answers in
-    cc
-
--- the kernel refuses no log that derives
-pub takes_what_derives : (s : Sequent) (log : List Step) (at broken : ℕ) (fault : KernFault) → ((t : Sequent) (l : List Step) → (refusal t l ≡ None) ↔ Derives t l) → Derives s log → fault ≡ Refused at broken → Answers (refusal s log) (Err fault) → ⊥
-takes_what_derives s log at broken fault law derives is answers = nothing_is_refused (refusal s log) at broken fault is answers ((law s log).1 derives)
 
 -- the code's sequent of an obligation
 pub is_sequent_of : (program : Program) (o : Obligation) (s : declared_sequent.Sequent) → world_of s.world ≡ of_program program → obligation_of o.declaration o.pos o.kind (sequent_of s) ≡ o → IsSequentOf program o (sequent_of s)

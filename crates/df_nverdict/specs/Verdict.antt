@@ -14,7 +14,6 @@ use Rattle.df_form.specs.Log.{step_of}
 use Rattle.df_form.specs.Node.{Node, same_sort}
 use Rattle.df_form.specs.Sequent.{Sequent}
 use Rattle.df_kern.specs.Accepted.{IsTaken}
-use Rattle.df_kern.specs.Derivation.{Derives}
 use Rattle.df_table.specs.TableModel.{number_at}
 use Rattle.df_trig.specs.Instances.{AreTooMany}
 use Rattle.df_search.specs.declared.found.Budget.{Budget}
@@ -76,10 +75,9 @@ pub record IsFailureOf (program : Program) (params : List Param) (budget : Budge
   pub is_of : IsSequentOf program o sequent
   pub evidence : IsEvidence params sequent budget f.evidence f.parameters
 
--- the log derives the sequent, and the kernel took one
-pub record IsProofOf (s : Sequent) (proof : Proof) : Type 0 where
-  pub taken : IsTaken s proof.accepted
-  pub derives : Derives s (map step_of proof.log.items)
+-- the kernel took the log, so it derives the sequent
+abbrev pub IsProofOf : Sequent → Proof → Type 0
+IsProofOf s proof = IsTaken s (map step_of proof.log.items) proof.accepted
 
 -- the proof is one of the sequent of the obligation
 pub record IsConfirmed (program : Program) (o : Obligation) (proof : Proof) : Type 0 where

@@ -1,10 +1,7 @@
 //! An obligation, judged.
 
 ghost use Rattle.std.specs.Prelude.{◌≡◌, ◌≤◌, [], map, string_bytes, OnOk, IfOk};
-ghost use Rattle.df_form.specs.Log.{step_of};
 ghost use Rattle.df_form.specs.SequentView.{sequent_of};
-ghost use Rattle.df_kern.specs.Accepted.{IsTaken};
-ghost use Rattle.df_kern.specs.Derivation.{Derives};
 ghost use Rattle.df_lang.specs.DeclView.{param_of};
 ghost use Rattle.df_lang.specs.View.{program_of};
 ghost use Rattle.df_meaning.specs.Kind.{word_of};
@@ -16,7 +13,7 @@ ghost use Rattle.df_nverdict.specs.Judging.{Finds, Adds};
 
 use crate::parameters::parameters;
 use df_form::{Sequent, Step};
-use df_kern::{Accepted, KernFault, check, logs_derive_or_are_refused};
+use df_kern::Accepted;
 use df_lang::{Param, Program};
 use df_nowed::{MethodObligations, Obligation};
 use df_report::{Evidence, Failure, Parameter};
@@ -39,24 +36,11 @@ pub(crate) struct Finding {
     pub parameters: Vec<Parameter>,
 }
 
-/// A log that derives the sequent of an obligation, and that the kernel took it.
+/// A log that derives the sequent of an obligation, and that the kernel took this log.
 #[derive(Drop)]
 pub struct Proof {
     pub accepted: Accepted,
     pub log: Vec<Step>,
-}
-
-/// Has the kernel take the log that a search found.
-fn confirm(alloc: Global, sequent: &Sequent, log: &[Step]) -> Result<Accepted, AllocError>
-    requires { Derives (sequent_of sequent.now) (map step_of log.now) }
-    ensures { IfOk result (IsTaken (sequent_of sequent.now)) }
-{
-    logs_derive_or_are_refused();
-    match check(alloc, sequent, log) {
-        Ok(accepted) => Ok(accepted),
-        Err(KernFault::Memory) => Err(AllocError),
-        Err(KernFault::Refused { .. }) => unreachable!(),
-    }
 }
 
 /// Evidence without a table.
@@ -83,8 +67,7 @@ fn judge(
     ensures { IfOk result (Finds (map param_of params.now) (sequent_of sequent.now) budget proofs.old.items proofs.new.items) }
 {
     match search_with(alloc, index, sequent, budget)? {
-        Found::Proved(log) => {
-            let accepted = confirm(alloc, sequent, log.as_slice())?;
+        Found::Proved { accepted, log } => {
             proofs.push(Proof { accepted, log })?;
             Ok(None)
         }

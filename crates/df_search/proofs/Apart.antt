@@ -7,7 +7,7 @@ use Rattle.df_form.specs.Node.{Node}
 use Rattle.df_form.specs.Clause.{Clause, yes, no, negation, same_literal, is_among}
 use Rattle.df_row.specs.Row.{Row}
 use Rattle.df_row.specs.Linear.{rows_of, rows_of_node}
-use Rattle.df_kern.specs.Propagation.{left, only, is_empty}
+use Rattle.df_rules.specs.Propagation.{left, only, is_empty}
 use Rattle.df_closure.specs.Closure.{GroundClause, counts_for, Teaches, Refutes, Taught, nothing, more, after}
 use Rattle.df_closure.specs.Closing.{IsSettled}
 use Rattle.df_level.specs.Levels.{Stands}
@@ -21,7 +21,7 @@ use Rattle.df_form.proofs.Literals.{same_self}
 use Rattle.df_lemmas.proofs.Truths.{true_is_not_false}
 use Rattle.df_lemmas.proofs.Options.{then_some, map_some}
 use Rattle.df_search.specs.Searching.{Lacks, AreApart, AllApart}
-use Rattle.df_kern.proofs.SoundClauses.{same_literal_is}
+use Rattle.df_rules.proofs.SoundClauses.{same_literal_is}
 use Rattle.df_level.proofs.Sets.{stands_left, stands_right}
 use Rattle.df_elim.proofs.Keeping.{stay_refuted}
 use Rattle.df_search.proofs.Members.{contained_among, among_contained}

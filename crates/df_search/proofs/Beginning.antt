@@ -12,7 +12,7 @@ use Rattle.df_form.specs.Clause.{Clause, are_literals}
 use Rattle.df_form.specs.Sorting.{IsTable}
 use Rattle.df_form.specs.Sequent.{Sequent, IsSequent}
 use Rattle.df_form.specs.Log.{step_of}
-use Rattle.df_kern.specs.Derivation.{begin, after_all}
+use Rattle.df_rules.specs.Derivation.{begin, after_all}
 use Rattle.df_clause.specs.declared.ground.Ground.{Ground}
 use Rattle.df_clause.specs.GroundView.{IsGround, literals_of as clause_literals, state_of}
 use Rattle.df_trig.specs.Instances.{IsInstances}

@@ -20,7 +20,7 @@ use Rattle.df_branch.specs.Leaf.{IsOpenLeaf, IsWideLeaf, IsManyLeaf, IsModelOf}
 use Rattle.df_search.specs.declared.searching.State.{State}
 use Rattle.df_search.specs.Found.{HasModel, AllExclude, IsStop, IsTooWide, HasManyRows}
 use Rattle.df_search.specs.Searching.{clauses_of, branches_of, AllLeave, IsSearching}
-use Rattle.df_kern.proofs.SoundClauses.{same_literal_is}
+use Rattle.df_rules.proofs.SoundClauses.{same_literal_is}
 use Rattle.df_trail.proofs.Retreated.{put_last}
 use Rattle.df_search.proofs.Apart.{Covers, covers_after}
 use Rattle.df_search.proofs.Consistent.{consistent_more}

@@ -6,10 +6,10 @@ use Rattle.df_form.specs.Made.{made}
 use Rattle.df_form.specs.Sorting.{IsTable, is_well_sorted}
 use Rattle.df_form.specs.Clause.{Clause, yes}
 use Rattle.df_form.specs.Sequent.{Sequent}
-use Rattle.df_kern.specs.Bound.{at_most}
-use Rattle.df_kern.specs.Derivation.{is_number}
-use Rattle.df_kern.specs.Growth.{Grows, IsNumber}
-use Rattle.df_kern.proofs.Growth.{get-grows, number-grows, made-grows, made-at, sorted-comparison, grows-trans}
+use Rattle.df_rules.specs.Bound.{at_most}
+use Rattle.df_rules.specs.Derivation.{is_number}
+use Rattle.df_rules.specs.Growth.{Grows, IsNumber}
+use Rattle.df_rules.proofs.Growth.{get-grows, number-grows, made-grows, made-at, sorted-comparison, grows-trans}
 use Rattle.df_closure.specs.Closure.{GroundClause}
 use Rattle.df_logbuild.specs.declared.derivation.Derivation.{Derivation}
 use Rattle.df_logbuild.specs.Runs.{Runs}

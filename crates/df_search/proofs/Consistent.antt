@@ -5,7 +5,7 @@ use Rattle.df_form.proofs.Literals.{negated_twice}
 use Rattle.df_lemmas.proofs.Truths.{true_is_not_false}
 use Rattle.df_form.specs.declared.log.Lit.{Lit}
 use Rattle.df_form.specs.Clause.{Clause, negation, same_literal, is_among}
-use Rattle.df_kern.proofs.SoundClauses.{same_literal_is}
+use Rattle.df_rules.proofs.SoundClauses.{same_literal_is}
 use Rattle.df_closure.specs.Full.{IsConsistent}
 use Rattle.df_trail.specs.declared.decision.Decision.{Decision}
 use Rattle.df_trail.specs.declared.trail.Trail.{Trail}

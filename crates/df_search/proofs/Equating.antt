@@ -15,9 +15,9 @@ use Rattle.df_form.specs.Sequent.{Sequent}
 use Rattle.df_form.proofs.Same.{values_from}
 use Rattle.df_form.proofs.Tables.{number_of_none}
 use Rattle.df_form.proofs.Values.{Grows, grown_get, grown_sort}
-use Rattle.df_kern.specs.Bound.{at_most}
-use Rattle.df_kern.specs.Growth.{IsNumber}
-use Rattle.df_kern.proofs.Growth.{get-grows, grows-trans, length-grows}
+use Rattle.df_rules.specs.Bound.{at_most}
+use Rattle.df_rules.specs.Growth.{IsNumber}
+use Rattle.df_rules.proofs.Growth.{get-grows, grows-trans, length-grows}
 use Rattle.df_clause.specs.Among.{Among}
 use Rattle.df_clause.proofs.Running.{grown_from}
 use Rattle.df_clause.proofs.Literals.{literals_grown}

@@ -2,7 +2,7 @@
 use Rattle.std.proofs.Common.{◌≡◌, ⊎_elim, ℕ, append-nil, Bool, true, false, not, ◌&&◌, if◌then◌else◌, List, [], ◌∷◌, ◌++◌, take, length, Option, Some, None, slice_get, refl, sym, ap, ◌∙◌, subst, arith}
 use Rattle.std.proofs.lemmas.List.{take-append-le, take_at, take_all}
 use Rattle.std.specs.Option.{option_and_then, option_map}
-use Rattle.df_kern.proofs.Checks.{after_all-append}
+use Rattle.df_rules.proofs.Logs.{after_all-append}
 use Rattle.std.proofs.lemmas.Option.{slice_get_within}
 use Rattle.std.specs.List.{list_all}
 use Rattle.df_lemmas.proofs.Lists.{get_pushed, all_weaker}
@@ -13,7 +13,8 @@ use Rattle.df_form.specs.Sorting.{IsTable, is_well_sorted}
 use Rattle.df_form.specs.Clause.{Clause, are_literals}
 use Rattle.df_form.specs.Log.{Make}
 use Rattle.df_form.specs.Sequent.{Sequent}
-use Rattle.df_kern.specs.Derivation.{begin, after_all, made_line, is_free, is_new}
+use Rattle.df_form.specs.World.{World}
+use Rattle.df_rules.specs.Derivation.{begin, after_all, made_line, is_foreign, is_new}
 use Rattle.df_closure.specs.Closure.{GroundClause}
 use Rattle.df_closure.specs.Filled.{is_comparing, AreComparing}
 use Rattle.df_logbuild.specs.declared.derivation.Derivation.{Derivation}
@@ -44,13 +45,13 @@ makes nodes node more number e = by (number_of nodes node) refl e
     by (Some n) is e = stood (sym (ap (λ (m : Made). m.nodes) e))
 
 -- the line that makes a node
-made_line_is : (nodes : List Node) (node : Node) → is_well_sorted nodes node ≡ true → is_free node.op ≡ false → number_of nodes node ≡ None → made_line nodes node ≡ Some (nodes ++ node ∷ [])
-made_line_is nodes node sorted bound new =
+made_line_is : (world : World) (nodes : List Node) (node : Node) → is_well_sorted nodes node ≡ true → is_foreign world node.op ≡ false → number_of nodes node ≡ None → made_line world nodes node ≡ Some (nodes ++ node ∷ [])
+made_line_is world nodes node sorted bound new =
     ap (λ (b : Bool). if not b && is_well_sorted nodes node && is_new (number_of nodes node) then Some (nodes ++ node ∷ []) else None) bound
     ∙ ap (λ (b : Bool). if b && is_new (number_of nodes node) then Some (nodes ++ node ∷ []) else None) sorted
     ∙ ap (λ (o : Option ℕ). if is_new o then Some (nodes ++ node ∷ []) else None) new
 
-pub log_more : (s : Sequent) (nodes more : List Node) (node : Node) (branch : List Lit) → Makes nodes more node → is_well_sorted nodes node ≡ true → is_free node.op ≡ false → HasLog s nodes branch → HasLog s more branch
+pub log_more : (s : Sequent) (nodes more : List Node) (node : Node) (branch : List Lit) → Makes nodes more node → is_well_sorted nodes node ≡ true → is_foreign s.world node.op ≡ false → HasLog s nodes branch → HasLog s more branch
 log_more s nodes more node branch (stood same) sorted bound has = subst (λ (ns : List Node). HasLog s ns branch) (sym same) has
 log_more s nodes more node branch (added same new) sorted bound has = record {
   log = has.log ++ Make node ∷ [];
@@ -58,7 +59,7 @@ log_more s nodes more node branch (added same new) sorted bound has = record {
   run =
       after_all-append s (begin s) has.log (Make node ∷ [])
       ∙ ap (option_and_then (λ next. after_all s next (Make node ∷ []))) has.run
-      ∙ ap (λ (o : Option (List Node)). option_and_then (λ next. after_all s next []) (option_map (λ ns. record { nodes = ns; clauses = has.clauses }) o)) (made_line_is nodes node sorted bound new)
+      ∙ ap (λ (o : Option (List Node)). option_and_then (λ next. after_all s next []) (option_map (λ ns. record { nodes = ns; clauses = has.clauses }) o)) (made_line_is s.world nodes node sorted bound new)
       ∙ (λ i. Some (record { nodes = sym same i; clauses = has.clauses }));
   number = has.number;
   there = has.there;
@@ -104,7 +105,7 @@ pub none_later : (count : ℕ) → AreLater count []
 none_later count clause (n, at) = absurd cc
 
 -- a search whose log makes a number or a comparison
-pub makes_node : (s : Sequent) (rounds : ℕ) (all : List Clause) (old : declared.State) → IsSearching s rounds all old → (node : Node) → is_well_sorted old.derivation.nodes node ≡ true → is_free node.op ≡ false → is_comparing node.op ≡ true → (derivation : Derivation) → Makes old.derivation.nodes derivation.nodes node → Runs s derivation all
+pub makes_node : (s : Sequent) (rounds : ℕ) (all : List Clause) (old : declared.State) → IsSearching s rounds all old → (node : Node) → is_well_sorted old.derivation.nodes node ≡ true → is_foreign s.world node.op ≡ false → is_comparing node.op ≡ true → (derivation : Derivation) → Makes old.derivation.nodes derivation.nodes node → Runs s derivation all
     → IsSearching s rounds all (record old { derivation = derivation })
 makes_node s rounds all old is node sorted bound compares derivation makes_it runs =
     let nodes = old.derivation.nodes in

@@ -13,3 +13,4 @@ pub mod Binding
 pub mod Equating
 pub mod Compared
 pub mod Widening
+pub mod TakenLogs

@@ -9,12 +9,12 @@ use Rattle.df_form.proofs.Literals.{all_negated_twice}
 use Rattle.df_form.specs.declared.log.Lit.{Lit}
 use Rattle.df_form.specs.Node.{Node}
 use Rattle.df_form.specs.Clause.{Clause, negation, are_literals}
-use Rattle.df_kern.specs.Propagation.{left, is_empty, clauses_at, propagation_of, propagation_line}
-use Rattle.df_kern.specs.Learning.{learned, learned_from, refutes}
+use Rattle.df_rules.specs.Propagation.{left, is_empty, clauses_at, propagation_of, propagation_line}
+use Rattle.df_rules.specs.Learning.{learned, learned_from, refutes}
 use Rattle.df_clause.specs.declared.clause.GroundClause as declared
 use Rattle.df_closure.proofs.Rounds.{length_mapped}
 use Rattle.df_closure.specs.Closure.{GroundClause, ground_of, Taught, nothing, more, after, IsClosed, IsRefuted}
-use Rattle.df_kern.proofs.Learning.{found, ends, found_by_learning}
+use Rattle.df_rules.proofs.Learning.{found, ends, found_by_learning}
 use Rattle.df_search.specs.Places.{place_in, AreWithin, AreIn}
 
 -- ---- the numbers are those of clauses

@@ -7,7 +7,7 @@ use Rattle.df_lemmas.proofs.Truths.{true_is_not_false}
 use Rattle.df_form.specs.declared.log.Lit.{Lit}
 use Rattle.df_form.specs.Clause.{same_literal, is_among}
 use Rattle.df_form.proofs.Literals.{same_self}
-use Rattle.df_kern.proofs.SoundClauses.{same_literal_is}
+use Rattle.df_rules.proofs.SoundClauses.{same_literal_is}
 
 pub contained_among : (literals : List Lit) (l : Lit) → Contains literals l → is_among literals l ≡ true
 contained_among [] l there = absurd (none_there l there)

@@ -12,7 +12,7 @@ use Rattle.df_form.specs.Log.{Combination}
 use Rattle.df_form.specs.Sequent.{Sequent}
 use Rattle.df_row.specs.Row.{Row}
 use Rattle.df_row.specs.Linear.{rows_of, refutes, linear_of, linear_line}
-use Rattle.df_kern.specs.Propagation.{left, is_empty, propagation_line}
+use Rattle.df_rules.specs.Propagation.{left, is_empty, propagation_line}
 use Rattle.df_closure.specs.Closure.{GroundClause, after, IsClosed, IsRefuted}
 use Rattle.df_logbuild.specs.declared.derivation.Derivation.{Derivation}
 use Rattle.df_logbuild.specs.Runs.{Runs}

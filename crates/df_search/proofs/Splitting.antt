@@ -12,9 +12,9 @@ use Rattle.df_form.specs.Made.{made}
 use Rattle.df_form.specs.Sorting.{IsTable, is_formula, is_well_sorted, sort_at, sort_of}
 use Rattle.df_form.specs.Clause.{Clause, yes, no, is_among, are_literals}
 use Rattle.df_form.specs.Sequent.{Sequent}
-use Rattle.df_kern.specs.Bound.{number, at_most}
-use Rattle.df_kern.specs.Derivation.{is_number}
-use Rattle.df_kern.specs.Growth.{Grows, IsNumber}
+use Rattle.df_rules.specs.Bound.{number, at_most}
+use Rattle.df_rules.specs.Derivation.{is_number}
+use Rattle.df_rules.specs.Growth.{Grows, IsNumber}
 use Rattle.df_closure.specs.Closure.{GroundClause, after}
 use Rattle.df_logbuild.specs.declared.derivation.Derivation.{Derivation}
 use Rattle.df_logbuild.specs.Runs.{Runs}
@@ -26,7 +26,7 @@ use Rattle.df_search.specs.declared.searching.State.{State}
 use Rattle.df_search.specs.Searching.{clauses_of, Searches}
 use Rattle.df_form.proofs.Same.{same_sort_equal}
 use Rattle.df_form.proofs.Values.{parts_below}
-use Rattle.df_kern.proofs.Growth.{get-grows, number-grows, made-grows, made-at, number-made, sorted-comparison, grows-trans}
+use Rattle.df_rules.proofs.Growth.{get-grows, number-grows, made-grows, made-at, number-made, sorted-comparison, grows-trans}
 use Rattle.df_closure.proofs.LaterRows.{rows_later}
 use Rattle.df_search.proofs.Coming.{decides, literal_formula}
 use Rattle.df_branch.proofs.LaterNodes.{unshut_later}

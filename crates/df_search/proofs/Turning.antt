@@ -8,7 +8,7 @@ use Rattle.df_form.specs.Node.{Node}
 use Rattle.df_form.specs.Clause.{Clause, negation, are_literals}
 use Rattle.df_form.specs.Sequent.{Sequent}
 use Rattle.df_form.specs.Log.{step_of}
-use Rattle.df_kern.specs.Derivation.{Derives}
+use Rattle.df_rules.specs.Derivation.{Derives}
 use Rattle.df_closure.specs.Closure.{GroundClause}
 use Rattle.df_closure.specs.Full.{IsConsistent}
 use Rattle.df_logbuild.specs.declared.derivation.Derivation.{Derivation}

@@ -68,7 +68,7 @@ module _ (s : Sequent) (own rounds : ℕ) (le : own ≤ rounds) where
   many_within h = record { round = h.round; within = omega (arith, le, h.within); many = h.many }
 
   pub other_within : (steps : ℕ) (found : Found) → is_model found ≡ false → Finds s steps own found → Finds s steps rounds found
-  other_within steps (found.Proved log) other finds = finds
+  other_within steps (found.Proved accepted log) other finds = finds
   other_within steps (found.Modelled table) other finds = absurd (true≢false other)
   other_within steps (found.Spent branches) other finds = spent_within steps (map (λ branch. branch.items) branches.items) finds
   other_within steps (found.Wide closed branch) other finds = wide_within (map (λ one. one.items) closed.items) branch.items finds
@@ -87,7 +87,7 @@ module _ (s : Sequent) (own rounds : ℕ) (le : own ≤ rounds) where
     model_within table h = record { set = h.set; is_of = record { set = h.is_of.set ∙ sym same_set; table = h.is_of.table }; model = h.model }
 
     pub settled_within : (steps : ℕ) (found : Found) → Finds s steps own found → Finds s steps rounds found
-    settled_within steps (found.Proved log) finds = finds
+    settled_within steps (found.Proved accepted log) finds = finds
     settled_within steps (found.Modelled table) finds = model_within table finds
     settled_within steps (found.Spent branches) finds = other_within steps (found.Spent branches) refl finds
     settled_within steps (found.Wide closed branch) finds = other_within steps (found.Wide closed branch) refl finds

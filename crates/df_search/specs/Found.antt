@@ -4,7 +4,7 @@ use Rattle.df_form.specs.declared.log.Lit.{Lit}
 use Rattle.df_form.specs.Node.{Node}
 use Rattle.df_form.specs.Log.{step_of}
 use Rattle.df_form.specs.Sequent.{Sequent}
-use Rattle.df_kern.specs.Derivation.{Derives}
+use Rattle.df_kern.specs.Accepted.{IsTaken}
 use Rattle.df_clause.specs.declared.ground.Ground.{Ground}
 use Rattle.df_clause.specs.GroundView.{state_of}
 use Rattle.df_trig.specs.Instances.{IsInstances, AreTooMany, instance_limit}
@@ -61,7 +61,7 @@ pub record HasManyRows (s : Sequent) (rounds : ℕ) (closed : List (List Lit)) (
 
 -- within so many steps and rounds
 abbrev pub Finds : Sequent → ℕ → ℕ → Found → Type 0
-Finds s steps rounds (found.Proved log) = Derives s (map step_of log.items)
+Finds s steps rounds (found.Proved accepted log) = IsTaken s (map step_of log.items) accepted
 Finds s steps rounds (found.Modelled table) = HasModel s rounds table
 Finds s steps rounds (found.Spent branches) = AreSpent s steps rounds (map (λ branch. branch.items) branches.items)
 Finds s steps rounds (found.Wide closed branch) = IsTooWide s rounds (map (λ other. other.items) closed.items) branch.items

@@ -9,8 +9,8 @@ use Rattle.df_form.specs.Sequent.{Sequent}
 use Rattle.df_form.specs.Log.{combination_of}
 use Rattle.df_row.specs.Row.{Row}
 use Rattle.df_row.specs.Linear.{refutes}
-use Rattle.df_kern.specs.Connective.{connective_line}
-use Rattle.df_kern.specs.Propagation.{left, is_empty, propagation_line}
+use Rattle.df_rules.specs.Connective.{connective_line}
+use Rattle.df_rules.specs.Propagation.{left, is_empty, propagation_line}
 use Rattle.df_cong.specs.declared.answer.Reason.{Reason}
 use Rattle.df_closure.specs.Closure.{GroundClause, after, IsClosed, IsRefuted}
 use Rattle.df_logbuild.specs.Runs.{Runs}

@@ -6,7 +6,7 @@ use Rattle.df_form.specs.Node.{Node}
 use Rattle.df_form.specs.Clause.{Clause, negation, is_among}
 use Rattle.df_form.specs.Sequent.{Sequent, IsSequent}
 use Rattle.df_form.specs.Log.{step_of}
-use Rattle.df_kern.specs.Derivation.{Derives}
+use Rattle.df_rules.specs.Derivation.{Derives}
 use Rattle.df_clause.specs.declared.ground.Ground.{Ground}
 use Rattle.df_trig.specs.Instances.{IsInstances}
 use Rattle.df_clause.specs.Among.{Among}

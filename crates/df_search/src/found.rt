@@ -3,6 +3,7 @@
 ghost use Rattle.std.specs.Prelude.{◌≡◌};
 
 use df_form::{Lit, Step};
+use df_kern::Accepted;
 use df_table::Table;
 
 /// How far a search may go.
@@ -30,8 +31,11 @@ pub enum What {
 /// A proof, or why the search stopped without one.
 #[derive(Drop)]
 pub enum Found {
-    /// A log that derives the sequent.
-    Proved(Vec<Step>),
+    /// A log that derives the sequent, and that the kernel took it.
+    Proved {
+        accepted: Accepted,
+        log: Vec<Step>,
+    },
     /// A table model of its ground set with all rounds of instances.
     Modelled(Table),
     /// Closed branches, as many as it may close.
@@ -53,7 +57,9 @@ impl Found {
     {
         match self {
             Found::Modelled(_) => true,
-            Found::Proved(_) | Found::Spent(_) | Found::Wide { .. } | Found::Many(_) => false,
+            Found::Proved { .. } | Found::Spent(_) | Found::Wide { .. } | Found::Many(_) => {
+                false
+            }
         }
     }
 }

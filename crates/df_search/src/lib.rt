@@ -1,6 +1,7 @@
 //! The search for a proof: a log that derives a sequent, or evidence for why it stopped.
 #![tactic(auto)]
 
+mod confirming;
 mod exhausting;
 mod found;
 mod proposed;

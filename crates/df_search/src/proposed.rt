@@ -7,26 +7,15 @@ ghost use Rattle.df_form.specs.SequentView.{sequent_of};
 ghost use Rattle.df_trig.specs.Rounds.{Instantiates};
 ghost use Rattle.df_search.specs.Found.{Finds};
 
+use crate::confirming::taken;
 use crate::exhausting::exhaust;
 use crate::found::{Budget, Found, What};
 use df_axiom::Written;
-use df_form::{Sequent, Step};
-use df_kern::{KernFault, check};
+use df_form::Sequent;
 use df_solve::{Index, Proposal, propose};
 use df_table::{Table, is_model};
 use df_trig::{TrigFault, instances};
 use std::alloc::{AllocError, Global};
-
-/// The log, if the kernel takes it.
-fn taken(alloc: Global, sequent: &Sequent, log: Vec<Step>) -> Result<Option<Found>, AllocError>
-    ensures { (steps rounds : ℕ) → IfOk result (λ found. IfSome found (Finds (sequent_of sequent.now) steps rounds)) }
-{
-    match check(alloc, sequent, log.as_slice()) {
-        Ok(_) => Ok(Some(Found::Proved(log))),
-        Err(KernFault::Refused { .. }) => Ok(None),
-        Err(KernFault::Memory) => Err(AllocError),
-    }
-}
 
 /// What is found in place of a table where there is no ground set that it may be a model of.
 fn without_model(fault: TrigFault) -> Result<Option<Found>, AllocError>

@@ -10,7 +10,8 @@ ghost use Rattle.df_form.specs.SequentView.{sequent_of};
 ghost use Rattle.df_form.specs.Sorting.{is_well_sorted};
 ghost use Rattle.df_trig.specs.Instances.{IsInstances};
 ghost use Rattle.df_trig.specs.Rounds.{Instantiates};
-ghost use Rattle.df_kern.specs.Derivation.{is_free, is_number};
+ghost use Rattle.df_form.specs.World.{World};
+ghost use Rattle.df_rules.specs.Derivation.{is_foreign, is_number};
 ghost use Rattle.df_logbuild.specs.Runs.{Runs};
 ghost use Rattle.df_trail.specs.Trail.{branch_of};
 ghost use Rattle.df_branch.specs.Place.{IsPlace};
@@ -19,6 +20,7 @@ ghost use Rattle.df_search.specs.Searching.{clauses_of, branches_of, Searches, C
 ghost use Rattle.df_search.specs.Moves.{Propagates, Refutes, RefutesBy, Solves, Contradicts, SplitsAt, IsBound, IsDefined, MakesEquality, Equates};
 ghost use Rattle.df_search.specs.Places.{AreWithin, place_in};
 
+use crate::confirming::confirmed;
 use crate::found::{Found, What};
 use df_axiom::Written;
 use df_branch::{Leaf, leaf_at};
@@ -128,7 +130,7 @@ fn operation(
     right: usize,
 ) -> Result<usize, AllocError>
     requires sorted { is_well_sorted derivation.old.nodes (record { op = op; parts = left ∷ right ∷ [] }) ≡ true }
-    requires bound { is_free op ≡ false }
+    requires own { (world : World) → is_foreign world op ≡ false }
     ensures made { IfOk result (λ number. made derivation.old.nodes (record { op = op; parts = left ∷ right ∷ [] }) ≡ record { nodes = derivation.new.nodes; number = number }) }
     ensures runs { OnOk result ((s : Claim) (all : List Clause) → Runs s derivation.old all → Runs s derivation.new all) }
     ensures longer { length derivation.old.lines.items ≤ length derivation.new.lines.items }
@@ -466,7 +468,7 @@ pub(crate) fn exhaust_set(
             Turn::On => {}
             Turn::Proved => {
                 let derivation = search.derivation;
-                return Ok(Found::Proved(derivation.lines));
+                return confirmed(alloc, sequent, derivation.lines);
             }
             Turn::Spent => return Ok(Found::Spent(search.closed)),
             Turn::Modelled(table) => return Ok(Found::Modelled(table)),

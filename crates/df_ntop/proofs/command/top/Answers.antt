@@ -25,4 +25,4 @@ returns-clause-derived g c =
 pub returns-clause-complete : goal.returns-clause-complete
 returns-clause-complete g c =
     let call = call_of (map string_bytes c.args.words.now) g.F.Files c.args.files.now c.answer.new.files g.O.Sink c.args.out.now c.answer.new.out g.E.Sink c.args.err.now c.answer.new.err in
-    is_complete call c.one_program.ensures c.refused_is_unlawful.ensures c.broken_is_not_native.ensures c.one_text.ensures c.bad_is_no_text.ensures c.derived_is_not_refused.ensures c.answer.result c.answer.ensures.answers
+    is_complete call c.one_program.ensures c.refused_is_unlawful.ensures c.broken_is_not_native.ensures c.one_text.ensures c.bad_is_no_text.ensures c.derived_is_not_refused.ensures c.one_list_of_obligations.ensures c.answer.result c.answer.ensures.answers

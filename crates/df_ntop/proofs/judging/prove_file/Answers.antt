@@ -7,8 +7,8 @@ use Rattle.df_ntop.proofs.Limits.{steps_are_some}
 use Rattle.df_ntop.proofs.Programs.{logs_end, failing_ends, ready_to_prove}
 use Rattle.df_ntop.proofs.judging.prove_file.Goals as goal
 
-pub prove_with_logs-requires : goal.prove_with_logs-requires
-prove_with_logs-requires g c = steps_are_some c.budget.result (budget_of (command_of c.args.command.now)) c.budget.ensures c.requires.budget
+pub prove_with_logs-requires-clause-steps : goal.prove_with_logs-requires-clause-steps
+prove_with_logs-requires-clause-steps g c = steps_are_some c.budget.result (budget_of (command_of c.args.command.now)) c.budget.ensures c.requires.budget
 
 pub returns-in-Ok-Logs-clause-ends : goal.returns-in-Ok-Logs-clause-ends
 returns-in-Ok-Logs-clause-ends g c = λ log.

@@ -8,7 +8,7 @@ use Rattle.df_ntop.proofs.proving.logs_or_report.Goals as goal
 pub returns-then-all_verified : goal.returns-then-all_verified
 returns-then-all_verified c =
     let same = c.all_verified.ensures ∙ ap (λ (os : List Outcome). are_verified (map outcome_of os)) c.as_slice.ensures.value in
-    (sym same ∙ c.if-all_verified.true, c.in_ok-text.ensures)
+    (sym same ∙ c.if-all_verified.true, c.in_ok-text.ensures.written, c.in_ok-text.ensures.numbers)
 
 pub returns : goal.returns
 returns c =

@@ -7,6 +7,7 @@ use Rattle.df_ntop.specs.Call.{streams}
 use Rattle.df_ntop.specs.Ending.{of_source}
 use Rattle.df_ntop.specs.View.{log_file_of}
 use Rattle.df_ntop.proofs.Knowing.{told_ends, refusal_is, refused_tells, source_ends}
+use Rattle.df_ntop.proofs.TypeNames.{have_type_names}
 use Rattle.df_ntop.proofs.sources.end_source.Goals as goal
 
 pub returns-in-Ok-read-clause-ends : goal.returns-in-Ok-read-clause-ends
@@ -25,3 +26,8 @@ pub end_program-requires-clause-names : goal.end_program-requires-clause-names
 end_program-requires-clause-names g c =
     let program = program_of c.in-Ok-read.program.program in
     c.methods_by_number_have_names.ensures program (c.methods_have_names.ensures c.args.source.now program c.in-Ok-read.ensures.lawful)
+
+pub end_program-requires-clause-types : goal.end_program-requires-clause-types
+end_program-requires-clause-types g c =
+    let program = program_of c.in-Ok-read.program.program in
+    have_type_names program (c.declarations_have_names.ensures c.args.source.now program c.in-Ok-read.ensures.lawful)

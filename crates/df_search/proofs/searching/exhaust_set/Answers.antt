@@ -22,10 +22,13 @@ loop-search-preserved c =
     let comes = subst (Comes s c.args.steps c.args.rounds c.turn.new.self) c.in-On.is (c.in_ok-turn.ensures.turns s c.args.rounds c.loop-search.invariant.searches c.loop-search.invariant.few) in
     record { searches = comes.0; few = comes.1 }
 
-pub returns-in-Proved : goal.returns-in-Proved
-returns-in-Proved c =
+pub confirmed-requires : goal.confirmed-requires
+confirmed-requires c =
     let s = sequent_of c.args.sequent.now in
     subst (Comes s c.args.steps c.args.rounds c.turn.new.self) c.in-Proved.is (c.in_ok-turn.ensures.turns s c.args.rounds c.loop-search.invariant.searches c.loop-search.invariant.few)
+
+pub returns-in-Proved : goal.returns-in-Proved
+returns-in-Proved c = c.confirmed.ensures c.args.steps c.args.rounds
 
 pub returns-in-Spent : goal.returns-in-Spent
 returns-in-Spent c =

@@ -2,9 +2,9 @@ use Rattle.std.proofs.Common.{◌≡◌, ◌++◌, ◌∷◌, [], List, Some, le
 use Rattle.df_lemmas.proofs.Lists.{get_last}
 use Rattle.df_form.specs.declared.log.Lit.{Lit}
 use Rattle.df_form.specs.Clause.{Clause, negation}
-use Rattle.df_kern.specs.CongruenceLine.{congruence_line}
-use Rattle.df_kern.proofs.Congruences.{is_line}
-use Rattle.df_kern.proofs.Growth.{if_ok}
+use Rattle.df_rules.specs.CongruenceLine.{congruence_line}
+use Rattle.df_rules.proofs.Congruences.{is_line}
+use Rattle.df_rules.proofs.Results.{if_ok}
 use Rattle.df_logbuild.specs.Runs.{Runs}
 use Rattle.df_trail.specs.Trail.{branch_of}
 use Rattle.df_branch.specs.Evidence.{IsShut}

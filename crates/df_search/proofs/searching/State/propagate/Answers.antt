@@ -1,6 +1,6 @@
 use Rattle.std.proofs.Common.{◌++◌, ◌∷◌, [], Some, subst, sym, ap, ◌∙◌}
 use Rattle.df_form.specs.Clause.{Clause}
-use Rattle.df_kern.specs.Propagation.{propagation_line}
+use Rattle.df_rules.specs.Propagation.{propagation_line}
 use Rattle.df_logbuild.specs.Runs.{Runs}
 use Rattle.df_search.proofs.Refuting.{both_ok, branch_refuted}
 use Rattle.df_search.proofs.searching.State.propagate.Goals as goal

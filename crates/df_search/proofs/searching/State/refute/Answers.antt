@@ -1,7 +1,7 @@
 use Rattle.std.proofs.Common.{ℕ, List, map, ap, ◌∙◌}
 use Rattle.df_form.specs.Clause.{negation}
-use Rattle.df_kern.specs.Propagation.{propagation_line}
-use Rattle.df_kern.proofs.Growth.{if_ok}
+use Rattle.df_rules.specs.Propagation.{propagation_line}
+use Rattle.df_rules.proofs.Results.{if_ok}
 use Rattle.df_trail.specs.Trail.{branch_of}
 use Rattle.df_branch.specs.Evidence.{by_clauses}
 use Rattle.df_search.specs.Searching.{clauses_of}

@@ -7,7 +7,7 @@ use Rattle.df_logbuild.specs.Runs.{Runs}
 use Rattle.df_trail.specs.Trail.{branch_of}
 use Rattle.df_branch.specs.Evidence.{IsShut}
 use Rattle.df_search.specs.Searching.{clauses_of}
-use Rattle.df_kern.proofs.Growth.{if_ok}
+use Rattle.df_rules.proofs.Results.{if_ok}
 use Rattle.df_search.proofs.Refuting.{one_more_clause, linear_is, unsolvable_shut, unsolvable_left}
 use Rattle.df_search.proofs.searching.State.solve.Goals as goal
 

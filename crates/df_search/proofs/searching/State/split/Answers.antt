@@ -4,7 +4,7 @@ use Rattle.std.proofs.lemmas.Int.{to_z-of_z}
 use Rattle.df_form.specs.declared.log.Lit.{Lit}
 use Rattle.df_form.specs.declared.node.Op.TheVariants as ops
 use Rattle.df_form.specs.Made.{made}
-use Rattle.df_kern.specs.Bound.{number}
+use Rattle.df_rules.specs.Bound.{number}
 use Rattle.df_logbuild.proofs.Added.{ok_weaker}
 use Rattle.df_trail.specs.Trail.{decided}
 use Rattle.df_search.proofs.Splitting.{comparison_sorted, splits}

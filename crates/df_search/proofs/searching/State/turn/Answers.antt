@@ -4,7 +4,7 @@ use Rattle.df_branch.specs.Leaf.{IsUnsolvable}
 use Rattle.df_trail.specs.Trail.{branch_of}
 use Rattle.df_search.specs.Places.{AreWithin}
 use Rattle.df_search.specs.Searching.{clauses_of, Tells, Finishes}
-use Rattle.df_kern.proofs.Growth.{if_ok}
+use Rattle.df_rules.proofs.Results.{if_ok}
 use Rattle.df_search.proofs.Lines.{as_long, closed_within, refuted_within}
 use Rattle.df_search.proofs.Coming.{open_decides, modelled, too_wide, many_rows}
 use Rattle.df_search.proofs.searching.State.turn.Goals as goal
