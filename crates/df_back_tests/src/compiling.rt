@@ -12,6 +12,7 @@ ghost use Rattle.df_nback.specs.Run.{IsCompiled};
 ghost use Rattle.df_nmach.specs.View.{code_of};
 ghost use Rattle.df_back_tests.specs.Digits as pure;
 
+use crate::ending::is_ended;
 use df_base::{Pos, Sink, SureSink};
 use df_lang::{
     Addend, AddendOperator, Call, Clause, Comparison, Decl, Declared, Expr, Interval, Link, Method,
@@ -20,7 +21,7 @@ use df_lang::{
 use df_listing::write;
 use df_nback::{EraseFault, compile, number_on_machine};
 use df_nmach::{Code, Heap};
-use df_nvm::{Ran, Vm};
+use df_nvm::Vm;
 use std::alloc::{AllocError, Global};
 use std::test::Fail;
 
@@ -250,12 +251,23 @@ const LISTING: &str = "dfycode 1\nshape num\nshape truth\nshape char\nshape text
     jump 2\nret 0\n\
     method Main 0 0 1 2\ncall 0\nret 0\nend\n";
 
-#[test]
-fn a_program_becomes_its_code(rt: HostRuntime) -> Result<(), Fail> {
-    let alloc = rt.alloc();
+/// The listing of the program's code.
+fn listed(alloc: Global) -> Result<Vec<u8>, Fail> {
     let program = digits_program(alloc, Ty::Newtype(0))?;
     let code = compile(alloc, &program)?;
-    assert!(rt; write(alloc, &code)?.as_slice() == LISTING.as_bytes());
+    Ok(write(alloc, &code)?)
+}
+
+#[test]
+fn a_program_becomes_its_code(rt: HostRuntime) -> Result<(), Fail> {
+    let text = listed(rt.alloc())?;
+    assert!(rt; text.as_slice() == LISTING.as_bytes());
+    Ok(())
+}
+
+#[test]
+fn its_methods_have_numbers_on_the_machine(rt: HostRuntime) -> Result<(), Fail> {
+    let program = digits_program(rt.alloc(), Ty::Newtype(0))?;
     for (number, on_machine) in [(0, 0), (1, 0), (2, 1), (3, 2)] {
         assert_eq!(rt; number_on_machine(&program, number), on_machine);
     }
@@ -265,16 +277,20 @@ fn a_program_becomes_its_code(rt: HostRuntime) -> Result<(), Fail> {
 /// The call, the 40 steps of the loop, and the return.
 const STEPS: u64 = 42;
 
-#[test]
-fn its_code_runs(rt: HostRuntime) -> Result<(), Fail> {
-    let alloc = rt.alloc();
+/// Whether the code ends with this fuel, or else spends it.
+fn runs(alloc: Global, fuel: u64, ends: bool, sink: &mut SureSink) -> Result<bool, Fail> {
     let program = digits_program(alloc, Ty::Newtype(0))?;
     let code = compile(alloc, &program)?;
-    let mut sink = SureSink::new(alloc);
-    let spent = entry_vm(alloc, &program, &code)?.run(STEPS - 1, &mut sink);
-    assert!(rt; matches!(spent, Ran::FuelSpent));
-    let ended = entry_vm(alloc, &program, &code)?.run(STEPS, &mut sink);
-    assert!(rt; matches!(ended, Ran::Ended(_, _)));
+    let ran = entry_vm(alloc, &program, &code)?.run(fuel, sink);
+    Ok(is_ended(ran, ends))
+}
+
+#[test]
+fn its_code_runs(rt: HostRuntime) -> Result<(), Fail> {
+    let mut sink = SureSink::new(rt.alloc());
+    for (fuel, ends) in [(STEPS - 1, false), (STEPS, true)] {
+        assert!(rt; runs(rt.alloc(), fuel, ends, &mut sink)?, "{fuel}");
+    }
     assert!(rt; sink.taken() == b"012012".as_slice());
     Ok(())
 }

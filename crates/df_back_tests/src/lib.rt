@@ -5,6 +5,8 @@
 #[cfg(test)]
 mod compiling;
 #[cfg(test)]
+mod ending;
+#[cfg(test)]
 mod listing;
 #[cfg(test)]
 mod machine;

@@ -2,7 +2,8 @@
 
 use df_codes::{method, shapes};
 use df_listing::{one_code, write};
-use df_nmach::{BinaryOperator, Code, Instruction, Range, UnaryOperator};
+use df_nmach::{BinaryOperator, Code, Instruction, Method, Range, UnaryOperator};
+use std::alloc::{AllocError, Global};
 use std::test::Fail;
 
 const WIDE: Range = Range {
@@ -82,11 +83,37 @@ const JUMPS: [(Instruction, &str); 7] = [
 const HEAD: &str =
     "dfycode 1\nshape num\nshape truth\nshape char\nshape text\nmethod Main 0 2 5 30\n";
 
-#[test]
-fn writes_a_line_for_each_instruction(rt: HostRuntime) -> Result<(), Fail> {
-    let alloc = rt.alloc();
-    one_code();
+/// The instructions of the tables.
+fn instructions(alloc: Global) -> Result<Vec<Instruction>, AllocError> {
     let mut instructions = Vec::new(alloc);
+    for table in [
+        PLACES.as_slice(),
+        RANGES.as_slice(),
+        OPERATORS.as_slice(),
+        JUMPS.as_slice(),
+    ] {
+        for (instruction, _) in table {
+            instructions.push(*instruction)?;
+        }
+    }
+    Ok(instructions)
+}
+
+/// A method of all instructions, and one of none.
+fn methods(alloc: Global) -> Result<Vec<Method>, AllocError> {
+    let main = method(alloc, "Main", (0, 2, 5), instructions(alloc)?)?;
+    let other = method(alloc, "M_1.C'.new?", (2, 0, 0), Vec::new(alloc))?;
+    Ok(Vec::from_array(alloc, [main, other])?)
+}
+
+fn listed(alloc: Global) -> Result<Vec<u8>, AllocError> {
+    let methods = methods(alloc)?;
+    let shapes = shapes(alloc)?;
+    write(alloc, &Code { methods, shapes })
+}
+
+/// The lines of the tables, with those around them.
+fn wanted(alloc: Global) -> Result<String, AllocError> {
     let mut wanted = String::from_str(alloc, HEAD)?;
     for table in [
         PLACES.as_slice(),
@@ -94,19 +121,20 @@ fn writes_a_line_for_each_instruction(rt: HostRuntime) -> Result<(), Fail> {
         OPERATORS.as_slice(),
         JUMPS.as_slice(),
     ] {
-        for (instruction, line) in table {
-            instructions.push(*instruction)?;
+        for (_, line) in table {
             wanted.push_str(*line)?;
         }
     }
     wanted.push_str("method M_1.C'.new? 2 0 0 0\nend\n")?;
-    let main = method(alloc, "Main", (0, 2, 5), instructions)?;
-    let other = method(alloc, "M_1.C'.new?", (2, 0, 0), Vec::new(alloc))?;
-    let code = Code {
-        methods: Vec::from_array(alloc, [main, other])?,
-        shapes: shapes(alloc)?,
-    };
-    assert!(rt; write(alloc, &code)?.as_slice() == wanted.as_bytes());
+    Ok(wanted)
+}
+
+#[test]
+fn writes_a_line_for_each_instruction(rt: HostRuntime) -> Result<(), Fail> {
+    one_code();
+    let text = listed(rt.alloc())?;
+    let wanted = wanted(rt.alloc())?;
+    assert!(rt; text.as_slice() == wanted.as_bytes());
     Ok(())
 }
 

@@ -1,12 +1,13 @@
 //! Instructions on the machine.
 
+use crate::ending::is_ended;
 use df_base::{MemSink, Sink, SureSink};
 use df_codes::{
     edge_code, edge_vm, number_code, number_vm, quotient_code, quotient_vm, refusing_code,
     refusing_vm,
 };
 use df_nmach::Value;
-use df_nvm::{Ran, Stepped};
+use df_nvm::{Ran, Stepped, Vm};
 use std::alloc::{AllocError, Global};
 use std::test::Fail;
 
@@ -75,33 +76,59 @@ fn joined(alloc: Global, items: &[&str]) -> Result<String, AllocError> {
     Ok(text)
 }
 
+/// Whether a text is that of the items.
+fn is_joined(alloc: Global, text: &[u8], items: &[&str]) -> bool {
+    match joined(alloc, items) {
+        Ok(wanted) => text == wanted.as_bytes(),
+        Err(_) => false,
+    }
+}
+
+/// Runs the edges to their end.
+fn run_edges<S: Sink>(alloc: Global, sink: &mut S) -> Result<Ran, AllocError> {
+    let code = edge_code(alloc)?;
+    Ok(edge_vm(alloc, &code)?.run(u64::MAX, sink))
+}
+
+/// Whether a run ended with 5 and 7.
+fn gives_five_and_seven(ran: Ran) -> bool {
+    match ran {
+        Ran::Ended(results, _) => {
+            matches!(results.as_slice(), [Value::Number(5), Value::Number(7)])
+        }
+        _ => false,
+    }
+}
+
 #[test]
 fn instructions_do_their_work(rt: HostRuntime) -> Result<(), Fail> {
-    let alloc = rt.alloc();
-    let code = edge_code(alloc)?;
-    let text = joined(alloc, ITEMS.as_slice())?;
-    let mut sink = SureSink::new(alloc);
-    let Ran::Ended(results, _) = edge_vm(alloc, &code)?.run(u64::MAX, &mut sink) else {
-        return Err("no end".into());
-    };
-    assert!(rt; sink.taken() == text.as_bytes());
-    assert!(rt; matches!(results.as_slice(), [Value::Number(5), Value::Number(7)]));
+    let mut sink = SureSink::new(rt.alloc());
+    let ran = run_edges(rt.alloc(), &mut sink)?;
+    assert!(rt; gives_five_and_seven(ran));
+    assert!(rt; is_joined(rt.alloc(), sink.taken(), ITEMS.as_slice()));
     Ok(())
+}
+
+/// Whether the quotients end, and print what they should.
+fn prints_quotients(alloc: Global) -> Result<bool, AllocError> {
+    let code = quotient_code(alloc)?;
+    let mut sink = SureSink::new(alloc);
+    let ran = quotient_vm(alloc, &code)?.run(u64::MAX, &mut sink);
+    Ok(is_ended(ran, true) && is_joined(alloc, sink.taken(), QUOTIENTS.as_slice()))
+}
+
+/// Whether the numbers end, and print what they should.
+fn prints_numbers(alloc: Global) -> Result<bool, AllocError> {
+    let code = number_code(alloc)?;
+    let mut sink = SureSink::new(alloc);
+    let ran = number_vm(alloc, &code)?.run(u64::MAX, &mut sink);
+    Ok(is_ended(ran, true) && is_joined(alloc, sink.taken(), NUMBERS.as_slice()))
 }
 
 #[test]
 fn numbers_are_computed(rt: HostRuntime) -> Result<(), Fail> {
-    let alloc = rt.alloc();
-    let quotients = quotient_code(alloc)?;
-    let numbers = number_code(alloc)?;
-    let mut sink = SureSink::new(alloc);
-    let divided = quotient_vm(alloc, &quotients)?.run(u64::MAX, &mut sink);
-    assert!(rt; matches!(divided, Ran::Ended(_, _)));
-    assert!(rt; sink.taken() == joined(alloc, QUOTIENTS.as_slice())?.as_bytes());
-    let mut sink = SureSink::new(alloc);
-    let computed = number_vm(alloc, &numbers)?.run(u64::MAX, &mut sink);
-    assert!(rt; matches!(computed, Ran::Ended(_, _)));
-    assert!(rt; sink.taken() == joined(alloc, NUMBERS.as_slice())?.as_bytes());
+    assert!(rt; prints_quotients(rt.alloc())?);
+    assert!(rt; prints_numbers(rt.alloc())?);
     Ok(())
 }
 
@@ -116,17 +143,19 @@ const FAILURES: [(u64, usize, &str); 6] = [
     (6, 0, "57true!hi65"),
 ];
 
+/// Whether a write that fails so stops the edges, where this text is there.
+fn stops(alloc: Global, call: u64, takes: usize, text: &str) -> Result<bool, Fail> {
+    let mut sink = MemSink::new(alloc);
+    sink.fail_at(call, takes)?;
+    let ran = run_edges(alloc, &mut sink)?;
+    let is_stopped = matches!(ran, Ran::Write);
+    Ok(is_stopped && sink.taken() == text.as_bytes() && sink.faults() == 1)
+}
+
 #[test]
 fn a_failing_write_stops_a_run(rt: HostRuntime) -> Result<(), Fail> {
-    let alloc = rt.alloc();
-    let code = edge_code(alloc)?;
     for (call, takes, text) in FAILURES {
-        let mut sink = MemSink::new(alloc);
-        sink.fail_at(call, takes)?;
-        let ran = edge_vm(alloc, &code)?.run(u64::MAX, &mut sink);
-        assert!(rt; matches!(ran, Ran::Write), "{text}");
-        assert!(rt; sink.taken() == text.as_bytes(), "{text}");
-        assert_eq!(rt; sink.faults(), 1, "{text}");
+        assert!(rt; stops(rt.alloc(), call, takes, text)?, "{text}");
     }
     Ok(())
 }
@@ -134,22 +163,51 @@ fn a_failing_write_stops_a_run(rt: HostRuntime) -> Result<(), Fail> {
 /// More locals than any memory has words.
 const LOCALS: usize = 1 << 62;
 
+/// Runs a call of so many locals.
+fn run_call(alloc: Global, locals: usize, sink: &mut SureSink) -> Result<Ran, AllocError> {
+    let code = refusing_code(alloc, locals)?;
+    Ok(refusing_vm(alloc, &code, locals)?.run(u64::MAX, sink))
+}
+
+/// Whether steps come to the call, which is refused again and again.
+fn steps_are_refused(mut vm: Vm, sink: &mut SureSink) -> bool {
+    for stepped in [Stepped::On, Stepped::On, Stepped::Memory, Stepped::Memory] {
+        if vm.step(sink) != stepped {
+            return false;
+        }
+    }
+    true
+}
+
+/// Whether the call of too many locals is refused step by step.
+fn step_call(alloc: Global, sink: &mut SureSink) -> Result<bool, AllocError> {
+    let code = refusing_code(alloc, LOCALS)?;
+    let vm = refusing_vm(alloc, &code, LOCALS)?;
+    Ok(steps_are_refused(vm, sink))
+}
+
 #[test]
 fn a_refused_call_is_not_begun(rt: HostRuntime) -> Result<(), Fail> {
-    let alloc = rt.alloc();
-    let code = refusing_code(alloc, LOCALS)?;
-    let mut sink = SureSink::new(alloc);
-    let ran = refusing_vm(alloc, &code, LOCALS)?.run(u64::MAX, &mut sink);
+    let mut sink = SureSink::new(rt.alloc());
+    let ran = run_call(rt.alloc(), LOCALS, &mut sink)?;
     assert!(rt; matches!(ran, Ran::Memory));
     assert!(rt; sink.taken() == b"1".as_slice());
-    let mut vm = refusing_vm(alloc, &code, LOCALS)?;
-    for stepped in [Stepped::On, Stepped::On, Stepped::Memory, Stepped::Memory] {
-        assert!(rt; vm.step(&mut sink) == stepped);
-    }
-    assert!(rt; sink.taken() == b"11".as_slice());
-    let code = refusing_code(alloc, 3)?;
-    let ran = refusing_vm(alloc, &code, 3)?.run(u64::MAX, &mut sink);
-    assert!(rt; matches!(ran, Ran::Ended(_, _)));
-    assert!(rt; sink.taken() == b"1112".as_slice());
+    Ok(())
+}
+
+#[test]
+fn a_refused_call_is_refused_again(rt: HostRuntime) -> Result<(), Fail> {
+    let mut sink = SureSink::new(rt.alloc());
+    assert!(rt; step_call(rt.alloc(), &mut sink)?);
+    assert!(rt; sink.taken() == b"1".as_slice());
+    Ok(())
+}
+
+#[test]
+fn a_call_of_few_locals_is_begun(rt: HostRuntime) -> Result<(), Fail> {
+    let mut sink = SureSink::new(rt.alloc());
+    let ran = run_call(rt.alloc(), 3, &mut sink)?;
+    assert!(rt; is_ended(ran, true));
+    assert!(rt; sink.taken() == b"12".as_slice());
     Ok(())
 }

@@ -40,8 +40,7 @@ const REPORTS: [(&[(&str, &[Failed])], &str); 4] = [
     ),
 ];
 
-fn failure(alloc: Global, failed: &Failed) -> Result<Failure, Fail> {
-    let (line, col, kind, evidence, named) = *failed;
+fn parameters(alloc: Global, named: &[Named]) -> Result<Vec<Parameter>, Fail> {
     let mut parameters = Vec::new(alloc);
     for (name, value) in named {
         parameters.push(Parameter {
@@ -49,34 +48,48 @@ fn failure(alloc: Global, failed: &Failed) -> Result<Failure, Fail> {
             value: *value,
         })?;
     }
+    Ok(parameters)
+}
+
+fn failure(alloc: Global, failed: &Failed) -> Result<Failure, Fail> {
+    let (line, col, kind, evidence, named) = *failed;
+    let kind = String::from_str(alloc, kind)?;
+    let parameters = parameters(alloc, named)?;
     Ok(Failure {
         pos: Pos { line, col },
-        kind: String::from_str(alloc, kind)?,
+        kind,
         evidence,
         parameters,
     })
 }
 
-fn outcome(alloc: Global, name: &str, failed: &[Failed]) -> Result<Outcome, Fail> {
+fn failures(alloc: Global, failed: &[Failed]) -> Result<Vec<Failure>, Fail> {
     let mut failures = Vec::new(alloc);
     for one in failed {
         failures.push(failure(alloc, one)?)?;
     }
-    Ok(Outcome {
-        name: String::from_str(alloc, name)?,
-        failures,
-    })
+    Ok(failures)
+}
+
+fn outcome(alloc: Global, name: &str, failed: &[Failed]) -> Result<Outcome, Fail> {
+    let name = String::from_str(alloc, name)?;
+    let failures = failures(alloc, failed)?;
+    Ok(Outcome { name, failures })
+}
+
+/// The report on declarations.
+fn report(alloc: Global, declarations: &[(&str, &[Failed])]) -> Result<Vec<u8>, Fail> {
+    let mut outcomes = Vec::new(alloc);
+    for (name, failed) in declarations {
+        outcomes.push(outcome(alloc, name, failed)?)?;
+    }
+    Ok(lines(alloc, &outcomes)?)
 }
 
 #[test]
 fn tells_what_is_verified(rt: HostRuntime) -> Result<(), Fail> {
-    let alloc = rt.alloc();
     for (number, (declarations, wanted)) in REPORTS.iter().enumerate() {
-        let mut outcomes = Vec::new(alloc);
-        for (name, failed) in *declarations {
-            outcomes.push(outcome(alloc, name, failed)?)?;
-        }
-        let text = lines(alloc, &outcomes)?;
+        let text = report(rt.alloc(), *declarations)?;
         assert_eq!(rt; text.as_slice(), wanted.as_bytes(), "at {number}");
     }
     Ok(())

@@ -4,7 +4,20 @@ use df_base::{Global, Names, Refusal, Stop};
 use df_npexpr::expression;
 use df_ntree::Expr;
 use df_tok::{Tokens, tokens};
+use std::alloc::AllocError;
 use std::test::Fail;
+
+/// Adds a part so often.
+pub(crate) fn extend_repeated(
+    text: &mut Vec<u8>,
+    part: &str,
+    count: usize,
+) -> Result<(), AllocError> {
+    for _ in 0..count {
+        text.extend_from_slice(part.as_bytes())?;
+    }
+    Ok(())
+}
 
 /// A text, then another so often, then a third.
 pub(crate) fn repeated(
@@ -15,9 +28,7 @@ pub(crate) fn repeated(
     last: &str,
 ) -> Result<Vec<u8>, Fail> {
     let mut text = Vec::from_slice(alloc, first.as_bytes())?;
-    for _ in 0..count {
-        text.extend_from_slice(part.as_bytes())?;
-    }
+    extend_repeated(&mut text, part, count)?;
     text.extend_from_slice(last.as_bytes())?;
     Ok(text)
 }
@@ -31,8 +42,7 @@ pub(crate) fn nested(
     count: usize,
 ) -> Result<Vec<u8>, Fail> {
     let mut text = repeated(alloc, "", open, count, inner)?;
-    let closed = repeated(alloc, "", close, count, "")?;
-    text.extend_from_slice(&closed)?;
+    extend_repeated(&mut text, close, count)?;
     Ok(text)
 }
 
@@ -41,20 +51,19 @@ pub(crate) fn tokens_of(alloc: Global, text: &[u8]) -> Result<Tokens<'_>, Fail> 
     let mut names = Names::new(alloc)?;
     names.intern("a")?;
     names.intern("b")?;
-    Ok(
-        tokens(alloc, text, &mut names)
-            .ok()
-            .ok_or("the text is divided")?,
-    )
+    match tokens(alloc, text, &mut names) {
+        Ok(tokens) => Ok(tokens),
+        Err(_) => Err(Fail::new("the text is not divided")),
+    }
 }
 
 /// The expression that a text begins with.
 pub(crate) fn expression_of(alloc: Global, text: &[u8]) -> Result<Expr, Fail> {
     let tokens = tokens_of(alloc, text)?;
-    let (tree, _) = expression(alloc, &tokens, 0)
-        .ok()
-        .ok_or("the text begins with an expression")?;
-    Ok(tree)
+    match expression(alloc, &tokens, 0) {
+        Ok((tree, _)) => Ok(tree),
+        Err(_) => Err(Fail::new("the text begins with no expression")),
+    }
 }
 
 /// A refusal, and not want of memory.

@@ -1,9 +1,10 @@
 //! Expressions and types as they are read, and where reading stops.
 
 use crate::building::{expression_of, nested, refusal_of, repeated, tokens_of};
-use df_base::{Code, Global, Stop};
+use df_base::{Code, Global, Name};
 use df_npexpr::{expression, ty};
 use df_ntree::{BinaryOperator, Expr, TreeType, UnaryOperator};
+use df_tok::Tokens;
 use std::alloc::AllocError;
 use std::test::Fail;
 
@@ -87,6 +88,20 @@ fn write(out: &mut Vec<u8>, tree: &Expr) -> Result<(), AllocError> {
     }
 }
 
+/// A tree as it is written.
+fn written(alloc: Global, tree: &Expr) -> Result<Vec<u8>, AllocError> {
+    let mut out = Vec::new(alloc);
+    write(&mut out, tree)?;
+    Ok(out)
+}
+
+fn is_written(alloc: Global, tree: &Expr, wanted: &str) -> bool {
+    match written(alloc, tree) {
+        Ok(out) => out.as_slice() == wanted.as_bytes(),
+        Err(_) => false,
+    }
+}
+
 /// Texts, and their trees.
 const READ: [(&str, &str); 24] = [
     ("a", "a"),
@@ -120,9 +135,7 @@ fn texts_have_their_trees(rt: HostRuntime) -> Result<(), Fail> {
     let alloc = rt.alloc();
     for (text, shown) in &READ {
         let tree = expression_of(alloc, text.as_bytes())?;
-        let mut out = Vec::new(alloc);
-        write(&mut out, &tree)?;
-        assert_eq!(rt; out.as_slice(), shown.as_bytes(), "at {text}");
+        assert!(rt; is_written(alloc, &tree, *shown), "at {text}");
     }
     Ok(())
 }
@@ -153,16 +166,20 @@ const BEGUN: [(&str, &str, usize); 6] = [
     ("a <== b ==> c", "[a<==b]", 3),
 ];
 
+/// Whether tokens begin with an expression of this tree, and this token is behind it.
+fn begins(alloc: Global, tokens: &Tokens, shown: &str, end: usize) -> bool {
+    match expression(alloc, tokens, 0) {
+        Ok((tree, after)) => after == end && is_written(alloc, &tree, shown),
+        Err(_) => false,
+    }
+}
+
 #[test]
 fn parts_end_before_a_barred_operator(rt: HostRuntime) -> Result<(), Fail> {
     let alloc = rt.alloc();
     for (text, shown, end) in &BEGUN {
         let tokens = tokens_of(alloc, text.as_bytes())?;
-        let (tree, after) = expression(alloc, &tokens, 0).ok().ok_or("an expression")?;
-        let mut out = Vec::new(alloc);
-        write(&mut out, &tree)?;
-        assert_eq!(rt; out.as_slice(), shown.as_bytes(), "at {text}");
-        assert_eq!(rt; after, *end, "at {text}");
+        assert!(rt; begins(alloc, &tokens, *shown, *end), "at {text}");
     }
     Ok(())
 }
@@ -186,18 +203,38 @@ fn what_has_no_tree_is_refused(rt: HostRuntime) -> Result<(), Fail> {
     Ok(())
 }
 
+/// The token behind the expression from a token on, or none where there is no expression.
+fn end_of_expression(alloc: Global, tokens: &Tokens, start: usize) -> Option<usize> {
+    match expression(alloc, tokens, start) {
+        Ok((_, end)) => Some(end),
+        Err(_) => None,
+    }
+}
+
 #[test]
 fn a_part_ends_where_nothing_continues_it(rt: HostRuntime) -> Result<(), Fail> {
     let alloc = rt.alloc();
     let tokens = tokens_of(alloc, b"b a + 1 ; 2")?;
-    let (_, after) = expression(alloc, &tokens, 1).ok().ok_or("an expression")?;
-    assert_eq!(rt; after, 4);
-    assert!(rt; expression(alloc, &tokens, 4).is_err());
-    assert!(rt; expression(alloc, &tokens, 9).is_err());
-    let (TreeType::Named(name), end) = ty(alloc, &tokens, 1).ok().ok_or("a type")? else {
-        return Err(Fail::new("a name"));
-    };
-    assert_eq!(rt; (name.name, name.pos.col, end), (0, 3, 2));
+    for (start, end) in [(1, Some(4)), (4, None), (9, None)] {
+        let found = end_of_expression(alloc, &tokens, start);
+        assert_eq!(rt; found, end, "from {start}");
+    }
+    Ok(())
+}
+
+/// The name and the column of the type from a token on, and the token behind it.
+fn named_type(alloc: Global, tokens: &Tokens, start: usize) -> Option<(Name, u32, usize)> {
+    match ty(alloc, tokens, start) {
+        Ok((TreeType::Named(name), end)) => Some((name.name, name.pos.col, end)),
+        _ => None,
+    }
+}
+
+#[test]
+fn a_type_is_one_token(rt: HostRuntime) -> Result<(), Fail> {
+    let alloc = rt.alloc();
+    let tokens = tokens_of(alloc, b"b a + 1 ; 2")?;
+    assert!(rt; named_type(alloc, &tokens, 1) == Some((0, 3, 2)));
     assert!(rt; ty(alloc, &tokens, 5).is_err());
     Ok(())
 }
@@ -211,19 +248,38 @@ const HIGHEST: [(&str, &str, &str, usize); 5] = [
     ("- ", "a", "", 199),
 ];
 
+/// Whether a text so often between others is read.
+fn is_read(
+    alloc: Global,
+    open: &str,
+    inner: &str,
+    close: &str,
+    times: usize,
+) -> Result<bool, Fail> {
+    let text = nested(alloc, open, inner, close, times)?;
+    Ok(refused_at(alloc, &text)?.is_none())
+}
+
 #[test]
 fn heights_end_at_200(rt: HostRuntime) -> Result<(), Fail> {
     let alloc = rt.alloc();
     for (open, inner, close, count) in HIGHEST {
         let fewer = count.saturating_sub(1);
         let more = count.saturating_add(1);
-        for (times, is_read) in [(fewer, true), (count, true), (more, false)] {
-            let text = nested(alloc, open, inner, close, times)?;
-            let found = refused_at(alloc, &text)?;
-            assert_eq!(rt; found.is_none(), is_read, "{times} of {open}");
+        for (times, wanted) in [(fewer, true), (count, true), (more, false)] {
+            let found = is_read(alloc, open, inner, close, times)?;
+            assert!(rt; found == wanted, "{times} of {open}");
         }
     }
     Ok(())
+}
+
+/// How many operands are behind the first one of a row, where a text is one.
+fn further_operands(alloc: Global, text: &[u8]) -> Result<Option<usize>, Fail> {
+    match expression_of(alloc, text)? {
+        Expr::Operations { rest, .. } => Ok(Some(rest.len())),
+        _ => Ok(None),
+    }
 }
 
 #[test]
@@ -231,10 +287,8 @@ fn operands_of_one_level_are_many(rt: HostRuntime) -> Result<(), Fail> {
     let alloc = rt.alloc();
     for part in [" + a", " < a", " ==> a"] {
         let text = repeated(alloc, "a", part, 100_000, "")?;
-        match expression_of(alloc, &text)? {
-            Expr::Operations { rest, .. } => assert_eq!(rt; rest.len(), 100_000),
-            _ => Err("the text is a row")?,
-        }
+        let found = further_operands(alloc, &text)?;
+        assert_eq!(rt; found, Some(100_000), "{part}");
     }
     Ok(())
 }

@@ -1,6 +1,6 @@
 //! Files of the grammar, short, long and high.
 
-use crate::building::{nested, refusal_of, repeated};
+use crate::building::{extend_repeated, refusal_of, repeated};
 use df_base::{Code, Names, Stop};
 use df_npdecl::parse;
 use df_ntree::File;
@@ -109,6 +109,22 @@ const HIGHEST: [(&str, &str, &str, &str, &str, usize); 7] = [
     ("newtype N = x | ", "(", "x", ")", "", 199),
 ];
 
+/// A text between two others so often, and what is around all of it.
+fn surrounded(
+    alloc: Global,
+    around: (&str, &str),
+    between: (&str, &str),
+    inner: &str,
+    times: usize,
+) -> Result<Vec<u8>, Fail> {
+    let (first, last) = around;
+    let (open, close) = between;
+    let mut text = repeated(alloc, first, open, times, inner)?;
+    extend_repeated(&mut text, close, times)?;
+    text.extend_from_slice(last.as_bytes())?;
+    Ok(text)
+}
+
 #[test]
 fn heights_end_at_200(rt: HostRuntime) -> Result<(), Fail> {
     let alloc = rt.alloc();
@@ -116,10 +132,7 @@ fn heights_end_at_200(rt: HostRuntime) -> Result<(), Fail> {
         let fewer = count.saturating_sub(1);
         let more = count.saturating_add(1);
         for (times, code) in [(fewer, None), (count, None), (more, Some(Code::Syntax))] {
-            let middle = nested(alloc, open, inner, close, times)?;
-            let mut text = Vec::from_slice(alloc, first.as_bytes())?;
-            text.extend_from_slice(&middle)?;
-            text.extend_from_slice(last.as_bytes())?;
+            let text = surrounded(alloc, (first, last), (open, close), inner, times)?;
             assert_eq!(rt; code_of(alloc, &text)?, code, "{times} of {open}");
         }
     }

@@ -1,6 +1,6 @@
 //! The lines of refusals, one for each code.
 
-use df_base::{Code, Detail, Names, Pos, Refusal};
+use df_base::{Code, Detail, Global, Memory, Names, Pos, Refusal};
 use df_nfront::{pos_text, refusal_line};
 use std::test::Fail;
 
@@ -39,20 +39,32 @@ const LINES: [(Code, Detail, &str); 15] = [
     (Code::Empty, Detail::Nothing, "p.dfy:12:3: S15 empty\n"),
 ];
 
-#[test]
-fn each_code_has_its_line(rt: HostRuntime) -> Result<(), Fail> {
-    let alloc = rt.alloc();
+/// Names, where `a` is 0 and `b` is 1.
+fn two_names(alloc: Global) -> Result<Names, Memory> {
     let mut names = Names::new(alloc)?;
     names.intern("a")?;
     names.intern("b")?;
+    Ok(names)
+}
+
+fn has_line(alloc: Global, names: &Names, refusal: &Refusal, line: &str) -> bool {
+    match refusal_line(alloc, "p.dfy", names, refusal) {
+        Ok(found) => found.as_slice() == line.as_bytes(),
+        Err(_) => false,
+    }
+}
+
+#[test]
+fn each_code_has_its_line(rt: HostRuntime) -> Result<(), Fail> {
+    let alloc = rt.alloc();
+    let names = two_names(alloc)?;
     for (number, (code, detail, line)) in LINES.iter().enumerate() {
         let refusal = Refusal {
             code: *code,
             pos: Pos { line: 12, col: 3 },
             detail: *detail,
         };
-        let found = refusal_line(alloc, "p.dfy", &names, &refusal)?;
-        assert_eq!(rt; found.as_slice(), line.as_bytes(), "at {number}");
+        assert!(rt; has_line(alloc, &names, &refusal, *line), "at {number}");
     }
     Ok(())
 }

@@ -2,7 +2,8 @@
 
 use crate::building::{refusal_of, repeated, tokens_of};
 use df_base::{Code, Detail, Global, Names, Stop};
-use df_tok::{Kind, tokens};
+use df_tok::{Kind, Token, tokens};
+use std::alloc::AllocError;
 use std::test::Fail;
 
 /// A letter for what a token is.
@@ -19,14 +20,20 @@ fn letter(kind: Kind) -> u8 {
     }
 }
 
+/// Adds a token's letter and text, and a blank.
+fn spell(out: &mut Vec<u8>, token: &Token) -> Result<(), AllocError> {
+    out.push(letter(token.kind))?;
+    out.extend_from_slice(token.text)?;
+    out.push(b' ')?;
+    Ok(())
+}
+
 /// Each token's letter and text, and a blank.
 fn spelled(alloc: Global, source: &str) -> Result<Vec<u8>, Fail> {
     let tokens = tokens_of(alloc, source.as_bytes())?;
     let mut out = Vec::new(alloc);
     for token in &tokens.all {
-        out.push(letter(token.kind))?;
-        out.extend_from_slice(token.text)?;
-        out.push(b' ')?;
+        spell(&mut out, token)?;
     }
     Ok(out)
 }
@@ -69,21 +76,32 @@ fn texts_divide_into_tokens(rt: HostRuntime) -> Result<(), Fail> {
     Ok(())
 }
 
-/// Numbers by their values, characters by their codes and names by their numbers, each with its
-/// line and its column.
+/// Adds a number by its value, a character by its code and a name by its number.
+fn show_value(shown: &mut String, kind: Kind) -> Result<(), Fail> {
+    match kind {
+        Kind::Number(n) => write!(shown, "{n}")?,
+        Kind::Character(c) => write!(shown, "{c}")?,
+        Kind::Name(name) => write!(shown, "{name:?}")?,
+        _ => {}
+    }
+    Ok(())
+}
+
+/// Adds a token's value, its line and its column.
+fn show_token(shown: &mut String, token: &Token) -> Result<(), Fail> {
+    show_value(shown, token.kind)?;
+    let line = token.pos.line;
+    let col = token.pos.col;
+    write!(shown, "@{line}:{col} ")?;
+    Ok(())
+}
+
+/// Each token's value, line and column.
 fn placed(alloc: Global, source: &str) -> Result<String, Fail> {
     let tokens = tokens_of(alloc, source.as_bytes())?;
     let mut shown = String::new(alloc);
     for token in &tokens.all {
-        match token.kind {
-            Kind::Number(n) => write!(shown, "{n}")?,
-            Kind::Character(c) => write!(shown, "{c}")?,
-            Kind::Name(name) => write!(shown, "{name:?}")?,
-            _ => {}
-        }
-        let line = token.pos.line;
-        let col = token.pos.col;
-        write!(shown, "@{line}:{col} ")?;
+        show_token(&mut shown, token)?;
     }
     Ok(shown)
 }

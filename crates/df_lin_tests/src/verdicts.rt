@@ -61,16 +61,32 @@ fn is_sum(alloc: Global, sum: Result<Row, RowFault>, number: Option<i128>) -> Re
     }
 }
 
+/// A number and its factor.
+type Weighted = (i128, i128);
+
+/// Whether two numbers by their factors have this sum.
+fn has_sum(
+    alloc: Global,
+    first: Weighted,
+    second: Weighted,
+    sum: Option<i128>,
+) -> Result<bool, Fail> {
+    let one = twice(alloc, first.0)?;
+    let other = twice(alloc, second.0)?;
+    let found = one.combine(alloc, first.1, &other, second.1);
+    is_sum(alloc, found, sum)
+}
+
 #[test]
 fn adds_products_at_the_ends(rt: HostRuntime) -> Result<(), Fail> {
     let alloc = rt.alloc();
-    let zero = twice(alloc, 0)?;
     for (at, (number, factor, product)) in PRODUCTS.iter().enumerate() {
-        let given = twice(alloc, *number)?;
-        let first = given.combine(alloc, *factor, &zero, MAX);
-        assert!(rt; is_sum(alloc, first, *product)?, "at {at}");
-        let second = zero.combine(alloc, MIN, &given, *factor);
-        assert!(rt; is_sum(alloc, second, *product)?, "turned, at {at}");
+        let given = (*number, *factor);
+        assert!(rt; has_sum(alloc, given, (0, MAX), *product)?, "at {at}");
+        assert!(rt;
+            has_sum(alloc, (0, MIN), given, *product)?,
+            "turned, at {at}"
+        );
     }
     Ok(())
 }
@@ -79,14 +95,18 @@ fn adds_products_at_the_ends(rt: HostRuntime) -> Result<(), Fail> {
 fn adds_sums_of_products_at_the_ends(rt: HostRuntime) -> Result<(), Fail> {
     let alloc = rt.alloc();
     for (at, (first, factor, second, other_factor, sum)) in SUMS.iter().enumerate() {
-        let one = twice(alloc, *first)?;
-        let other = twice(alloc, *second)?;
-        let found = one.combine(alloc, *factor, &other, *other_factor);
-        assert!(rt; is_sum(alloc, found, *sum)?, "at {at}");
-        let turned = other.combine(alloc, *other_factor, &one, *factor);
-        assert!(rt; is_sum(alloc, turned, *sum)?, "turned, at {at}");
+        let one = (*first, *factor);
+        let other = (*second, *other_factor);
+        assert!(rt; has_sum(alloc, one, other, *sum)?, "at {at}");
+        assert!(rt; has_sum(alloc, other, one, *sum)?, "turned, at {at}");
     }
     Ok(())
+}
+
+/// The verdict on rows.
+fn verdict(alloc: Global, given: &[Sparse]) -> Result<Verdict, Fail> {
+    let rows = rows(alloc, given)?;
+    Ok(refute(alloc, &rows)?)
 }
 
 /// Rows that refute themselves, and by which multipliers.
@@ -134,15 +154,19 @@ fn are_equal(found: &[Combination], wanted: &[Combination]) -> bool {
     true
 }
 
+fn is_refuted(alloc: Global, given: &[Sparse], wanted: &[Combination]) -> Result<bool, Fail> {
+    match verdict(alloc, given)? {
+        Verdict::Refuted(found) => Ok(are_equal(&found.combinations, wanted)),
+        _ => Ok(false),
+    }
+}
+
 #[test]
 fn tells_of_rows_that_refute_themselves(rt: HostRuntime) -> Result<(), Fail> {
     let alloc = rt.alloc();
     for (at, (given, wanted)) in REFUTED.iter().enumerate() {
-        let Verdict::Refuted(found) = refute(alloc, &rows(alloc, *given)?)? else {
-            return Err(Fail::new("the rows are not refuted"));
-        };
         let wanted = combinations(alloc, *wanted)?;
-        assert!(rt; are_equal(&found.combinations, &wanted), "at {at}");
+        assert!(rt; is_refuted(alloc, *given, &wanted)?, "at {at}");
     }
     Ok(())
 }
@@ -184,17 +208,27 @@ const POINTS: [(&[Sparse], Numbers); 5] = [
     ),
 ];
 
+/// Whether a point has the numbers that it tells.
+fn has_its_numbers(point: &Point) -> bool {
+    for (node, number) in point.numbers() {
+        if point.number(*node) != *number {
+            return false;
+        }
+    }
+    true
+}
+
+fn has_point(alloc: Global, given: &[Sparse], wanted: Numbers) -> Result<bool, Fail> {
+    match verdict(alloc, given)? {
+        Verdict::Point(point) => Ok(has_numbers(&point, wanted) && has_its_numbers(&point)),
+        _ => Ok(false),
+    }
+}
+
 #[test]
 fn tells_of_points(rt: HostRuntime) -> Result<(), Fail> {
-    let alloc = rt.alloc();
     for (at, (given, wanted)) in POINTS.iter().enumerate() {
-        let Verdict::Point(point) = refute(alloc, &rows(alloc, *given)?)? else {
-            return Err(Fail::new("there is no point"));
-        };
-        assert!(rt; has_numbers(&point, *wanted), "at {at}");
-        for (node, number) in point.numbers() {
-            assert_eq!(rt; point.number(*node), *number);
-        }
+        assert!(rt; has_point(rt.alloc(), *given, *wanted)?, "at {at}");
     }
     Ok(())
 }
@@ -241,15 +275,27 @@ const GAPS: [(&[Sparse], usize, i128, Numbers); 3] = [
     ),
 ];
 
+/// Whether rows have a gap at this node above this number, beside these numbers.
+fn has_gap(
+    alloc: Global,
+    given: &[Sparse],
+    wanted: usize,
+    least: i128,
+    numbers: Numbers,
+) -> Result<bool, Fail> {
+    match verdict(alloc, given)? {
+        Verdict::Between { node, bound, point } => {
+            Ok(node == wanted && bound == least && has_numbers(&point, numbers))
+        }
+        _ => Ok(false),
+    }
+}
+
 #[test]
 fn tells_of_gaps_between_numbers(rt: HostRuntime) -> Result<(), Fail> {
-    let alloc = rt.alloc();
     for (at, (given, wanted, least, numbers)) in GAPS.iter().enumerate() {
-        let Verdict::Between { node, bound, point } = refute(alloc, &rows(alloc, *given)?)? else {
-            return Err(Fail::new("there is no gap"));
-        };
-        assert!(rt; node == *wanted && bound == *least, "at {at}");
-        assert!(rt; has_numbers(&point, *numbers), "at {at}");
+        let found = has_gap(rt.alloc(), *given, *wanted, *least, *numbers)?;
+        assert!(rt; found, "at {at}");
     }
     Ok(())
 }
@@ -276,22 +322,39 @@ const WIDE_BOUNDS: [(&[Sparse], usize, Numbers); 2] = [
     ),
 ];
 
+fn has_wide_level(alloc: Global, given: &[Sparse]) -> Result<bool, Fail> {
+    let verdict = verdict(alloc, given)?;
+    Ok(matches!(verdict, Verdict::Wide(Chain::Elimination)))
+}
+
 #[test]
-fn tells_of_numbers_past_128_bits(rt: HostRuntime) -> Result<(), Fail> {
-    let alloc = rt.alloc();
+fn tells_of_levels_past_128_bits(rt: HostRuntime) -> Result<(), Fail> {
     for (at, given) in WIDE.iter().enumerate() {
-        let verdict = refute(alloc, &rows(alloc, *given)?)?;
-        assert!(rt;
-            matches!(verdict, Verdict::Wide(Chain::Elimination)),
-            "at {at}"
-        );
+        assert!(rt; has_wide_level(rt.alloc(), *given)?, "at {at}");
     }
+    Ok(())
+}
+
+/// Whether this node has a bound that is too wide, beside these numbers.
+fn has_wide_bound(
+    alloc: Global,
+    given: &[Sparse],
+    wanted: usize,
+    numbers: Numbers,
+) -> Result<bool, Fail> {
+    match verdict(alloc, given)? {
+        Verdict::Wide(Chain::Substitution { node, point }) => {
+            Ok(node == wanted && has_numbers(&point, numbers))
+        }
+        _ => Ok(false),
+    }
+}
+
+#[test]
+fn tells_of_bounds_past_128_bits(rt: HostRuntime) -> Result<(), Fail> {
     for (at, (given, wanted, numbers)) in WIDE_BOUNDS.iter().enumerate() {
-        let verdict = refute(alloc, &rows(alloc, *given)?)?;
-        let Verdict::Wide(Chain::Substitution { node, point }) = verdict else {
-            return Err(Fail::new("no bound is too wide"));
-        };
-        assert!(rt; node == *wanted && has_numbers(&point, *numbers), "at {at}");
+        let found = has_wide_bound(rt.alloc(), *given, *wanted, *numbers)?;
+        assert!(rt; found, "at {at}");
     }
     Ok(())
 }

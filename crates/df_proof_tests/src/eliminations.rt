@@ -9,6 +9,7 @@ ghost use Rattle.df_row.specs.RowView.{IsWithin};
 use df_back::{Back, back};
 use df_cases::{Sparse, Sum, combinations, row, rows};
 use df_elim::{Elimination, eliminate};
+use df_form::Combination;
 use df_level::Row;
 use df_lin::{Verdict, refute};
 use df_refutation::{needed, refuting};
@@ -50,18 +51,24 @@ const REFUTED: [(&[Sparse], usize, usize); 6] = [
     ),
 ];
 
+/// After how many levels the rows are refuted, and by how many combinations, if they are.
+fn refutation(alloc: Global, given: &[Row]) -> Result<Option<(usize, usize)>, Fail> {
+    let Elimination::Refuted(levels) = eliminate(alloc, given)? else {
+        return Ok(None);
+    };
+    match refuting(alloc, given, &levels)? {
+        Some(combinations) => Ok(Some((levels.len(), combinations.len()))),
+        None => Ok(None),
+    }
+}
+
 #[test]
 fn refutes_rows(rt: HostRuntime) -> Result<(), Fail> {
     let alloc = rt.alloc();
     for (number, (given, levels, combinations)) in REFUTED.iter().enumerate() {
         let given = rows(alloc, *given)?;
-        let Elimination::Refuted(found) = eliminate(alloc, &given)? else {
-            return Err(Fail::new("the rows are not refuted"));
-        };
-        assert_eq!(rt; found.len(), *levels, "at {number}");
-        let refuting = refuting(alloc, &given, &found)?;
-        let refuting = refuting.ok_or("no level has a false row")?;
-        assert_eq!(rt; refuting.len(), *combinations, "at {number}");
+        let found = refutation(alloc, &given)?;
+        assert_eq!(rt; found, Some((*levels, *combinations)), "at {number}");
     }
     Ok(())
 }
@@ -77,15 +84,30 @@ const ALL: [Sum; 4] = [
 
 const NEEDED: [Sum; 2] = [(1, &[(1, 0), (1, 1)]), (1, &[(1, 2), (1, 1)])];
 
+fn are_equal(found: &[Combination], wanted: &[Combination]) -> bool {
+    if found.len() != wanted.len() {
+        return false;
+    }
+    for (one, other) in found.iter().zip(wanted) {
+        if one.divisor != other.divisor || one.members != other.members {
+            return false;
+        }
+    }
+    true
+}
+
+/// Whether these are the combinations, in this order.
+fn are_combinations(alloc: Global, found: &[Combination], wanted: &[Sum]) -> Result<bool, Fail> {
+    let wanted = combinations(alloc, wanted)?;
+    Ok(are_equal(found, &wanted))
+}
+
 #[test]
 fn drops_what_is_not_needed(rt: HostRuntime) -> Result<(), Fail> {
     let alloc = rt.alloc();
-    let found = needed(alloc, 2, &combinations(alloc, &ALL)?)?;
-    let wanted = combinations(alloc, &NEEDED)?;
-    assert_eq!(rt; found.len(), wanted.len());
-    for (one, other) in found.iter().zip(&wanted) {
-        assert!(rt; one.divisor == other.divisor && one.members == other.members);
-    }
+    let all = combinations(alloc, &ALL)?;
+    let found = needed(alloc, 2, &all)?;
+    assert!(rt; are_combinations(alloc, &found, &NEEDED)?);
     Ok(())
 }
 
@@ -104,18 +126,30 @@ const OPEN: [(&[Sparse], &[usize], &[Sparse]); 5] = [
     (&[(&[(usize::MAX, 1)], 0)], &[usize::MAX], &[]),
 ];
 
+/// Whether the rows have these variables, and are these rows without them.
+fn are_left(
+    alloc: Global,
+    given: &[Row],
+    variables: &[usize],
+    wanted: &[Row],
+) -> Result<bool, Fail> {
+    let Elimination::Open(levels) = eliminate(alloc, given)? else {
+        return Ok(false);
+    };
+    let last = levels.others.last().unwrap_or(&levels.first);
+    Ok(levels.variables.as_slice() == variables && last.rows() == wanted)
+}
+
 #[test]
 fn eliminates_variables(rt: HostRuntime) -> Result<(), Fail> {
     let alloc = rt.alloc();
     for (number, (given, variables, wanted)) in OPEN.iter().enumerate() {
         let given = rows(alloc, *given)?;
-        let Elimination::Open(levels) = eliminate(alloc, &given)? else {
-            return Err(Fail::new("the rows are refuted"));
-        };
-        assert!(rt; levels.variables.as_slice() == *variables, "at {number}");
         let wanted = rows(alloc, *wanted)?;
-        let last = levels.others.last().unwrap_or(&levels.first);
-        assert!(rt; last.rows() == wanted.as_slice(), "at {number}");
+        assert!(rt;
+            are_left(alloc, &given, *variables, &wanted)?,
+            "at {number}"
+        );
     }
     Ok(())
 }
@@ -126,13 +160,46 @@ const WIDE: [&[Sparse]; 2] = [
     &[(&[(0, MAX), (1, 1)], 0), (&[(0, 1 - MAX), (1, 1)], 0)],
 ];
 
+fn is_wide(alloc: Global, given: &[Row]) -> Result<bool, Fail> {
+    Ok(matches!(eliminate(alloc, given)?, Elimination::Wide))
+}
+
 #[test]
 fn tells_of_wide_rows(rt: HostRuntime) -> Result<(), Fail> {
     let alloc = rt.alloc();
     for (number, given) in WIDE.iter().enumerate() {
         let given = rows(alloc, *given)?;
-        let is_wide = matches!(eliminate(alloc, &given)?, Elimination::Wide);
-        assert!(rt; is_wide, "at {number}");
+        assert!(rt; is_wide(alloc, &given)?, "at {number}");
+    }
+    Ok(())
+}
+
+/// Adds a row.
+fn push(alloc: Global, rows: &mut Vec<Row>, sparse: Sparse) -> Result<(), Fail> {
+    let row = row(alloc, sparse)?;
+    Ok(rows.push(row)?)
+}
+
+/// Adds rows that bound the node 0 from below.
+fn push_lower(alloc: Global, rows: &mut Vec<Row>) -> Result<(), Fail> {
+    for number in 0..224_u16 {
+        push(alloc, rows, (&[(0, 1)], i128::from(number)))?;
+    }
+    Ok(())
+}
+
+/// Adds rows that bound the node 0 from above. No two sums of one of these and a lower one are equal.
+fn push_upper(alloc: Global, rows: &mut Vec<Row>) -> Result<(), Fail> {
+    for number in 0..223_u16 {
+        push(alloc, rows, (&[(0, -1)], i128::from(number) * 1000))?;
+    }
+    Ok(())
+}
+
+/// Adds so many rows without nodes, which equal no such sum.
+fn push_others(alloc: Global, rows: &mut Vec<Row>, count: u16) -> Result<(), Fail> {
+    for number in 0..count {
+        push(alloc, rows, (&[], i128::from(number) + 1_000_000))?;
     }
     Ok(())
 }
@@ -140,28 +207,47 @@ fn tells_of_wide_rows(rt: HostRuntime) -> Result<(), Fail> {
 /// Rows that bound a node from below and above, where no two sums are equal, and others without it.
 fn bounds(alloc: Global, others: u16) -> Result<Vec<Row>, Fail> {
     let mut rows = Vec::new(alloc);
-    for number in 0..224_u16 {
-        rows.push(row(alloc, (&[(0, 1)], i128::from(number)))?)?;
-    }
-    for number in 0..223_u16 {
-        rows.push(row(alloc, (&[(0, -1)], i128::from(number) * 1000))?)?;
-    }
-    for number in 0..others {
-        rows.push(row(alloc, (&[], i128::from(number) + 1_000_000))?)?;
-    }
+    push_lower(alloc, &mut rows)?;
+    push_upper(alloc, &mut rows)?;
+    push_others(alloc, &mut rows, others)?;
     Ok(rows)
 }
 
-/// 224 * 223 sums, and 47 or 48 rows.
+fn is_open(alloc: Global, given: &[Row]) -> Result<bool, Fail> {
+    Ok(matches!(eliminate(alloc, given)?, Elimination::Open(_)))
+}
+
+fn has_point(alloc: Global, given: &[Row]) -> Result<bool, Fail> {
+    Ok(matches!(refute(alloc, given)?, Verdict::Point(_)))
+}
+
+/// 224 * 223 sums, and 47 rows.
+#[test]
+fn takes_almost_too_many_rows(rt: HostRuntime) -> Result<(), Fail> {
+    let alloc = rt.alloc();
+    let given = bounds(alloc, 47)?;
+    assert!(rt; is_open(alloc, &given)?);
+    assert!(rt; has_point(alloc, &given)?);
+    Ok(())
+}
+
+/// Whether elimination gives up at 50,000 rows.
+fn is_many(alloc: Global, given: &[Row]) -> Result<bool, Fail> {
+    Ok(matches!(eliminate(alloc, given)?, Elimination::Many(50_000)))
+}
+
+/// Whether there is no verdict, since elimination gives up at 50,000 rows.
+fn has_no_verdict(alloc: Global, given: &[Row]) -> Result<bool, Fail> {
+    Ok(matches!(refute(alloc, given)?, Verdict::Many(50_000)))
+}
+
+/// 224 * 223 sums, and 48 rows.
 #[test]
 fn tells_of_many_rows(rt: HostRuntime) -> Result<(), Fail> {
     let alloc = rt.alloc();
-    let fewer = bounds(alloc, 47)?;
-    assert!(rt; matches!(eliminate(alloc, &fewer)?, Elimination::Open(_)));
-    assert!(rt; matches!(refute(alloc, &fewer)?, Verdict::Point(_)));
-    let more = bounds(alloc, 48)?;
-    assert!(rt; matches!(eliminate(alloc, &more)?, Elimination::Many(50_000)));
-    assert!(rt; matches!(refute(alloc, &more)?, Verdict::Many(50_000)));
+    let given = bounds(alloc, 48)?;
+    assert!(rt; is_many(alloc, &given)?);
+    assert!(rt; has_no_verdict(alloc, &given)?);
     Ok(())
 }
 
@@ -188,16 +274,21 @@ fn are_inside(rows: &[Row], count: usize) -> bool
     true
 }
 
-/// Numbers for x and y.
-fn solved(alloc: Global, given: &[Sparse]) -> Result<Back, Fail> {
-    let given = rows(alloc, given)?;
-    let Elimination::Open(levels) = eliminate(alloc, &given)? else {
+/// Numbers for the first two nodes.
+fn solution(alloc: Global, given: &[Row]) -> Result<Back, Fail> {
+    let Elimination::Open(levels) = eliminate(alloc, given)? else {
         return Err(Fail::new("the rows are refuted"));
     };
     if !are_inside(levels.first.rows(), 2) {
         return Err(Fail::new("there are other nodes"));
     }
     Ok(back(alloc, 2, &levels.first, &levels.variables, &levels.others)?)
+}
+
+/// Numbers for x and y.
+fn solved(alloc: Global, given: &[Sparse]) -> Result<Back, Fail> {
+    let given = rows(alloc, given)?;
+    solution(alloc, &given)
 }
 
 /// Rows of x and y, and the numbers nearest 0.

@@ -1,11 +1,14 @@
 //! The kernel: which logs it accepts, and where it refuses the others.
 
+use df_axiom::instance;
 use df_cases::{
-    BYTE, CHAR, I8, INT, Line, NAT, P, Q, Signed, Terms, UNDECLARED, X, Y, Z, literals, program,
-    sequent, step, steps,
+    BYTE, CHAR, I8, INT, Line, NAT, P, Plain, Q, Signed, Terms, UNDECLARED, X, Y, Z, literals,
+    nodes, program, sequent, step, steps,
 };
-use df_form::{Op, Sequent, World};
-use df_kern::{AxiomFault, Checker, KernFault, check, connective, instance};
+use df_form::{Lit, Op, Sequent, Step, World};
+use df_kern::{Checker, KernFault, check};
+use df_lang::Program;
+use df_rules::connective;
 use std::alloc::Global;
 use std::process::Abort;
 use std::test::Fail;
@@ -140,11 +143,8 @@ const KINDS: [Case; 48] = [
     (&[Line::A(74, 0, &[])], Some((1, 5))),
     (&[Line::A(74, 0, &[7])], Some((1, 5))),
     (&[Line::A(74, 0, &[13])], Some((1, 5))),
-    // a newtype that is not declared
-    (
-        &[Line::N(UNDECLARED, &[7]), Line::A(74, 0, &[13])],
-        Some((2, 5)),
-    ),
+    // a newtype that is not declared: no line makes its test
+    (&[Line::N(UNDECLARED, &[7])], Some((1, 10))),
     (&[Line::N(BYTE, &[8]), Line::A(74, 0, &[13])], Some((3, 0))),
     // x - 5 and x - 4, by a factor below 0
     (
@@ -542,21 +542,37 @@ const SHEETS: [Sheet; 13] = [
     LETTER,
 ];
 
-/// Each log is accepted, or refused at its place.
-fn checks_each(
-    rt: &impl Abort,
+/// What the kernel says against the log of the first lines and the last ones.
+fn refusal(
     alloc: Global,
     sequent: &Sequent,
     first: &[Line],
-    cases: &[Case],
+    last: &[Line],
+) -> Result<Option<KernFault>, Fail> {
+    let log = steps(alloc, first, last)?;
+    Ok(check(alloc, sequent, &log).err())
+}
+
+/// The refusal at this step and row.
+fn refused_at(place: Option<(u64, u8)>) -> Option<KernFault> {
+    match place {
+        Some((at, broken)) => Some(KernFault::Refused { at, broken }),
+        None => None,
+    }
+}
+
+/// Each log of the sheet is accepted, or refused at its place.
+fn checks_each(
+    rt: &impl Abort,
+    alloc: Global,
+    program: &Program,
+    sheet: &Sheet,
 ) -> Result<(), Fail> {
+    let (hypotheses, goal, first, cases) = *sheet;
+    let sequent = sequent(alloc, program, hypotheses, goal)?;
     for (number, (last, refused)) in cases.iter().enumerate() {
-        let log = steps(alloc, first, *last)?;
-        let wanted = match *refused {
-            Some((at, broken)) => Some(KernFault::Refused { at, broken }),
-            None => None,
-        };
-        assert_eq!(rt; check(alloc, sequent, &log).err(), wanted, "at {number}");
+        let found = refusal(alloc, &sequent, first, *last)?;
+        assert_eq!(rt; found, refused_at(*refused), "at {number}");
     }
     Ok(())
 }
@@ -565,11 +581,47 @@ fn checks_each(
 fn accepts_logs_or_tells_where_they_are_refused(rt: HostRuntime) -> Result<(), Fail> {
     let alloc = rt.alloc();
     let program = program(alloc)?;
-    for (hypotheses, goal, first, cases) in SHEETS.iter() {
-        let sequent = sequent(alloc, &program, *hypotheses, *goal)?;
-        checks_each(&rt, alloc, &sequent, *first, *cases)?;
+    for sheet in SHEETS.iter() {
+        checks_each(&rt, alloc, &program, sheet)?;
     }
     Ok(())
+}
+
+/// Whether these are the literals, in this order.
+fn are_literals(alloc: Global, found: &[Lit], wanted: &[Signed]) -> Result<bool, Fail> {
+    let wanted = literals(alloc, wanted)?;
+    Ok(found == wanted.as_slice())
+}
+
+/// Whether the checker takes the line.
+fn takes(alloc: Global, checker: &mut Checker, line: Line) -> Result<bool, Fail> {
+    let step = step(alloc, line)?;
+    Ok(checker.take(&step).is_ok())
+}
+
+/// Whether the last clause is of these literals.
+fn ends_with(alloc: Global, checker: &Checker, wanted: &[Signed]) -> Result<bool, Fail> {
+    match checker.clauses.last() {
+        Some(clause) => are_literals(alloc, clause.as_slice(), wanted),
+        None => Ok(false),
+    }
+}
+
+/// Whether the checker takes the line, and its clause is this one.
+fn adds(alloc: Global, checker: &mut Checker, line: Line, added: &[Signed]) -> Result<bool, Fail> {
+    if !takes(alloc, checker, line)? {
+        return Ok(false);
+    }
+    ends_with(alloc, checker, added)
+}
+
+/// Each line adds its clause. This is how many nodes there are then.
+fn adds_each(rt: &impl Abort, alloc: Global, sequent: &Sequent) -> Result<usize, Fail> {
+    let mut checker = Checker::new(alloc, sequent)?;
+    for (number, (line, added)) in ADDED.iter().enumerate() {
+        assert!(rt; adds(alloc, &mut checker, *line, *added)?, "at {number}");
+    }
+    Ok(checker.nodes.len())
 }
 
 #[test]
@@ -577,16 +629,35 @@ fn adds_clauses(rt: HostRuntime) -> Result<(), Fail> {
     let alloc = rt.alloc();
     let program = program(alloc)?;
     let sequent = sequent(alloc, &program, &[], &EACH)?;
-    let mut checker = Checker::new(alloc, &sequent)?;
-    for (number, (line, added)) in ADDED.iter().enumerate() {
-        let step = step(alloc, *line)?;
-        assert_eq!(rt; checker.take(&step), Ok(()), "at {number}");
-        let expected = literals(alloc, *added)?;
-        let clause = checker.clauses.last().ok_or("a clause")?;
-        assert_eq!(rt; clause.as_slice(), expected.as_slice(), "at {number}");
-    }
-    assert_eq!(rt; checker.nodes.len(), 26);
+    assert_eq!(rt; adds_each(&rt, alloc, &sequent)?, 26);
     Ok(())
+}
+
+/// A hypothesis, and what follows from it alone.
+const REPEATED: [Line; 2] = [Line::H(0), Line::U(&[0], &[(true, 0)])];
+
+/// Whether the checker takes all steps.
+fn takes_all(checker: &mut Checker, steps: &[Step]) -> bool {
+    for step in steps {
+        if checker.take(step).is_err() {
+            return false;
+        }
+    }
+    true
+}
+
+/// What the kernel says where the log ends after ten thousand times these lines.
+fn end_of_repeated(
+    rt: &impl Abort,
+    alloc: Global,
+    sequent: &Sequent,
+) -> Result<Option<KernFault>, Fail> {
+    let steps = steps(alloc, &REPEATED, &[])?;
+    let mut checker = Checker::new(alloc, sequent)?;
+    for _ in 0..10_000 {
+        assert!(rt; takes_all(&mut checker, &steps));
+    }
+    Ok(checker.finish().err())
 }
 
 #[test]
@@ -594,38 +665,38 @@ fn takes_twenty_thousand_lines(rt: HostRuntime) -> Result<(), Fail> {
     let alloc = rt.alloc();
     let program = program(alloc)?;
     let sequent = sequent(alloc, &program, MODUS_PONENS, &[(Q, 0)])?;
-    let hypothesis = step(alloc, Line::H(0))?;
-    let propagation = step(alloc, Line::U(&[0], &[(true, 0)]))?;
-    let mut checker = Checker::new(alloc, &sequent)?;
-    for _ in 0..10_000 {
-        assert_eq!(rt; checker.take(&hypothesis), Ok(()));
-        assert_eq!(rt; checker.take(&propagation), Ok(()));
-    }
-    let unfinished = KernFault::Refused {
-        at: 20_001,
-        broken: 0,
-    };
-    assert_eq!(rt; checker.finish(), Err(unfinished));
+    let found = end_of_repeated(&rt, alloc, &sequent)?;
+    assert_eq!(rt; found, refused_at(Some((20_001, 0))));
     Ok(())
 }
 
-/// x is i8 is 1, and its negation 2. -128 becomes 3, -128 <= x 4, 127 5, and x <= 127 6.
+/// x, that it is i8, and the negation of this. -128 becomes 3, -128 <= x 4, 127 5, and x <= 127 6.
+const NO_I8: [Plain; 3] = [(X, &[]), (I8, &[0]), (Op::Not, &[1])];
+
+/// Whether the last clause of what i8 means, for node 1, is of these literals, and four nodes are made for it.
+fn is_type_clause(alloc: Global, world: World, wanted: &[Signed]) -> Result<bool, Fail> {
+    let mut nodes = nodes(alloc, &NO_I8)?;
+    let clause = instance(alloc, world, &mut nodes, 74, 2, &[1])?;
+    let is_wanted = are_literals(alloc, clause.as_slice(), wanted)?;
+    Ok(is_wanted && nodes.len() == 7)
+}
+
 #[test]
-fn gives_clauses_of_types_and_connectives(rt: HostRuntime) -> Result<(), Fail> {
+fn gives_clauses_of_types(rt: HostRuntime) -> Result<(), Fail> {
     let alloc = rt.alloc();
     let program = program(alloc)?;
-    let goal = [(X, 0), (I8, 1), (Op::Not, 1)];
-    let sequent = sequent(alloc, &program, &[], &goal)?;
-    let mut nodes = sequent.nodes.copy(alloc)?;
-    let clause = instance(alloc, sequent.world, &mut nodes, 74, 2, &[1])?;
-    let expected = literals(alloc, &[(true, 1), (false, 4), (false, 6)])?;
-    assert_eq!(rt; clause.as_slice(), expected.as_slice());
-    let other = instance(alloc, sequent.world, &mut nodes, 74, 3, &[1]);
-    assert_eq!(rt; (other.err(), nodes.len()), (Some(AxiomFault::NoSuch), 7));
+    let world = World { program: &program };
+    let wanted = [(true, 1), (false, 4), (false, 6)];
+    assert!(rt; is_type_clause(alloc, world, &wanted)?);
+    Ok(())
+}
+
+#[test]
+fn gives_clauses_of_connectives(rt: HostRuntime) -> Result<(), Fail> {
+    let alloc = rt.alloc();
+    let mut nodes = nodes(alloc, &NO_I8)?;
     let clause = connective(alloc, &mut nodes, 2, 1)?;
-    let expected = literals(alloc, &[(true, 2), (true, 1)])?;
-    assert_eq!(rt; clause.as_slice(), expected.as_slice());
-    let other = connective(alloc, &mut nodes, 2, 2);
-    assert_eq!(rt; (other.err(), nodes.len()), (Some(AxiomFault::NoSuch), 7));
+    let wanted = [(true, 2), (true, 1)];
+    assert!(rt; are_literals(alloc, clause.as_slice(), &wanted)?);
     Ok(())
 }

@@ -1,4 +1,4 @@
-//! Tests of sequents, the kernel, linear arithmetic and logs, as tables against their public calls. The crate
+//! Tests of sequents, the kernel, eliminations and logs, as tables against their public calls. The crate
 //! holds nothing else.
 #![tactic(auto)]
 
@@ -8,8 +8,6 @@ mod eliminations;
 mod integers;
 #[cfg(test)]
 mod kernel;
-#[cfg(test)]
-mod levels;
 #[cfg(test)]
 mod logs;
 #[cfg(test)]

@@ -2,7 +2,7 @@
 
 use df_cases::{P, Plain, Signed, Sum, X, combinations, literals, nodes};
 use df_form::{Lit, Nodes, Op};
-use df_row::{RowFault, is_linear, rows_of_literals};
+use df_row::{Row, RowFault, is_linear, rows_of_literals};
 use std::alloc::Global;
 use std::test::Fail;
 
@@ -112,36 +112,54 @@ const COMBINATIONS: [(&[Signed], &[Sum], bool); 23] = [
     ),
 ];
 
+/// Whether the combinations refute the negation of the clause.
+fn refute(alloc: Global, nodes: &Nodes, clause: &[Signed], sums: &[Sum]) -> Result<bool, Fail> {
+    let literals = literals(alloc, clause)?;
+    let combinations = combinations(alloc, sums)?;
+    Ok(is_linear(alloc, nodes, &literals, &combinations)?)
+}
+
 #[test]
 fn refutes_by_combinations(rt: HostRuntime) -> Result<(), Fail> {
     let alloc = rt.alloc();
     let nodes = nodes(alloc, &NODES)?;
-    for (number, (signed, sums, refute)) in COMBINATIONS.iter().enumerate() {
-        let literals = literals(alloc, *signed)?;
-        let combinations = combinations(alloc, *sums)?;
-        let found = is_linear(alloc, &nodes, &literals, &combinations)?;
-        assert_eq!(rt; found, *refute, "at {number}");
+    for (number, (clause, sums, wanted)) in COMBINATIONS.iter().enumerate() {
+        let found = refute(alloc, &nodes, *clause, *sums)?;
+        assert_eq!(rt; found, *wanted, "at {number}");
     }
     Ok(())
 }
 
-/// The coefficient of x in each row, and the constant.
-fn rows_of(
+/// Whether the row has this coefficient of x, and this constant.
+fn is_row(row: &Row, wanted: (Option<i128>, i128)) -> bool {
+    let (coefficient, constant) = wanted;
+    row.coefficients().get(&0).copied() == coefficient && row.constant() == constant
+}
+
+fn are_rows(rows: &[Row], wanted: &[(Option<i128>, i128)]) -> bool {
+    if rows.len() != wanted.len() {
+        return false;
+    }
+    for (row, wanted) in rows.iter().zip(wanted) {
+        if !is_row(row, *wanted) {
+            return false;
+        }
+    }
+    true
+}
+
+/// Whether the literals have these rows, or a number of one is past 128 bits where there are none.
+fn have_rows(
     alloc: Global,
     nodes: &Nodes,
     literals: &[Lit],
-) -> Result<Option<Vec<(Option<i128>, i128)>>, Fail> {
-    let rows = match rows_of_literals(alloc, nodes, literals) {
-        Ok(rows) => rows,
-        Err(RowFault::Refused) => return Ok(None),
-        Err(RowFault::Memory) => return Err(Fail::new("memory")),
-    };
-    let mut found = Vec::new(alloc);
-    for row in &rows {
-        let coefficient = row.coefficients().get(&0).copied();
-        found.push((coefficient, row.constant()))?;
+    wanted: Option<&[(Option<i128>, i128)]>,
+) -> bool {
+    match (rows_of_literals(alloc, nodes, literals), wanted) {
+        (Ok(rows), Some(wanted)) => are_rows(&rows, wanted),
+        (Err(fault), None) => matches!(fault, RowFault::Refused),
+        _ => false,
     }
-    Ok(Some(found))
 }
 
 #[test]
@@ -149,15 +167,9 @@ fn finds_rows_of_literals(rt: HostRuntime) -> Result<(), Fail> {
     let alloc = rt.alloc();
     let nodes = nodes(alloc, &NODES)?;
     for (number, (signed, wanted)) in ROWS.iter().enumerate() {
-        let found = rows_of(alloc, &nodes, &literals(alloc, *signed)?)?;
-        match (found, wanted) {
-            (Some(found), Some(wanted)) => {
-                assert_eq!(rt; found.as_slice(), *wanted, "at {number}");
-            }
-            (found, wanted) => {
-                assert!(rt; found.is_none() && wanted.is_none(), "at {number}");
-            }
-        }
+        let literals = literals(alloc, *signed)?;
+        let is_right = have_rows(alloc, &nodes, &literals, *wanted);
+        assert!(rt; is_right, "at {number}");
     }
     Ok(())
 }

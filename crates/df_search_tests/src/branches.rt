@@ -4,6 +4,7 @@ use df_axiom::Written;
 use df_branch::{Leaf, ground_sets_are_places, leaf_at};
 use df_cases::{P, Q, Terms, X, Y, program, sequent};
 use df_form::{Op, Sequent};
+use df_lang::Program;
 use df_trig::{instances, instances_are_ground};
 use std::alloc::Global;
 use std::test::Fail;
@@ -100,14 +101,25 @@ fn word(leaf: &Leaf) -> &'static str {
     }
 }
 
+/// The word for what comes next at the empty branch of the search for the goal.
+fn next(
+    alloc: Global,
+    program: &Program,
+    hypotheses: &[Terms],
+    goal: Terms,
+) -> Result<&'static str, Fail> {
+    let sequent = sequent(alloc, program, hypotheses, goal)?;
+    let leaf = end(alloc, &sequent)?;
+    Ok(word(&leaf))
+}
+
 #[test]
 fn ends_as_told(rt: HostRuntime) -> Result<(), Fail> {
     let alloc = rt.alloc();
     let program = program(alloc)?;
     for (case, (hypotheses, goal, wanted)) in CASES.iter().enumerate() {
-        let sequent = sequent(alloc, &program, *hypotheses, *goal)?;
-        let leaf = end(alloc, &sequent)?;
-        assert_eq!(rt; word(&leaf), *wanted, "at {case}");
+        let word = next(alloc, &program, *hypotheses, *goal)?;
+        assert_eq!(rt; word, *wanted, "at {case}");
     }
     Ok(())
 }

@@ -1,13 +1,12 @@
 //! Searches that end without a model: with a proof of few branches, as many closed branches as there may be, a
-//! number past 128 bits, or too many instances.
+//! number past 128 bits, or too many instances or rows.
 
-use df_cases::{Terms, X, Z, assume, conclude, program};
+use crate::endings::{Ending, ending_of, search_to};
+use df_cases::{Terms, X, Y, Z, assume, conclude, program, sequent};
 use df_form::{Draft, Free, Op, Sequent, Sort, World};
-use df_kern::check;
 use df_lang::Program;
-use df_search::{Budget, Found, What, search};
+use df_search::{Found, What};
 use std::alloc::Global;
-use std::process::Abort;
 use std::test::Fail;
 
 /// The atoms a, b and another one.
@@ -45,19 +44,17 @@ const CLAUSES: [Terms; 4] = [
 /// How many clauses speak of atoms of their own.
 const PAIRS: usize = 6;
 
-fn search_to(alloc: Global, sequent: &Sequent, steps: u64, rounds: u32) -> Result<Found, Fail> {
-    if steps == 0 {
-        return Err(Fail::new("no steps"));
+fn assume_all(draft: &mut Draft, hypotheses: &[Terms]) -> Result<(), Fail> {
+    for hypothesis in hypotheses {
+        assume(draft, *hypothesis)?;
     }
-    Ok(search(alloc, sequent, Budget { steps, rounds })?)
+    Ok(())
 }
 
 /// The clauses of a and b, and as many of two atoms each of their own, with another atom as goal.
-fn beside_pairs<'a>(alloc: Global, program: &'a Program) -> Result<Sequent<'a>, Fail> {
+pub(crate) fn beside_pairs<'a>(alloc: Global, program: &'a Program) -> Result<Sequent<'a>, Fail> {
     let mut draft = Draft::new(alloc, World { program });
-    for clause in CLAUSES.iter() {
-        assume(&mut draft, *clause)?;
-    }
+    assume_all(&mut draft, &CLAUSES)?;
     for pair in 0..PAIRS {
         let first = atom(20 + pair);
         let second = atom(40 + pair);
@@ -66,16 +63,78 @@ fn beside_pairs<'a>(alloc: Global, program: &'a Program) -> Result<Sequent<'a>, 
     conclude(alloc, &mut draft, &[(OTHER, 0)])
 }
 
+/// How the search in 16 steps without rounds of instances ends.
+fn pairs_end(alloc: Global, program: &Program) -> Result<Ending, Fail> {
+    let sequent = beside_pairs(alloc, program)?;
+    ending_of(alloc, &sequent, 16, 0)
+}
+
 #[test]
 fn proves_beside_other_clauses(rt: HostRuntime) -> Result<(), Fail> {
     let alloc = rt.alloc();
     let program = program(alloc)?;
-    let sequent = beside_pairs(alloc, &program)?;
-    let Found::Proved(log) = search_to(alloc, &sequent, 16, 0)? else {
-        return Err(Fail::new("no proof"));
-    };
-    assert!(rt; check(alloc, &sequent, &log).is_ok());
+    assert_eq!(rt; pairs_end(alloc, &program)?, Ending::Proved);
     Ok(())
+}
+
+/// Why a search stops, with how many branches are closed, and how many literals the branch has that is left.
+#[derive(Clone, Copy)]
+enum Stop {
+    Proved,
+    Modelled,
+    Spent(usize),
+    Wide {
+        closed: usize,
+        branch: usize,
+    },
+    /// So many instances.
+    Instances(u64),
+    /// So many rows.
+    Rows {
+        count: u64,
+        closed: usize,
+        branch: usize,
+    },
+}
+
+fn stop_of(found: &Found) -> Stop {
+    match found {
+        Found::Proved { .. } => Stop::Proved,
+        Found::Modelled(_) => Stop::Modelled,
+        Found::Spent(branches) => Stop::Spent(branches.len()),
+        Found::Wide { closed, branch } => Stop::Wide {
+            closed: closed.len(),
+            branch: branch.len(),
+        },
+        Found::Many(What::Instances(count)) => Stop::Instances(*count),
+        Found::Many(
+            What::Rows {
+                count,
+                closed,
+                branch,
+            },
+        ) => Stop::Rows {
+            count: *count,
+            closed: closed.len(),
+            branch: branch.len(),
+        },
+    }
+}
+
+fn stop_within(alloc: Global, sequent: &Sequent, steps: u64, rounds: u32) -> Result<Stop, Fail> {
+    let found = search_to(alloc, sequent, steps, rounds)?;
+    Ok(stop_of(&found))
+}
+
+/// Why the search stops under these hypotheses, with another atom as goal.
+fn stop_under(
+    alloc: Global,
+    program: &Program,
+    hypotheses: &[Terms],
+    steps: u64,
+) -> Result<Stop, Fail> {
+    let sequent = sequent(alloc, program, hypotheses, &[(OTHER, 0)])?;
+    stop_within(alloc, &sequent, steps, 0)
 }
 
 /// x and the greatest number are at most -2 together, which no number of 128 bits shows.
@@ -102,33 +161,23 @@ const GUARDED: [Terms; 3] = [
     ],
 ];
 
-fn of_hypotheses<'a>(
-    alloc: Global,
-    program: &'a Program,
-    hypotheses: &[Terms],
-) -> Result<Sequent<'a>, Fail> {
-    let mut draft = Draft::new(alloc, World { program });
-    for hypothesis in hypotheses {
-        assume(&mut draft, *hypothesis)?;
-    }
-    conclude(alloc, &mut draft, &[(OTHER, 0)])
-}
-
+/// The first branch is closed, and that is all it may close.
 #[test]
 fn tells_of_closed_branches(rt: HostRuntime) -> Result<(), Fail> {
     let alloc = rt.alloc();
     let program = program(alloc)?;
-    let sequent = of_hypotheses(alloc, &program, &GUARDED)?;
-    // the first branch is closed, and that is all it may close
-    let Found::Spent(branches) = search_to(alloc, &sequent, 1, 0)? else {
-        return Err(Fail::new("other evidence"));
-    };
-    assert_eq!(rt; branches.len(), 1);
-    // with another one it comes to the number
-    let Found::Wide { closed, .. } = search_to(alloc, &sequent, 2, 0)? else {
-        return Err(Fail::new("other evidence"));
-    };
-    assert_eq!(rt; closed.len(), 1);
+    let stop = stop_under(alloc, &program, &GUARDED, 1)?;
+    assert!(rt; matches!(stop, Stop::Spent(1)));
+    Ok(())
+}
+
+/// With another one it comes to the number.
+#[test]
+fn tells_of_wide_numbers_past_a_closed_branch(rt: HostRuntime) -> Result<(), Fail> {
+    let alloc = rt.alloc();
+    let program = program(alloc)?;
+    let stop = stop_under(alloc, &program, &GUARDED, 2)?;
+    assert!(rt; matches!(stop, Stop::Wide { closed: 1, .. }));
     Ok(())
 }
 
@@ -136,12 +185,16 @@ fn tells_of_closed_branches(rt: HostRuntime) -> Result<(), Fail> {
 fn tells_of_wide_numbers(rt: HostRuntime) -> Result<(), Fail> {
     let alloc = rt.alloc();
     let program = program(alloc)?;
-    let sequent = of_hypotheses(alloc, &program, &[PAST])?;
-    let Found::Wide { closed, branch } = search_to(alloc, &sequent, 1, 0)? else {
-        return Err(Fail::new("other evidence"));
-    };
-    assert_eq!(rt; closed.len(), 0);
-    assert_eq!(rt; branch.len(), 0);
+    let stop = stop_under(alloc, &program, &[PAST], 1)?;
+    assert!(rt;
+        matches!(
+            stop,
+            Stop::Wide {
+                closed: 0,
+                branch: 0
+            }
+        )
+    );
     Ok(())
 }
 
@@ -149,7 +202,7 @@ fn tells_of_wide_numbers(rt: HostRuntime) -> Result<(), Fail> {
 const PRODUCT_COUNT: u16 = 450;
 
 /// Products that are compared with z.
-fn compared<'a>(alloc: Global, program: &'a Program) -> Result<Sequent<'a>, Fail> {
+pub(crate) fn compared<'a>(alloc: Global, program: &'a Program) -> Result<Sequent<'a>, Fail> {
     let mut draft = Draft::new(alloc, World { program });
     for factor in 0..PRODUCT_COUNT {
         let terms = [
@@ -164,18 +217,103 @@ fn compared<'a>(alloc: Global, program: &'a Program) -> Result<Sequent<'a>, Fail
     conclude(alloc, &mut draft, &[(OTHER, 0)])
 }
 
+fn stop_of_compared(alloc: Global, program: &Program, rounds: u32) -> Result<Stop, Fail> {
+    let sequent = compared(alloc, program)?;
+    stop_within(alloc, &sequent, 1, rounds)
+}
+
+#[test]
+fn models_products_without_rounds(rt: HostRuntime) -> Result<(), Fail> {
+    let alloc = rt.alloc();
+    let program = program(alloc)?;
+    let stop = stop_of_compared(alloc, &program, 0)?;
+    assert!(rt; matches!(stop, Stop::Modelled));
+    Ok(())
+}
+
 #[test]
 fn tells_of_too_many_instances(rt: HostRuntime) -> Result<(), Fail> {
     let alloc = rt.alloc();
     let program = program(alloc)?;
-    let sequent = compared(alloc, &program)?;
-    // without rounds there is a model
-    let Found::Modelled(_) = search_to(alloc, &sequent, 1, 0)? else {
-        return Err(Fail::new("no model"));
-    };
-    let Found::Many(What::Instances(count)) = search_to(alloc, &sequent, 1, 1)? else {
-        return Err(Fail::new("other evidence"));
-    };
-    assert_eq!(rt; count, 200_000);
+    let stop = stop_of_compared(alloc, &program, 1)?;
+    assert!(rt; matches!(stop, Stop::Instances(200_000)));
+    Ok(())
+}
+
+/// The greatest number is at most y, and y is below x.
+const BEYOND: [Terms; 2] = [
+    &[(Op::Number(i128::MAX), 0), (Y, 0), (Op::AtMost, 2)],
+    &[
+        (Y, 0),
+        (Op::Number(1), 0),
+        (Op::Plus, 2),
+        (X, 0),
+        (Op::AtMost, 2),
+    ],
+];
+
+/// How many numbers bound z from below,
+const LOWER_COUNT: u16 = 225;
+
+/// and how many from above.
+const UPPER_COUNT: u16 = 223;
+
+/// z + i is at least 0 for so many numbers i.
+fn bound_below(draft: &mut Draft) -> Result<(), Fail> {
+    for number in 0..LOWER_COUNT {
+        let more = Op::Number(i128::from(number));
+        let terms = [
+            (Op::Number(0), 0),
+            (Z, 0),
+            (more, 0),
+            (Op::Plus, 2),
+            (Op::AtMost, 2),
+        ];
+        assume(draft, &terms)?;
+    }
+    Ok(())
+}
+
+/// z is at most so many multiples of 1,000.
+fn bound_above(draft: &mut Draft) -> Result<(), Fail> {
+    for number in 0..UPPER_COUNT {
+        let bound = Op::Number(i128::from(number) * 1000);
+        assume(draft, &[(Z, 0), (bound, 0), (Op::AtMost, 2)])?;
+    }
+    Ok(())
+}
+
+/// z is bounded so, and x is past all numbers of 128 bits, so no table is found.
+fn bounded<'a>(alloc: Global, program: &'a Program) -> Result<Sequent<'a>, Fail> {
+    let mut draft = Draft::new(alloc, World { program });
+    bound_below(&mut draft)?;
+    bound_above(&mut draft)?;
+    assume_all(&mut draft, &BEYOND)?;
+    conclude(alloc, &mut draft, &[(OTHER, 0)])
+}
+
+fn stop_of_bounded(alloc: Global, program: &Program) -> Result<Stop, Fail> {
+    let sequent = bounded(alloc, program)?;
+    stop_within(alloc, &sequent, 1, 0)
+}
+
+/// z comes first among the nodes, so it is eliminated first: each of the 225 rows 0 <= z + i and each of the 223 rows
+/// 0 <= 1000 * j - z give the row 0 <= i + 1000 * j. No two of these 50,175 rows are equal, and none is false; the
+/// rows of x and y stay. So the level comes to its limit at the empty branch.
+#[test]
+fn tells_of_too_many_rows(rt: HostRuntime) -> Result<(), Fail> {
+    let alloc = rt.alloc();
+    let program = program(alloc)?;
+    let stop = stop_of_bounded(alloc, &program)?;
+    assert!(rt;
+        matches!(
+            stop,
+            Stop::Rows {
+                count: 50_000,
+                closed: 0,
+                branch: 0
+            }
+        )
+    );
     Ok(())
 }

@@ -5,12 +5,12 @@ use df_cases::{
     BYTE, CHAR, I8, INT, NAT, P, Q, Signed, Terms, UNDECLARED, X, Y, assume, conclude, program,
     sequent,
 };
-use df_clause::{GroundClause, clauses};
-use df_form::{Draft, Op, Sequent, World};
+use df_clause::{Ground, GroundClause, clauses};
+use df_form::{Draft, Lit, Nodes, Op, Sequent, World};
 use df_kern::Checker;
+use df_lang::Program;
 use df_trig::instances;
 use std::alloc::Global;
-use std::process::Abort;
 use std::test::Fail;
 
 /// The literals of a clause, and what it is bound to.
@@ -168,81 +168,100 @@ const SHEETS: [Sheet; 7] = [
     ),
 ];
 
-fn is_listed(clause: &GroundClause, listed: Listed) -> bool {
-    let (literals, bound) = listed;
-    clause.bound == bound
-        && clause.literals.len() == literals.len()
-        && literals.iter().zip(clause.literals.iter()).all(|(signed, literal)| signed.0
-            == literal.positive
+/// Whether these are the literals, in this order.
+pub(crate) fn are_literals(literals: &[Lit], signed: &[Signed]) -> bool {
+    literals.len() == signed.len()
+        && signed.iter().zip(literals.iter()).all(|(signed, literal)| signed.0 == literal.positive
             && signed.1 == literal.node)
 }
 
-/// The kernel takes the lines of a ground set, and makes so many nodes.
-fn are_lines(
-    rt: &impl Abort,
-    alloc: Global,
-    sequent: &Sequent,
-    count: usize,
-    made: usize,
-) -> Result<(), Fail> {
-    let set = instances(alloc, sequent, &Written {}, 1).map_err(|_| "refused")?;
-    assert_eq!(rt; set.lines.len(), count);
-    let mut checker = Checker::new(alloc, sequent)?;
-    for line in &set.lines {
-        assert_eq!(rt; checker.take(line), Ok(()));
-    }
-    assert_eq!(rt; checker.nodes.len(), made);
-    Ok(())
+fn is_listed(clause: &GroundClause, listed: Listed) -> bool {
+    let (literals, bound) = listed;
+    clause.bound == bound && are_literals(&clause.literals, literals)
 }
 
-fn is_as_listed(
-    rt: &impl Abort,
-    alloc: Global,
-    sequent: &Sequent,
-    sheet: Sheet,
-) -> Result<(), Fail> {
+/// Whether these are the clauses, in this order.
+fn are_listed(clauses: &[GroundClause], listed: &[Listed]) -> bool {
+    for (clause, wanted) in clauses.iter().zip(listed) {
+        if !is_listed(clause, *wanted) {
+            return false;
+        }
+    }
+    clauses.len() == listed.len()
+}
+
+/// Whether these nodes are these numbers.
+fn are_numbers(nodes: &Nodes, numbers: &[(usize, i128)]) -> bool {
+    for (node, value) in numbers {
+        let Some(made) = nodes.get(*node) else {
+            return false;
+        };
+        if made.op != Op::Number(*value) {
+            return false;
+        }
+    }
+    true
+}
+
+/// Whether a ground set has a line for each clause, and the kernel takes these and makes its nodes.
+pub(crate) fn has_lines(alloc: Global, sequent: &Sequent, set: &Ground) -> Result<bool, Fail> {
+    let mut checker = Checker::new(alloc, sequent)?;
+    for line in &set.lines {
+        if checker.take(line).is_err() {
+            return Ok(false);
+        }
+    }
+    Ok(set.lines.len() == set.clauses.len() && checker.nodes.len() == set.nodes.len())
+}
+
+fn is_as_listed(alloc: Global, sequent: &Sequent, sheet: Sheet) -> Result<bool, Fail> {
     let (_, _, clauses, made, numbers) = sheet;
     let set = instances(alloc, sequent, &Written {}, 1).map_err(|_| "refused")?;
-    assert_eq!(rt; set.nodes.len(), made);
-    assert_eq!(rt; set.clauses.len(), clauses.len());
-    for (number, (clause, listed)) in set.clauses.as_slice().iter().zip(clauses).enumerate() {
-        assert!(rt; is_listed(clause, *listed), "at {number}");
-    }
-    for (node, value) in numbers {
-        let made = set.nodes.get(*node).ok_or("a number")?;
-        assert!(rt; made.op == Op::Number(*value), "at {node}");
-    }
-    are_lines(rt, alloc, sequent, clauses.len(), made)
+    let has_clauses = are_listed(set.clauses.as_slice(), clauses);
+    let has_numbers = set.nodes.len() == made && are_numbers(&set.nodes, numbers);
+    let has_lines = has_lines(alloc, sequent, &set)?;
+    Ok(has_clauses && has_numbers && has_lines)
+}
+
+/// Whether the ground set of a sheet's sequent is as it says.
+fn is_met(alloc: Global, program: &Program, sheet: Sheet) -> Result<bool, Fail> {
+    let (hypotheses, goal, ..) = sheet;
+    let sequent = sequent(alloc, program, hypotheses, goal)?;
+    is_as_listed(alloc, &sequent, sheet)
 }
 
 #[test]
 fn lists_clauses(rt: HostRuntime) -> Result<(), Fail> {
     let alloc = rt.alloc();
     let program = program(alloc)?;
-    for sheet in SHEETS.iter() {
-        let (hypotheses, goal, ..) = *sheet;
-        let sequent = sequent(alloc, &program, hypotheses, goal)?;
-        is_as_listed(&rt, alloc, &sequent, *sheet)?;
+    for (number, sheet) in SHEETS.iter().enumerate() {
+        assert!(rt; is_met(alloc, &program, *sheet)?, "at {number}");
     }
     Ok(())
 }
 
-/// How many clauses there are for the hypothesis p so many times, and the goal q.
-fn repeated(rt: &impl Abort, alloc: Global, count: usize) -> Result<usize, Fail> {
-    let program = program(alloc)?;
-    let world = World { program: &program };
-    let mut draft = Draft::new(alloc, world);
+/// The hypothesis p so many times, and the goal q.
+fn repeated<'a>(alloc: Global, program: &'a Program, count: usize) -> Result<Sequent<'a>, Fail> {
+    let mut draft = Draft::new(alloc, World { program });
     for _ in 0..count {
         assume(&mut draft, &[(P, 0)])?;
     }
-    let sequent = conclude(alloc, &mut draft, &[(Q, 0)])?;
-    Ok(clauses(alloc, &sequent)?.clauses.len())
+    conclude(alloc, &mut draft, &[(Q, 0)])
+}
+
+/// How many clauses there are for it.
+fn clause_count(alloc: Global, program: &Program, count: usize) -> Result<usize, Fail> {
+    let sequent = repeated(alloc, program, count)?;
+    let set = clauses(alloc, &sequent)?;
+    Ok(set.clauses.len())
 }
 
 #[test]
 fn counts_equal_clauses_once(rt: HostRuntime) -> Result<(), Fail> {
     let alloc = rt.alloc();
-    assert_eq!(rt; repeated(&rt, alloc, 1)?, 2);
-    assert_eq!(rt; repeated(&rt, alloc, 1_000)?, 2);
+    let program = program(alloc)?;
+    for count in [1, 1_000] {
+        assert_eq!(rt; clause_count(alloc, &program, count)?, 2, "at {count}");
+    }
     Ok(())
 }

@@ -7,6 +7,10 @@ mod branches;
 #[cfg(test)]
 mod closures;
 #[cfg(test)]
+mod conflicts;
+#[cfg(test)]
+mod endings;
+#[cfg(test)]
 mod evidence;
 #[cfg(test)]
 mod grounds;

@@ -1,25 +1,11 @@
 //! Searches for proofs of sequents with products, quotients, remainders and characters.
 
-use df_axiom::Written;
+use crate::endings::{Ending, ending_of};
 use df_cases::{P, Terms, X, Y, Z, program, sequent};
-use df_form::{Op, Sequent};
-use df_kern::check;
-use df_search::{Budget, Found, search};
-use df_table::is_model;
-use df_trig::instances;
+use df_form::Op;
+use df_lang::Program;
 use std::alloc::Global;
-use std::process::Abort;
 use std::test::Fail;
-
-/// How a search ends.
-#[derive(Clone, Copy, Debug, PartialEq, Eq)]
-enum Ending {
-    Proved,
-    Modelled,
-    Spent,
-    Wide,
-    Many,
-}
 
 /// A sequent's hypotheses and goal, how many rounds of instances there may be, and how the search ends.
 type Case<'a> = (&'a [Terms<'a>], Terms<'a>, u32, Ending);
@@ -218,29 +204,16 @@ const TURNED: Terms = &[
     (Op::Equal, 2),
 ];
 
-/// How a search ends, where the kernel takes its log, and its table is a model.
-fn end(rt: &impl Abort, alloc: Global, sequent: &Sequent, rounds: u32) -> Result<Ending, Fail> {
-    let budget = Budget {
-        steps: 1000,
-        rounds,
-    };
-    Ok(match search(alloc, sequent, budget)? {
-        Found::Proved(log) => {
-            assert!(rt; check(alloc, sequent, &log).is_ok());
-            Ending::Proved
-        }
-        Found::Modelled(table) => {
-            let set = instances(alloc, sequent, &Written {}, rounds).map_err(|_| "refused")?;
-            assert!(rt; is_model(&set, &table));
-            Ending::Modelled
-        }
-        Found::Spent(_branches) => Ending::Spent,
-        Found::Wide {
-            closed: _closed,
-            branch: _branch,
-        } => Ending::Wide,
-        Found::Many(_what) => Ending::Many,
-    })
+/// How the search of a thousand steps ends.
+fn end(
+    alloc: Global,
+    program: &Program,
+    hypotheses: &[Terms],
+    goal: Terms,
+    rounds: u32,
+) -> Result<Ending, Fail> {
+    let sequent = sequent(alloc, program, hypotheses, goal)?;
+    ending_of(alloc, &sequent, 1000, rounds)
 }
 
 #[test]
@@ -248,8 +221,8 @@ fn searches_with_operations(rt: HostRuntime) -> Result<(), Fail> {
     let alloc = rt.alloc();
     let program = program(alloc)?;
     for (case, (hypotheses, goal, rounds, wanted)) in CASES.iter().enumerate() {
-        let sequent = sequent(alloc, &program, *hypotheses, *goal)?;
-        assert_eq!(rt; end(&rt, alloc, &sequent, *rounds)?, *wanted, "at {case}");
+        let answer = end(alloc, &program, *hypotheses, *goal, *rounds)?;
+        assert_eq!(rt; answer, *wanted, "at {case}");
     }
     Ok(())
 }

@@ -1,10 +1,12 @@
 //! Rounds of instances by hand.
 
+use crate::evidence::compared;
+use crate::grounds::has_lines;
 use df_axiom::{AxiomFault, Schemas, Written, instance};
-use df_cases::{BYTE, I8, Terms, X, Y, Z, assume, conclude, program, sequent};
-use df_clause::clauses;
-use df_form::{Draft, Lit, Nodes, Op, Term, World};
-use df_kern::Checker;
+use df_cases::{BYTE, I8, Terms, X, Y, Z, program, sequent};
+use df_clause::{Ground, clauses};
+use df_form::{Lit, Nodes, Op, Sequent, Term, World};
+use df_lang::Program;
 use df_trig::{TrigFault, instances, round};
 use std::alloc::Global;
 use std::test::Fail;
@@ -57,21 +59,34 @@ const CASES: [Case; 7] = [
     (&[], PRODUCTS, 1, 15, 9),
 ];
 
+/// How many clauses there are after so many rounds, and how many are bound to no equality.
+fn counts(alloc: Global, sequent: &Sequent, rounds: u32) -> Result<(usize, usize), Fail> {
+    let set = instances(alloc, sequent, &Written {}, rounds).map_err(|_| "refused")?;
+    if !has_lines(alloc, sequent, &set)? {
+        return Err(Fail::new("the lines are others"));
+    }
+    Ok((set.clauses.len(), set.clauses.instance_count()))
+}
+
+/// The same for these hypotheses and this goal.
+fn case_counts(
+    alloc: Global,
+    program: &Program,
+    hypotheses: &[Terms],
+    goal: Terms,
+    rounds: u32,
+) -> Result<(usize, usize), Fail> {
+    let sequent = sequent(alloc, program, hypotheses, goal)?;
+    counts(alloc, &sequent, rounds)
+}
+
 #[test]
 fn adds_each_match_once(rt: HostRuntime) -> Result<(), Fail> {
     let alloc = rt.alloc();
     let program = program(alloc)?;
     for (case, (hypotheses, goal, rounds, count, instance_count)) in CASES.iter().enumerate() {
-        let sequent = sequent(alloc, &program, *hypotheses, *goal)?;
-        let set = instances(alloc, &sequent, &Written {}, *rounds).map_err(|_| "refused")?;
-        assert_eq!(rt; set.clauses.len(), *count, "at {case}");
-        assert_eq!(rt; set.clauses.instance_count(), *instance_count, "at {case}");
-        assert_eq!(rt; set.lines.len(), *count, "at {case}");
-        let mut checker = Checker::new(alloc, &sequent)?;
-        for line in &set.lines {
-            assert_eq!(rt; checker.take(line), Ok(()));
-        }
-        assert_eq!(rt; checker.nodes.len(), set.nodes.len(), "at {case}");
+        let counts = case_counts(alloc, &program, *hypotheses, *goal, *rounds)?;
+        assert_eq!(rt; counts, (*count, *instance_count), "at {case}");
     }
     Ok(())
 }
@@ -97,53 +112,56 @@ impl Schemas for Refused {
     }
 }
 
+/// How many clauses there are after a round that is refused memory.
+fn kept_count(alloc: Global, sequent: &Sequent, set: &mut Ground) -> Result<usize, Fail> {
+    let answer = round(alloc, set, sequent, &Refused {});
+    if !matches!(answer, Err(TrigFault::Memory)) {
+        return Err(Fail::new("memory is not refused"));
+    }
+    if !has_lines(alloc, sequent, set)? {
+        return Err(Fail::new("the lines are others"));
+    }
+    Ok(set.clauses.len())
+}
+
+/// How many clauses there are before such a round, and after it.
+fn kept_counts(alloc: Global, program: &Program) -> Result<(usize, usize), Fail> {
+    let sequent = sequent(alloc, program, &[], PARTS)?;
+    let mut set = clauses(alloc, &sequent)?;
+    let before = set.clauses.len();
+    let after = kept_count(alloc, &sequent, &mut set)?;
+    Ok((before, after))
+}
+
 #[test]
 fn keeps_what_came_before_a_refusal(rt: HostRuntime) -> Result<(), Fail> {
     let alloc = rt.alloc();
     let program = program(alloc)?;
-    let sequent = sequent(alloc, &program, &[], PARTS)?;
-    let mut set = clauses(alloc, &sequent)?;
-    assert_eq!(rt; set.clauses.len(), 4);
-    let answer = round(alloc, &mut set, &sequent, &Refused {});
-    assert_eq!(rt; answer, Err(TrigFault::Memory));
     // the clause on both, and the first on the remainder
-    assert_eq!(rt; set.clauses.len(), 6);
-    assert_eq!(rt; set.lines.len(), 6);
-    let mut checker = Checker::new(alloc, &sequent)?;
-    for line in &set.lines {
-        assert_eq!(rt; checker.take(line), Ok(()));
-    }
-    assert_eq!(rt; checker.nodes.len(), set.nodes.len());
+    assert_eq!(rt; kept_counts(alloc, &program)?, (4, 6));
     Ok(())
 }
 
-/// How many products have z as their second factor: each two of them are compared.
-const PRODUCT_COUNT: u16 = 450;
+/// Whether a round comes to the limit, and the set has so many.
+fn reaches_limit(alloc: Global, sequent: &Sequent, set: &mut Ground) -> bool {
+    let answer = round(alloc, set, sequent, &Written {});
+    matches!(answer, Err(TrigFault::Many(200_000))) && set.clauses.instance_count() == 200_000
+}
+
+/// Whether a first round comes to the limit, and a second one, where there are too many to begin with.
+fn stays_at_limit(alloc: Global, program: &Program) -> Result<bool, Fail> {
+    let sequent = compared(alloc, program)?;
+    let mut set = clauses(alloc, &sequent)?;
+    if !reaches_limit(alloc, &sequent, &mut set) {
+        return Ok(false);
+    }
+    Ok(reaches_limit(alloc, &sequent, &mut set))
+}
 
 #[test]
 fn ends_at_the_limit(rt: HostRuntime) -> Result<(), Fail> {
     let alloc = rt.alloc();
     let program = program(alloc)?;
-    let world = World { program: &program };
-    let mut draft = Draft::new(alloc, world);
-    for factor in 0..PRODUCT_COUNT {
-        let terms = [
-            (Op::Number(i128::from(factor)), 0),
-            (Z, 0),
-            (Op::Times, 2),
-            (Z, 0),
-            (Op::AtMost, 2),
-        ];
-        assume(&mut draft, &terms)?;
-    }
-    let sequent = conclude(alloc, &mut draft, IS_BYTE)?;
-    let mut set = clauses(alloc, &sequent)?;
-    let answer = round(alloc, &mut set, &sequent, &Written {});
-    assert_eq!(rt; answer, Err(TrigFault::Many(200_000)));
-    assert_eq!(rt; set.clauses.instance_count(), 200_000);
-    // there are too many to begin with
-    let answer = round(alloc, &mut set, &sequent, &Written {});
-    assert_eq!(rt; answer, Err(TrigFault::Many(200_000)));
-    assert_eq!(rt; set.clauses.instance_count(), 200_000);
+    assert!(rt; stays_at_limit(alloc, &program)?);
     Ok(())
 }

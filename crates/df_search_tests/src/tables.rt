@@ -3,10 +3,11 @@
 use df_cases::{
     CHAR, I8, INT, NAT, P, Plain, Q, Terms, UNDECLARED, X, Y, Z, nodes, program, sequent,
 };
-use df_clause::clauses;
-use df_form::{Lit, Op, Sequent, World};
-use df_kern::Known;
+use df_clause::{Ground, clauses};
+use df_form::{Lit, Nodes, Op, Sequent, World};
+use df_lang::Program;
 use df_model::{Valuation, valuation};
+use df_rules::Known;
 use df_table::{Table, is_model};
 use std::alloc::Global;
 use std::process::Abort;
@@ -95,6 +96,12 @@ const SHEETS: [Sheet; 3] = [
     ),
 ];
 
+/// Whether a table of these numbers is a model of the ground set.
+fn is_modelled_by(alloc: Global, set: &Ground, numbers: &[i128]) -> Result<bool, Fail> {
+    let table = Table::new(Vec::from_slice(alloc, numbers)?);
+    Ok(is_model(set, &table))
+}
+
 /// Whether each table is a model of the sequent's ground set.
 fn are_models(
     rt: &impl Abort,
@@ -104,8 +111,11 @@ fn are_models(
 ) -> Result<(), Fail> {
     let set = clauses(alloc, sequent)?;
     for (number, (numbers, expected)) in tables.iter().enumerate() {
-        let table = Table::new(Vec::from_slice(alloc, numbers)?);
-        assert_eq!(rt; is_model(&set, &table), *expected, "at {number}");
+        assert_eq!(rt;
+            is_modelled_by(alloc, &set, *numbers)?,
+            *expected,
+            "at {number}"
+        );
     }
     Ok(())
 }
@@ -172,24 +182,43 @@ const TABLE: [(Plain, i128); 41] = [
     ((CHAR, &[34]), 1),
 ];
 
-#[test]
-fn tabulates_each_operation(rt: HostRuntime) -> Result<(), Fail> {
-    let alloc = rt.alloc();
-    let program = program(alloc)?;
-    let world = World { program: &program };
+/// The nodes of the table.
+fn tabulated(alloc: Global) -> Result<Nodes, Fail> {
     let mut plain = Vec::new(alloc);
     for (node, _) in TABLE.iter() {
         plain.push(*node)?;
     }
-    let nodes = nodes(alloc, &plain)?;
+    nodes(alloc, &plain)
+}
+
+/// That node 2 is true.
+fn second_is_true(alloc: Global) -> Result<Known, Fail> {
     let mut known = Known::new(alloc);
     known.insert(Lit {
         positive: true,
         node: 2,
     })?;
-    let Valuation::Table(table) = valuation(alloc, world, &nodes, &[5, -3], &known)? else {
-        return Err(Fail::new("wide"));
-    };
+    Ok(known)
+}
+
+fn table_of(alloc: Global, program: &Program, nodes: &Nodes) -> Result<Table, Fail> {
+    let known = second_is_true(alloc)?;
+    match valuation(alloc, World { program }, nodes, &[5, -3], &known)? {
+        Valuation::Table(table) => Ok(table),
+        Valuation::Wide => Err(Fail::new("wide")),
+    }
+}
+
+/// The numbers of these nodes.
+fn made_table(alloc: Global) -> Result<Table, Fail> {
+    let program = program(alloc)?;
+    let nodes = tabulated(alloc)?;
+    table_of(alloc, &program, &nodes)
+}
+
+#[test]
+fn tabulates_each_operation(rt: HostRuntime) -> Result<(), Fail> {
+    let table = made_table(rt.alloc())?;
     assert_eq!(rt; table.len(), TABLE.len());
     for (node, (_, wanted)) in TABLE.iter().enumerate() {
         assert_eq!(rt; table.number(node), *wanted, "at {node}");
@@ -211,16 +240,27 @@ const WIDE: [(Op, [i128; 2], bool); 10] = [
     (Op::Mod, [i128::MIN, -1], false),
 ];
 
+/// Whether the result of the operation on the numbers is past 128 bits.
+fn is_wide(
+    alloc: Global,
+    program: &Program,
+    op: Op,
+    numbers: &[i128],
+    known: &Known,
+) -> Result<bool, Fail> {
+    let nodes = nodes(alloc, &[(X, &[]), (Y, &[]), (op, &[0, 1])])?;
+    let valuation = valuation(alloc, World { program }, &nodes, numbers, known)?;
+    Ok(matches!(valuation, Valuation::Wide))
+}
+
 #[test]
 fn tells_of_wide_numbers(rt: HostRuntime) -> Result<(), Fail> {
     let alloc = rt.alloc();
     let program = program(alloc)?;
-    let world = World { program: &program };
     let known = Known::new(alloc);
     for (case, (op, numbers, wide)) in WIDE.iter().enumerate() {
-        let nodes = nodes(alloc, &[(X, &[]), (Y, &[]), (*op, &[0, 1])])?;
-        let valuation = valuation(alloc, world, &nodes, numbers, &known)?;
-        assert!(rt; matches!(valuation, Valuation::Wide) == *wide, "at {case}");
+        let answer = is_wide(alloc, &program, *op, numbers, &known)?;
+        assert_eq!(rt; answer, *wide, "at {case}");
     }
     Ok(())
 }
