@@ -5,8 +5,7 @@
 
 SEQUENTS has lines `have FORMULA` and `show PLACE: FORMULA` (docs/examples.md): each `show` is an obligation, and the `have`
 lines before it in its method are its hypotheses. A line `newtype NAME LOW HIGH` gives the ends of a type. LOG is the text
-of docs/proof-log.md. It prints what `dfy check` tells of a log, or how many obligations are derived. Of the lines `a` it
-knows those of types (A74); it answers `unknown schema` at another.
+of docs/proof-log.md. It prints what `dfy check` tells of a log, or how many obligations are derived.
 """
 import re
 import sys
@@ -22,10 +21,6 @@ class Refused(Exception):
 
 class NotALog(Exception):
     """The text is the text of no log, from this line on."""
-
-
-class Unknown(Exception):
-    """A schema that this program does not know."""
 
 
 def require(condition):
@@ -102,6 +97,27 @@ def characters_of(sequents):
         if more <= found:
             return found
         found |= more
+
+
+# ---- schemas
+
+QUOTIENT = ["+eq(y, 0)", "+eq(x, plus(times(y, div(x, y)), mod(x, y)))"]
+
+# The nodes that a line names, and its clauses, each a list of literals; `k` stands for a number, other letters for any node.
+SCHEMAS = {
+    1: [(["div(x, y)"], [QUOTIENT]), (["mod(x, y)"], [QUOTIENT])],
+    2: [(["mod(x, y)"], [["+eq(y, 0)", "+le(0, mod(x, y))"]])],
+    3: [(["mod(x, y)"], [["-le(1, y)", "+le(plus(mod(x, y), 1), y)"]])],
+    4: [(["mod(x, y)"], [["-le(y, -1)", "+le(plus(mod(x, y), 1), times(-1, y))"]])],
+    5: [(["times(x, y)"], [["+eq(times(x, y), times(y, x))"]])],
+    6: [(["times(times(x, y), z)"], [["+eq(times(times(x, y), z), times(x, times(y, z)))"]])],
+    7: [(["times(x, plus(y, z))"], [["+eq(times(x, plus(y, z)), plus(times(x, y), times(x, z)))"]])],
+    8: [(["times(x, k)"], [["+eq(times(x, k), times(k, x))"]])],
+    9: [(["times(x, y)"], [["-le(0, x)", "-le(0, y)", "+le(0, times(x, y))"]])],
+    10: [(["times(x, z)", "times(y, z)"], [["-le(x, y)", "-le(0, z)", "+le(times(x, z), times(y, z))"]])],
+    109: [(["code(c)"], [["+le(0, code(c))"], ["+le(code(c), 127)"], ["+eq(chr(code(c)), c)"]])],
+    110: [(["chr(x)"], [["-le(0, x)", "-le(x, 127)", "+eq(code(chr(x)), x)"]])],
+}
 
 
 # ---- nodes
@@ -230,6 +246,37 @@ class Checker:
             return [(False, n), (True, sides[k]())]
         return [(True, n)] + [(False, side()) for side in sides]
 
+    def fits(self, pattern, n, letters):
+        """Whether a node is of the pattern; what the pattern's letters stand for is added."""
+        word, *parts = pattern
+        if len(word) == 1:
+            op, _ = self.nodes.nodes[n]
+            return letters.setdefault(word, n) == n and (word != "k" or op[0] == "num")
+        op, found = self.nodes.nodes[n]
+        return op[0] == word and all(self.fits(p, f, letters) for p, f in zip(parts, found))
+
+    def enter(self, formula, letters):
+        """The number of a formula of a schema, its parts first."""
+        word, *parts = formula
+        if len(word) == 1 and word.isalpha():
+            return letters[word]
+        if not parts:
+            return self.number(int(word))
+        numbers = [self.enter(p, letters) for p in parts]
+        return self.nodes.made((word,), *numbers)
+
+    def schema(self, schema, k, terms):
+        require(all(n < len(self.nodes.nodes) for n in terms))
+        if schema == 74:
+            require(len(terms) == 1)
+            return self.of_type(k, *terms)
+        for patterns, clauses in SCHEMAS.get(schema, []):
+            letters = {}
+            if (len(patterns) == len(terms) and k < len(clauses)
+                    and all(self.fits(parse_formula(p), n, letters) for p, n in zip(patterns, terms))):
+                return [(literal[0] == "+", self.enter(parse_formula(literal[1:]), letters)) for literal in clauses[k]]
+        raise Refused()
+
     def propagation(self, numbers, conclusion):
         true = {(not sign, node) for sign, node in conclusion}
         require(numbers)
@@ -314,11 +361,7 @@ class Checker:
         elif kind == "x":
             clause = self.connective(*arguments)
         elif kind == "a":
-            schema, k, terms = arguments
-            if schema != 74:
-                raise Unknown()
-            require(len(terms) == 1)
-            clause = self.of_type(k, *terms)
+            clause = self.schema(*arguments)
         elif kind == "s":
             n, k = arguments
             require(n < len(self.nodes.nodes) and self.nodes.sorts[n] == NUMBER and k + 1 <= MOST)
@@ -439,28 +482,32 @@ def read_log(text, types):
     return parts
 
 
-def check(sequents, types, text):
+def refused_at(sequent, types, steps):
+    """The first step, from 1, that is refused; one past the last where only the empty clause is missing; none where all is well."""
+    checker = Checker(sequent, types)
+    for number, step in enumerate(steps, 1):
+        try:
+            checker.take(step)
+        except Refused:
+            return number
+    return None if checker.clauses and not checker.clauses[-1] else len(steps) + 1
+
+
+def check(sequents, types, text, judge=refused_at):
     """What `dfy check` tells of the log, behind its name; none where it derives all."""
     try:
         parts = read_log(text, types)
     except NotALog as fault:
         return f"{fault.args[0]}: not a log"
     for k in range(max(len(sequents), len(parts))):
-        steps = parts[k] if k < len(parts) else []
-        step = len(steps) + 1
-        if k < len(sequents) and k < len(parts):
-            checker = Checker(sequents[k], types)
-            try:
-                for step, line in enumerate(steps, 1):
-                    checker.take(line)
-                step = len(steps) + 1
-                require(checker.clauses and not checker.clauses[-1])
-                continue
-            except Refused:
-                pass
-            except Unknown:
-                return f" obligation {k + 1} step {step}: unknown schema"
-        return f" obligation {k + 1} step {step}"
+        if k >= len(parts):
+            step = 1
+        elif k >= len(sequents):
+            step = len(parts[k]) + 1
+        else:
+            step = judge(sequents[k], types, parts[k])
+        if step is not None:
+            return f" obligation {k + 1} step {step}"
     return None
 
 

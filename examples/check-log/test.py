@@ -2,80 +2,33 @@
 """Tries check_log.py, and dfy beside it where its path is given.
 
     test.py [DFY [ROWS]]
+    test.py --write
 
-The log `data/down.log` must be accepted, and each log of `logs/down.expected` (docs/examples.md) must be answered as that
-file says. Of `down.log` with a line dropped, and with two neighbours swapped, the answer must be a status 0 or 10; with DFY,
-`dfy check` must give the same line. With DFY the same is done with the logs that `dfy prove` makes of other examples and of the source of
-`bulk 0 3`: `dfy check` must answer 0 or 10. And logs that are too long, or have ten million literals in a line, must be
-answered in time. With ROWS, the path of the program `df_obligation_rows`, check_log.py gets the sequents of all these
-sources from it, and its answers are compared with those of `dfy check`. Nothing of this is part of the gate.
+The logs by hand in `data` must be accepted, and each log of the examples `logs/down` and `logs/middle` (docs/examples.md) must
+be answered as these say. Of each log its mutants are tried: it without one of its lines, and it with two neighbours swapped.
+Each must be answered by a status 0 or 10. With DFY, `dfy check` must give the same line; so it must of the logs that
+`dfy prove` makes of other examples and of the source of `bulk 0 3`, and of their mutants, where check_log.py has the sequents
+of their sources from ROWS, the path of the program `df_obligation_rows`. And logs that are too long, or have ten million
+literals in a line, must be answered. Nothing of this is part of the gate, but for the mutants of the logs by hand, which are
+examples too: `--write` writes them with what check_log.py answers.
 """
 import os
 import re
 import subprocess
 import sys
 import tempfile
+import threading
 import time
+
+sys.dont_write_bytecode = True
+
+import check_log
 
 HERE = os.path.dirname(os.path.abspath(__file__))
 DATA = os.path.join(HERE, "..", "..", "crates", "dfy_examples", "data")
+BY_HAND = {"down": "Down", "middle": "Mid"}
+PROVED = ("rows/middle", "rows/counting", "rows/even-and-odd", "six", "abs_mended", "programs/collatz")
 ESCAPES = {"n": "\n", "t": "\t", "r": "\r", "0": "\0", "s": " ", "\\": "\\"}
-
-
-def unescaped(text):
-    return re.sub(r"\\(.)", lambda found: ESCAPES[found[1]], text).encode()
-
-
-def examples(path):
-    """The files of an example, and its tries of `check`: the log's name, the status and the line on `err`."""
-    files, tries = {}, []
-    for line in open(path):
-        word, _, rest = line.rstrip("\n").partition(" ")
-        if word == "file":
-            name, _, text = rest.partition(" ")
-            files[name] = files.get(name, b"") + unescaped(text)
-        elif word == "try":
-            words = rest.split(" ")
-            tries.append({"words": words, "status": 0, "err": b"", "fails": False})
-        elif word == "status":
-            tries[-1]["status"] = int(rest)
-        elif word == "err":
-            tries[-1]["err"] += unescaped(rest)
-        elif word == "fail":
-            tries[-1]["fails"] = True
-    checks = [t for t in tries if t["words"][0] == "check" and not t["fails"] and t["status"] in (0, 10)]
-    return files, checks
-
-
-def mutants(text):
-    """The text with each line dropped, and with each line and the next one swapped."""
-    lines = text.splitlines(keepends=True)
-    for at in range(len(lines)):
-        yield b"".join(lines[:at] + lines[at + 1:])
-    for at in range(len(lines) - 1):
-        yield b"".join(lines[:at] + [lines[at + 1], lines[at]] + lines[at + 2:])
-
-
-def answer(command, folder):
-    """The status, and the line on `err`."""
-    done = subprocess.run(command, capture_output=True, cwd=folder)
-    return done.returncode, done.stderr
-
-
-def python_answer(folder, name, text, sequents=os.path.join(HERE, "data", "down.sequents")):
-    with open(os.path.join(folder, name), "wb") as file:
-        file.write(text)
-    checker = os.path.join(HERE, "check_log.py")
-    done = subprocess.run([sys.executable, checker, sequents, name], capture_output=True, cwd=folder)
-    return done.returncode, done.stderr
-
-
-def sequents_of(rows, folder, source):
-    """A file with the newtypes and the sequents of a source."""
-    path = os.path.join(folder, "sequents")
-    with open(path, "wb") as file:
-        subprocess.run([rows, "sequents", source.removesuffix(".dfy")], stdout=file, check=True)
-    return path
 
 
 class Failed(Exception):
@@ -87,33 +40,55 @@ def require(condition, *told):
         raise Failed(*told)
 
 
-def main(dfy, rows):
-    files, checks = examples(os.path.join(DATA, "logs", "down.expected"))
-    log = open(os.path.join(HERE, "data", "down.log"), "rb").read()
-    source = os.path.abspath(os.path.join(HERE, "data", "down.dfy"))
-    require(files["p.log"] == log, "down.expected has another log")
-    count = 0
-    with tempfile.TemporaryDirectory() as folder:
-        for tried in checks:
-            name = tried["words"][2]
-            found = python_answer(folder, name, files[name])
-            require(found == (tried["status"], tried["err"]), name, found)
-            count += 1
-        for text in mutants(log):
-            found = python_answer(folder, "m.log", text)
-            require(found[0] in (0, 10), text, found)
-            if dfy is not None:
-                other = answer([dfy, "check", source, "m.log"], folder)
-                require(other == found, text, found, other)
-            count += 1
-        if dfy is not None:
-            count += prove_and_check(dfy, rows, folder)
-            count += long_logs(dfy, folder, source)
-    print(f"{count} logs, none answered wrongly")
+def bytes_of(path):
+    with open(path, "rb") as file:
+        return file.read()
+
+
+# ---- examples
+
+def unescaped(text):
+    return re.sub(r"\\(.)", lambda found: ESCAPES[found[1]], text).encode()
+
+
+def escaped(text):
+    return text.decode("ascii").replace("\\", "\\\\").replace("\n", "\\n")
+
+
+def examples(name):
+    """The files of an example, and its tries of `check` with them: the log's name, the status and the line on `err`."""
+    files, tries = {}, []
+    for line in bytes_of(os.path.join(DATA, name + ".expected")).decode().split("\n"):
+        word, _, rest = line.partition(" ")
+        word, _, times = word.partition("*")
+        if word == "file":
+            file, _, text = rest.partition(" ")
+            files[file] = files.get(file, b"") + unescaped(text) * int(times or 1)
+        elif word == "try":
+            tries.append({"words": rest.split(" "), "status": 0, "err": b"", "fails": False})
+        elif word == "status":
+            tries[-1]["status"] = int(rest)
+        elif word == "err":
+            tries[-1]["err"] += rest.replace("\\n", "\n").encode()
+        elif word == "fail":
+            tries[-1]["fails"] = True
+    source = os.path.basename(name) + ".dfy"
+    checks = [t for t in tries if t["words"][:2] == ["check", source] and t["words"][2:3] and t["words"][2] in files
+              and len(t["words"]) == 3 and not t["fails"] and t["status"] in (0, 10)]
+    return files, checks
+
+
+def mutants(text):
+    """The text with each line dropped, and with each line and the next one swapped."""
+    lines = text.splitlines(keepends=True)
+    for at in range(len(lines)):
+        yield f"without-{at + 1}.log", b"".join(lines[:at] + lines[at + 1:])
+    for at in range(len(lines) - 1):
+        yield f"swapped-{at + 1}.log", b"".join(lines[:at] + [lines[at + 1], lines[at]] + lines[at + 2:])
 
 
 def generated(seed, methods):
-    """The source that `bulk SEED N` makes (formats, 7)."""
+    """The source that `bulk SEED N` makes."""
     lines, sums = ["newtype u = x: int | 0 <= x < 1000000000"], []
     for k in range(methods):
         seed = (seed * 6364136223846793005 + 1442695040888963407) % 2**64
@@ -127,7 +102,95 @@ def generated(seed, methods):
     return "".join(line + "\n" for line in lines)
 
 
-def long_logs(dfy, folder, source):
+# ---- answers
+
+def answer(command, folder):
+    """The status, and the line on `err`."""
+    done = subprocess.run(command, capture_output=True, cwd=folder)
+    return done.returncode, done.stderr
+
+
+class Checked:
+    """What check_log.py answers of logs of one source. A part that it had before it doesn't check anew."""
+
+    def __init__(self, sequents):
+        self.sequents, self.types = check_log.read_sequents(sequents.decode("ascii"))
+        self.places = {}
+
+    def judge(self, sequent, types, steps):
+        key = id(sequent), repr(steps)
+        if key not in self.places:
+            self.places[key] = check_log.refused_at(sequent, types, steps)
+        return self.places[key]
+
+    def answer(self, name, text):
+        fault = check_log.check(self.sequents, self.types, text.decode("latin-1"), self.judge)
+        return (0, b"") if fault is None else (10, f"{name}:{fault}\n".encode())
+
+
+def expected(name, method):
+    """The example with the mutants of a log by hand."""
+    source, sequents, log = (bytes_of(os.path.join(HERE, "data", name + end)) for end in (".dfy", ".sequents", ".log"))
+    checked = Checked(sequents)
+    lines = [f"# The log of `{name}` by hand, without each of its lines in turn, and with each swapped with the next one.",
+             "source " + escaped(source)]
+    for file, text in mutants(log):
+        status, told = checked.answer(file, text)
+        lines += [f"file {file} {escaped(text)}", f"try check {name}-mutants.dfy {file}"]
+        lines += [f"status {status}", "err " + escaped(told)] if status else [f"out {method}: verified\\n", "out 1 verified, 0 unproved\\n"]
+    return ("\n".join(lines) + "\n").encode()
+
+
+def mutants_path(name):
+    return os.path.join(DATA, "logs", name + "-mutants.expected")
+
+
+def try_logs(dfy, folder, source, logs, checked):
+    """How many logs are answered by a status 0 or 10, and by check_log.py and dfy alike."""
+    count = 0
+    for name, text in logs:
+        found = [checked.answer(name, text)] if checked is not None else []
+        if dfy is not None:
+            with open(os.path.join(folder, name), "wb") as file:
+                file.write(text)
+            found.append(answer([dfy, "check", source, name], folder))
+        require(all(one[0] in (0, 10) and one == found[0] for one in found), source, found, text)
+        count += 1
+    return count
+
+
+def try_by_hand(dfy, folder, name):
+    """A log by hand, those of its example, and its mutants."""
+    begin = time.monotonic()
+    source, sequents, path = (os.path.join(HERE, "data", name + end) for end in (".dfy", ".sequents", ".log"))
+    files, checks = examples("logs/" + name)
+    log, checked = bytes_of(path), Checked(bytes_of(sequents))
+    require(log in files.values(), f"logs/{name}.expected has another log")
+    require(checked.answer("p.log", log)[0] == 0, path)
+    require(bytes_of(mutants_path(name)) == expected(name, BY_HAND[name]), f"logs/{name}-mutants.expected says otherwise")
+    for tried in checks:
+        file = tried["words"][2]
+        found = checked.answer(file, files[file])
+        require(found == (tried["status"], tried["err"]), file, found)
+    count = len(checks) + try_logs(dfy, folder, source, mutants(log), checked)
+    print(f"{name}: {count} logs, {time.monotonic() - begin:.1f} s")
+
+
+def try_proved(dfy, rows, folder, source):
+    """A log that dfy makes, which it takes, and its mutants."""
+    begin = time.monotonic()
+    proved = subprocess.run([dfy, "prove", source], capture_output=True)
+    require(proved.returncode == 0, source, proved)
+    checked = None
+    if rows is not None:
+        command = [rows, "sequents", source.removesuffix(".dfy")]
+        checked = Checked(subprocess.run(command, capture_output=True, check=True).stdout)
+    count = try_logs(dfy, folder, source, [("p.log", proved.stdout), *mutants(proved.stdout)], checked)
+    require(answer([dfy, "check", source, "p.log"], folder) == (0, b""), source)
+    print(f"{os.path.basename(source)}: {count} logs, {time.monotonic() - begin:.1f} s")
+
+
+def try_long(dfy, folder, source):
     """Logs of the greatest length, of one byte more, and with a long line."""
     most = 268435456
     for text, told in (
@@ -142,33 +205,43 @@ def long_logs(dfy, folder, source):
         found = answer([dfy, "check", source, "l.log"], folder)
         print(f"{len(text)} bytes: {time.monotonic() - begin:.2f} s")
         require(found == (10, f"l.log:{told}\n".encode()), told, found)
-    return 4
 
 
-def prove_and_check(dfy, rows, folder):
-    """Logs that dfy makes: it takes them, and of their mutants it says that they are logs or that they are none."""
-    count = 0
-    bulk = os.path.join(folder, "bulk.dfy")
-    with open(bulk, "w", encoding="ascii") as file:
-        file.write(generated(0, 3))
-    examples = ("rows/middle", "rows/counting", "six", "abs_mended", "programs/collatz")
-    for source in [bulk, *(os.path.abspath(os.path.join(DATA, e + ".dfy")) for e in examples)]:
-        proved = subprocess.run([dfy, "prove", source], capture_output=True)
-        require(proved.returncode == 0, source, proved)
-        sequents = sequents_of(rows, folder, source) if rows is not None else None
-        taken = False
-        for text in [proved.stdout, *mutants(proved.stdout)]:
-            with open(os.path.join(folder, "p.log"), "wb") as file:
-                file.write(text)
-            found = answer([dfy, "check", source, "p.log"], folder)
-            require(found[0] in (0, 10) and (taken or found[0] == 0), source, found, text)
-            if sequents is not None:
-                other = python_answer(folder, "p.log", text, sequents)
-                require(other == found or b"unknown schema" in other[1], source, found, other, text)
-            taken = True
-            count += 1
-    return count
+def write():
+    for name, method in BY_HAND.items():
+        with open(mutants_path(name), "wb") as file:
+            file.write(expected(name, method))
+
+
+def main(dfy, rows):
+    with tempfile.TemporaryDirectory() as folder:
+        for name in BY_HAND:
+            try_by_hand(dfy, folder, name)
+        if dfy is not None:
+            bulk = os.path.join(folder, "bulk.dfy")
+            with open(bulk, "w", encoding="ascii") as file:
+                file.write(generated(0, 3))
+            for source in [*(os.path.abspath(os.path.join(DATA, e + ".dfy")) for e in PROVED), bulk]:
+                try_proved(dfy, rows, folder, source)
+            try_long(dfy, folder, os.path.join(HERE, "data", "down.dfy"))
+    print("none answered wrongly")
+
+
+def run():
+    if sys.argv[1:] == ["--write"]:
+        write()
+    else:
+        paths = [os.path.abspath(word) for word in sys.argv[1:3]]
+        main(*paths, *[None] * (2 - len(paths)))
+    answers.append(0)
 
 
 if __name__ == "__main__":
-    main(*(os.path.abspath(word) for word in sys.argv[1:3]), *[None] * (3 - len(sys.argv)))
+    # Terms are gone through by recursion, and may be deep.
+    sys.setrecursionlimit(10**6)
+    threading.stack_size(2**29)
+    answers = []
+    thread = threading.Thread(target=run)
+    thread.start()
+    thread.join()
+    sys.exit(answers[0] if answers else 1)

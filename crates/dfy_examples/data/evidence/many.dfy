@@ -1,4 +1,4 @@
-method Factors(x: int, y: int, z: int)
+method Sums(x: int, y: int, z: int)
 {
-  assert (x + y) * (y + z) * (z + x) * (x + 1) != 24;
+  assert (x + y) * (y + z) * (z + x) != 25;
 }
