@@ -11,7 +11,7 @@ use Rattle.df_form.specs.declared.node.Op.TheVariants as ops
 use Rattle.df_form.specs.Node.{Node}
 use Rattle.df_form.specs.Clause.{yes, no}
 use Rattle.df_axiom.specs.Instance.{Added}
-use Rattle.df_axiom.specs.Schemas.{single}
+use Rattle.df_axiom.specs.Schemas.{written}
 use Rattle.df_axiom.specs.Line.{instance_line}
 
 abbrev node : Op → List ℕ → Node
@@ -32,107 +32,107 @@ abbrev clause : World → ℕ → ℕ → List ℕ → Option (List Lit)
 clause world schema k terms = option_map (λ (added : Added). added.clause) (instance_line world nodes schema k terms)
 
 pub parts_of_quotient : (world : World) → clause world 1 0 (6 ∷ []) ≡ Some (yes 17 ∷ yes 20 ∷ [])
-unfolding single
+unfolding written
 parts_of_quotient world = refl
 
 pub parts_of_remainder : (world : World) → clause world 1 0 (5 ∷ []) ≡ Some (yes 17 ∷ yes 20 ∷ [])
-unfolding single
+unfolding written
 parts_of_remainder world = refl
 
 pub remainder_at_least : (world : World) → clause world 2 0 (5 ∷ []) ≡ Some (yes 17 ∷ yes 18 ∷ [])
-unfolding single
+unfolding written
 remainder_at_least world = refl
 
 pub remainder_below : (world : World) → clause world 3 0 (5 ∷ []) ≡ Some (no 17 ∷ yes 19 ∷ [])
-unfolding single
+unfolding written
 remainder_below world = refl
 
 pub remainder_below_opposite : (world : World) → clause world 4 0 (5 ∷ []) ≡ Some (no 17 ∷ yes 21 ∷ [])
-unfolding single
+unfolding written
 remainder_below_opposite world = refl
 
 pub factors_change : (world : World) → clause world 5 0 (4 ∷ []) ≡ Some (yes 17 ∷ [])
-unfolding single
+unfolding written
 factors_change world = refl
 
 pub factors_join : (world : World) → clause world 6 0 (9 ∷ []) ≡ Some (yes 17 ∷ [])
-unfolding single
+unfolding written
 factors_join world = refl
 
 pub factor_goes_in : (world : World) → clause world 7 0 (11 ∷ []) ≡ Some (yes 17 ∷ [])
-unfolding single
+unfolding written
 factor_goes_in world = refl
 
 pub literal_comes_first : (world : World) → clause world 8 0 (13 ∷ []) ≡ Some (yes 17 ∷ [])
-unfolding single
+unfolding written
 literal_comes_first world = refl
 
 pub product_at_least : (world : World) → clause world 9 0 (4 ∷ []) ≡ Some (no 17 ∷ no 18 ∷ yes 19 ∷ [])
-unfolding single
+unfolding written
 product_at_least world = refl
 
 pub products_compare : (world : World) → clause world 10 0 (14 ∷ 15 ∷ []) ≡ Some (no 16 ∷ no 18 ∷ yes 19 ∷ [])
-unfolding single
+unfolding written
 products_compare world = refl
 
 pub code_at_least : (world : World) → clause world 109 0 (7 ∷ []) ≡ Some (yes 17 ∷ [])
-unfolding single
+unfolding written
 code_at_least world = refl
 
 pub code_at_most : (world : World) → clause world 109 1 (7 ∷ []) ≡ Some (yes 17 ∷ [])
-unfolding single
+unfolding written
 code_at_most world = refl
 
 pub code_again : (world : World) → clause world 109 2 (7 ∷ []) ≡ Some (yes 17 ∷ [])
-unfolding single
+unfolding written
 code_again world = refl
 
 pub character_has_code : (world : World) → clause world 110 0 (8 ∷ []) ≡ Some (no 17 ∷ no 19 ∷ yes 21 ∷ [])
-unfolding single
+unfolding written
 character_has_code world = refl
 
 pub no_product : (world : World) → clause world 5 0 (5 ∷ []) ≡ None
-unfolding single
+unfolding written
 no_product world = refl
 
 pub no_literal : (world : World) → clause world 8 0 (4 ∷ []) ≡ None
-unfolding single
+unfolding written
 no_literal world = refl
 
 pub no_inner_product : (world : World) → clause world 6 0 (4 ∷ []) ≡ None
-unfolding single
+unfolding written
 no_inner_product world = refl
 
 pub two_second_factors : (world : World) → clause world 10 0 (4 ∷ 15 ∷ []) ≡ None
-unfolding single
+unfolding written
 two_second_factors world = refl
 
 pub one_term : (world : World) → clause world 10 0 (14 ∷ []) ≡ None
-unfolding single
+unfolding written
 one_term world = refl
 
 pub two_terms : (world : World) → clause world 5 0 (4 ∷ 4 ∷ []) ≡ None
-unfolding single
+unfolding written
 two_terms world = refl
 
 pub no_clause : (world : World) → clause world 5 1 (4 ∷ []) ≡ None
-unfolding single
+unfolding written
 no_clause world = refl
 
 pub no_code : (world : World) → clause world 109 3 (7 ∷ []) ≡ None
-unfolding single
+unfolding written
 no_code world = refl
 
 pub no_schema : (world : World) → clause world 11 0 (4 ∷ []) ≡ None
-unfolding single
+unfolding written
 no_schema world = refl
 
 pub no_node : (world : World) → clause world 5 0 (40 ∷ []) ≡ None
-unfolding single
+unfolding written
 no_node world = refl
 
 pub no_character : (world : World) → clause world 110 0 (7 ∷ []) ≡ None
-unfolding single
+unfolding written
 no_character world = refl
 
 -- x, a truth, a character, "x is a `nat`", "x is an `int`", "the truth is a `bool`", "the character is a `char`",

@@ -7,5 +7,7 @@ pub mod Needing
 pub mod Sound
 pub mod Numbers
 pub mod Types
+pub mod Characters
+pub mod Chosen
 pub mod SchemaTruth
 pub mod Examples

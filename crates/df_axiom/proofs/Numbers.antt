@@ -7,15 +7,14 @@ use Rattle.std.proofs.lemmas.Bool.Decides.{Decides-int_eq}
 use Rattle.df_lemmas.proofs.Integers.{sum_times, times_twice}
 use Rattle.df_form.specs.World.{World}
 use Rattle.df_meaning.specs.Value.{Value, Truth, Character, Number, Text, number_of, truth_of, same_truth, same_value}
-use Rattle.df_form.specs.declared.node.Op.{Op}
-use Rattle.df_form.specs.declared.node.Op.TheVariants as ops
 use Rattle.df_form.specs.declared.node.Sort.{Sort}
 use Rattle.df_form.specs.declared.node.Sort.TheVariants as sorts
 use Rattle.df_form.specs.Node.{same_sort}
 use Rattle.df_form.specs.Sorting.{are_two}
 use Rattle.df_form.specs.Truth.{Assignment, has_sort, value_at, number_at, quotient, remainder}
 use Rattle.df_form.proofs.Same.{same_sort_equal}
-use Rattle.df_axiom.specs.Schemas.{parts_of_quotient, parts_of_remainder, division, remainder_at_least, remainder_below, remainder_below_opposite, factors_change, factors_join, factor_goes_in, literal_comes_first, product_at_least, products_compare}
+use Rattle.df_axiom.specs.declared.table.TheConstants.{PARTS_OF_QUOTIENT, PARTS_OF_REMAINDER, REMAINDER_AT_LEAST, REMAINDER_BELOW, REMAINDER_BELOW_OPPOSITE, FACTORS_CHANGE, FACTORS_JOIN, FACTOR_GOES_IN, LITERAL_COMES_FIRST, PRODUCT_AT_LEAST, PRODUCTS_COMPARE}
+use Rattle.df_axiom.specs.Template.{entry}
 use Rattle.df_axiom.proofs.Facts.{AreOf, IsSound}
 use Rattle.df_axiom.proofs.Division.{parts_of, remainder_from_zero, remainder_under, remainder_under_opposite}
 use Rattle.df_axiom.proofs.Products.{product_from_zero, products_in_order}
@@ -121,7 +120,7 @@ abbrev times : ℤ → ℤ → ℤ
 times x y = x *ℤ y
 
 module _ (depth : ℕ) (world : World) (assignment : Assignment) where
-  quotient_sound : IsSound depth world assignment parts_of_quotient
+  pub quotient_sound : IsSound depth world assignment (entry PARTS_OF_QUOTIENT).template
   quotient_sound w ps ss pieces same needed =
       let t = whole_of quotient (w 0) (w 1) (w 2) (ss 0) (ps 0) pieces.1.0 pieces.1.1 pieces.1.2 pieces.2.0 pieces.2.2.0 in
       let zero_test = equal_truth (w 4) (w 2) (w 3) t.n (pos 0) needed.1.0 t.right_is needed.0 in
@@ -131,7 +130,7 @@ module _ (depth : ℕ) (world : World) (assignment : Assignment) where
       let w8 = equal_truth (w 8) (w 1) (w 7) t.m ((t.n *ℤ quotient t.m t.n) +ℤ remainder t.m t.n) needed.1.1.1.1.1.0 t.left_is w7 in
       yes_yes (truth_of (w 4)) (truth_of (w 8)) (λ none. w8 ∙ same_numbers t.m ((t.n *ℤ quotient t.m t.n) +ℤ remainder t.m t.n) (parts_of t.m t.n (sym zero_test ∙ none)))
 
-  remainder_sound : IsSound depth world assignment parts_of_remainder
+  pub remainder_sound : IsSound depth world assignment (entry PARTS_OF_REMAINDER).template
   remainder_sound w ps ss pieces same needed =
       let t = whole_of remainder (w 0) (w 1) (w 2) (ss 0) (ps 0) pieces.1.0 pieces.1.1 pieces.1.2 pieces.2.0 pieces.2.2.0 in
       let zero_test = equal_truth (w 4) (w 2) (w 3) t.n (pos 0) needed.1.0 t.right_is needed.0 in
@@ -141,18 +140,14 @@ module _ (depth : ℕ) (world : World) (assignment : Assignment) where
       let w8 = equal_truth (w 8) (w 1) (w 7) t.m ((t.n *ℤ quotient t.m t.n) +ℤ remainder t.m t.n) needed.1.1.1.1.1.0 t.left_is w7 in
       yes_yes (truth_of (w 4)) (truth_of (w 8)) (λ none. w8 ∙ same_numbers t.m ((t.n *ℤ quotient t.m t.n) +ℤ remainder t.m t.n) (parts_of t.m t.n (sym zero_test ∙ none)))
 
-  pub division_sound : (op : Op) → IsSound depth world assignment (division op)
-  division_sound ops.Div = quotient_sound
-  division_sound op = remainder_sound
-
-  pub at_least_sound : IsSound depth world assignment remainder_at_least
+  pub at_least_sound : IsSound depth world assignment (entry REMAINDER_AT_LEAST).template
   at_least_sound w ps ss pieces same needed =
       let t = whole_of remainder (w 0) (w 1) (w 2) (ss 0) (ps 0) pieces.1.0 pieces.1.1 pieces.1.2 pieces.2.0 pieces.2.2.0 in
       let zero_test = equal_truth (w 4) (w 2) (w 3) t.n (pos 0) needed.1.0 t.right_is needed.0 in
       let w5 = at_most_truth (w 5) (w 3) (w 0) (pos 0) (remainder t.m t.n) needed.1.1.0 needed.0 t.whole in
       yes_yes (truth_of (w 4)) (truth_of (w 5)) (λ none. w5 ∙ remainder_from_zero t.m t.n (sym zero_test ∙ none))
 
-  pub below_sound : IsSound depth world assignment remainder_below
+  pub below_sound : IsSound depth world assignment (entry REMAINDER_BELOW).template
   below_sound w ps ss pieces same needed =
       let t = whole_of remainder (w 0) (w 1) (w 2) (ss 0) (ps 0) pieces.1.0 pieces.1.1 pieces.1.2 pieces.2.0 pieces.2.2.0 in
       let w4 = at_most_truth (w 4) (w 3) (w 2) (pos 1) t.n needed.1.0 needed.0 t.right_is in
@@ -160,7 +155,7 @@ module _ (depth : ℕ) (world : World) (assignment : Assignment) where
       let w6 = at_most_truth (w 6) (w 5) (w 2) (remainder t.m t.n +ℤ pos 1) t.n needed.1.1.1.0 w5 t.right_is in
       no_yes (truth_of (w 4)) (truth_of (w 6)) (λ at_least. w6 ∙ remainder_under t.m t.n (sym w4 ∙ at_least))
 
-  pub below_opposite_sound : IsSound depth world assignment remainder_below_opposite
+  pub below_opposite_sound : IsSound depth world assignment (entry REMAINDER_BELOW_OPPOSITE).template
   below_opposite_sound w ps ss pieces same needed =
       let t = whole_of remainder (w 0) (w 1) (w 2) (ss 0) (ps 0) pieces.1.0 pieces.1.1 pieces.1.2 pieces.2.0 pieces.2.2.0 in
       let w4 = at_most_truth (w 4) (w 2) (w 3) t.n (negsuc 0) needed.1.0 t.right_is needed.0 in
@@ -169,7 +164,7 @@ module _ (depth : ℕ) (world : World) (assignment : Assignment) where
       let w8 = at_most_truth (w 8) (w 6) (w 7) (remainder t.m t.n +ℤ pos 1) (negsuc 0 *ℤ t.n) needed.1.1.1.1.1.0 w6 w7 in
       no_yes (truth_of (w 4)) (truth_of (w 8)) (λ at_most. w8 ∙ remainder_under_opposite t.m t.n (sym w4 ∙ at_most))
 
-  pub change_sound : IsSound depth world assignment factors_change
+  pub change_sound : IsSound depth world assignment (entry FACTORS_CHANGE).template
   change_sound w ps ss pieces same needed =
       let t = whole_of times (w 0) (w 1) (w 2) (ss 0) (ps 0) pieces.1.0 pieces.1.1 pieces.1.2 pieces.2.0 pieces.2.2.0 in
       let w3 = number_of_two times (w 3) (w 2) (w 1) t.n t.m needed.0 t.right_is t.left_is in
@@ -177,7 +172,7 @@ module _ (depth : ℕ) (world : World) (assignment : Assignment) where
       yes_one (truth_of (w 4)) (w4 ∙ same_numbers (t.m *ℤ t.n) (t.n *ℤ t.m) (*ℤ_comm t.m t.n))
 
   -- (x * y) * z: the product is place 0, x * y is 1, x is 2, y is 3, z is 4
-  pub join_sound : IsSound depth world assignment factors_join
+  pub join_sound : IsSound depth world assignment (entry FACTORS_JOIN).template
   join_sound w ps ss pieces same needed =
       let inside = pieces.2 in
       let x = inside.2 in
@@ -192,7 +187,7 @@ module _ (depth : ℕ) (world : World) (assignment : Assignment) where
       yes_one (truth_of (w 7)) (w7 ∙ same_numbers ((u.m *ℤ u.n) *ℤ t.n) (u.m *ℤ (u.n *ℤ t.n)) (times_twice u.m u.n t.n))
 
   -- x * (y + z): the product is place 0, x is 1, y + z is 2, y is 3, z is 4
-  pub goes_in_sound : IsSound depth world assignment factor_goes_in
+  pub goes_in_sound : IsSound depth world assignment (entry FACTOR_GOES_IN).template
   goes_in_sound w ps ss pieces same needed =
       let x = pieces.2 in
       let inside = x.2 in
@@ -207,10 +202,10 @@ module _ (depth : ℕ) (world : World) (assignment : Assignment) where
       let w8 = equal_truth (w 8) (w 0) (w 7) (t.m *ℤ (u.m +ℤ u.n)) ((t.m *ℤ u.m) +ℤ (t.m *ℤ u.n)) needed.1.1.1.0 w0 w7 in
       yes_one (truth_of (w 8)) (w8 ∙ same_numbers (t.m *ℤ (u.m +ℤ u.n)) ((t.m *ℤ u.m) +ℤ (t.m *ℤ u.n)) (sum_times t.m u.m u.n))
 
-  pub literal_sound : IsSound depth world assignment literal_comes_first
+  pub literal_sound : IsSound depth world assignment (entry LITERAL_COMES_FIRST).template
   literal_sound w ps ss pieces same needed = change_sound w ps ss (pieces.0, pieces.1, (pieces.2.0, tt, (pieces.2.2.0, tt, tt))) same needed
 
-  pub product_sound : IsSound depth world assignment product_at_least
+  pub product_sound : IsSound depth world assignment (entry PRODUCT_AT_LEAST).template
   product_sound w ps ss pieces same needed =
       let t = whole_of times (w 0) (w 1) (w 2) (ss 0) (ps 0) pieces.1.0 pieces.1.1 pieces.1.2 pieces.2.0 pieces.2.2.0 in
       let w4 = at_most_truth (w 4) (w 3) (w 1) (pos 0) t.m needed.1.0 needed.0 t.left_is in
@@ -219,7 +214,7 @@ module _ (depth : ℕ) (world : World) (assignment : Assignment) where
       no_no_yes (truth_of (w 4)) (truth_of (w 5)) (truth_of (w 6)) (λ left right. w6 ∙ product_from_zero t.m t.n (sym w4 ∙ left) (sym w5 ∙ right))
 
   -- x * z is place 0, x is 1, z is 2, y * z is 3, y is 4 and z again 5
-  pub compare_sound : IsSound depth world assignment products_compare
+  pub compare_sound : IsSound depth world assignment (entry PRODUCTS_COMPARE).template
   compare_sound w ps ss pieces same needed =
       let x = pieces.2 in
       let z = x.2 in

@@ -1,34 +1,32 @@
--- The schemas of types and of characters are sound.
+-- The schema of types is sound.
 use Rattle.std.proofs.Common.{◌≡◌, ℕ, zero, suc, ℤ, pos, int_le, Bool, true, false, ◌&&◌, nat_lt, List, [], ◌∷◌, Option, Some, refl, sym, ap, ◌∙◌, subst, true≢false}
 use Rattle.std.specs.Option.{option_map_or}
 use Rattle.std.proofs.lemmas.Bool.{and_parts, and_from}
 use Rattle.std.proofs.lemmas.Option.{same_Some}
-use Rattle.df_lemmas.proofs.Numbers.{equal_self}
 use Rattle.df_lemmas.proofs.Options.{then_some}
 use Rattle.df_lang.specs.declared.ty.Ty.{Ty}
 use Rattle.df_lang.specs.declared.ty.Ty.TheVariants as types
 use Rattle.df_form.specs.World.{World, Ends, is_within, ends_at}
 use Rattle.df_form.specs.Types.{has_type}
-use Rattle.df_meaning.specs.Value.{Value, Truth, Character, Number, Text, number_of, truth_of, same_value}
+use Rattle.df_meaning.specs.Value.{Value, Truth, Character, Number, Text, truth_of}
 use Rattle.df_form.specs.declared.node.Sort.{Sort}
 use Rattle.df_form.specs.declared.node.Sort.TheVariants as sorts
 use Rattle.df_form.specs.declared.node.Op.{Op}
 use Rattle.df_form.specs.declared.node.Op.TheVariants as ops
 use Rattle.df_form.specs.Sorting.{is_one, is_tested}
-use Rattle.df_form.specs.Truth.{Assignment, has_sort, value_at, number_at, code_in}
+use Rattle.df_form.specs.Truth.{Assignment, has_sort, value_at}
 use Rattle.df_form.proofs.Same.{same_sort_equal}
 use Rattle.df_axiom.specs.Template.{Template}
-use Rattle.df_axiom.specs.Schemas.{interval_template, natural_template, always_template, type_template, types_template, code_template, character_has_code}
+use Rattle.df_axiom.specs.Types.{interval_template, natural_template, always_template, type_template, types_template}
 use Rattle.df_axiom.proofs.Facts.{AreOf, IsSound}
-use Rattle.df_axiom.proofs.Products.{code_from_zero, code_at_most, code_again, code_of_number}
-use Rattle.df_axiom.proofs.Numbers.{yes_one, no_yes, yes_no, no_no_yes, yes_no_no, equal_truth, at_most_truth, same_numbers, sorted_number}
+use Rattle.df_axiom.proofs.Numbers.{yes_one, no_yes, yes_no, yes_no_no, at_most_truth, sorted_number}
 
 -- the value of one number
 pub record IsOne (vs : List Value) : Type 0 where
   pub n : ℤ
   pub is : vs ≡ Number n ∷ []
 
-one_number : (ss : List Sort) (vs : List Value) → is_one sorts.Number ss ≡ true → AreOf ss vs → IsOne vs
+pub one_number : (ss : List Sort) (vs : List Value) → is_one sorts.Number ss ≡ true → AreOf ss vs → IsOne vs
 one_number (s ∷ []) (v ∷ []) taken zip = let found = sorted_number s v taken zip.0 in record { n = found.0; is = λ i. found.1 i ∷ [] }
 one_number (s ∷ []) [] taken zip = absurd zip
 one_number (s ∷ []) (v ∷ u ∷ others) taken zip = absurd zip.1
@@ -47,7 +45,7 @@ a_character (Number k) e = absurd cc
 a_character (Truth b) e = absurd cc
 a_character (Text t) e = absurd cc
 
-one_character : (ss : List Sort) (vs : List Value) → is_one sorts.Character ss ≡ true → AreOf ss vs → IsLetter vs
+pub one_character : (ss : List Sort) (vs : List Value) → is_one sorts.Character ss ≡ true → AreOf ss vs → IsLetter vs
 one_character (s ∷ []) (v ∷ []) taken zip = a_character v (subst (λ (z : Sort). has_sort z v ≡ true) (same_sort_equal s sorts.Character taken) zip.0)
 one_character (s ∷ []) [] taken zip = absurd zip
 one_character (s ∷ []) (v ∷ u ∷ others) taken zip = absurd zip.1
@@ -139,41 +137,3 @@ module _ (depth : ℕ) (world : World) (assignment : Assignment) where
   pub types_sound : (op : Op) (k : ℕ) (template : Template) → types_template world op k ≡ Some template → IsSound depth world assignment template
   types_sound (ops.Is ty) k template e = type_sound ty k template e
   types_sound op k template e = absurd cc
-
-  -- code(c) is place 0, and c is 1
-  code_number : (v : Value) (vs : List Value) (c : ℕ) → v ≡ Number (number_at vs 0) → vs ≡ Character c ∷ [] → v ≡ Number (pos c)
-  code_number v vs c e is = e ∙ ap (λ (us : List Value). Number (number_at us 0)) is
-
-  characters_same : (v l r : Value) (c : ℕ) → v ≡ Truth (same_value l r) → l ≡ Character c → r ≡ Character c → truth_of v ≡ true
-  characters_same v l r c e p q = ap truth_of e ∙ (λ i. same_value (p i) (q i)) ∙ equal_self c
-
-  pub code_sound : (k : ℕ) (template : Template) → code_template k ≡ Some template → IsSound depth world assignment template
-  code_sound zero template e = subst (IsSound depth world assignment) (same_Some _ template e) (λ w ps ss pieces same needed.
-      let x = one_character (ss 0) (ps 0) pieces.1.1 pieces.1.2 in
-      let here = code_number (w 0) (ps 0) x.c pieces.1.0 x.is in
-      let w3 = at_most_truth (w 3) (w 2) (w 0) (pos 0) (pos x.c) needed.1.0 needed.0 here in
-      yes_one (truth_of (w 3)) (w3 ∙ code_from_zero x.c))
-  code_sound (suc zero) template e = subst (IsSound depth world assignment) (same_Some _ template e) (λ w ps ss pieces same needed.
-      let x = one_character (ss 0) (ps 0) pieces.1.1 pieces.1.2 in
-      let here = code_number (w 0) (ps 0) x.c pieces.1.0 x.is in
-      let w3 = at_most_truth (w 3) (w 0) (w 2) (pos x.c) (pos 127) needed.1.0 here needed.0 in
-      yes_one (truth_of (w 3)) (w3 ∙ code_at_most x.c x.small))
-  code_sound (suc (suc zero)) template e = subst (IsSound depth world assignment) (same_Some _ template e) (λ w ps ss pieces same needed.
-      let x = one_character (ss 0) (ps 0) pieces.1.1 pieces.1.2 in
-      let here = code_number (w 0) (ps 0) x.c pieces.1.0 x.is in
-      let part : w 1 ≡ Character x.c = pieces.2.0 ∙ ap (λ (us : List Value). value_at us 0) x.is in
-      let w2 : w 2 ≡ Character x.c = needed.0 ∙ ap (λ (v : Value). Character (code_in (number_of v))) here ∙ ap (λ (c : ℕ). Character c) (code_again x.c x.small) in
-      yes_one (truth_of (w 3)) (characters_same (w 3) (w 2) (w 1) x.c needed.1.0 w2 part))
-  code_sound (suc (suc (suc k))) template e = absurd cc
-
-  -- chr(x) is place 0, and x is 1
-  pub character_sound : IsSound depth world assignment character_has_code
-  character_sound w ps ss pieces same needed =
-      let x = one_number (ss 0) (ps 0) pieces.1.1 pieces.1.2 in
-      let part = pieces.2.0 ∙ ap (λ (us : List Value). value_at us 0) x.is in
-      let here : w 0 ≡ Character (code_in x.n) = pieces.1.0 ∙ ap (λ (us : List Value). Character (code_in (number_at us 0))) x.is in
-      let w3 = at_most_truth (w 3) (w 2) (w 1) (pos 0) x.n needed.1.0 needed.0 part in
-      let w5 = at_most_truth (w 5) (w 1) (w 4) x.n (pos 127) needed.1.1.1.0 part needed.1.1.0 in
-      let w6 : w 6 ≡ Number (pos (code_in x.n)) = needed.1.1.1.1.0 ∙ ap (λ (v : Value). Number (number_of v)) here in
-      let w7 = equal_truth (w 7) (w 6) (w 1) (pos (code_in x.n)) x.n needed.1.1.1.1.1.0 w6 part in
-      no_no_yes (truth_of (w 3)) (truth_of (w 5)) (truth_of (w 7)) (λ low high. w7 ∙ same_numbers (pos (code_in x.n)) x.n (code_of_number x.n (sym w3 ∙ low) (sym w5 ∙ high)))

@@ -4,6 +4,7 @@ pub use Rattle.df_form.specs.Made
 pub use Rattle.df_form.specs.Clause
 pub mod Template
 pub mod Instance
+pub mod Types
 pub mod Schemas
 pub mod Line
 pub mod Answers

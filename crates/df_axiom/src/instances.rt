@@ -10,8 +10,8 @@ ghost use Rattle.df_axiom.specs.Line.{first_op, instance_line};
 ghost use Rattle.df_axiom.specs.Answers.{Gives, Adds, Instantiates};
 
 use crate::building::{build, clause_at};
+use crate::choosing::schema_template;
 use crate::matching::find;
-use crate::table::schema_template;
 use crate::templates::Template;
 use df_form::{Lit, Nodes, Op, Term, World};
 use std::alloc::{AllocError, Global};

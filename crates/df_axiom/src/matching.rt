@@ -49,7 +49,7 @@ fn source_at(nodes: &Nodes, terms: &[Term], places: &[Term], source: Source) -> 
     }
 }
 
-fn is_same_op(a: Op, b: Op) -> bool
+pub(crate) fn is_same_op(a: Op, b: Op) -> bool
     ensures { result ≡ same_op a b }
 {
     a == b

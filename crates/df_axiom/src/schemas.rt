@@ -26,7 +26,7 @@ pub trait Schemas {
 }
 
 /// The schemas as templates have them.
-#[derive(Clone, Copy, Debug, PartialEq, Eq)]
+#[derive(Clone, Copy, PartialEq, Eq)]
 pub struct Written {}
 
 impl Schemas for Written {

@@ -3,7 +3,7 @@
 use df_form::{Lit, Op, Pair, Term};
 
 /// Where a node of an instance is found.
-#[derive(Clone, Copy, Debug, PartialEq, Eq)]
+#[derive(Clone, Copy, PartialEq, Eq)]
 pub enum Source {
     /// The named term of this number.
     Named(usize),
@@ -12,7 +12,7 @@ pub enum Source {
 }
 
 /// What a node is to be.
-#[derive(Clone, Copy, Debug, PartialEq, Eq)]
+#[derive(Clone, Copy, PartialEq, Eq)]
 pub enum Test {
     Any,
     /// A literal number.
@@ -21,14 +21,14 @@ pub enum Test {
 }
 
 /// A node that an instance finds.
-#[derive(Clone, Copy, Debug, PartialEq, Eq)]
+#[derive(Clone, Copy, PartialEq, Eq)]
 pub struct Piece {
     pub source: Source,
     pub test: Test,
 }
 
 /// A node that a clause needs: an operation, and the places of its parts.
-#[derive(Clone, Copy, Debug, PartialEq, Eq)]
+#[derive(Clone, Copy, PartialEq, Eq)]
 pub enum Need {
     Number(i128),
     One(Op, usize),
@@ -48,4 +48,16 @@ pub struct Template {
     pub needed: Vec<Need>,
     /// Its literals are of places.
     pub clause: Vec<Lit>,
+}
+
+/// A clause of a schema, with its template, whose lists are of a kind each.
+#[derive(Clone, Copy)]
+pub struct Row<P, S, N, L> {
+    pub schema: u8,
+    pub clause: u32,
+    pub terms: usize,
+    pub pieces: P,
+    pub same: S,
+    pub needed: N,
+    pub literals: L,
 }

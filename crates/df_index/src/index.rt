@@ -2,6 +2,7 @@
 
 use crate::made::{Made, is_operation, made_like};
 use crate::offset::{Offset, offset_at, offset_of};
+use crate::width::{width_at, width_of};
 use df_form::Nodes;
 use std::alloc::{AllocError, Global};
 use std::collections::HashMap;
@@ -13,6 +14,8 @@ pub struct Index {
     places: HashMap<Made, usize>,
     /// By node.
     offsets: Vec<Offset>,
+    /// By node.
+    widths: Vec<usize>,
     /// How many nodes were met.
     count: usize,
     /// The first product, quotient, remainder or character.
@@ -24,6 +27,7 @@ impl Index {
         Index {
             places: HashMap::new(alloc),
             offsets: Vec::new(alloc),
+            widths: Vec::new(alloc),
             count: 0,
             first_operation: None,
         }
@@ -49,12 +53,22 @@ impl Index {
             let offset = offset_of(nodes, &self.offsets, number);
             self.offsets.push(offset)?;
         }
+        if self.widths.len() == number {
+            let width = width_of(nodes, &self.widths, number);
+            self.widths.push(width)?;
+        }
         Ok(())
     }
 
     /// What a node is as the sum of another one and a number.
     pub fn offset(&self, node: usize) -> Offset {
         offset_at(&self.offsets, node)
+    }
+
+    /// How many members a node has as a sum, or what a comparison compares, at most; any other node is as wide as its
+    /// widest part.
+    pub fn width(&self, node: usize) -> usize {
+        width_at(&self.widths, node)
     }
 
     /// The node that is like this one, if it is one of so many first ones.

@@ -4,7 +4,8 @@
 mod index;
 mod made;
 mod offset;
+mod width;
 
 pub use index::Index;
-pub use made::Made;
+pub use made::{Made, made_like};
 pub use offset::Offset;

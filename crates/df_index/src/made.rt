@@ -3,7 +3,7 @@
 use df_form::{Nodes, Op, Sort};
 
 /// A node that clauses may make.
-#[derive(Clone, Copy, Debug, PartialEq, Eq, Hash)]
+#[derive(Clone, Copy, PartialEq, Eq, Hash)]
 pub enum Made {
     Number(i128),
     One(Op, usize),
@@ -42,7 +42,7 @@ impl Made {
 }
 
 /// What the node of a number is, where clauses could make one like it.
-pub(crate) fn made_like(nodes: &Nodes, number: usize) -> Option<Made> {
+pub fn made_like(nodes: &Nodes, number: usize) -> Option<Made> {
     let node = nodes.get(number)?;
     match (node.op, node.parts.as_slice()) {
         (Op::Number(number), _) => Some(Made::Number(number)),

@@ -3,7 +3,7 @@
 use df_form::{Nodes, Op};
 
 /// What a node is: another one and so much more, or a number where there is no other.
-#[derive(Clone, Copy, Debug)]
+#[derive(Clone, Copy)]
 pub struct Offset {
     pub base: Option<usize>,
     pub constant: i128,

@@ -14,7 +14,7 @@ use df_form::{Combination, Lit, Nodes, Op, Sort};
 use std::alloc::{AllocError, Global};
 
 /// What a literal says of two numbers.
-#[derive(Clone, Copy, Debug, PartialEq, Eq)]
+#[derive(Clone, Copy, PartialEq, Eq)]
 enum Comparison {
     AtMost(usize, usize),
     /// The first is above the second.

@@ -15,7 +15,7 @@ use std::alloc::{AllocError, AllocFailed, Global};
 use std::collections::BTreeMap;
 
 /// Why there is no row.
-#[derive(Clone, Copy, Debug, PartialEq, Eq)]
+#[derive(Clone, Copy, PartialEq, Eq)]
 pub enum RowFault {
     /// A number of a row is past 128 bits, or one on the way of a combination; or what was asked for is no
     /// row.

@@ -13,7 +13,7 @@ use Rattle.df_form.specs.Log.{Step, Schema}
 use Rattle.df_form.specs.Sequent.{Sequent}
 use Rattle.df_form.proofs.Values.{Grows, AreSorted, parts_below, grown_get}
 use Rattle.df_axiom.specs.Line.{first_op}
-use Rattle.df_axiom.specs.Schemas.{products_compare, template}
+use Rattle.df_axiom.specs.Schemas.{template}
 use Rattle.df_cong.specs.mirror.State.{list_at}
 use Rattle.df_clause.specs.Among.{Among}
 use Rattle.df_clause.specs.GroundSet.{GroundSet, with_line, with_lines}
@@ -21,6 +21,7 @@ use Rattle.df_clause.proofs.Running.{grown_from}
 use Rattle.df_trig.specs.declared.pattern.Pattern.{Pattern}
 use Rattle.df_trig.specs.Matches.{pair_lines}
 use Rattle.df_trig.specs.Endings.{last_of, last_part, ends_in, ending_in, AreEndings, IndexFronts}
+use Rattle.df_trig.specs.Rounds.{of_products}
 use Rattle.df_trig.proofs.Skipping.{skips, none_added, adds_nothing}
 
 -- ---- the lists beside more nodes
@@ -81,7 +82,7 @@ last_below nodes first last sorted e =
 -- ---- all pairs of which this is the first
 
 module _ (s : Sequent) (p : Pattern) (set : GroundSet) (lists : List (List ℕ)) (first : ℕ) (sorted : AreSorted set.nodes) (index : IndexFronts set.nodes lists) (inside : first < length lists)
-    (is_op : first_op set.nodes (first ∷ []) ≡ Some p.op) (two : template s.world p.op p.schema p.clause ≡ Some products_compare) where
+    (is_op : first_op set.nodes (first ∷ []) ≡ Some p.op) (two : template s.world p.op p.schema p.clause ≡ Some of_products) where
   abbrev start : List Node
   start = take (length lists) set.nodes
 

@@ -7,12 +7,15 @@ use Rattle.df_form.specs.declared.node.Op.TheVariants as ops
 use Rattle.df_form.specs.Node.{Node}
 use Rattle.df_form.specs.Sorting.{takes, sort_at}
 use Rattle.df_form.proofs.Values.{AreSorted, parts_taken}
+use Rattle.df_axiom.specs.declared.templates.Piece.{Piece}
+use Rattle.df_axiom.specs.declared.templates.Source.TheVariants as sources
+use Rattle.df_axiom.specs.declared.templates.Test.TheVariants as tests
 use Rattle.df_axiom.specs.Instance.{Added, part_at, agree, instantiated}
-use Rattle.df_axiom.specs.Schemas.{letter, named, products_compare}
 use Rattle.df_axiom.proofs.Finding.{step_of, passed_op}
 use Rattle.df_axiom.proofs.Sound.{steps_of}
 use Rattle.df_trig.specs.Endings.{last_part, last_of}
 use Rattle.df_trig.specs.Matches.{tuples}
+use Rattle.df_trig.specs.Rounds.{of_products}
 
 -- one further term is any of the numbers below the count
 pub singles : (count : ℕ) → tuples count 1 ≡ map (λ (n : ℕ). n ∷ []) (range_with_len 0 count)
@@ -55,10 +58,16 @@ product_last nodes n z node sorted at op second = by node.parts refl taken
     by (a ∷ b ∷ c ∷ others) is e = absurd (true≢false (sym e ∙ ap (λ (ps : List ℕ). takes ops.Times (map (sort_at nodes) ps)) is))
 
 -- the pieces that are to be one node are
-one_end : (a b c d e f : ℕ) (places : List ℕ) → a ∷ b ∷ c ∷ d ∷ e ∷ f ∷ [] ≡ places → list_all (agree places) products_compare.same ≡ true → c ≡ f
+one_end : (a b c d e f : ℕ) (places : List ℕ) → a ∷ b ∷ c ∷ d ∷ e ∷ f ∷ [] ≡ places → list_all (agree places) of_products.same ≡ true → c ≡ f
 one_end a b c d e f places all agrees =
-    let same : (c == f && true) ≡ true = subst (λ (ps : List ℕ). list_all (agree ps) products_compare.same ≡ true) (sym all) agrees in
+    let same : (c == f && true) ≡ true = subst (λ (ps : List ℕ). list_all (agree ps) of_products.same ≡ true) (sym all) agrees in
     eqb-true c f (and_parts (c == f) true same).0
+
+abbrev product : ℕ → Piece
+product term = record { source = sources.Named term; test = tests.Of ops.Times }
+
+abbrev factor : ℕ → ℕ → Piece
+factor place part = record { source = sources.Part place part; test = tests.Any }
 
 -- two products, whose second parts are one node
 pub record Compared (nodes : List Node) (n m : ℕ) : Type 0 where
@@ -72,16 +81,16 @@ pub record Compared (nodes : List Node) (n m : ℕ) : Type 0 where
   pub first_last : part_at nodes n 1 ≡ Some last
   pub second_last : part_at nodes m 1 ≡ Some last
 
-pub compared : (nodes : List Node) (n m : ℕ) (added : Added) → instantiated nodes (n ∷ m ∷ []) products_compare ≡ Some added → Compared nodes n m
+pub compared : (nodes : List Node) (n m : ℕ) (added : Added) → instantiated nodes (n ∷ m ∷ []) of_products ≡ Some added → Compared nodes n m
 compared nodes n m added e =
     let terms : List ℕ = n ∷ m ∷ [] in
-    let found = steps_of nodes terms products_compare added e in
-    let one = step_of nodes terms [] (named 0 ops.Times) (letter 0 0 ∷ letter 0 1 ∷ named 1 ops.Times ∷ letter 3 0 ∷ letter 3 1 ∷ []) found.places found.finds in
-    let two = step_of nodes terms (one.n ∷ []) (letter 0 0) (letter 0 1 ∷ named 1 ops.Times ∷ letter 3 0 ∷ letter 3 1 ∷ []) found.places one.later in
-    let three = step_of nodes terms (one.n ∷ two.n ∷ []) (letter 0 1) (named 1 ops.Times ∷ letter 3 0 ∷ letter 3 1 ∷ []) found.places two.later in
-    let four = step_of nodes terms (one.n ∷ two.n ∷ three.n ∷ []) (named 1 ops.Times) (letter 3 0 ∷ letter 3 1 ∷ []) found.places three.later in
-    let five = step_of nodes terms (one.n ∷ two.n ∷ three.n ∷ four.n ∷ []) (letter 3 0) (letter 3 1 ∷ []) found.places four.later in
-    let six = step_of nodes terms (one.n ∷ two.n ∷ three.n ∷ four.n ∷ five.n ∷ []) (letter 3 1) [] found.places five.later in
+    let found = steps_of nodes terms of_products added e in
+    let one = step_of nodes terms [] (product 0) (factor 0 0 ∷ factor 0 1 ∷ product 1 ∷ factor 3 0 ∷ factor 3 1 ∷ []) found.places found.finds in
+    let two = step_of nodes terms (one.n ∷ []) (factor 0 0) (factor 0 1 ∷ product 1 ∷ factor 3 0 ∷ factor 3 1 ∷ []) found.places one.later in
+    let three = step_of nodes terms (one.n ∷ two.n ∷ []) (factor 0 1) (product 1 ∷ factor 3 0 ∷ factor 3 1 ∷ []) found.places two.later in
+    let four = step_of nodes terms (one.n ∷ two.n ∷ three.n ∷ []) (product 1) (factor 3 0 ∷ factor 3 1 ∷ []) found.places three.later in
+    let five = step_of nodes terms (one.n ∷ two.n ∷ three.n ∷ four.n ∷ []) (factor 3 0) (factor 3 1 ∷ []) found.places four.later in
+    let six = step_of nodes terms (one.n ∷ two.n ∷ three.n ∷ four.n ∷ five.n ∷ []) (factor 3 1) [] found.places five.later in
     let all = same_Some (one.n ∷ two.n ∷ three.n ∷ four.n ∷ five.n ∷ six.n ∷ []) found.places six.later in
     let same = one_end one.n two.n three.n four.n five.n six.n found.places all found.same in
     let first = passed_op nodes one.n ops.Times one.passed in
@@ -101,7 +110,7 @@ compared nodes n m added e =
     }
 
 -- where there is an instance, both have one last part
-pub joined : (nodes : List Node) (n m : ℕ) (added : Added) → AreSorted nodes → instantiated nodes (n ∷ m ∷ []) products_compare ≡ Some added → (z : ℕ) × (last_part nodes n ≡ Some z) × (last_part nodes m ≡ Some z)
+pub joined : (nodes : List Node) (n m : ℕ) (added : Added) → AreSorted nodes → instantiated nodes (n ∷ m ∷ []) of_products ≡ Some added → (z : ℕ) × (last_part nodes n ≡ Some z) × (last_part nodes m ≡ Some z)
 joined nodes n m added sorted e =
     let both = compared nodes n m added e in
     (both.last, product_last nodes n both.last both.first sorted both.first_at both.first_op both.first_last, product_last nodes m both.last both.second sorted both.second_at both.second_op both.second_last)

@@ -1,9 +1,11 @@
 -- The lines of patterns, by how many terms they name.
-use Rattle.std.proofs.Common.{◌≡◌, inl, inr, ℕ, zero, suc, ◌+◌, ◌-◌, ◌<◌, ◌≤◌, List, [], ◌∷◌, map, take, length, Option, None, Some, slice_get, get_or, refl, sym, ap, ◌∙◌, arith}
+use Rattle.std.proofs.Common.{◌≡◌, inl, inr, ℕ, ◌+◌, ◌-◌, ◌==◌, ◌<◌, Bool, true, false, List, [], ◌∷◌, map, filter, take, length, Option, None, Some, slice_get, get_or, if◌then◌else◌, refl, sym, ap, ◌∙◌, subst, arith, eqb-true, true≢false}
 use Rattle.std.specs.Option.{option_map, option_map_or}
-use Rattle.std.specs.List.{range_with_len, flat_map}
-use Rattle.std.proofs.lemmas.Option.{same_Some, slice_get-get_or, slice_get-map}
+use Rattle.std.specs.List.{range_with_len, flat_map, AllByRecursion}
+use Rattle.std.proofs.lemmas.Bool.{eq-eqb}
+use Rattle.std.proofs.lemmas.Option.{slice_get-get_or, slice_get-map}
 use Rattle.std.proofs.lemmas.List.FromFn.{length-range_with_len, get_or-range_with_len}
+use Rattle.df_lemmas.proofs.Alls.{all_joined}
 use Rattle.df_lemmas.proofs.Lists.{get_below}
 use Rattle.df_lemmas.proofs.Options.{map_some}
 use Rattle.df_form.specs.World.{World}
@@ -14,17 +16,20 @@ use Rattle.df_form.specs.Log.{Step, Schema}
 use Rattle.df_form.specs.Sequent.{Sequent}
 use Rattle.df_form.proofs.Values.{grown_get}
 use Rattle.df_axiom.specs.Line.{first_op}
-use Rattle.df_axiom.specs.Template.{Template}
-use Rattle.df_axiom.specs.Schemas.{template}
+use Rattle.df_axiom.specs.declared.table.TheConstants.{PRODUCTS_COMPARE}
+use Rattle.df_axiom.specs.Template.{Template, Entry}
+use Rattle.df_axiom.specs.Schemas.{written, begins_with, template}
+use Rattle.df_axiom.proofs.Chosen.{all_get}
 use Rattle.df_clause.specs.Among.{Among}
 use Rattle.df_clause.specs.GroundSet.{GroundSet, with_line, with_lines}
 use Rattle.df_clause.proofs.Running.{grown_from}
 use Rattle.df_trig.specs.declared.pattern.Pattern.{Pattern}
+use Rattle.df_trig.specs.declared.pattern.Named.{Named}
 use Rattle.df_trig.specs.declared.pattern.Named.TheVariants as named
-use Rattle.df_trig.specs.Patterns.{patterns}
+use Rattle.df_trig.specs.Patterns.{type_patterns, of_entry, of_entries, patterns}
 use Rattle.df_trig.specs.Matches.{tuples, template_lines, pattern_lines, node_lines, first_lines, pair_lines}
-use Rattle.df_trig.specs.Rounds.{Names}
-use Rattle.df_trig.proofs.Templates.{few_terms, IsFew}
+use Rattle.df_trig.specs.Rounds.{named_by, Names, of_products}
+use Rattle.df_trig.proofs.Templates.{IsFew, few_terms, only_products}
 use Rattle.df_trig.proofs.Pairs.{singles, lines_of_singles}
 
 -- ---- how many terms a template names
@@ -33,19 +38,20 @@ module _ (world : World) (op : Op) (schema k : ℕ) (t : Template) (found : Some
   few : IsFew t
   few = few_terms world op schema k t (sym found)
 
-  pub one_named : t.terms < 2 → Names named.One (template world op schema k)
-  one_named less = by few
-    where
-      by : IsFew t → Names named.One (template world op schema k)
-      by (inl one) = (t, sym found, one)
-      by (inr compares) = let two : t.terms ≡ 2 = ap (λ (x : Template). x.terms) compares in absurd (omega (arith, two, less))
-
-  pub two_named : 2 ≤ t.terms → Names named.Two (template world op schema k)
-  two_named more = by few
+  by_schema : (t.terms == 1) ≡ false → (b : Bool) → (schema == PRODUCTS_COMPARE.schema) ≡ b → Names (if b then named.Products else named.Two) (template world op schema k)
+  by_schema more true ten = sym found ∙ ap (λ (x : Template). Some x) (only_products world op schema k t (eqb-true schema 10 ten) (sym found))
+  by_schema more false other = by few
     where
       by : IsFew t → Names named.Two (template world op schema k)
-      by (inl one) = absurd (omega (arith, one, more))
-      by (inr compares) = sym found ∙ ap (λ (x : Template). Some x) compares
+      by (inl one) = absurd (true≢false (sym (eq-eqb t.terms 1 one) ∙ more))
+      by (inr two) = (t, sym found, two.0)
+
+  by_terms : (b : Bool) → (t.terms == 1) ≡ b → Names (if b then named.One else (if schema == PRODUCTS_COMPARE.schema then named.Products else named.Two)) (template world op schema k)
+  by_terms true one = (t, sym found, eqb-true t.terms 1 one)
+  by_terms false more = by_schema more (schema == PRODUCTS_COMPARE.schema) refl
+
+  pub names_are : (n : Named) → n ≡ named_by schema t.terms → Names n (template world op schema k)
+  names_are n e = subst (λ (m : Named). Names m (template world op schema k)) (sym e) (by_terms (t.terms == 1) refl)
 
 -- ---- the lines of one pattern
 
@@ -62,36 +68,35 @@ module _ (s : Sequent) (set : GroundSet) (count first : ℕ) (p : Pattern) where
   pub one_line : Names named.One (template s.world p.op p.schema p.clause) → all ≡ with_line s set (Schema p.schema p.clause (first ∷ []))
   one_line (t, found, one) = ap all_by found ∙ ap (λ (n : ℕ). with_lines s set (map (λ others. Schema p.schema p.clause (first ∷ others)) (tuples count (n - 1)))) one
 
-  pub two_lines : Names named.Two (template s.world p.op p.schema p.clause) → all ≡ with_lines s set (pair_lines p first (range_with_len 0 count))
-  two_lines found =
+  abbrev all_pairs : GroundSet
+  all_pairs = with_lines s set (pair_lines p first (range_with_len 0 count))
+
+  pub two_lines : Names named.Two (template s.world p.op p.schema p.clause) → all ≡ all_pairs
+  two_lines (t, found, two) =
       let f : List ℕ → Step = λ others. Schema p.schema p.clause (first ∷ others) in
       ap all_by found
+      ∙ ap (λ (n : ℕ). with_lines s set (map f (tuples count (n - 1)))) two
       ∙ ap (λ (lists : List (List ℕ)). with_lines s set (map f lists)) (singles count)
       ∙ ap (with_lines s set) (lines_of_singles f (range_with_len 0 count))
+
+  pub product_lines : Names named.Products (template s.world p.op p.schema p.clause) → all ≡ all_pairs
+  product_lines found = two_lines (of_products, found, refl)
 
 -- ---- the lines of all patterns that begin with a node
 
 -- a pattern begins with its operation
+rows_begin : (op : Op) (entries : List Entry) → AllByRecursion (λ (p : Pattern). p.op ≡ op) (map (of_entry op) entries)
+rows_begin op [] = tt
+rows_begin op (e ∷ others) = (refl, rows_begin op others)
+
+types_begin : (op : Op) → AllByRecursion (λ (p : Pattern). p.op ≡ op) (type_patterns op)
+types_begin (ops.Is ty) = (refl, (refl, (refl, tt)))
+types_begin op = tt
+
 pub pattern_op : (op : Op) (p : Pattern) → Among (patterns op) p → p.op ≡ op
-pattern_op ops.Div p (zero, at) = ap (λ (x : Pattern). x.op) (sym (same_Some _ p at))
-pattern_op ops.Mod p (zero, at) = ap (λ (x : Pattern). x.op) (sym (same_Some _ p at))
-pattern_op ops.Mod p (suc zero, at) = ap (λ (x : Pattern). x.op) (sym (same_Some _ p at))
-pattern_op ops.Mod p (suc (suc zero), at) = ap (λ (x : Pattern). x.op) (sym (same_Some _ p at))
-pattern_op ops.Mod p (suc (suc (suc zero)), at) = ap (λ (x : Pattern). x.op) (sym (same_Some _ p at))
-pattern_op ops.Times p (zero, at) = ap (λ (x : Pattern). x.op) (sym (same_Some _ p at))
-pattern_op ops.Times p (suc zero, at) = ap (λ (x : Pattern). x.op) (sym (same_Some _ p at))
-pattern_op ops.Times p (suc (suc zero), at) = ap (λ (x : Pattern). x.op) (sym (same_Some _ p at))
-pattern_op ops.Times p (suc (suc (suc zero)), at) = ap (λ (x : Pattern). x.op) (sym (same_Some _ p at))
-pattern_op ops.Times p (suc (suc (suc (suc zero))), at) = ap (λ (x : Pattern). x.op) (sym (same_Some _ p at))
-pattern_op ops.Times p (suc (suc (suc (suc (suc zero)))), at) = ap (λ (x : Pattern). x.op) (sym (same_Some _ p at))
-pattern_op (ops.Is ty) p (zero, at) = ap (λ (x : Pattern). x.op) (sym (same_Some _ p at))
-pattern_op (ops.Is ty) p (suc zero, at) = ap (λ (x : Pattern). x.op) (sym (same_Some _ p at))
-pattern_op (ops.Is ty) p (suc (suc zero), at) = ap (λ (x : Pattern). x.op) (sym (same_Some _ p at))
-pattern_op ops.Code p (zero, at) = ap (λ (x : Pattern). x.op) (sym (same_Some _ p at))
-pattern_op ops.Code p (suc zero, at) = ap (λ (x : Pattern). x.op) (sym (same_Some _ p at))
-pattern_op ops.Code p (suc (suc zero), at) = ap (λ (x : Pattern). x.op) (sym (same_Some _ p at))
-pattern_op ops.Chr p (zero, at) = ap (λ (x : Pattern). x.op) (sym (same_Some _ p at))
-pattern_op op p (i, at) = absurd cc
+pattern_op op p (i, at) =
+    let P : Pattern → Type 0 = λ x. x.op ≡ op in
+    all_get P (patterns op) i p (all_joined P (type_patterns op) (of_entries op written) (types_begin op) (rows_begin op (filter (begins_with op) written))) at
 
 -- the operation of a node is the same among more nodes
 pub op_stays : (old new : List Node) (first : ℕ) → take (length old) new ≡ old → first < length old → first_op new (first ∷ []) ≡ first_op old (first ∷ [])

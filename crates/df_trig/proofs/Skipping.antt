@@ -10,12 +10,13 @@ use Rattle.df_form.specs.Sequent.{Sequent}
 use Rattle.df_form.proofs.Values.{Grows, grows_twice, grown_get, AreSorted}
 use Rattle.df_axiom.specs.Instance.{Added, instantiated}
 use Rattle.df_axiom.specs.Line.{first_op, line_by, instance_line}
-use Rattle.df_axiom.specs.Schemas.{products_compare, template}
+use Rattle.df_axiom.specs.Schemas.{template}
 use Rattle.df_clause.specs.Among.{Among}
 use Rattle.df_clause.specs.GroundSet.{GroundSet, with_added, with_line, with_lines}
 use Rattle.df_clause.proofs.Running.{grown_from}
 use Rattle.df_clause.proofs.Sets.{line_sorted, line_front}
 use Rattle.df_trig.specs.Endings.{last_of, last_part, is_part, ends_in}
+use Rattle.df_trig.specs.Rounds.{of_products}
 use Rattle.df_trig.proofs.Pairs.{joined}
 
 -- where a line that the test refuses adds nothing to any set that goes on from the start, these lines may be left out
@@ -59,7 +60,7 @@ none_added s f set (m ∷ ns) nothing =
 
 -- Two terms of which the second has another last part, or the first has none, have no clause by the template of two products.
 module _ (s : Sequent) (schema k : ℕ) (op : Op) (start : List Node) (first : ℕ) (last : Option ℕ) (inside : first < length start) (is_op : first_op start (first ∷ []) ≡ Some op) (is_last : last_part start first ≡ last)
-    (two : template s.world op schema k ≡ Some products_compare) where
+    (two : template s.world op schema k ≡ Some of_products) where
   -- where there is a clause, the second one ends in this last part
   alike : (nodes : List Node) (m : ℕ) (added : Added) → AreSorted nodes → Grows start nodes → m < length start → instance_line s.world nodes schema k (first ∷ m ∷ []) ≡ Some added → (z : ℕ) × (last ≡ Some z) × (last_part start m ≡ Some z)
   alike nodes m added sorted g less e =

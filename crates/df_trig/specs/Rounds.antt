@@ -1,10 +1,10 @@
 -- What a round answers.
-use Rattle.std.specs.Prelude.{◌≡◌, ℕ, ◌+◌, ◌<◌, ◌≤◌, Option, None, Some, Result, Ok, Err}
+use Rattle.std.specs.Prelude.{◌≡◌, ℕ, ◌+◌, ◌<◌, ◌≤◌, ◌==◌, Option, None, Some, Result, Ok, Err, if◌then◌else◌}
 use Rattle.std.specs.declared.alloc.AllocError.{AllocError}
 use Rattle.df_form.specs.Sequent.{Sequent}
 use Rattle.df_form.specs.Log.{Step}
-use Rattle.df_axiom.specs.Template.{Template}
-use Rattle.df_axiom.specs.Schemas.{products_compare}
+use Rattle.df_axiom.specs.declared.table.TheConstants.{PRODUCTS_COMPARE}
+use Rattle.df_axiom.specs.Template.{Template, entry}
 use Rattle.df_clause.specs.declared.ground.Ground.{Ground}
 use Rattle.df_clause.specs.Counting.{instance_count}
 use Rattle.df_clause.specs.GroundSet.{GroundSet, with_line, IsFrontOf}
@@ -14,11 +14,20 @@ use Rattle.df_trig.specs.declared.pattern.Named.{Named}
 use Rattle.df_trig.specs.declared.pattern.Named.TheVariants as named
 use Rattle.df_trig.specs.Instances.{instance_limit, with_round, IsInstances, AreTooMany}
 
--- the terms that an instance of a template names: one, or two products
+-- the template of two products, which are compared
+abbrev pub of_products : Template
+of_products = (entry PRODUCTS_COMPARE).template
+
+-- what an instance names, by the schema and how many terms it names
+abbrev pub named_by : ℕ → ℕ → Named
+named_by schema terms = if terms == 1 then named.One else (if schema == PRODUCTS_COMPARE.schema then named.Products else named.Two)
+
+-- the terms that an instance of a template names: one or two
 abbrev pub Names : Named → Option Template → Type 0
 Names named.Nothing found = found ≡ None
 Names named.One found = (t : Template) × (found ≡ Some t) × (t.terms ≡ 1)
-Names named.Two found = found ≡ Some products_compare
+Names named.Two found = (t : Template) × (found ≡ Some t) × (t.terms ≡ 2)
+Names named.Products found = found ≡ Some of_products
 
 -- with the clause of a line, or as before
 abbrev pub Adds : Sequent → Step → GroundSet → GroundSet → Result (Unit {0}) AllocError → Type 0

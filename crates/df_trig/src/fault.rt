@@ -1,7 +1,7 @@
 use std::alloc::AllocError;
 
 /// Why a round ended.
-#[derive(Clone, Copy, Debug, PartialEq, Eq)]
+#[derive(Clone, Copy, PartialEq, Eq)]
 pub enum TrigFault {
     /// There are so many instances, which is the limit.
     Many(u64),

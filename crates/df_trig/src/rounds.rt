@@ -9,7 +9,7 @@ ghost use Rattle.df_form.specs.Log.{Connective, Schema};
 ghost use Rattle.df_form.specs.Sequent.{Sequent as Claim};
 ghost use Rattle.df_form.specs.SequentView.{sequent_of};
 ghost use Rattle.df_axiom.specs.Line.{first_op, instance_line};
-ghost use Rattle.df_axiom.specs.Schemas.{products_compare, template};
+ghost use Rattle.df_axiom.specs.Schemas.{template};
 ghost use Rattle.df_rules.specs.Instance.{Instantiates as InstantiatesLine};
 ghost use Rattle.df_clause.specs.Among.{Among};
 ghost use Rattle.df_clause.specs.GroundSet.{with_line, with_lines, with_meaning, with_meanings};
@@ -18,7 +18,7 @@ ghost use Rattle.df_trig.specs.declared.pattern.Pattern.{Pattern as PurePattern}
 ghost use Rattle.df_trig.specs.Endings.{IndexFronts};
 ghost use Rattle.df_trig.specs.Instances.{with_matches, with_round};
 ghost use Rattle.df_trig.specs.Matches.{pattern_lines, first_lines, pair_lines};
-ghost use Rattle.df_trig.specs.Rounds.{Adds, AreFew, Reaches, Rounds, TellsFew, Instantiates};
+ghost use Rattle.df_trig.specs.Rounds.{of_products, Adds, AreFew, Reaches, Rounds, TellsFew, Instantiates};
 
 use crate::endings::{endings, last_part};
 use crate::fault::TrigFault;
@@ -127,6 +127,32 @@ fn add_pairs<X: Schemas>(
     Ok(())
 }
 
+/// The numbers below a count.
+fn first_numbers(alloc: Global, count: usize) -> Result<Vec<Term>, AllocError>
+    ensures { IfOk result (λ numbers. numbers.items ≡ range_with_len 0 count) }
+{
+    (0..count).collect(alloc)
+}
+
+/// Adds the instances of a pattern of two terms, of which this is the first, for so many nodes.
+fn add_all_pairs<X: Schemas>(
+    alloc: Global,
+    ground: &mut Ground,
+    sequent: &Sequent,
+    schemas: &X,
+    count: usize,
+    pattern: &Pattern,
+    first: Term,
+) -> Result<(), TrigFault>
+    requires few { AreFew (set_of ground.old) }
+    ensures { Reaches (set_of ground.old) (with_lines (sequent_of sequent.now) (set_of ground.old) (pair_lines pattern.now first (range_with_len 0 count))) (set_of ground.new) result }
+{
+    // The nodes are a table.
+    let _nodes = ground.nodes.len();
+    let others = first_numbers(alloc, count)?;
+    add_pairs(alloc, ground, sequent, schemas, pattern, first, &others)
+}
+
 /// Adds the instances of the pattern of two products, of which this is the first, for the nodes that stood
 /// at the start: those that end in one part.
 fn add_joined<X: Schemas>(
@@ -142,7 +168,7 @@ fn add_joined<X: Schemas>(
     requires index { IndexFronts ground.old.nodes lists.now }
     requires first { first < length lists.now }
     requires op { first_op ground.old.nodes (first ∷ []) ≡ Some pattern.now.op }
-    requires two { template (world_of sequent.now.world) pattern.now.op pattern.now.schema pattern.now.clause ≡ Some products_compare }
+    requires two { template (world_of sequent.now.world) pattern.now.op pattern.now.schema pattern.now.clause ≡ Some of_products }
     ensures { Reaches (set_of ground.old) (with_lines (sequent_of sequent.now) (set_of ground.old) (pair_lines pattern.now first (range_with_len 0 (length lists.now)))) (set_of ground.new) result }
 {
     // The nodes are a table.
@@ -183,7 +209,8 @@ fn add_pattern<X: Schemas>(
     match terms {
         Named::Nothing => Ok(()),
         Named::One => add_instance(alloc, ground, sequent, schemas, pattern, &[first]),
-        Named::Two => add_joined(alloc, ground, sequent, schemas, lists, pattern, first),
+        Named::Two => add_all_pairs(alloc, ground, sequent, schemas, lists.len(), pattern, first),
+        Named::Products => add_joined(alloc, ground, sequent, schemas, lists, pattern, first),
     }
 }
 
