@@ -12,7 +12,7 @@ use Rattle.df_cong.specs.declared.partition.Partition.{Partition}
 use Rattle.df_cong.specs.PartitionView.{state_of}
 use Rattle.df_cong.specs.mirror.State.{State, label_of, list_at, entered}
 use Rattle.df_cong.specs.mirror.Partition.{IsPartition, class_count}
-use Rattle.df_cong.specs.mirror.Closure.{AreAlike, bucket_of, mixed, HasTwin, IsBucketOf, StandsBut, AreUsers, CanJoin, Joins, pair_of, alike_to, apart_from, Enters}
+use Rattle.df_cong.specs.mirror.Closure.{AreAlike, bucket_of, seed_of, mixed, HasTwin, IsBucketOf, StandsBut, AreUsers, CanJoin, Joins, pair_of, alike_to, apart_from, Enters}
 use Rattle.df_cong.specs.mirror.Steps.{IsReady, Advances, Closes}
 use Rattle.df_cong.proofs.Moving.{first_there, later_there, there_cases}
 use Rattle.df_cong.proofs.Alike.{alike_tested, tested_alike}
@@ -76,9 +76,9 @@ module _ (nodes : List Node) (old : State) (node : ℕ) where
 
 -- ---- the bucket of a node
 
-pub bucket_inside : (nodes : List Node) (s : State) (p : ℕ) (node : Node) → IsReady nodes s → slice_get nodes p ≡ Some node → bucket_of s node.parts < length s.buckets
+pub bucket_inside : (nodes : List Node) (s : State) (p : ℕ) (node : Node) → IsReady nodes s → slice_get nodes p ≡ Some node → bucket_of s node < length s.buckets
 bucket_inside nodes s p node ready is =
-    let inside : p < length nodes = slice_get_within nodes p node is in mod_below (mixed (label_of s) 0 node.parts) (length s.buckets) (omega (arith, inside, ready.buckets_long))
+    let inside : p < length nodes = slice_get_within nodes p node is in mod_below (mixed (label_of s) (seed_of node.op) node.parts) (length s.buckets) (omega (arith, inside, ready.buckets_long))
 
 -- ---- one node
 
@@ -119,17 +119,17 @@ module _ (nodes : List Node) (users : List (List ℕ)) (users_are : AreUsers nod
     }
 
   -- that is like no node of another label
-  module _ (n : Node) (at : slice_get nodes node ≡ Some n) (none : None ≡ find (apart_from nodes (label_of (state_of old)) node) (list_at (state_of old).buckets (bucket_of (state_of old) n.parts))) (pairs : new.pairs.items ≡ old.pairs.items) where
-    together : (other : ℕ) → Contains (list_at (state_of old).buckets (bucket_of (state_of old) n.parts)) other → AreAlike nodes (label_of (state_of old)) node other → label_of (state_of old) node ≡ label_of (state_of old) other
-    together = none_apart nodes (state_of old) node (list_at (state_of old).buckets (bucket_of (state_of old) n.parts)) none
+  module _ (n : Node) (at : slice_get nodes node ≡ Some n) (none : None ≡ find (apart_from nodes (label_of (state_of old)) node) (list_at (state_of old).buckets (bucket_of (state_of old) n))) (pairs : new.pairs.items ≡ old.pairs.items) where
+    together : (other : ℕ) → Contains (list_at (state_of old).buckets (bucket_of (state_of old) n)) other → AreAlike nodes (label_of (state_of old)) node other → label_of (state_of old) node ≡ label_of (state_of old) other
+    together = none_apart nodes (state_of old) node (list_at (state_of old).buckets (bucket_of (state_of old) n)) none
 
-    twin_there : list_any (alike_to nodes (label_of (state_of old)) node) (list_at (state_of old).buckets (bucket_of (state_of old) n.parts)) ≡ true → HasTwin nodes (state_of old) node n.parts
+    twin_there : list_any (alike_to nodes (label_of (state_of old)) node) (list_at (state_of old).buckets (bucket_of (state_of old) n)) ≡ true → HasTwin nodes (state_of old) node n
     twin_there e =
-        let found = any_there (alike_to nodes (label_of (state_of old)) node) (list_at (state_of old).buckets (bucket_of (state_of old) n.parts)) e in
+        let found = any_there (alike_to nodes (label_of (state_of old)) node) (list_at (state_of old).buckets (bucket_of (state_of old) n)) e in
         let alike = alike_tested nodes (label_of (state_of old)) (pair_of node found.0) found.2 in
         record { twin = found.0; there = found.1; alike = alike; together = together found.0 found.1 alike }
 
-    pub looks_together : Enters nodes node (bucket_of (state_of old) n.parts) (state_of old) (state_of new) → Advances nodes old new (node ∷ []) waiting waiting
+    pub looks_together : Enters nodes node (bucket_of (state_of old) n) (state_of old) (state_of new) → Advances nodes old new (node ∷ []) waiting waiting
     looks_together (inl known) = record {
       ready = subst (IsReady nodes) (sym known.1) ready;
       stands = λ equalities rest stands.
@@ -150,7 +150,7 @@ module _ (nodes : List Node) (users : List (List ℕ)) (users_are : AreUsers nod
         s : State
         s = state_of old
 
-        ready_entered : IsReady nodes (entered (bucket_of s n.parts) node s)
+        ready_entered : IsReady nodes (entered (bucket_of s n) node s)
         ready_entered = record {
           partition = record {
             labels_long = ready.partition.labels_long;
@@ -160,7 +160,7 @@ module _ (nodes : List Node) (users : List (List ℕ)) (users_are : AreUsers nod
             listed = ready.partition.listed;
             only = ready.partition.only;
           };
-          buckets_long = length-set s.buckets (bucket_of s n.parts) (list_at s.buckets (bucket_of s n.parts) ++ node ∷ []) ∙ ready.buckets_long;
+          buckets_long = length-set s.buckets (bucket_of s n) (list_at s.buckets (bucket_of s n) ++ node ∷ []) ∙ ready.buckets_long;
         }
 
 -- by its bucket

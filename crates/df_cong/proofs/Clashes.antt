@@ -36,17 +36,17 @@ any_there {A} test (x ∷ xs) e = by (or_cases (test x) (list_any test xs) e) (a
     by (inl here) rest = (x, (0, omega arith, refl), here)
     by (inr others) rest = let found = rest others in (found.0, Contains-append_right (x ∷ []) xs found.0 found.1, found.2)
 
-there_any : {A : Type 0} (test : A → Bool) (xs : List A) (x : A) → Contains xs x → test x ≡ true → list_any test xs ≡ true
+pub there_any : {A : Type 0} (test : A → Bool) (xs : List A) (x : A) → Contains xs x → test x ≡ true → list_any test xs ≡ true
 there_any test [] x there e = absurd (none_there x there)
 there_any test (y ∷ ys) x (zero, less, same) e = or_left (test y) (list_any test ys) (subst (λ z. test z ≡ true) (sym same) e)
 there_any test (y ∷ ys) x (suc k, less, same) e = or_right (test y) (list_any test ys) (there_any test ys x (k, omega (arith, less), same) e)
 
-mapped_there : (xs : List Lit) (l : Lit) → Contains xs l → Contains (map negation xs) (negation l)
+pub mapped_there : (xs : List Lit) (l : Lit) → Contains xs l → Contains (map negation xs) (negation l)
 mapped_there [] l there = absurd (none_there l there)
 mapped_there (x ∷ xs) l (zero, less, same) = (0, omega arith, ap negation same)
 mapped_there (x ∷ xs) l (suc k, less, same) = Contains-append_right (negation x ∷ []) (map negation xs) (negation l) (mapped_there xs l (k, omega (arith, less), same))
 
-there_mapped : (xs : List Lit) (l : Lit) → Contains (map negation xs) l → Contains xs (negation l)
+pub there_mapped : (xs : List Lit) (l : Lit) → Contains (map negation xs) l → Contains xs (negation l)
 there_mapped [] l there = absurd (none_there l there)
 there_mapped (x ∷ xs) l (zero, less, same) = (0, omega arith, sym (negated_twice x) ∙ ap negation same)
 there_mapped (x ∷ xs) l (suc k, less, same) = Contains-append_right (x ∷ []) xs (negation l) (there_mapped xs l (k, omega (arith, less), same))
@@ -74,7 +74,7 @@ module _ (nodes : List Node) (label : ℕ → ℕ) where
       by (Some x) f e go = go (f ∙ e)
       by None f e go = let here = test_some (label n == c) (number_at nodes n) k e in (n, eqb-true (label n) c here.0, here.1)
 
-  same_label : (n m : ℕ) → label n ≡ label m → (label n == label m) ≡ true
+  pub same_label : (n m : ℕ) → label n ≡ label m → (label n == label m) ≡ true
   same_label n m e = ap (λ (k : ℕ). label n == k) (sym e) ∙ equal_self (label n)
 
   there_number : (ns : List ℕ) (m : ℕ) (j : ℤ) → Contains ns m → number_at nodes m ≡ Some j → (k : ℤ) × (number_in nodes label ns (label m) ≡ Some k)
@@ -103,18 +103,9 @@ different j k e same = true≢false (sym ((Decides-int_eq j k).1 same) ∙ not-t
 
 -- ---- a clash closes the line
 
-module _ (nodes : List Node) (held : List Lit) (pairs : List Pair) (s : State) (ns : List ℕ) (stands : StandsBut nodes (held_equalities nodes held) pairs s []) where
-  abbrev label : ℕ → ℕ
-  label = label_of s
-
+module _ (nodes : List Node) (held : List Lit) (all : List Pair) (label : ℕ → ℕ) (ns : List ℕ) (together : (a b : ℕ) → label a ≡ label b → InOneClass all a b) where
   abbrev clause : Clause
   clause = map negation held
-
-  abbrev all : List Pair
-  all = held_equalities nodes held ++ pairs
-
-  together : (a b : ℕ) → label a ≡ label b → InOneClass all a b
-  together a b e = labels_together nodes (held_equalities nodes held) pairs s [] stands a b e
 
   denied_closes : has_denied nodes label held ≡ true → Closes nodes clause all
   denied_closes e =
@@ -152,7 +143,7 @@ module _ (nodes : List Node) (held : List Lit) (pairs : List Pair) (s : State) (
       by n None b is its e = absurd cc
       by n (Some j) None is its e = absurd cc
 
-  clash_closes : clash nodes label ns held ≡ true → Closes nodes clause all
+  pub clash_closes : clash nodes label ns held ≡ true → Closes nodes clause all
   clash_closes e = by (or_cases (has_denied nodes label held || has_opposites label held) (has_two_numbers nodes label ns) e)
     where
       first : (has_denied nodes label held ≡ true) ⊎ (has_opposites label held ≡ true) → Closes nodes clause all
@@ -163,15 +154,24 @@ module _ (nodes : List Node) (held : List Lit) (pairs : List Pair) (s : State) (
       by (inl e) = first (or_cases (has_denied nodes label held) (has_opposites label held) e)
       by (inr e) = numbers_close e
 
-  pub line_there : are_literals nodes held ≡ true → clash nodes label ns held ≡ true → IsCongruence nodes clause pairs
-  line_there literals e = record { literals = negations_are nodes held literals; congruent = stands.congruent; closes = clash_closes e }
+-- ---- the labels of closed classes
+
+module _ (nodes : List Node) (held : List Lit) (pairs : List Pair) (s : State) (ns : List ℕ) (stands : StandsBut nodes (held_equalities nodes held) pairs s []) where
+  abbrev label : ℕ → ℕ
+  label = label_of s
+
+  closes_there : clash nodes label ns held ≡ true → Closes nodes (map negation held) (held_equalities nodes held ++ pairs)
+  closes_there e = clash_closes nodes held (held_equalities nodes held ++ pairs) (label_of s) ns (labels_together nodes (held_equalities nodes held) pairs s [] stands) e
+
+  pub line_there : are_literals nodes held ≡ true → clash nodes label ns held ≡ true → IsCongruence nodes (map negation held) pairs
+  line_there literals e = record { literals = negations_are nodes held literals; congruent = stands.congruent; closes = closes_there e }
 
   -- ---- and what is contradicted clashes
 
   one_label : (a b : ℕ) → AreEqual nodes (held_equalities nodes held) a b → label a ≡ label b
   one_label a b h = (labels_are_exact nodes (held_equalities nodes held) label (standing_labels nodes (held_equalities nodes held) pairs s stands) a b).1 h
 
-  contradicted_clashes : AreNumbers nodes ns → IsContradicted nodes clause → clash nodes label ns held ≡ true
+  contradicted_clashes : AreNumbers nodes ns → IsContradicted nodes (map negation held) → clash nodes label ns held ≡ true
   contradicted_clashes are (equals {n} {pair} there is h) =
       let denied : is_denied nodes label (no n) ≡ true = ap (is_paired label) is ∙ same_label nodes label pair.left pair.right (one_label pair.left pair.right h) in
       or_left (has_denied nodes label held || has_opposites label held) (has_two_numbers nodes label ns)
@@ -197,5 +197,5 @@ module _ (nodes : List Node) (held : List Lit) (pairs : List Pair) (s : State) (
           by true e =
               at n k second (are n k second) found.0 (ap (number_in nodes label ns) (sym (one_label m n h)) ∙ found.1) (λ same. apart ((Decides-int_eq j found.0).0 e ∙ sym same))
 
-  pub quiet : AreNumbers nodes ns → clash nodes label ns held ≡ false → IsContradicted nodes clause → ⊥
+  pub quiet : AreNumbers nodes ns → clash nodes label ns held ≡ false → IsContradicted nodes (map negation held) → ⊥
   quiet are e h = true≢false (sym (contradicted_clashes are h) ∙ e)

@@ -20,7 +20,7 @@ use Rattle.df_cong.specs.mirror.Closure.{StandsBut}
 use Rattle.df_cong.specs.HoldingView.{held_equalities, equality_held, Equates, IsLevel, IsBelow, AreLevels, IsHolding, level_of, Retreats}
 use Rattle.df_cong.proofs.Undoing.{back_more}
 
-get_taken : {A : Type 0} (xs : List A) (count i : ℕ) → i < count → slice_get (take count xs) i ≡ slice_get xs i
+pub get_taken : {A : Type 0} (xs : List A) (count i : ℕ) → i < count → slice_get (take count xs) i ≡ slice_get xs i
 get_taken [] zero i less = refl
 get_taken [] (suc count) i less = refl
 get_taken (x ∷ xs) zero i less = absurd (omega (arith, less))

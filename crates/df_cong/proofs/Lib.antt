@@ -20,6 +20,15 @@ pub mod Results
 pub mod Holds
 pub mod Answering
 pub mod Telling
+pub mod Replaying
+pub mod Stamping
+pub mod Moves
+pub mod Carrying
+pub mod Covering
+pub mod Sides
+pub mod Earlier
+pub mod Covered
+pub mod Taking
 pub mod Growing
 pub mod OneLater
 pub mod LaterNodes

@@ -13,7 +13,7 @@ use Rattle.df_rules.proofs.OneClass.{wider}
 use Rattle.df_cong.specs.Labels.{AreLabels}
 use Rattle.df_cong.specs.mirror.State.{State, label_of, list_at, entered, alone}
 use Rattle.df_cong.specs.mirror.Partition.{renamed}
-use Rattle.df_cong.specs.mirror.Closure.{AreAlike, mixed, bucket_of, HasTwin, StandsBut, Absorbs, Joins}
+use Rattle.df_cong.specs.mirror.Closure.{AreAlike, seed_of, mixed, bucket_of, HasTwin, StandsBut, Absorbs, Joins}
 use Rattle.df_cong.proofs.Pairs.{AllAmong, class_equal, pairs_equal, congruents_join, congruents_wider}
 use Rattle.df_cong.proofs.Moving.{there_cases}
 use Rattle.df_cong.proofs.Joining.{renamed_loser}
@@ -210,7 +210,7 @@ stands_without nodes equalities pairs s p rest none stands = record {
 
 -- a node with nothing alike and apart in its bucket, where it has a twin
 pub stands_with : (nodes : List Node) (equalities pairs : List Pair) (s : State) (p : ℕ) (rest : List ℕ) (node : Node) → slice_get nodes p ≡ Some node
-    → ((other : ℕ) → Contains (list_at s.buckets (bucket_of s node.parts)) other → AreAlike nodes (label_of s) p other → label_of s p ≡ label_of s other) → HasTwin nodes s p node.parts → StandsBut nodes equalities pairs s (p ∷ rest)
+    → ((other : ℕ) → Contains (list_at s.buckets (bucket_of s node)) other → AreAlike nodes (label_of s) p other → label_of s p ≡ label_of s other) → HasTwin nodes s p node → StandsBut nodes equalities pairs s (p ∷ rest)
     → StandsBut nodes equalities pairs s rest
 stands_with nodes equalities pairs s p rest node is none_apart twin stands = record {
   partition = stands.partition;
@@ -224,9 +224,9 @@ stands_with nodes equalities pairs s p rest node is none_apart twin stands = rec
 -- ---- a node is put into its bucket
 
 module _ (nodes : List Node) (equalities pairs : List Pair) (s : State) (p : ℕ) (rest : List ℕ) (node : Node) (is : slice_get nodes p ≡ Some node)
-    (none_apart : (other : ℕ) → Contains (list_at s.buckets (bucket_of s node.parts)) other → AreAlike nodes (label_of s) p other → label_of s p ≡ label_of s other) (stands : StandsBut nodes equalities pairs s (p ∷ rest)) where
+    (none_apart : (other : ℕ) → Contains (list_at s.buckets (bucket_of s node)) other → AreAlike nodes (label_of s) p other → label_of s p ≡ label_of s other) (stands : StandsBut nodes equalities pairs s (p ∷ rest)) where
   abbrev bucket : ℕ
-  bucket = bucket_of s node.parts
+  bucket = bucket_of s node
 
   abbrev fuller : State
   fuller = entered bucket p s
@@ -247,11 +247,11 @@ module _ (nodes : List Node) (equalities pairs : List Pair) (s : State) (p : ℕ
   long : length fuller.buckets ≡ length s.buckets
   long = length-set s.buckets bucket (list_at s.buckets bucket ++ p ∷ [])
 
-  itself_there : bucket < length s.buckets → HasTwin nodes fuller p node.parts
+  itself_there : bucket < length s.buckets → HasTwin nodes fuller p node
   itself_there less = record {
     twin = p;
     there =
-        subst (λ (b : ℕ). Contains (list_at fuller.buckets b) p) (ap (λ (k : ℕ). mixed (label_of s) 0 node.parts % k) (sym long))
+        subst (λ (b : ℕ). Contains (list_at fuller.buckets b) p) (ap (λ (k : ℕ). mixed (label_of s) (seed_of node.op) node.parts % k) (sym long))
         (subst (λ (xs : List ℕ). Contains xs p) (sym (get_or-set_same s.buckets bucket (list_at s.buckets bucket ++ p ∷ []) [] less)) (Contains-push (list_at s.buckets bucket) p));
     alike = alike_itself nodes (label_of s) p node is;
     together = refl;

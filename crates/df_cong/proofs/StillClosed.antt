@@ -4,6 +4,7 @@ use Rattle.std.specs.List.{AllZip}
 use Rattle.std.proofs.lemmas.Bool.{cases_eq}
 use Rattle.std.proofs.lemmas.Option.{same_Some, none-some}
 use Rattle.df_form.specs.declared.log.Pair.{Pair}
+use Rattle.df_form.specs.declared.node.Op.{Op}
 use Rattle.df_form.specs.Node.{Node}
 use Rattle.df_rules.specs.Classes.{InOneClass, turned, through}
 use Rattle.df_rules.specs.Congruence.{IsCongruent}
@@ -11,7 +12,7 @@ use Rattle.df_rules.proofs.OneClass.{wider}
 use Rattle.df_cong.specs.Labels.{HaveOneLabel}
 use Rattle.df_cong.specs.mirror.State.{State, label_of, list_at}
 use Rattle.df_cong.specs.mirror.Partition.{renamed}
-use Rattle.df_cong.specs.mirror.Closure.{AreAlike, mixed, bucket_of, HasTwin, IsClosedBut}
+use Rattle.df_cong.specs.mirror.Closure.{AreAlike, seed_of, mixed, bucket_of, HasTwin, IsClosedBut}
 use Rattle.df_cong.proofs.Pairs.{AllAmong}
 use Rattle.df_cong.proofs.Moving.{there_cases}
 use Rattle.df_cong.proofs.Joining.{renamed_loser, renamed_other}
@@ -27,13 +28,13 @@ module _ (nodes : List Node) (s new : State) (winner loser : ℕ) (waiting later
   untouched : (p : ℕ) (node : Node) → slice_get nodes p ≡ Some node → (Contains later p → ⊥) → (n : ℕ) → Contains node.parts n → label_of new n ≡ label_of s n
   untouched p node is rests n there = labels n ∙ renamed_other winner loser (label_of s n) (λ e. rests (touched p n node is there e))
 
-  same_bucket : (parts : List ℕ) → ((n : ℕ) → Contains parts n → label_of new n ≡ label_of s n) → bucket_of new parts ≡ bucket_of s parts
-  same_bucket parts same = λ i. mixed_elsewhere (label_of s) (label_of new) parts 0 same i % length (buckets i)
+  same_bucket : (node : Node) → ((n : ℕ) → Contains node.parts n → label_of new n ≡ label_of s n) → bucket_of new node ≡ bucket_of s node
+  same_bucket node same = λ i. mixed_elsewhere (label_of s) (label_of new) node.parts (seed_of node.op) same i % length (buckets i)
 
-  twin_stays : (p : ℕ) (node : Node) → slice_get nodes p ≡ Some node → (Contains later p → ⊥) → HasTwin nodes s p node.parts → HasTwin nodes new p node.parts
+  twin_stays : (p : ℕ) (node : Node) → slice_get nodes p ≡ Some node → (Contains later p → ⊥) → HasTwin nodes s p node → HasTwin nodes new p node
   twin_stays p node is rests h = record {
     twin = h.twin;
-    there = subst (λ (xs : List ℕ). Contains xs h.twin) (λ i. list_at (sym buckets i) (sym (same_bucket node.parts (untouched p node is rests)) i)) h.there;
+    there = subst (λ (xs : List ℕ). Contains xs h.twin) (λ i. list_at (sym buckets i) (sym (same_bucket node (untouched p node is rests)) i)) h.there;
     alike = record {
       first = h.alike.first;
       second = h.alike.second;
@@ -75,8 +76,8 @@ module _ (nodes : List Node) (s new : State) (p : ℕ) (rest : List ℕ) (labels
   label_stays : (n : ℕ) → label_of new n ≡ label_of s n
   label_stays n = ap (λ (ls : List ℕ). get_or ls n n) labels
 
-  bucket_stays : (parts : List ℕ) → bucket_of new parts ≡ bucket_of s parts
-  bucket_stays parts = λ i. mixed (λ n. get_or (labels i) n n) 0 parts % long i
+  bucket_stays : (node : Node) → bucket_of new node ≡ bucket_of s node
+  bucket_stays node = λ i. mixed (λ n. get_or (labels i) n n) (seed_of node.op) node.parts % long i
 
   alike_now : (q r : ℕ) → AreAlike nodes (label_of s) q r → AreAlike nodes (label_of new) q r
   alike_now q r h = subst (λ (ls : List ℕ). AreAlike nodes (λ n. get_or ls n n) q r) (sym labels) h
@@ -84,10 +85,10 @@ module _ (nodes : List Node) (s new : State) (p : ℕ) (rest : List ℕ) (labels
   alike_before : (q r : ℕ) → AreAlike nodes (label_of new) q r → AreAlike nodes (label_of s) q r
   alike_before q r h = subst (λ (ls : List ℕ). AreAlike nodes (λ n. get_or ls n n) q r) labels h
 
-  twin_grows : (q : ℕ) (parts : List ℕ) → HasTwin nodes s q parts → HasTwin nodes new q parts
-  twin_grows q parts h = record {
+  twin_grows : (q : ℕ) (node : Node) → HasTwin nodes s q node → HasTwin nodes new q node
+  twin_grows q node h = record {
     twin = h.twin;
-    there = subst (λ (b : ℕ). Contains (list_at new.buckets b) h.twin) (sym (bucket_stays parts)) (grown (bucket_of s parts) h.twin h.there);
+    there = subst (λ (b : ℕ). Contains (list_at new.buckets b) h.twin) (sym (bucket_stays node)) (grown (bucket_of s node) h.twin h.there);
     alike = alike_now q h.twin h.alike;
     together = label_stays q ∙ h.together ∙ sym (label_stays h.twin);
   }
@@ -99,15 +100,19 @@ module _ (nodes : List Node) (s new : State) (p : ℕ) (rest : List ℕ) (labels
         closed.operations q r (rests_before q (λ e. none-some h.first (sym none ∙ ap (slice_get nodes) (sym e) ∙ h.left)) left) (rests_before r (λ e. none-some h.second (sym none ∙ ap (slice_get nodes) (sym e) ∙ h.right)) right) h;
   }
 
-  module _ (node : Node) (is : slice_get nodes p ≡ Some node) (none_apart : (other : ℕ) → Contains (list_at s.buckets (bucket_of s node.parts)) other → AreAlike nodes (label_of s) p other → label_of s p ≡ label_of s other)
-      (twin : HasTwin nodes new p node.parts) where
+  module _ (node : Node) (is : slice_get nodes p ≡ Some node) (none_apart : (other : ℕ) → Contains (list_at s.buckets (bucket_of s node)) other → AreAlike nodes (label_of s) p other → label_of s p ≡ label_of s other)
+      (twin : HasTwin nodes new p node) where
+    bucket_alike : (t : ℕ) (h : AreAlike nodes (label_of s) p t) → bucket_of s h.first ≡ bucket_of s h.second
+    bucket_alike t h =
+        ap (λ (k : ℕ). k % length s.buckets)
+        (ap (λ (op : Op). mixed (label_of s) (seed_of op) h.first.parts) h.op ∙ same_mixed (label_of s) h.first.parts h.second.parts (seed_of h.second.op) h.parts)
+
     with_another : (t : ℕ) → (t ≡ p → ⊥) → (Contains rest t → ⊥) → AreAlike nodes (label_of s) p t → label_of s p ≡ label_of s t
     with_another t apart rests h =
         let its = closed.has_twin t h.second h.right (rests_before t apart rests) in
         let same : h.first ≡ node = same_Some h.first node (sym h.left ∙ is) in
-        let bucket : bucket_of s h.second.parts ≡ bucket_of s node.parts =
-        ap (λ (k : ℕ). k % length s.buckets) (sym (same_mixed (label_of s) h.first.parts h.second.parts 0 h.parts)) ∙ ap (λ (m : Node). bucket_of s m.parts) same in
-        let there : Contains (list_at s.buckets (bucket_of s node.parts)) its.twin = subst (λ (b : ℕ). Contains (list_at s.buckets b) its.twin) bucket its.there in
+        let bucket : bucket_of s h.second ≡ bucket_of s node = sym (bucket_alike t h) ∙ ap (λ (m : Node). bucket_of s m) same in
+        let there : Contains (list_at s.buckets (bucket_of s node)) its.twin = subst (λ (b : ℕ). Contains (list_at s.buckets b) its.twin) bucket its.there in
         none_apart its.twin there (alike_through nodes (label_of s) p t its.twin h its.alike) ∙ sym its.together
 
     one_label : (q r : ℕ) → (Contains rest q → ⊥) → (Contains rest r → ⊥) → AreAlike nodes (label_of s) q r → label_of s q ≡ label_of s r
@@ -119,14 +124,14 @@ module _ (nodes : List Node) (s new : State) (p : ℕ) (rest : List ℕ) (labels
         by (inr other) (inl f) = sym (ap (label_of s) f ∙ with_another q other left (alike_turned nodes (label_of s) q p (subst (λ (k : ℕ). AreAlike nodes (label_of s) q k) f h)))
         by (inr one) (inr other) = closed.operations q r (rests_before q one left) (rests_before r other right) h
 
-    twins : (q : ℕ) (m : Node) → slice_get nodes q ≡ Some m → (Contains rest q → ⊥) → HasTwin nodes new q m.parts
+    twins : (q : ℕ) (m : Node) → slice_get nodes q ≡ Some m → (Contains rest q → ⊥) → HasTwin nodes new q m
     twins q m at rests = by (cases_eq q p)
       where
-        by : (q ≡ p) ⊎ (q ≡ p → ⊥) → HasTwin nodes new q m.parts
+        by : (q ≡ p) ⊎ (q ≡ p → ⊥) → HasTwin nodes new q m
         by (inl e) =
             let same : node ≡ m = same_Some node m (sym is ∙ ap (slice_get nodes) (sym e) ∙ at) in
-            subst (λ (k : ℕ). HasTwin nodes new k m.parts) (sym e) (subst (λ (n : Node). HasTwin nodes new p n.parts) same twin)
-        by (inr other) = twin_grows q m.parts (closed.has_twin q m at (rests_before q other rests))
+            subst (λ (k : ℕ). HasTwin nodes new k m) (sym e) (subst (λ (n : Node). HasTwin nodes new p n) same twin)
+        by (inr other) = twin_grows q m (closed.has_twin q m at (rests_before q other rests))
 
     pub settled : IsClosedBut nodes new rest
     settled = record {

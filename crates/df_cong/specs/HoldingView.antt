@@ -9,7 +9,7 @@ use Rattle.df_rules.specs.Congruence.{negative_equality, negative_equalities}
 use Rattle.df_cong.specs.declared.partition.Partition.{Partition}
 use Rattle.df_cong.specs.declared.holding.Level.{Level}
 use Rattle.df_cong.specs.declared.holding.Holding.{Holding}
-use Rattle.df_cong.specs.PartitionView.{state_of}
+use Rattle.df_cong.specs.PartitionView.{state_of, Extends}
 use Rattle.df_cong.specs.mirror.State.{back}
 use Rattle.df_cong.specs.mirror.Closure.{StandsBut}
 use Rattle.df_cong.specs.mirror.Steps.{IsReady}
@@ -71,3 +71,16 @@ pub record Cuts (old new : Holding) (count : ℕ) : Type 0 where
   pub held : new.held.items ≡ take count old.held.items
   pub levels : new.levels.items ≡ take count old.levels.items
   pub retreats : RetreatsTo old.partition new.partition (slice_get old.levels.items count)
+
+-- a further literal is held
+pub record Grows (old new : Holding) (literal : Lit) : Type 0 where
+  pub held : new.held.items ≡ old.held.items ++ literal ∷ []
+  pub levels : new.levels.items ≡ old.levels.items ++ level_of old.partition ∷ []
+  pub extends : Extends old.partition new.partition
+
+-- an error has left what there was
+pub record Returns (old new : Holding) : Type 0 where
+  pub held : new.held.items ≡ old.held.items
+  pub levels : new.levels.items ≡ old.levels.items
+  pub trail : new.partition.trail.items ≡ old.partition.trail.items
+  pub state : state_of new.partition ≡ state_of old.partition

@@ -4,6 +4,7 @@ pub mod Laws
 pub mod Theory
 pub mod PartitionView
 pub mod HoldingView
+pub mod SignsView
 pub mod ClassesView
 pub mod Congruence
 pub mod mirror

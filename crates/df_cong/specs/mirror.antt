@@ -4,3 +4,5 @@ pub mod Closure
 pub mod Steps
 pub mod Clash
 pub mod Users
+pub mod Replay
+pub mod Signs

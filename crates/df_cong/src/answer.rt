@@ -4,21 +4,21 @@ use df_form::{Lit, Pair};
 
 /// Why held literals contradict one another: some of them whose negations are the clause of a line of
 /// congruence, and the pairs of the line.
-#[derive(Debug, Drop)]
+#[derive(Drop)]
 pub struct Reason {
     pub literals: Vec<Lit>,
     pub pairs: Vec<Pair>,
 }
 
 /// Whether the held literals contradict one another.
-#[derive(Debug, Drop)]
+#[derive(Drop)]
 pub enum Answer {
     Quiet,
     Conflict(Reason),
 }
 
 /// What congruence tells of literals.
-#[derive(Debug, Drop)]
+#[derive(Drop)]
 pub enum Congruence {
     /// A line of congruence has just the negations of some of the literals in its clause.
     Contradicted(Reason),
@@ -28,7 +28,7 @@ pub enum Congruence {
 }
 
 /// How many literals were held.
-#[derive(Clone, Copy, Debug, PartialEq, Eq)]
+#[derive(Clone, Copy, PartialEq, Eq)]
 pub struct Mark {
     pub held: usize,
 }

@@ -19,7 +19,7 @@ use std::alloc::{AllocError, Global};
 use std::collections::{BTreeMap, BTreeSet};
 
 /// Whether a literal denies an equality whose sides have one label.
-fn is_denied(nodes: &Nodes, partition: &Partition, literal: Lit) -> bool
+pub(crate) fn is_denied(nodes: &Nodes, partition: &Partition, literal: Lit) -> bool
     ensures { result ≡ is_denied_in nodes.now (label_of (state_of partition.now)) literal }
 {
     if literal.positive {
@@ -94,7 +94,7 @@ fn has_opposites(alloc: Global, partition: &Partition, literals: &[Lit]) -> Resu
 }
 
 /// The number that a node is.
-fn number(nodes: &Nodes, node: usize) -> Option<i128>
+pub(crate) fn number(nodes: &Nodes, node: usize) -> Option<i128>
     ensures { result ≡ number_at nodes.now node }
 {
     match nodes.get(node)?.op {

@@ -1,20 +1,24 @@
 //! Classes of equal nodes, for the literals that are held.
 
-ghost use Rattle.std.specs.Prelude.{◌≡◌, ◌≤◌, ◌∷◌, ◌++◌, [], true, false, length, take, IfOk, OnOk, OnErr};
-ghost use Rattle.df_form.specs.Clause.{are_literals};
+ghost use Rattle.std.specs.Prelude.{◌≡◌, ◌≤◌, ◌∷◌, ◌++◌, [], true, length, map, take, IfOk, OnOk, OnErr};
+ghost use Rattle.df_form.specs.Clause.{negation, are_literals};
 ghost use Rattle.df_form.specs.Sorting.{is_formula};
+ghost use Rattle.df_cong.specs.Equal.{IsContradicted};
 ghost use Rattle.df_cong.specs.Theory.{IsAnswer};
 ghost use Rattle.df_cong.specs.HoldingView.{IsHolding};
 ghost use Rattle.df_cong.specs.ClassesView.{Held, IsClasses};
+ghost use Rattle.df_cong.specs.SignsView.{Came, IsCovered};
 ghost use Rattle.df_cong.specs.mirror.Clash.{clash, AreNumbers};
 ghost use Rattle.df_cong.specs.mirror.Closure.{AreUsers};
 ghost use Rattle.df_cong.specs.mirror.State.{label_of};
 ghost use Rattle.df_cong.specs.PartitionView.{state_of};
 
-use crate::answer::{Answer, Mark, Reason};
+use crate::answer::{Answer, Mark};
 use crate::clash::{do_clash, numbers};
 use crate::holding::Holding;
 use crate::lists::Lists;
+use crate::reason::{short_reason, whole_reason};
+use crate::signs::Signs;
 use crate::theory::Theory;
 use crate::users::users_of;
 use df_form::{Lit, Nodes};
@@ -28,6 +32,7 @@ pub struct Classes {
     users: Lists,
     numbers: Vec<usize>,
     holding: Holding,
+    signs: Signs,
     alloc: Global,
 }
 
@@ -38,18 +43,25 @@ impl Model for Classes {
 
     ghost view = { λ c. record { table = c.nodes; literals = c.holding.held.items } };
 
-    ghost invariant = { λ c. IsClasses c.nodes c.users c.numbers.items c.holding };
+    ghost invariant = { λ c. IsClasses c.nodes c.users c.numbers.items c.holding c.signs };
 }
 
-/// Why held literals clash: all of them, and all pairs.
-fn whole_reason(alloc: Global, holding: &Holding) -> Result<Reason, AllocError>
-    ensures literals { IfOk result (λ reason. reason.literals.items ≡ holding.now.held.items) }
-    ensures pairs { IfOk result (λ reason. reason.pairs.items ≡ holding.now.partition.pairs.items) }
+/// The conflict of held literals that clash. All nodes that are numbers are given.
+fn conflict(
+    alloc: Global,
+    nodes: &Nodes,
+    numbers: &[usize],
+    holding: &Holding,
+) -> Result<Answer, AllocError>
+    requires holding { IsHolding nodes.now holding.now.held.items holding.now.levels.items holding.now.partition }
+    requires literals { are_literals nodes.now holding.now.held.items ≡ true }
+    requires clash { clash nodes.now (label_of (state_of holding.now.partition)) numbers.now holding.now.held.items ≡ true }
+    ensures { IfOk result (IsAnswer nodes.now holding.now.held.items) }
 {
-    Ok(Reason {
-        literals: Vec::from_slice(alloc, &holding.held)?,
-        pairs: Vec::from_slice(alloc, &holding.partition.pairs)?,
-    })
+    match short_reason(alloc, nodes, numbers, holding)? {
+        Some(reason) => Ok(Answer::Conflict(reason)),
+        None => Ok(Answer::Conflict(whole_reason(alloc, holding)?)),
+    }
 }
 
 /// What held literals come to, where all nodes that are numbers are given.
@@ -65,10 +77,88 @@ pub(crate) fn answer_for(
     ensures { IfOk result (IsAnswer nodes.now holding.now.held.items) }
 {
     if do_clash(alloc, nodes, &holding.partition, numbers, &holding.held)? {
-        Ok(Answer::Conflict(whole_reason(alloc, holding)?))
+        conflict(alloc, nodes, numbers, holding)
     } else {
         Ok(Answer::Quiet)
     }
+}
+
+/// Whether held literals surely do not clash, where the last of so many came when there were so many changes,
+/// and all before it are covered. It goes over what changed since then.
+fn takes_last(
+    nodes: &Nodes,
+    users: &Lists,
+    holding: &Holding,
+    signs: &mut Signs,
+    from: usize,
+    literal: Lit,
+    held: usize,
+) -> Result<bool, AllocError>
+    requires holding { IsHolding nodes.now holding.now.held.items holding.now.levels.items holding.now.partition }
+    requires users { AreUsers nodes.now users.now }
+    requires literals { are_literals nodes.now holding.now.held.items ≡ true }
+    requires came { Came holding.now literal from }
+    requires covered { IsCovered nodes.now holding.now signs.old }
+    requires all { signs.old.covered ≡ held }
+    requires count { held ≡ length holding.now.held.items }
+    ensures quiet { IfOk result (λ yes. yes ≡ true → IsContradicted nodes.now (map negation holding.now.held.items) → ⊥) }
+    ensures covered { IsCovered nodes.now holding.now signs.new }
+{
+    if !signs.take_in(nodes, users, &holding.partition, from, literal, held)? {
+        return Ok(false);
+    }
+    signs.covered = holding.held.len() + 1;
+    Ok(true)
+}
+
+/// Whether held literals surely do not clash, where the last of them came when there were so many changes.
+fn is_surely_quiet(
+    nodes: &Nodes,
+    users: &Lists,
+    holding: &Holding,
+    signs: &mut Signs,
+    from: usize,
+    literal: Lit,
+) -> Result<bool, AllocError>
+    requires holding { IsHolding nodes.now holding.now.held.items holding.now.levels.items holding.now.partition }
+    requires users { AreUsers nodes.now users.now }
+    requires literals { are_literals nodes.now holding.now.held.items ≡ true }
+    requires came { Came holding.now literal from }
+    requires covered { IsCovered nodes.now holding.now signs.old }
+    ensures quiet { IfOk result (λ yes. yes ≡ true → IsContradicted nodes.now (map negation holding.now.held.items) → ⊥) }
+    ensures covered { IsCovered nodes.now holding.now signs.new }
+{
+    let held = holding.held.len();
+    if signs.covered == held {
+        return takes_last(nodes, users, holding, signs, from, literal, held);
+    }
+    Ok(false)
+}
+
+/// What held literals come to, where the last of them came when there were so many changes.
+fn answer_after(
+    alloc: Global,
+    nodes: &Nodes,
+    users: &Lists,
+    numbers: &[usize],
+    holding: &Holding,
+    signs: &mut Signs,
+    from: usize,
+    literal: Lit,
+) -> Result<Answer, AllocError>
+    requires holding { IsHolding nodes.now holding.now.held.items holding.now.levels.items holding.now.partition }
+    requires users { AreUsers nodes.now users.now }
+    requires numbers { AreNumbers nodes.now numbers.now }
+    requires literals { are_literals nodes.now holding.now.held.items ≡ true }
+    requires came { Came holding.now literal from }
+    requires covered { IsCovered nodes.now holding.now signs.old }
+    ensures answer { IfOk result (IsAnswer nodes.now holding.now.held.items) }
+    ensures covered { IsCovered nodes.now holding.now signs.new }
+{
+    if is_surely_quiet(nodes, users, holding, signs, from, literal)? {
+        return Ok(Answer::Quiet);
+    }
+    answer_for(alloc, nodes, numbers, holding)
 }
 
 /// Holds one more literal, and answers. An error leaves what was held.
@@ -78,6 +168,7 @@ fn assert_on(
     users: &Lists,
     numbers: &[usize],
     holding: &mut Holding,
+    signs: &mut Signs,
     literal: Lit,
 ) -> Result<Answer, AllocError>
     requires holding { IsHolding nodes.now holding.old.held.items holding.old.levels.items holding.old.partition }
@@ -85,20 +176,44 @@ fn assert_on(
     requires numbers { AreNumbers nodes.now numbers.now }
     requires literals { are_literals nodes.now holding.old.held.items ≡ true }
     requires literal { is_formula nodes.now literal.node ≡ true }
+    requires covered { IsCovered nodes.now holding.old signs.old }
     ensures answer { IfOk result (IsAnswer nodes.now holding.new.held.items) }
     ensures holding { IsHolding nodes.now holding.new.held.items holding.new.levels.items holding.new.partition }
     ensures holds { OnOk result (holding.new.held.items ≡ holding.old.held.items ++ literal ∷ []) }
     ensures err { OnErr result (holding.new.held.items ≡ holding.old.held.items) }
+    ensures covered { IsCovered nodes.now holding.new signs.new }
 {
     let before = holding.held.len();
+    let from = holding.partition.changes();
     holding.hold(alloc, nodes, users, literal)?;
-    match answer_for(alloc, nodes, numbers, holding) {
+    match answer_after(alloc, nodes, users, numbers, holding, signs, from, literal) {
         Ok(answer) => Ok(answer),
         Err(error) => {
             holding.cut(before);
+            signs.forget(before);
             Err(error)
         }
     }
+}
+
+/// What is known of the classes of no literals.
+fn first_signs(
+    alloc: Global,
+    nodes: &Nodes,
+    numbers: &[usize],
+    holding: &Holding,
+) -> Result<Signs, AllocError>
+    requires holding { IsHolding nodes.now holding.now.held.items holding.now.levels.items holding.now.partition }
+    requires held { holding.now.held.items ≡ [] }
+    requires numbers { AreNumbers nodes.now numbers.now }
+    ensures { IfOk result (λ signs. IsCovered nodes.now holding.now signs) }
+{
+    let mut signs = Signs::none(alloc, nodes.len())?;
+    if !signs.put_numbers(nodes, &holding.partition, numbers)? {
+        return Ok(signs);
+    }
+    signs.covered = 1;
+    Ok(signs)
 }
 
 impl Classes {
@@ -110,11 +225,13 @@ impl Classes {
         let users = users_of(alloc, &nodes)?;
         let numbers = numbers(alloc, &nodes)?;
         let holding = Holding::new(alloc, &nodes, &users)?;
+        let signs = first_signs(alloc, &nodes, &numbers, &holding)?;
         Ok(Classes {
             nodes,
             users,
             numbers,
             holding,
+            signs,
             alloc,
         })
     }
@@ -132,6 +249,7 @@ impl Theory for Classes {
             &self.users,
             &self.numbers,
             &mut self.holding,
+            &mut self.signs,
             literal,
         )
     }
@@ -144,5 +262,6 @@ impl Theory for Classes {
 
     fn undo(&mut self, mark: Mark) {
         self.holding.cut(mark.held);
+        self.signs.forget(mark.held);
     }
 }

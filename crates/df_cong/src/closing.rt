@@ -6,13 +6,13 @@ ghost use Rattle.std.specs.Cmp.Lexicographic.{pointwise};
 ghost use Rattle.df_rules.specs.Classes.{is_together};
 ghost use Rattle.df_rules.specs.CongruenceLine.{is_congruent};
 ghost use Rattle.df_cong.specs.mirror.State.{label_of, list_at};
-ghost use Rattle.df_cong.specs.mirror.Closure.{AreUsers, CanAbsorb, CanJoin, Absorbs, Joins, bucket_of, mixed, apart_from, alike_to, Enters, IsBucketOf};
+ghost use Rattle.df_cong.specs.mirror.Closure.{AreUsers, CanAbsorb, CanJoin, Absorbs, Joins, low_bits, seed_of, mixed, apart_from, alike_to, Enters, IsBucketOf};
 ghost use Rattle.df_cong.specs.mirror.Steps.{IsReady, Advances, Closes};
 ghost use Rattle.df_cong.specs.PartitionView.{state_of, Extends};
 
 use crate::lists::Lists;
 use crate::partition::Partition;
-use df_form::{Nodes, Pair};
+use df_form::{Nodes, Op, Pair};
 use std::alloc::{AllocError, Global};
 
 /// Whether parts have the same labels place by place.
@@ -34,7 +34,7 @@ fn have_one_label(partition: &Partition, first: &[usize], second: &[usize]) -> b
 }
 
 /// Whether two nodes are of one operation, on parts of the same labels.
-fn are_alike(nodes: &Nodes, partition: &Partition, pair: Pair) -> bool
+pub(crate) fn are_alike(nodes: &Nodes, partition: &Partition, pair: Pair) -> bool
     ensures { result ≡ is_congruent nodes.now (label_of (state_of partition.now)) pair }
 {
     match (nodes.get(pair.left), nodes.get(pair.right)) {
@@ -84,26 +84,58 @@ fn has_alike(nodes: &Nodes, partition: &Partition, node: usize, others: &[usize]
     false
 }
 
-/// A number that the labels of parts decide.
-fn mix(partition: &Partition, parts: &[usize]) -> usize
-    ensures { result ≡ mixed (label_of (state_of partition.now)) 0 parts.now }
+/// The low bits of a number without its sign.
+fn low_bits(number: i128) -> usize
+    ensures { result ≡ low_bits number }
 {
-    let mut so_far: usize = 0;
+    (number.unsigned_abs() % 0x1_0000_0000) as usize
+}
+
+/// A number that an operation decides.
+fn seed(op: Op) -> usize
+    ensures { result ≡ seed_of op }
+{
+    match op {
+        Op::Number(number) => low_bits(number),
+        Op::Free(free) => free.number,
+        Op::Plus => 1,
+        Op::Times => 2,
+        Op::Div => 3,
+        Op::Mod => 4,
+        Op::Code => 5,
+        Op::Chr => 6,
+        Op::Is(_) => 7,
+        Op::Equal => 8,
+        Op::AtMost => 9,
+        Op::Not => 10,
+        Op::And => 11,
+        Op::Or => 12,
+        Op::Implies => 13,
+        Op::Iff => 14,
+    }
+}
+
+/// A number that another and the labels of parts decide.
+fn mix(partition: &Partition, seed: usize, parts: &[usize]) -> usize
+    ensures { result ≡ mixed (label_of (state_of partition.now)) seed parts.now }
+{
+    let mut so_far = seed;
     for part in parts {
-        let product = so_far.wrapping_mul(31);
+        let product = so_far.wrapping_mul(6364136223846793005);
         so_far = product.wrapping_add(partition.label(*part));
     }
     so_far
 }
 
-/// The bucket of a node's parts, where there is such a node.
+/// The bucket of a node, where there is such a node.
 fn bucket_for(nodes: &Nodes, partition: &Partition, node: usize) -> Option<usize>
     requires { IsReady nodes.now (state_of partition.now) }
     ensures some { IfSome result (IsBucketOf nodes.now (state_of partition.now) node) }
     ensures none { IfNone result (slice_get nodes.now node ≡ None) }
 {
     let node = nodes.get(node)?;
-    Some(mix(partition, &node.parts) % partition.bucket_count())
+    let number = mix(partition, seed(node.op), &node.parts);
+    Some(number % partition.bucket_count())
 }
 
 /// Gives each node of one label another. The nodes that have them among their parts wait.

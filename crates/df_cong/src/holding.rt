@@ -5,7 +5,7 @@ ghost use Rattle.df_rules.specs.Congruence.{equality};
 ghost use Rattle.df_cong.specs.mirror.Closure.{AreUsers};
 ghost use Rattle.df_cong.specs.mirror.Steps.{IsReady};
 ghost use Rattle.df_cong.specs.PartitionView.{state_of, Extends};
-ghost use Rattle.df_cong.specs.HoldingView.{IsHolding, Equates, equality_held, Pushes, RetreatsTo, Cuts};
+ghost use Rattle.df_cong.specs.HoldingView.{IsHolding, Equates, equality_held, Pushes, RetreatsTo, Cuts, Grows, Returns};
 
 use crate::closing::{close, join};
 use crate::lists::Lists;
@@ -14,7 +14,7 @@ use df_form::{Lit, Nodes, Op, Pair};
 use std::alloc::{AllocError, Global};
 
 /// What there was when a literal came.
-#[derive(Clone, Copy, Debug, PartialEq, Eq)]
+#[derive(Clone, Copy, PartialEq, Eq)]
 pub(crate) struct Level {
     pub(crate) changes: usize,
     pub(crate) pairs: usize,
@@ -160,7 +160,9 @@ impl Holding {
         requires users { AreUsers nodes.now users.now }
         ensures holding { IsHolding nodes.now self.new.held.items self.new.levels.items self.new.partition }
         ensures holds { OnOk result (self.new.held.items ≡ self.old.held.items ++ literal ∷ []) }
+        ensures grows { OnOk result (Grows self.old self.new literal) }
         ensures err { OnErr result (self.new.held.items ≡ self.old.held.items) }
+        ensures returns { OnErr result (Returns self.old self.new) }
     {
         let before = self.held.len();
         self.push(literal)?;

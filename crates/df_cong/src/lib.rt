@@ -6,10 +6,18 @@ mod answer;
 mod clash;
 mod classes;
 mod closing;
+mod collision;
 mod deciding;
+mod explaining;
+mod forest;
 mod holding;
 mod lists;
 mod partition;
+mod reason;
+mod replay;
+mod signs;
+mod slots;
+mod stamps;
 mod theory;
 mod users;
 

@@ -1,6 +1,6 @@
 //! Nodes by the labels of their classes, with a way back.
 
-ghost use Rattle.std.specs.Prelude.{◌≡◌, ◌<◌, ◌∷◌, ◌++◌, [], length, take, drop, IfOk, OnOk};
+ghost use Rattle.std.specs.Prelude.{◌≡◌, ◌<◌, ◌∷◌, ◌++◌, [], length, take, drop, slice_get, IfOk, OnOk};
 ghost use Rattle.df_cong.specs.mirror.State.{label_of, list_at, moved, entered, undone, back, alone, counted_from};
 ghost use Rattle.df_cong.specs.PartitionView.{state_of, Extends, UndoesLast};
 
@@ -9,7 +9,7 @@ use df_form::Pair;
 use std::alloc::{AllocError, Global};
 
 /// One change, with what stood there before.
-#[derive(Clone, Copy, Debug, PartialEq, Eq)]
+#[derive(Clone, Copy, PartialEq, Eq)]
 pub(crate) enum Change {
     /// A node went to another class from that of this label.
     Moved { node: usize, label: usize },
@@ -99,6 +99,13 @@ impl Partition {
         ensures { result ≡ length self.now.trail.items }
     {
         self.trail.len()
+    }
+
+    /// The change of a number, if there is one.
+    pub(crate) fn change(&self, place: usize) -> Option<Change>
+        ensures { result ≡ slice_get self.now.trail.items place }
+    {
+        self.trail.get(place).copied()
     }
 
     /// Gives a node another label. An error changes nothing.

@@ -1,7 +1,10 @@
 -- Labels that are closed under operations, but for nodes that wait to be looked at.
-use Rattle.std.specs.Prelude.{◌≡◌, ◌<◌, ◌⊎◌, ◌==◌, ◌&&◌, Bool, true, not, ℕ, ◌*◌, ◌+◌, ◌%◌, ◌^◌, List, [], ◌∷◌, ◌++◌, length, slice_get, Some, Contains}
+use Rattle.std.specs.Prelude.{◌≡◌, ◌<◌, ◌⊎◌, ◌==◌, ◌&&◌, Bool, true, not, ℕ, ℤ, ◌*◌, ◌+◌, ◌%◌, ◌^◌, List, [], ◌∷◌, ◌++◌, length, slice_get, Some, Contains}
 use Rattle.std.specs.List.{AllZip, list_any}
+use Rattle.std.specs.Int.RustNames.{unsigned_abs}
 use Rattle.df_form.specs.declared.log.Pair.{Pair}
+use Rattle.df_form.specs.declared.node.Op.{Op}
+use Rattle.df_form.specs.declared.node.Op.TheVariants as ops
 use Rattle.df_form.specs.Node.{Node}
 use Rattle.df_rules.specs.Classes.{InOneClass}
 use Rattle.df_rules.specs.Congruence.{AreCongruent}
@@ -19,33 +22,56 @@ pub record AreAlike (nodes : List Node) (label : ℕ → ℕ) (p q : ℕ) : Type
   pub op : first.op ≡ second.op
   pub parts : AllZip (HaveOneLabel label) first.parts second.parts
 
-abbrev pub mixed_with : ℕ → ℕ → ℕ
-mixed_with so_far label = (so_far * 31 + label) % 2 ^ 64
+abbrev pub low_bits : ℤ → ℕ
+low_bits number = unsigned_abs number % 2 ^ 32
 
--- a number that the labels of the parts decide
+-- a number that the operation decides: numbers and free terms, which have no parts, have one each
+abbrev pub seed_of : Op → ℕ
+seed_of (ops.Number number) = low_bits number
+seed_of (ops.Free free) = free.number
+seed_of ops.Plus = 1
+seed_of ops.Times = 2
+seed_of ops.Div = 3
+seed_of ops.Mod = 4
+seed_of ops.Code = 5
+seed_of ops.Chr = 6
+seed_of (ops.Is ty) = 7
+seed_of ops.Equal = 8
+seed_of ops.AtMost = 9
+seed_of ops.Not = 10
+seed_of ops.And = 11
+seed_of ops.Or = 12
+seed_of ops.Implies = 13
+seed_of ops.Iff = 14
+
+abbrev pub mixed_with : ℕ → ℕ → ℕ
+mixed_with so_far label = (so_far * 6364136223846793005 + label) % 2 ^ 64
+
+-- a number that this one and the labels of the parts decide
 abbrev pub mixed : (ℕ → ℕ) → ℕ → List ℕ → ℕ
 mixed label so_far [] = so_far
 mixed label so_far (part ∷ others) = mixed label (mixed_with so_far (label part)) others
 
-abbrev pub bucket_of : State → List ℕ → ℕ
-bucket_of s parts = mixed (label_of s) 0 parts % length s.buckets
+-- the bucket of a node's operation and of the labels of its parts
+abbrev pub bucket_of : State → Node → ℕ
+bucket_of s node = mixed (label_of s) (seed_of node.op) node.parts % length s.buckets
 
 -- the bucket of a node
 pub record IsBucketOf (nodes : List Node) (s : State) (p bucket : ℕ) : Type 0 where
   pub found : Node
   pub there : slice_get nodes p ≡ Some found
-  pub bucket_is : bucket ≡ bucket_of s found.parts
+  pub bucket_is : bucket ≡ bucket_of s found
 
--- the bucket of a node's parts has a node like it, of its label
-pub record HasTwin (nodes : List Node) (s : State) (p : ℕ) (parts : List ℕ) : Type 0 where
+-- its bucket has a node like it, of its label
+pub record HasTwin (nodes : List Node) (s : State) (p : ℕ) (node : Node) : Type 0 where
   pub twin : ℕ
-  pub there : Contains (list_at s.buckets (bucket_of s parts)) twin
+  pub there : Contains (list_at s.buckets (bucket_of s node)) twin
   pub alike : AreAlike nodes (label_of s) p twin
   pub together : label_of s p ≡ label_of s twin
 
 -- All nodes but those that wait have twins, and of them those that are alike have one label.
 pub record IsClosedBut (nodes : List Node) (s : State) (waiting : List ℕ) : Type 0 where
-  pub has_twin : (p : ℕ) (node : Node) → slice_get nodes p ≡ Some node → (Contains waiting p → ⊥) → HasTwin nodes s p node.parts
+  pub has_twin : (p : ℕ) (node : Node) → slice_get nodes p ≡ Some node → (Contains waiting p → ⊥) → HasTwin nodes s p node
   pub operations : (p q : ℕ) → (Contains waiting p → ⊥) → (Contains waiting q → ⊥) → AreAlike nodes (label_of s) p q → label_of s p ≡ label_of s q
 
 -- The labels are those of some equalities and of pairs that are congruent in their order, and closed but for the nodes that wait.

@@ -6,4 +6,4 @@ use Rattle.df_cong.proofs.closing.mix.Given as goal
 
 abbrev pub invariant-loop-part : goal.invariant-loop-part
 invariant-loop-part l =
-    let label = label_of (state_of l.partition) in mixed label 0 l.parts ≡ mixed label l.so_far (drop l.part-index l.parts)
+    let label = label_of (state_of l.partition) in mixed label l.seed l.parts ≡ mixed label l.so_far (drop l.part-index l.parts)

@@ -1,6 +1,10 @@
-use Rattle.std.proofs.Common.{ap}
+use Rattle.std.proofs.Common.{ap, sym, subst}
 use Rattle.df_form.specs.Clause.{are_literals}
+use Rattle.df_cong.specs.mirror.Clash.{AreNumbers}
 use Rattle.df_cong.proofs.classes.Classes.new.Goals as goal
+
+pub first_signs-requires-clause-numbers : goal.first_signs-requires-clause-numbers
+first_signs-requires-clause-numbers c = subst (AreNumbers c.in_ok-nodes.nodes) (sym c.deref.ensures.value) c.in_ok-numbers.ensures
 
 pub invariant_of-result : goal.invariant_of-result
 invariant_of-result c = record {
@@ -8,6 +12,7 @@ invariant_of-result c = record {
   numbers_are = c.in_ok-numbers.ensures;
   literals_are = ap (are_literals c.in_ok-nodes.nodes) c.in_ok-holding.ensures.held;
   holds = c.in_ok-holding.ensures.holding;
+  covered = c.in_ok-signs.ensures;
 }
 
 pub returns : goal.returns

@@ -21,6 +21,9 @@ assert_on-requires-clause-literals c = c.self.invariant.literals_are
 pub assert_on-requires-clause-literal : goal.assert_on-requires-clause-literal
 assert_on-requires-clause-literal c = ap (λ (h : Held). is_formula h.table c.args.literal.node) c.self.view_is ∙ c.requires
 
+pub assert_on-requires-clause-covered : goal.assert_on-requires-clause-covered
+assert_on-requires-clause-covered c = c.self.invariant.covered
+
 pub invariant_of-self : goal.invariant_of-self
 invariant_of-self c =
     let nodes = c.self.inside.nodes in
@@ -31,6 +34,7 @@ invariant_of-self c =
           literals_after nodes old.held.items c.assert_on.new.holding.held.items c.args.literal c.assert_on.result c.self.invariant.literals_are (ap (λ (h : Held). is_formula h.table c.args.literal.node) c.self.view_is ∙ c.requires) c.assert_on.ensures.holds
           c.assert_on.ensures.err;
       holds = c.assert_on.ensures.holding;
+      covered = c.assert_on.ensures.covered;
     }
 
 pub returns-clause-answer : goal.returns-clause-answer

@@ -1,7 +1,10 @@
 use Rattle.std.proofs.Common.{sym, subst, ap, ◌∙◌, arith}
-use Rattle.df_cong.specs.PartitionView.{state_of}
+use Rattle.df_cong.specs.declared.partition.Partition.{Partition}
+use Rattle.df_cong.specs.PartitionView.{state_of, Extends}
 use Rattle.df_cong.specs.mirror.Steps.{IsReady}
+use Rattle.df_cong.proofs.Results.{on_err}
 use Rattle.df_cong.proofs.Holds.{ready_of, hold_on, hold_back, cut_last, same_holding}
+use Rattle.df_cong.proofs.Earlier.{hold_returns}
 use Rattle.df_cong.proofs.holding.Holding.hold.Goals as goal
 
 pub put-requires-clause-ready : goal.put-requires-clause-ready
@@ -27,3 +30,23 @@ returns-in-Err-clause-holding c =
 
 pub returns-in-Err-clause-err : goal.returns-in-Err-clause-err
 returns-in-Err-clause-err c = cut_last c.put.new.self c.cut.new.self c.args.self.now.held.items c.args.literal c.len-before.result (omega (arith, c.len-before.ensures, c.args.self.now.held.ok.0)) (c.put.ensures.held ∙ c.in_ok-push.ensures.pushes.held) c.cut.ensures
+
+pub returns-in_err-push-clause-returns : goal.returns-in_err-push-clause-returns
+returns-in_err-push-clause-returns c = on_err c.from_residual.result (record {
+  held = c.in_err-push.ensures.held;
+  levels = c.in_err-push.ensures.levels;
+  trail = ap (λ (p : Partition). p.trail.items) c.push.ensures.partition;
+  state = ap state_of c.push.ensures.partition;
+})
+
+pub returns-in-Ok-clause-grows : goal.returns-in-Ok-clause-grows
+returns-in-Ok-clause-grows c = record {
+  held = c.put.ensures.held ∙ c.in_ok-push.ensures.pushes.held;
+  levels = c.put.ensures.levels ∙ c.in_ok-push.ensures.pushes.levels;
+  extends = subst (λ (p : Partition). Extends p c.put.new.self.partition) c.push.ensures.partition c.put.ensures.extends;
+}
+
+pub returns-in-Err-clause-returns : goal.returns-in-Err-clause-returns
+returns-in-Err-clause-returns c =
+    hold_returns c.args.self.now c.push.new.self c.put.new.self c.cut.new.self c.args.literal c.in_ok-push.ensures.pushes c.push.ensures.partition c.put.ensures.extends c.put.ensures.held c.put.ensures.levels c.requires.holding.levels_are.as_many c.len-before.result
+    (omega (arith, c.len-before.ensures, c.args.self.now.held.ok.0)) c.cut.ensures
