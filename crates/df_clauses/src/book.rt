@@ -5,14 +5,14 @@ use df_form::{Combination, Pair};
 use std::alloc::{AllocError, Global};
 
 /// A clause of a schema by their numbers.
-#[derive(Clone, Copy, Debug, PartialEq, Eq, Hash)]
+#[derive(Clone, Copy, PartialEq, Eq, Hash)]
 pub struct Instance {
     pub schema: u8,
     pub clause: u32,
 }
 
 /// What derives a clause.
-#[derive(Debug, Drop)]
+#[derive(Drop)]
 pub enum Origin {
     Hypothesis(usize),
     Goal,
@@ -130,6 +130,11 @@ impl Book {
     /// Whether the clauses take all that they may.
     pub fn is_full(&self) -> bool {
         self.room == 0
+    }
+
+    /// Whether they take half of that.
+    pub fn is_half_full(&self) -> bool {
+        self.room < ROOM / 2
     }
 
     /// How many literals a clause has.

@@ -14,5 +14,5 @@ pub use analysis::Analysis;
 pub use book::{Book, Clause, Instance, Origin};
 pub use literal::Literal;
 pub use order::Order;
-pub use trail::{Assignment, Reason, Trail};
+pub use trail::{Assignment, GROUND, Reason, Trail};
 pub use watching::Solver;

@@ -1,7 +1,7 @@
 //! Literals of the engine. Its variables stand for formulas.
 
 /// A variable or its negation.
-#[derive(Clone, Copy, Debug, PartialEq, Eq)]
+#[derive(Clone, Copy, PartialEq, Eq)]
 pub struct Literal {
     pub variable: usize,
     pub positive: bool,

@@ -5,7 +5,7 @@ use std::alloc::{AllocError, Global};
 use std::collections::BinaryHeap;
 
 /// A variable by its activity; of equal ones the earlier is greater.
-#[derive(Clone, Copy, Debug, PartialEq, Eq, PartialOrd, Ord)]
+#[derive(Clone, Copy, PartialEq, Eq, PartialOrd, Ord)]
 struct Candidate {
     activity: u64,
     /// The variable counted down from the highest number.

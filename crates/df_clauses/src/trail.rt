@@ -3,8 +3,11 @@
 use crate::literal::Literal;
 use std::alloc::{AllocError, Global};
 
+/// The decision level of the negated goal: what is true below it follows from hypotheses alone.
+pub const GROUND: usize = 1;
+
 /// Why a literal is true.
-#[derive(Clone, Copy, Debug)]
+#[derive(Clone, Copy)]
 pub enum Reason {
     Decision,
     /// All other literals of the clause are false.
@@ -18,7 +21,7 @@ pub enum Reason {
 }
 
 /// The value of a variable.
-#[derive(Clone, Copy, Debug)]
+#[derive(Clone, Copy)]
 pub struct Assignment {
     pub positive: bool,
     /// The decision level.

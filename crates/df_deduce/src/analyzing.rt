@@ -1,8 +1,8 @@
 //! Conflict analysis: from a false clause back to the first unique implication point, which gives a
 //! clause to learn.
 
-use crate::engine::Engine;
-use df_clauses::{Analysis, Literal, Origin, Reason};
+use crate::state::State;
+use df_clauses::{Analysis, GROUND, Literal, Origin, Reason};
 use std::alloc::AllocError;
 
 /// What a conflict comes to.
@@ -16,7 +16,7 @@ pub enum Lesson {
     Lost,
 }
 
-impl<'a> Engine<'a> {
+impl<'a> State<'a> {
     /// Learns from a clause that is false.
     pub fn learn(&mut self, conflict: usize) -> Result<Lesson, AllocError> {
         let level = self.solver.level_of(conflict);
@@ -30,13 +30,13 @@ impl<'a> Engine<'a> {
         }
         match asserting {
             Some(literal) => self.learn_clause(analysis, literal),
-            None if level == 0 => self.learn_empty(analysis),
+            None if level <= GROUND => self.learn_empty(analysis),
             None => Ok(Lesson::Lost),
         }
     }
 
     /// Resolves the conflict with the reasons of its level. The negation of the first unique
-    /// implication point; none at the lowest level, where nothing is left.
+    /// implication point; none up to the level of the negated goal, where nothing is left.
     fn analyze(
         &mut self,
         analysis: &mut Analysis,
@@ -53,7 +53,7 @@ impl<'a> Engine<'a> {
             if !self.solver.is_open(analysis, literal) {
                 continue;
             }
-            if analysis.open == 1 && analysis.level > 0 {
+            if analysis.open == 1 && analysis.level > GROUND {
                 return Ok(Some(literal.negation()));
             }
             analysis.open = analysis.open.saturating_sub(1);

@@ -1,6 +1,6 @@
 //! Classes of equal terms: which terms are in them, what follows of them, and why.
 
-use crate::engine::Engine;
+use crate::state::State;
 use df_clauses::{Literal, Origin, Reason};
 use df_egraph::{Application, Event};
 use df_form::{Op, Pair};
@@ -15,7 +15,7 @@ fn is_operation(op: Op) -> bool {
     matches!(op, Op::Times | Op::Div | Op::Mod | Op::Code | Op::Chr)
 }
 
-impl<'a> Engine<'a> {
+impl<'a> State<'a> {
     /// Has terms in classes, with their parts.
     pub(crate) fn meet_all(&mut self, nodes: &[usize]) -> Result<(), AllocError> {
         if self.has_classes {

@@ -1,11 +1,11 @@
 //! Defining clauses: those of a formula come into the book once it has a value.
 
-use crate::engine::Engine;
+use crate::state::State;
 use df_clauses::{Literal, Origin};
 use df_theory::{Ends, Shape};
 use std::alloc::AllocError;
 
-impl<'a> Engine<'a> {
+impl<'a> State<'a> {
     /// Adds the clauses on what it means that the literal is true. A clause that is false, if one is.
     pub fn define(&mut self, literal: Literal) -> Result<Option<usize>, AllocError> {
         if self.variables.define(literal.variable, literal.positive) {

@@ -1,13 +1,13 @@
 //! Clauses that arithmetic shows come into the book.
 
-use crate::engine::Engine;
+use crate::state::State;
 use df_clauses::{Literal, Origin};
 use df_form::{Combination, Multiple};
 use df_simplex::{Derivation, Need};
 use df_theory::{Explained, Facts};
 use std::alloc::AllocError;
 
-impl<'a> Engine<'a> {
+impl<'a> State<'a> {
     fn facts(&self) -> Facts<'_> {
         Facts {
             alloc: self.alloc,

@@ -52,11 +52,16 @@ impl Instances {
         Ok(())
     }
 
-    pub fn len(&self) -> usize {
+    /// The operations that were met, in this order.
+    pub fn operations(&self) -> &[usize] {
+        self.operations.as_slice()
+    }
+
+    pub(crate) fn len(&self) -> usize {
         self.operations.len()
     }
 
-    pub fn operation(&self, place: usize) -> Option<usize> {
+    pub(crate) fn operation(&self, place: usize) -> Option<usize> {
         self.operations.get(place).copied()
     }
 

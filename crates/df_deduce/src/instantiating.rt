@@ -1,42 +1,31 @@
 //! Instances of schemas come into the book: their patterns and clauses are templates.
 
-use crate::engine::Engine;
 use crate::instances::Asked;
-use df_axiom::{Need, Source, Template, Test, schema_template};
+use crate::state::State;
+use df_axiom::{
+    CODE_OF_CHARACTER, FACTOR_GOES_IN, FACTORS_CHANGE, FACTORS_JOIN, LITERAL_COMES_FIRST, Need,
+    PARTS_OF_REMAINDER, PRODUCT_AT_LEAST, PRODUCTS_COMPARE, REMAINDER_BELOW,
+    REMAINDER_BELOW_OPPOSITE, SchemaRow, Source, Template, Test, begins_with, rows,
+    schema_template,
+};
 use df_clauses::{Instance, Literal, Origin};
 use df_form::Op;
 use df_theory::{Made, Shape};
 use std::alloc::AllocError;
 
-/// The schemas by their numbers.
-pub(crate) const DIVISION: u8 = 1;
-
-pub(crate) const REMAINDER_AT_LEAST: u8 = 2;
-
-pub(crate) const REMAINDER_BELOW: u8 = 3;
-
-pub(crate) const REMAINDER_BELOW_OPPOSITE: u8 = 4;
-
-pub(crate) const FACTORS_CHANGE: u8 = 5;
-
-pub(crate) const FACTORS_JOIN: u8 = 6;
-
-pub(crate) const FACTOR_GOES_IN: u8 = 7;
-
-pub(crate) const LITERAL_COMES_FIRST: u8 = 8;
-
-pub const PRODUCTS_COMPARE: u8 = 10;
-
-pub(crate) const CODES: u8 = 109;
-
-pub(crate) const CHARACTER_HAS_CODE: u8 = 110;
-
 /// Whether instances of a schema only write products in another way.
 fn is_rewriting(schema: u8) -> bool {
-    matches!(
-        schema,
-        FACTORS_CHANGE | FACTORS_JOIN | FACTOR_GOES_IN | LITERAL_COMES_FIRST
-    )
+    schema == FACTORS_CHANGE.schema
+        || schema == FACTORS_JOIN.schema
+        || schema == FACTOR_GOES_IN.schema
+        || schema == LITERAL_COMES_FIRST.schema
+}
+
+/// Whether the instances of a schema for one term are made where its operation is met. Those that write
+/// products in another way are made where a product comes into its normal form, and comparing products
+/// says what the other one does.
+fn is_asked_for(row: &SchemaRow) -> bool {
+    row.terms == 1 && !is_rewriting(row.schema) && row.schema != PRODUCT_AT_LEAST.schema
 }
 
 /// The node of a place.
@@ -47,7 +36,7 @@ fn node_at(places: &[usize], place: usize) -> usize {
     }
 }
 
-impl<'a> Engine<'a> {
+impl<'a> State<'a> {
     /// Whether a node passes a test.
     fn passes(&self, test: Test, node: usize) -> bool {
         match test {
@@ -259,53 +248,50 @@ impl<'a> Engine<'a> {
 
     /// Adds the instances that say all that is linear of an operation.
     fn ask_for_operation(&mut self, node: usize) -> Result<(), AllocError> {
-        let (Some(op), Some(first)) = (self.terms.op(node), self.terms.part(node, 0)) else {
+        let Some(op) = self.terms.op(node) else {
             return Ok(());
         };
         self.expand(node)?;
-        match op {
-            Op::Times => {
-                self.normalize(node)?;
+        if op == Op::Times {
+            self.normalize(node)?;
+        }
+        for row in rows() {
+            if begins_with(op, row) && is_asked_for(row) && self.says_more(row, op, node) {
+                self.instantiate(row.schema, row.clause, &[node])?;
             }
-            Op::Div => {
-                self.instantiate(DIVISION, 0, &[node])?;
-            }
-            Op::Mod => self.ask_for_remainder(node, first)?,
-            Op::Code => {
-                self.instantiate(CODES, 0, &[node])?;
-                self.instantiate(CODES, 1, &[node])?;
-                self.instantiate(CODES, 2, &[node])?;
-            }
-            Op::Chr => {
-                if self.terms.op(first) != Some(Op::Code) {
-                    self.instantiate(CHARACTER_HAS_CODE, 0, &[node])?;
-                }
-            }
-            _ => {}
         }
         Ok(())
     }
 
-    fn ask_for_remainder(&mut self, node: usize, first: usize) -> Result<(), AllocError> {
-        let Some(divisor) = self.terms.part(node, 1) else {
-            return Ok(());
+    /// Whether a clause on an operation says more than what is known of it.
+    fn says_more(&self, row: &SchemaRow, op: Op, node: usize) -> bool {
+        let (Some(first), second) = (self.terms.part(node, 0), self.terms.part(node, 1)) else {
+            return false;
         };
-        // The quotient says the same.
-        if self
-            .terms
-            .find(Made::Two(Op::Div, first, divisor))
-            .is_none()
-        {
-            self.instantiate(DIVISION, 0, &[node])?;
+        let second = second.unwrap_or(0);
+        let divisor = self.terms.number(second);
+        let schema = row.schema;
+        if op == Op::Mod && schema == PARTS_OF_REMAINDER.schema {
+            // The quotient says the same.
+            let quotient = Made::Two(Op::Div, first, second);
+            self.terms.find(quotient).is_none()
+        } else if schema == REMAINDER_BELOW.schema {
+            divisor.unwrap_or(1) > 0
+        } else if schema == REMAINDER_BELOW_OPPOSITE.schema {
+            divisor.unwrap_or(-1) < 0
+        } else if schema == CODE_OF_CHARACTER.schema {
+            self.terms.op(first) != Some(Op::Code)
+        } else {
+            true
         }
-        self.instantiate(REMAINDER_AT_LEAST, 0, &[node])?;
-        let number = self.terms.number(divisor);
-        if number.unwrap_or(1) > 0 {
-            self.instantiate(REMAINDER_BELOW, 0, &[node])?;
-        }
-        if number.unwrap_or(-1) < 0 {
-            self.instantiate(REMAINDER_BELOW_OPPOSITE, 0, &[node])?;
-        }
-        Ok(())
+    }
+
+    /// Compares two products of one second factor. Whether the clause is new.
+    pub fn compare_products(&mut self, low: usize, high: usize) -> Result<bool, AllocError> {
+        self.instantiate(
+            PRODUCTS_COMPARE.schema,
+            PRODUCTS_COMPARE.clause,
+            &[low, high],
+        )
     }
 }

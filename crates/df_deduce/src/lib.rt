@@ -6,15 +6,16 @@
 mod analyzing;
 mod classing;
 mod defining;
-mod engine;
 mod explaining;
 mod instances;
 mod instantiating;
+mod kept;
 mod normalizing;
 mod propagating;
+mod state;
 mod units;
 
 pub use analyzing::Lesson;
-pub use engine::Engine;
 pub use instances::Instances;
-pub use instantiating::PRODUCTS_COMPARE;
+pub use kept::Kept;
+pub use state::State;

@@ -1,12 +1,12 @@
 //! Propagation: through clauses that watch literals, and through rows from bound to bound.
 
-use crate::engine::Engine;
+use crate::state::State;
 use df_clauses::Literal;
 use df_simplex::{Cause, Given, Propagation};
 use df_theory::Meaning;
 use std::alloc::AllocError;
 
-impl<'a> Engine<'a> {
+impl<'a> State<'a> {
     /// Propagates all that is true. A clause that is false, if one is.
     pub fn propagate(&mut self) -> Result<Option<usize>, AllocError> {
         let mut visits = self.theory.rows.len().saturating_mul(8).saturating_add(64);

@@ -1,10 +1,10 @@
 //! Units: clauses that say what variables of the lowest level are.
 
-use crate::engine::Engine;
+use crate::state::State;
 use df_clauses::{Literal, Origin};
 use std::alloc::AllocError;
 
-impl<'a> Engine<'a> {
+impl<'a> State<'a> {
     /// The clause that says what a variable of the lowest level is.
     pub(crate) fn unit(&mut self, variable: usize) -> Result<Option<usize>, AllocError> {
         let mut waiting = vec![in self.alloc; variable]?;

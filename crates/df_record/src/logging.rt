@@ -4,36 +4,33 @@ use crate::recording::Recorder;
 use df_clauses::{Book, Origin};
 use df_form::Step;
 use std::alloc::{AllocError, Global};
+use std::collections::BTreeSet;
 
-/// The clause is needed.
-fn need(needed: &mut [bool], clause: usize) {
-    if let Some(slot) = needed.get_mut(clause) {
-        *slot = true;
+/// What the clause is learned from waits.
+fn wait_for(waiting: &mut BTreeSet<usize>, book: &Book, number: usize) -> Result<(), AllocError> {
+    let Some(clause) = book.clause(number) else {
+        return Ok(());
+    };
+    if let Origin::Learned(antecedents) = &clause.origin {
+        for antecedent in antecedents.iter() {
+            waiting.insert(*antecedent)?;
+        }
     }
+    Ok(())
 }
 
-fn is_needed(needed: &[bool], clause: usize) -> bool {
-    match needed.get(clause) {
-        Some(slot) => *slot,
-        None => false,
-    }
-}
-
-/// By clause, whether it is needed for the last one.
-fn needed_for(alloc: Global, book: &Book, last: usize) -> Result<Vec<bool>, AllocError> {
-    let mut needed = vec![in alloc; false; book.len()]?;
-    need(&mut needed, last);
-    for number in (0..book.len()).rev() {
-        if !is_needed(&needed, number) {
-            continue;
-        }
-        if let Some(clause) = book.clause(number) {
-            if let Origin::Learned(antecedents) = &clause.origin {
-                for antecedent in antecedents.iter() {
-                    need(&mut needed, *antecedent);
-                }
-            }
-        }
+/// The clauses that are needed for the last one, the latest first.
+fn needed_for(alloc: Global, book: &Book, last: usize) -> Result<Vec<usize>, AllocError> {
+    let mut needed = Vec::new(alloc);
+    let mut waiting = BTreeSet::new(alloc);
+    waiting.insert(last)?;
+    // A clause is learned from earlier ones, so none comes twice.
+    for _ in 0..book.len() {
+        let Some(number) = waiting.pop_last() else {
+            break;
+        };
+        needed.push(number)?;
+        wait_for(&mut waiting, book, number)?;
     }
     Ok(needed)
 }
@@ -41,11 +38,9 @@ fn needed_for(alloc: Global, book: &Book, last: usize) -> Result<Vec<bool>, Allo
 /// The log that ends with a clause of the book, which is empty, after what is recorded already.
 pub fn log_of(mut recorder: Recorder, book: &Book, last: usize) -> Result<Vec<Step>, AllocError> {
     let needed = needed_for(recorder.alloc, book, last)?;
-    for number in 0..book.len() {
-        if is_needed(&needed, number) {
-            if let Some(clause) = book.clause(number) {
-                recorder.record(number, clause)?;
-            }
+    for number in needed.iter().rev() {
+        if let Some(clause) = book.clause(*number) {
+            recorder.record(*number, clause)?;
         }
     }
     Ok(recorder.steps)

@@ -50,8 +50,13 @@ impl<'a> Recorder<'a> {
     fn number(&self, node: usize) -> usize {
         match self.numbers.get(&node) {
             Some(number) => *number,
-            None => node,
+            None => self.terms.own(node),
         }
+    }
+
+    /// The node, where a clause made it and the sequent has none like it.
+    fn made(&self, node: usize) -> Option<Made> {
+        self.terms.made(self.terms.own(node))
     }
 
     fn lit(&self, literal: Literal) -> Lit {
@@ -72,7 +77,7 @@ impl<'a> Recorder<'a> {
 
     /// The node gets the next number, if a clause made it and it has none. Whether it did.
     fn name(&mut self, node: usize) -> Result<bool, AllocError> {
-        if self.terms.made(node).is_none() || self.numbers.contains_key(&node) {
+        if self.is_named(node) {
             return Ok(false);
         }
         self.numbers.insert(node, self.nodes)?;
@@ -106,7 +111,7 @@ impl<'a> Recorder<'a> {
 
     /// Whether the node has a number.
     fn is_named(&self, node: usize) -> bool {
-        self.terms.made(node).is_none() || self.numbers.contains_key(&node)
+        self.numbers.contains_key(&node) || self.made(node).is_none()
     }
 
     /// A part of a made node that has no number.
@@ -127,7 +132,7 @@ impl<'a> Recorder<'a> {
             let Some(top) = waiting.last().copied() else {
                 break;
             };
-            let Some(made) = self.terms.made(top) else {
+            let Some(made) = self.made(top) else {
                 let _ = waiting.pop();
                 continue;
             };

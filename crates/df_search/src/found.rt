@@ -7,7 +7,7 @@ use df_kern::Accepted;
 use df_table::Table;
 
 /// How far a search may go.
-#[derive(Clone, Copy, Debug, PartialEq, Eq)]
+#[derive(Clone, Copy, PartialEq, Eq)]
 pub struct Budget {
     /// How many branches it may close, at least 1.
     pub steps: u64,

@@ -7,6 +7,6 @@ mod found;
 mod proposed;
 mod searching;
 
-pub use df_solve::Index;
+pub use df_solve::Engine;
 pub use found::{Budget, Found, What};
 pub use proposed::{search, search_with};

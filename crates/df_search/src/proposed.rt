@@ -12,7 +12,7 @@ use crate::exhausting::exhaust;
 use crate::found::{Budget, Found, What};
 use df_axiom::Written;
 use df_form::Sequent;
-use df_solve::{Index, Proposal, propose};
+use df_solve::{Engine, Proposal, propose};
 use df_table::{Table, is_model};
 use df_trig::{TrigFault, instances};
 use std::alloc::{AllocError, Global};
@@ -51,13 +51,13 @@ fn tested(
 /// What the engine proposes, if it passes its check.
 fn proposed(
     alloc: Global,
-    index: &mut Index,
+    engine: &mut Engine,
     sequent: &Sequent,
     budget: Budget,
 ) -> Result<Option<Found>, AllocError>
     ensures { (steps : ℕ) → IfOk result (λ found. IfSome found (Finds (sequent_of sequent.now) steps budget.rounds)) }
 {
-    match propose(alloc, index, sequent, budget.steps, budget.rounds)? {
+    match propose(alloc, engine, sequent, budget.steps, budget.rounds)? {
         Proposal::Proved(log) => taken(alloc, sequent, log),
         Proposal::Modelled(table) => tested(alloc, sequent, table, budget.rounds),
         Proposal::GaveUp => Ok(None),
@@ -71,21 +71,21 @@ pub fn search(alloc: Global, sequent: &Sequent, budget: Budget) -> Result<Found,
     requires steps { 1 ≤ budget.steps }
     ensures { IfOk result (Finds (sequent_of sequent.now) budget.steps budget.rounds) }
 {
-    search_with(alloc, &mut Index::new(alloc), sequent, budget)
+    search_with(alloc, &mut Engine::new(alloc), sequent, budget)
 }
 
-/// The same with an index of nodes that it shares with the searches for other sequents, of which each has the nodes of
-/// those before it, as those of one method have.
+/// The same with an engine that serves the sequents of a declaration in order, of which each has the nodes and the
+/// hypotheses of those before it: what was learned stays as long as it rests on what is still known.
 pub fn search_with(
     alloc: Global,
-    index: &mut Index,
+    engine: &mut Engine,
     sequent: &Sequent,
     budget: Budget,
 ) -> Result<Found, AllocError>
     requires steps { 1 ≤ budget.steps }
     ensures { IfOk result (Finds (sequent_of sequent.now) budget.steps budget.rounds) }
 {
-    match proposed(alloc, index, sequent, budget)? {
+    match proposed(alloc, engine, sequent, budget)? {
         Some(found) => Ok(found),
         None => exhaust(alloc, sequent, budget),
     }

@@ -4,6 +4,7 @@ ghost use Rattle.std.specs.Prelude.{◌≡◌, ◌<◌, ◌≤◌, ◌++◌, ◌
 ghost use Rattle.std.specs.List.{range_with_len};
 ghost use Rattle.df_form.specs.Clause as clauses;
 ghost use Rattle.df_form.specs.Clause.{Clause, negation, is_among};
+ghost use Rattle.df_form.specs.Log.{step_of};
 ghost use Rattle.df_form.specs.Made.{made};
 ghost use Rattle.df_form.specs.Sequent.{Sequent as Claim, IsSequent};
 ghost use Rattle.df_form.specs.SequentView.{sequent_of};
@@ -11,11 +12,11 @@ ghost use Rattle.df_form.specs.Sorting.{is_well_sorted};
 ghost use Rattle.df_trig.specs.Instances.{IsInstances};
 ghost use Rattle.df_trig.specs.Rounds.{Instantiates};
 ghost use Rattle.df_form.specs.World.{World};
-ghost use Rattle.df_rules.specs.Derivation.{is_foreign, is_number};
+ghost use Rattle.df_rules.specs.Derivation.{Derives, is_foreign, is_number};
 ghost use Rattle.df_logbuild.specs.Runs.{Runs};
 ghost use Rattle.df_trail.specs.Trail.{branch_of};
 ghost use Rattle.df_branch.specs.Place.{IsPlace};
-ghost use Rattle.df_search.specs.Found.{Finds};
+ghost use Rattle.df_search.specs.Found.{IsTooWide, HasManyRows, Finds};
 ghost use Rattle.df_search.specs.Searching.{clauses_of, branches_of, Searches, Counts, Closes, TurnsTo, Tells, GoesOn, Lacks, AreApart, AllApart};
 ghost use Rattle.df_search.specs.Moves.{Propagates, Refutes, RefutesBy, Solves, Contradicts, SplitsAt, IsBound, IsDefined, MakesEquality, Equates};
 ghost use Rattle.df_search.specs.Places.{AreWithin, place_in};
@@ -437,6 +438,47 @@ impl State {
     }
 }
 
+/// What is found where a search ends.
+impl State {
+    /// The log, which ends with the empty clause.
+    fn proved(self, sequent: &Sequent) -> Result<Found, AllocError>
+        requires { Derives (sequent_of sequent.now) (map step_of self.derivation.lines.items) }
+        ensures { (steps rounds : ℕ) → IfOk result (Finds (sequent_of sequent.now) steps rounds) }
+    {
+        let derivation = self.derivation;
+        confirmed(self.alloc, sequent, derivation.lines)
+    }
+
+    /// The closed branches that count.
+    fn into_closed(self) -> Vec<Vec<Lit>>
+        ensures { result ≡ self.closed }
+    {
+        self.closed
+    }
+
+    /// A branch where a number is past 128 bits, and the closed ones.
+    fn wide(self) -> Result<Found, AllocError>
+        ensures { IfOk result (λ found. (s : Claim) (steps rounds : ℕ) → IsTooWide s rounds (branches_of self) (branch_of self.trail) → Finds s steps rounds found) }
+    {
+        let branch = self.trail.branch(self.alloc)?;
+        let closed = self.closed;
+        Ok(Found::Wide { closed, branch })
+    }
+
+    /// A branch with a level of so many rows, and the closed ones.
+    fn many(self, count: u64) -> Result<Found, AllocError>
+        ensures { IfOk result (λ found. (s : Claim) (steps rounds : ℕ) → HasManyRows s rounds (branches_of self) (branch_of self.trail) count → Finds s steps rounds found) }
+    {
+        let branch = self.trail.branch(self.alloc)?;
+        let closed = self.closed;
+        Ok(Found::Many(What::Rows {
+            count,
+            closed,
+            branch,
+        }))
+    }
+}
+
 /// What is found where there is no ground set.
 fn without_ground(fault: TrigFault) -> Result<Found, AllocError>
     ensures { (s : Claim) (steps rounds : ℕ) → Instantiates s rounds (Err fault) → IfOk result (Finds s steps rounds) }
@@ -466,26 +508,11 @@ pub(crate) fn exhaust_set(
     loop {
         match search.turn(steps)? {
             Turn::On => {}
-            Turn::Proved => {
-                let derivation = search.derivation;
-                return confirmed(alloc, sequent, derivation.lines);
-            }
-            Turn::Spent => return Ok(Found::Spent(search.closed)),
+            Turn::Proved => return search.proved(sequent),
+            Turn::Spent => return Ok(Found::Spent(search.into_closed())),
             Turn::Modelled(table) => return Ok(Found::Modelled(table)),
-            Turn::Wide => {
-                let branch = search.trail.branch(alloc)?;
-                let closed = search.closed;
-                return Ok(Found::Wide { closed, branch });
-            }
-            Turn::Many(count) => {
-                let branch = search.trail.branch(alloc)?;
-                let closed = search.closed;
-                return Ok(Found::Many(What::Rows {
-                    count,
-                    closed,
-                    branch,
-                }));
-            }
+            Turn::Wide => return search.wide(),
+            Turn::Many(count) => return search.many(count),
         }
     }
 }

@@ -1,10 +1,10 @@
 //! Bounds of columns, in the order in which they were found.
 
-use df_clauses::Literal;
+use df_clauses::{GROUND, Literal};
 use std::alloc::{AllocError, Global};
 
 /// Which way a bound limits its column.
-#[derive(Clone, Copy, Debug, PartialEq, Eq)]
+#[derive(Clone, Copy, PartialEq, Eq)]
 pub enum Side {
     Lower,
     Upper,
@@ -20,7 +20,7 @@ impl Side {
 }
 
 /// Why a column has a bound.
-#[derive(Clone, Copy, Debug)]
+#[derive(Clone, Copy)]
 pub enum Cause {
     Literal(Literal),
     /// The other bounds of a row.
@@ -29,7 +29,7 @@ pub enum Cause {
 
 /// A bound is the row 0 <= column + constant where it is a lower one, and 0 <= constant - column where
 /// it is an upper one. So the lower the constant, the tighter it is.
-#[derive(Clone, Copy, Debug)]
+#[derive(Clone, Copy)]
 pub struct Bound {
     pub column: usize,
     pub side: Side,
@@ -45,7 +45,7 @@ pub struct Bound {
 const RUN: usize = 4;
 
 /// The tightest bounds of a column.
-#[derive(Clone, Copy, Debug)]
+#[derive(Clone, Copy)]
 struct Ends {
     lower: Option<usize>,
     upper: Option<usize>,
@@ -60,6 +60,8 @@ pub struct Bounds {
     starts: Vec<usize>,
     /// The columns with bounds that the tableau has not seen.
     touched: Vec<usize>,
+    /// By column, whether it is among them.
+    is_touched: Vec<bool>,
 }
 
 impl Bounds {
@@ -69,6 +71,7 @@ impl Bounds {
             ends: Vec::new(alloc),
             starts: Vec::new(alloc),
             touched: Vec::new(alloc),
+            is_touched: Vec::new(alloc),
         }
     }
 
@@ -78,6 +81,18 @@ impl Bounds {
             lower: None,
             upper: None,
         })?;
+        self.is_touched.push(false)?;
+        Ok(())
+    }
+
+    /// The tableau is to see the column.
+    fn touch(&mut self, column: usize) -> Result<(), AllocError> {
+        if let Some(is_touched) = self.is_touched.get_mut(column) {
+            if !*is_touched {
+                *is_touched = true;
+                self.touched.push(column)?;
+            }
+        }
         Ok(())
     }
 
@@ -104,9 +119,9 @@ impl Bounds {
         Some(bound.constant)
     }
 
-    /// The constant of the tightest bound of the lowest level.
+    /// The constant of the tightest bound that there is before all decisions.
     pub fn settled(&self, column: usize, side: Side) -> Option<i128> {
-        let end = match self.starts.first() {
+        let end = match self.starts.get(GROUND) {
             Some(start) => *start,
             None => self.all.len(),
         };
@@ -221,13 +236,17 @@ impl Bounds {
             previous,
         })?;
         self.set_end(column, side, Some(number));
-        self.touched.push(column)?;
+        self.touch(column)?;
         Ok(number)
     }
 
     /// A column that the tableau has not seen since it got a bound.
     pub fn next_touched(&mut self) -> Option<usize> {
-        self.touched.pop()
+        let column = self.touched.pop()?;
+        if let Some(is_touched) = self.is_touched.get_mut(column) {
+            *is_touched = false;
+        }
+        Some(column)
     }
 
     /// Whether the tableau has seen all bounds.

@@ -3,14 +3,14 @@
 use std::alloc::{AllocError, Global};
 
 /// A column so many times.
-#[derive(Clone, Copy, Debug, PartialEq, Eq, Hash)]
+#[derive(Clone, Copy, PartialEq, Eq, Hash)]
 pub struct Entry {
     pub column: usize,
     pub coefficient: i128,
 }
 
 /// Multiples of columns, which ascend, and a constant.
-#[derive(Debug, Drop)]
+#[derive(Drop)]
 pub struct Linear {
     pub entries: Vec<Entry>,
     pub constant: i128,

@@ -6,7 +6,7 @@ use std::alloc::{AllocError, Global};
 use std::collections::VecDeque;
 
 /// A bound of a column on one side, so many times.
-#[derive(Clone, Copy, Debug)]
+#[derive(Clone, Copy)]
 pub struct Need {
     pub factor: i128,
     pub column: usize,
@@ -14,7 +14,7 @@ pub struct Need {
 }
 
 /// A bound that a row gives.
-#[derive(Clone, Copy, Debug)]
+#[derive(Clone, Copy)]
 pub struct Given {
     pub column: usize,
     pub side: Side,
@@ -22,7 +22,7 @@ pub struct Given {
 }
 
 /// A sum of bounds of a row's members, and the column that has none, if one lacks it.
-#[derive(Clone, Copy, Debug)]
+#[derive(Clone, Copy)]
 struct Total {
     sum: i128,
     open: Option<usize>,
@@ -145,7 +145,8 @@ impl Rows {
         }
     }
 
-    fn put(&mut self, row: usize) -> Result<(), AllocError> {
+    /// The row waits.
+    pub fn put(&mut self, row: usize) -> Result<(), AllocError> {
         if let Some(is_waiting) = self.is_waiting.get_mut(row) {
             if !*is_waiting {
                 *is_waiting = true;

@@ -1,7 +1,6 @@
 //! The simplex method: pivots bring the basic variables within their bounds, or show that none can.
 
 use crate::bounds::{Bounds, Side};
-use crate::linear::coefficient_at;
 use crate::rows::Need;
 use crate::tableau::{ROOM, Tableau, is_past, value_at};
 use crate::tableau_row::{Row, eliminated, solved_for};
@@ -131,32 +130,35 @@ impl Tableau {
         let Some(source) = solved else {
             return Ok(false);
         };
+        self.set_value(violation.column, violation.target);
         for number in 0..self.rows.len() {
             if number != violation.row && !self.substitute(number, column, &source)? {
                 return Ok(false);
             }
         }
         self.exchange(violation, column, source);
-        self.refresh_all();
+        self.refresh(violation.row);
         Ok(!self.is_broken && self.size() <= ROOM)
     }
 
-    /// Puts what a variable is in its place in a row. Whether it could.
+    /// Puts what a variable is in its place in a row that holds it, and computes its sum. Whether it could.
     fn substitute(
         &mut self,
         number: usize,
         column: usize,
         source: &Row,
     ) -> Result<bool, AllocError> {
+        if !self.holds(number, column) {
+            return Ok(true);
+        }
         let next = match self.rows.get(number) {
-            Some(row) if coefficient_at(&row.entries, column) != 0 => {
-                eliminated(self.alloc, row, column, source)?
-            }
-            _ => return Ok(true),
+            Some(row) => eliminated(self.alloc, row, column, source)?,
+            None => None,
         };
         match (next, self.rows.get_mut(number)) {
             (Some(next), Some(row)) => {
                 *row = next;
+                self.refresh(number);
                 Ok(true)
             }
             _ => Ok(false),
@@ -173,7 +175,6 @@ impl Tableau {
         if let Some(slot) = self.row_of.get_mut(violation.column) {
             *slot = None;
         }
-        self.set_value(violation.column, violation.target);
     }
 
     /// How much work a pivot is.
@@ -190,7 +191,7 @@ impl Tableau {
         pivots: usize,
     ) -> Result<(Check, usize), AllocError> {
         self.is_settled = false;
-        self.clamp_all(bounds);
+        self.clamp_all(bounds)?;
         let mut work = self.size();
         for _ in 0..pivots {
             if self.is_broken {

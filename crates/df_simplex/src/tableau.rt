@@ -3,12 +3,12 @@
 //! whole and within its bounds; that of a basic one is a fraction, and may violate them.
 
 use crate::bounds::{Bounds, Side};
-use crate::linear::Entry;
+use crate::linear::{Entry, coefficient_at};
 use crate::tableau_row::{Row, eliminated};
 use std::alloc::{AllocError, Global};
 
 /// A fraction.
-#[derive(Clone, Copy, Debug)]
+#[derive(Clone, Copy)]
 pub struct Fraction {
     pub numerator: i128,
     /// At least 1.
@@ -34,6 +34,9 @@ pub struct Tableau {
 
 /// The most numbers that all rows may have.
 pub(crate) const ROOM: usize = 1_000_000;
+
+/// Where no more columns than this change, the rows that hold them are looked for one by one.
+const FEW: usize = 4;
 
 /// Whether a value is past a bound of this constant.
 pub(crate) fn is_past(side: Side, constant: i128, value: i128) -> Option<bool> {
@@ -182,7 +185,7 @@ impl Tableau {
     }
 
     /// Computes the sum of a row.
-    fn refresh(&mut self, number: usize) {
+    pub(crate) fn refresh(&mut self, number: usize) {
         let sum = match self.rows.get(number) {
             Some(row) => self.sum_of(&row.entries),
             None => return,
@@ -193,9 +196,26 @@ impl Tableau {
         }
     }
 
-    pub(crate) fn refresh_all(&mut self) {
+    fn refresh_all(&mut self) {
         for number in 0..self.rows.len() {
             self.refresh(number);
+        }
+    }
+
+    /// Computes the sums of the rows that hold the column.
+    fn refresh_holders(&mut self, column: usize) {
+        for number in 0..self.rows.len() {
+            if self.holds(number, column) {
+                self.refresh(number);
+            }
+        }
+    }
+
+    /// Whether a row has the column among its entries.
+    pub(crate) fn holds(&self, number: usize, column: usize) -> bool {
+        match self.rows.get(number) {
+            Some(row) => coefficient_at(&row.entries, column) != 0,
+            None => false,
         }
     }
 
@@ -232,18 +252,30 @@ impl Tableau {
     }
 
     /// Brings all nonbasic variables with new bounds within them.
-    pub(crate) fn clamp_all(&mut self, bounds: &mut Bounds) {
-        let mut is_changed = false;
+    pub(crate) fn clamp_all(&mut self, bounds: &mut Bounds) -> Result<(), AllocError> {
+        let mut changed = Vec::new(self.alloc);
         for _ in 0..usize::MAX {
             let Some(column) = bounds.next_touched() else {
                 break;
             };
             if self.clamp(bounds, column) {
-                is_changed = true;
+                changed.push(column)?;
             }
         }
-        if is_changed && !self.is_broken {
+        if !self.is_broken {
+            self.refresh_for(&changed);
+        }
+        Ok(())
+    }
+
+    /// Computes the sums of the rows that hold columns whose values changed.
+    fn refresh_for(&mut self, changed: &[usize]) {
+        if changed.len() > FEW {
             self.refresh_all();
+            return;
+        }
+        for column in changed {
+            self.refresh_holders(*column);
         }
     }
 }

@@ -1,34 +1,18 @@
-//! Candidates: what may be a model, where all columns are whole.
+//! The candidate that the engine has.
 
-use df_clauses::Trail;
-use df_deduce::{Engine, Instances};
-use df_egraph::Graph;
-use df_theory::{Terms, Theory, Variables};
-use std::alloc::Global;
+use df_deduce::State;
+use df_modelling::Candidate;
 
-/// The truths of formulas, the numbers of columns and the classes of terms that the engine has.
-#[derive(Clone, Copy)]
-pub(crate) struct Candidate<'a> {
-    pub alloc: Global,
-    pub terms: &'a Terms<'a>,
-    pub variables: &'a Variables,
-    pub trail: &'a Trail,
-    pub theory: &'a Theory,
-    pub graph: &'a Graph,
-    pub instances: &'a Instances,
-}
-
-impl<'a> Candidate<'a> {
-    /// What the engine has now.
-    pub fn of(engine: &'a Engine<'a>) -> Candidate<'a> {
-        Candidate {
-            alloc: engine.alloc,
-            terms: &engine.terms,
-            variables: &engine.variables,
-            trail: &engine.solver.trail,
-            theory: &engine.theory,
-            graph: &engine.graph,
-            instances: &engine.instances,
-        }
+/// What the engine has now.
+pub(crate) fn candidate_of<'a>(state: &'a State<'a>) -> Candidate<'a> {
+    Candidate {
+        alloc: state.alloc,
+        terms: &state.terms,
+        variables: &state.variables,
+        trail: &state.solver.trail,
+        theory: &state.theory,
+        graph: &state.graph,
+        operations: state.instances.operations(),
+        rounds: state.instances.rounds,
     }
 }

@@ -19,19 +19,19 @@ fn radius(entries: &[Entry]) -> Option<i128> {
 impl<'a> Search<'a> {
     /// Has all columns be whole, or learns or splits where one is not.
     pub fn complete(&mut self) -> Result<Turn, AllocError> {
-        if !self.engine.theory.is_settled() || self.engine.theory.tableau.is_broken {
+        if !self.state.theory.is_settled() || self.state.theory.tableau.is_broken {
             return Ok(Turn::GaveUp);
         }
-        let size = self.engine.theory.tableau.size();
-        self.engine.spend(size);
-        let level = self.engine.solver.trail.level();
+        let size = self.state.theory.tableau.size();
+        self.state.spend(size);
+        let level = self.state.solver.trail.level();
         let Some((node, bound)) = self.fractional() else {
             return self.conclude(level);
         };
-        let work = self.engine.theory.dividing_work();
-        self.engine.spend(work);
-        if let Some(derivations) = self.engine.theory.indivisible()? {
-            let conflict = self.engine.explain_conflicts(&derivations)?;
+        let work = self.state.theory.dividing_work();
+        self.state.spend(work);
+        if let Some(derivations) = self.state.theory.indivisible()? {
+            let conflict = self.state.explain_conflicts(&derivations)?;
             return self.after(conflict);
         }
         if self.is_rounded()? {
@@ -42,7 +42,7 @@ impl<'a> Search<'a> {
 
     /// A number that is not whole, and the whole one below it.
     fn fractional(&self) -> Option<(usize, i128)> {
-        let theory = &self.engine.theory;
+        let theory = &self.state.theory;
         for column in 0..theory.forms.len() {
             if let Some(Column::Node(node)) = theory.forms.column(column) {
                 let value = theory.tableau.fraction(column);
@@ -57,21 +57,21 @@ impl<'a> Search<'a> {
 
     /// Looks for a point from which rounding leads past no bound. Whether the tableau has one then.
     fn is_rounded(&mut self) -> Result<bool, AllocError> {
-        let level = self.engine.solver.trail.level();
-        self.engine.open()?;
+        let level = self.state.solver.trail.level();
+        self.state.open()?;
         if self.shrink_all()? {
-            if let Check::Feasible = self.engine.check_tableau()? {
+            if let Check::Feasible = self.state.check_tableau()? {
                 return Ok(true);
             }
         }
-        self.engine.cancel(level)?;
+        self.state.cancel(level)?;
         Ok(false)
     }
 
     /// Tightens the bounds of all forms, by as much as rounding may change them. Whether it could.
     fn shrink_all(&mut self) -> Result<bool, AllocError> {
-        for column in 0..self.engine.theory.forms.len() {
-            let radius = match self.engine.theory.forms.entries(column) {
+        for column in 0..self.state.theory.forms.len() {
+            let radius = match self.state.theory.forms.entries(column) {
                 Some(entries) => radius(entries),
                 None => continue,
             };
@@ -87,7 +87,7 @@ impl<'a> Search<'a> {
 
     /// Tightens the bounds of a column. Whether they allow it.
     fn shrink(&mut self, column: usize, radius: i128) -> Result<bool, AllocError> {
-        let bounds = &mut self.engine.theory.bounds;
+        let bounds = &mut self.state.theory.bounds;
         for side in [Side::Lower, Side::Upper] {
             let Some(constant) = bounds.constant(column, side) else {
                 continue;
@@ -109,18 +109,18 @@ impl<'a> Search<'a> {
         let Some(next) = bound.checked_add(1) else {
             return Ok(Turn::GaveUp);
         };
-        self.engine.spend(64);
-        let low = self.engine.terms.at_most(node, bound)?;
-        let high = self.engine.terms.at_least(next, node)?;
-        let low = self.engine.literal(low, true)?;
-        let high = self.engine.literal(high, true)?;
-        let literals = vec![in self.engine.alloc; low, high]?;
+        self.state.spend(64);
+        let low = self.state.terms.at_most(node, bound)?;
+        let high = self.state.terms.at_least(next, node)?;
+        let low = self.state.literal(low, true)?;
+        let high = self.state.literal(high, true)?;
+        let literals = vec![in self.state.alloc; low, high]?;
         let conflict = self
-            .engine
+            .state
             .add_clause(literals, Origin::Split { node, bound })?;
         let side = if bound < 0 { high } else { low };
-        if conflict.is_none() && self.engine.solver.trail.value(side).is_none() {
-            self.engine.decide(side)?;
+        if conflict.is_none() && self.state.solver.trail.value(side).is_none() {
+            self.state.decide(side)?;
         }
         self.after(conflict)
     }

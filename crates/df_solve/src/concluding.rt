@@ -1,31 +1,31 @@
 //! Where all columns are whole: a counterexample, or what the numbers of operations break.
 
-use crate::candidate::Candidate;
-use crate::grounding::{Key, number_of};
-use crate::modelling::Tabled;
-use crate::refining::Comparison;
+use crate::candidate::candidate_of;
 use crate::searching::{Search, Turn};
 use df_form::{Op, Pair};
+use df_modelling::{Comparison, Tabled};
 use std::alloc::AllocError;
-use std::collections::BTreeMap;
 
 impl<'a> Search<'a> {
     /// Has a counterexample, or learns of operations. The levels after this one only looked for numbers.
     pub fn conclude(&mut self, level: usize) -> Result<Turn, AllocError> {
-        self.table = Candidate::of(&self.engine).counterexample(self.sequent)?;
+        if self.is_for_proof {
+            return Ok(Turn::GaveUp);
+        }
+        self.table = candidate_of(&self.state).counterexample(self.sequent)?;
         if self.table.is_some() {
             return Ok(Turn::Complete);
         }
-        if !self.engine.has_classes {
+        if !self.state.has_classes {
             return Ok(Turn::GaveUp);
         }
-        if self.engine.has_unseen_operations() {
-            self.engine.cancel(0)?;
+        if self.state.has_unseen_operations() {
+            self.state.cancel(0)?;
             return Ok(Turn::On);
         }
-        let cost = self.engine.terms.len().saturating_mul(4);
-        self.engine.spend(cost);
-        if let Some(pair) = Candidate::of(&self.engine).unequal_operations()? {
+        let cost = self.state.terms.len().saturating_mul(4);
+        self.state.spend(cost);
+        if let Some(pair) = candidate_of(&self.state).unequal_operations()? {
             if self.equate(level, pair)? {
                 return Ok(Turn::On);
             }
@@ -54,7 +54,7 @@ impl<'a> Search<'a> {
             if self.may_multiply(*pair) {
                 self.products = self.products.saturating_sub(1);
                 if !is_new {
-                    self.engine.cancel(0)?;
+                    self.state.cancel(0)?;
                     is_new = true;
                 }
                 self.multiply(*pair)?;
@@ -63,20 +63,20 @@ impl<'a> Search<'a> {
         if !is_new {
             return Ok(None);
         }
-        let conflict = self.engine.ask_for_operations()?;
+        let conflict = self.state.ask_for_operations()?;
         Ok(Some(self.after(conflict)?))
     }
 
     /// Has comparisons of products be known.
     fn refine(&mut self, comparisons: &[Comparison]) -> Result<Turn, AllocError> {
-        self.engine.cancel(0)?;
+        self.state.cancel(0)?;
         let mut is_new = false;
         for comparison in comparisons {
             if self.compare(*comparison)? {
                 is_new = true;
             }
         }
-        let conflict = self.engine.ask_for_operations()?;
+        let conflict = self.state.ask_for_operations()?;
         if conflict.is_none() && !is_new {
             return Ok(Turn::GaveUp);
         }
@@ -85,20 +85,20 @@ impl<'a> Search<'a> {
 
     /// Decides that two numbers are equal. Whether that was open.
     fn equate(&mut self, level: usize, pair: Pair) -> Result<bool, AllocError> {
-        self.engine.cancel(level)?;
-        let node = self.engine.terms.add_two(Op::Equal, pair.left, pair.right)?;
-        let literal = self.engine.literal(node, true)?;
-        self.engine.define_both(literal)?;
-        if self.engine.solver.trail.value(literal).is_some() {
-            return Ok(self.engine.instances.conflict.is_some());
+        self.state.cancel(level)?;
+        let node = self.state.terms.add_two(Op::Equal, pair.left, pair.right)?;
+        let literal = self.state.literal(node, true)?;
+        self.state.define_both(literal)?;
+        if self.state.solver.trail.value(literal).is_some() {
+            return Ok(self.state.instances.conflict.is_some());
         }
-        self.engine.decide(literal)?;
+        self.state.decide(literal)?;
         Ok(true)
     }
 
     /// Has a table of what operations are, or decides an equality.
     fn tabulate(&mut self, level: usize) -> Result<Turn, AllocError> {
-        match Candidate::of(&self.engine).tabled(self.sequent)? {
+        match candidate_of(&self.state).tabled(self.sequent)? {
             Tabled::Table(table) => {
                 self.table = Some(table);
                 Ok(Turn::Complete)
@@ -112,62 +112,5 @@ impl<'a> Search<'a> {
             }
             Tabled::Nothing => Ok(Turn::GaveUp),
         }
-    }
-}
-
-impl<'a> Candidate<'a> {
-    /// An operation of the engine's, and the numbers of its parts.
-    pub fn key(&self, node: usize) -> Option<Key> {
-        let op = number_of(self.terms.op(node)?)?;
-        let first = self.theory.value(self.terms.part(node, 0)?)?;
-        let second = match self.terms.part(node, 1) {
-            Some(part) => self.theory.value(part)?,
-            None => 0,
-        };
-        Some(Key { op, first, second })
-    }
-
-    /// Numbers that are equal and may be unequal, of two operations with different results.
-    fn unequal_operations(&self) -> Result<Option<Pair>, AllocError> {
-        let mut found: BTreeMap<Key, usize> = BTreeMap::new(self.alloc);
-        for place in 0..self.instances.len() {
-            let node = self.instances.operation(place).unwrap_or(0);
-            let Some(key) = self.key(node) else {
-                continue;
-            };
-            match found.get(&key).copied() {
-                Some(other) if self.are_different(node, other) => {
-                    if let Some(pair) = self.unequal_parts(node, other) {
-                        return Ok(Some(pair));
-                    }
-                }
-                Some(_) => {}
-                None => {
-                    found.insert(key, node)?;
-                }
-            }
-        }
-        Ok(None)
-    }
-
-    /// Whether two operations have different results.
-    fn are_different(&self, one: usize, other: usize) -> bool {
-        if self.terms.is_number(one) {
-            self.theory.value(one) != self.theory.value(other)
-        } else {
-            !self.graph.are_equal(one, other)
-        }
-    }
-
-    /// The first parts of two operations that are not known to be equal.
-    fn unequal_parts(&self, one: usize, other: usize) -> Option<Pair> {
-        for place in [0, 1] {
-            let left = self.terms.part(one, place)?;
-            let right = self.terms.part(other, place)?;
-            if !self.graph.are_equal(left, right) {
-                return Some(Pair { left, right });
-            }
-        }
-        None
     }
 }

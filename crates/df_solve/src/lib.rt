@@ -5,16 +5,12 @@
 #![tactic(auto)]
 
 mod candidate;
-mod codes;
 mod completing;
 mod concluding;
-mod grounding;
-mod modelling;
+mod intake;
 mod probing;
 mod proposing;
 mod refining;
-mod sampling;
 mod searching;
 
-pub use df_theory::Index;
-pub use proposing::{Counted, Proposal, propose, propose_counted};
+pub use proposing::{Counted, Engine, Proposal, propose, propose_counted};

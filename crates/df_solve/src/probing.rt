@@ -2,7 +2,7 @@
 //! an atom gives, it has this bound from there on.
 
 use crate::searching::{Search, Turn};
-use df_clauses::Literal;
+use df_clauses::{GROUND, Literal};
 use df_simplex::Side;
 use df_theory::{Meaning, Shape};
 use std::alloc::AllocError;
@@ -37,18 +37,18 @@ impl<'a> Search<'a> {
     pub fn probe(&mut self) -> Result<Turn, AllocError> {
         let reach = self.reach;
         if reach == Reach::Clauses {
-            self.reserve = self.engine.fuel / 2;
+            self.reserve = self.state.fuel / 2;
             self.define_equalities()?;
         }
-        let before = self.engine.solver.trail.len();
+        let before = self.state.solver.trail.len();
         let turn = self.probe_all(reach)?;
-        self.reach = reach.next(before < self.engine.solver.trail.len());
+        self.reach = reach.next(before < self.state.solver.trail.len());
         Ok(turn)
     }
 
     fn probe_all(&mut self, reach: Reach) -> Result<Turn, AllocError> {
-        for column in 0..self.engine.theory.forms.len() {
-            if self.engine.fuel < self.reserve {
+        for column in 0..self.state.theory.forms.len() {
+            if self.state.fuel < self.reserve {
                 break;
             }
             let turn = self.probe_column(column, reach)?;
@@ -73,44 +73,62 @@ impl<'a> Search<'a> {
 
     /// Decides a literal, and takes that back; where there is a conflict its clause is learned.
     fn try_out(&mut self, literal: Literal, reach: Reach) -> Result<Turn, AllocError> {
-        self.engine.decide(literal)?;
+        self.state.decide(literal)?;
         match self.follow(reach)? {
             None => {
-                self.engine.cancel(0)?;
+                self.state.cancel(GROUND)?;
                 Ok(Turn::On)
             }
             Some(clause) => self.learn_and_follow(clause, reach),
         }
     }
 
-    fn learn_and_follow(&mut self, clause: usize, reach: Reach) -> Result<Turn, AllocError> {
-        let turn = self.learn(clause)?;
-        if turn != Turn::On {
-            return Ok(turn);
+    /// Learns from a clause that is false, and from those that are false then, with the negated goal in force.
+    fn learn_and_follow(&mut self, first: usize, reach: Reach) -> Result<Turn, AllocError> {
+        let mut conflict = Some(first);
+        for _ in 0..usize::MAX {
+            let Some(clause) = conflict else {
+                return Ok(Turn::On);
+            };
+            let turn = self.learn(clause)?;
+            if turn != Turn::On {
+                return Ok(turn);
+            }
+            conflict = self.follow_and_stand(reach)?;
         }
-        match self.follow(reach)? {
-            Some(clause) => self.learn(clause),
-            None => Ok(Turn::On),
+        Ok(Turn::GaveUp)
+    }
+
+    /// Propagates, after which the negated goal is in force. A clause that is false, if one is.
+    fn follow_and_stand(&mut self, reach: Reach) -> Result<Option<usize>, AllocError> {
+        let conflict = self.follow(reach)?;
+        if conflict.is_some() || self.state.solver.trail.level() >= GROUND {
+            return Ok(conflict);
         }
+        let conflict = self.state.stand(self.goal)?;
+        if conflict.is_some() {
+            return Ok(conflict);
+        }
+        self.follow(reach)
     }
 
     /// Propagates as far as bounds are followed. A clause that is false, if one is.
     fn follow(&mut self, reach: Reach) -> Result<Option<usize>, AllocError> {
         match reach {
-            Reach::Clauses => self.engine.propagate_literals(),
-            Reach::Rows(_) | Reach::Nowhere => self.engine.propagate(),
+            Reach::Clauses => self.state.propagate_literals(),
+            Reach::Rows(_) | Reach::Nowhere => self.state.propagate(),
         }
     }
 
     /// Has the comparisons stand that equalities without a value are of.
     fn define_equalities(&mut self) -> Result<(), AllocError> {
-        for variable in 0..self.engine.variables.len() {
-            let Some(node) = self.engine.variables.node(variable) else {
+        for variable in 0..self.state.variables.len() {
+            let Some(node) = self.state.variables.node(variable) else {
                 break;
             };
-            if let Shape::Equal(_, _) = self.engine.terms.shape(node) {
-                if self.engine.solver.trail.assignment(variable).is_none() {
-                    self.engine.define(Literal {
+            if let Shape::Equal(_, _) = self.state.terms.shape(node) {
+                if self.state.solver.trail.assignment(variable).is_none() {
+                    self.state.define(Literal {
                         variable,
                         positive: true,
                     })?;
@@ -124,14 +142,14 @@ impl<'a> Search<'a> {
     fn weakest(&self, column: usize, side: Side) -> Option<Literal> {
         let mut weakest = None;
         let mut most = i128::MIN;
-        for place in 0..self.engine.theory.speaker_count(column) {
-            let variable = self.engine.theory.speaker(column, place)?;
-            let Meaning::Atom(atom) = self.engine.variables.meaning(variable) else {
+        for place in 0..self.state.theory.speaker_count(column) {
+            let variable = self.state.theory.speaker(column, place)?;
+            let Meaning::Atom(atom) = self.state.variables.meaning(variable) else {
                 continue;
             };
             let positive = atom.side == side;
             let (_, constant) = atom.bound(positive);
-            if most <= constant && self.engine.solver.trail.assignment(variable).is_none() {
+            if most <= constant && self.state.solver.trail.assignment(variable).is_none() {
                 weakest = Some(Literal { variable, positive });
                 most = constant;
             }

@@ -1,16 +1,20 @@
 //! The search: it takes hypotheses in, tries bounds out, decides, learns from conflicts and restarts.
 
+use crate::intake::Intake;
 use crate::probing::Reach;
-use df_clauses::{Literal, Origin};
-use df_deduce::{Engine, Lesson};
+use df_clauses::{GROUND, Literal};
+use df_deduce::{Lesson, State};
 use df_form::Sequent;
 use df_simplex::Check;
 use df_table::Table;
-use df_theory::{Index, Meaning};
-use std::alloc::{AllocError, Global};
+use df_theory::Meaning;
+use std::alloc::AllocError;
 
 /// How many products may be made with sums in place of factors.
 const PRODUCTS: usize = 64;
+
+/// Wider hypotheses come after all others.
+const WIDTH: usize = 8;
 
 /// How many conflicts come before the first restart.
 const RESTART: u64 = 100;
@@ -18,16 +22,16 @@ const RESTART: u64 = 100;
 /// A search so far.
 #[derive(Drop)]
 pub(crate) struct Search<'a> {
-    pub engine: Engine<'a>,
+    pub state: State<'a>,
     pub sequent: &'a Sequent<'a>,
+    /// Whether it is for a log alone.
+    pub is_for_proof: bool,
     /// The table of a counterexample.
     pub table: Option<Table>,
-    /// The hypotheses before this one are taken in,
-    first: usize,
-    /// and so are those from this one on.
-    end: usize,
-    /// How many of each end come next.
-    chunk: usize,
+    /// The clause of the negated goal.
+    pub goal: usize,
+    /// The hypotheses.
+    pub intake: Intake,
     /// How far the bounds are followed that are tried out next.
     pub reach: Reach,
     /// Bounds are tried out while this much work is left to do.
@@ -69,35 +73,30 @@ fn luby(place: u64) -> u64 {
 }
 
 impl<'a> Search<'a> {
+    /// A search by an engine for the sequent, which knows those hypotheses that are taken in.
     pub fn new(
-        alloc: Global,
+        state: State<'a>,
+        intake: Intake,
         sequent: &'a Sequent<'a>,
-        index: &'a Index,
-        fuel: u64,
-        rounds: u32,
-    ) -> Search<'a> {
-        Search {
-            engine: Engine::new(alloc, sequent, index, fuel, rounds),
+    ) -> Result<Search<'a>, AllocError> {
+        let mut state = state;
+        let mut intake = intake;
+        intake.begin(sequent.hypotheses.as_slice().len())?;
+        let goal = state.goal_clause(sequent.goal)?;
+        Ok(Search {
+            state,
             sequent,
+            is_for_proof: false,
             table: None,
-            first: 0,
-            end: sequent.hypotheses.as_slice().len(),
-            chunk: 4,
+            goal,
+            intake,
             reach: Reach::Clauses,
             reserve: 0,
             products: PRODUCTS,
             learned: 0,
             restarts: 1,
             conflicts: RESTART,
-        }
-    }
-
-    /// Takes the negated goal in.
-    pub fn begin(&mut self) -> Result<Turn, AllocError> {
-        let goal = self.engine.literal(self.sequent.goal, false)?;
-        let literals = vec![in self.engine.alloc; goal]?;
-        let conflict = self.engine.add_clause(literals, Origin::Goal)?;
-        self.after(conflict)
+        })
     }
 
     /// Goes on after a conflict, if there is one.
@@ -111,30 +110,36 @@ impl<'a> Search<'a> {
     pub fn learn(&mut self, conflict: usize) -> Result<Turn, AllocError> {
         self.learned = self.learned.saturating_add(1);
         self.conflicts = self.conflicts.saturating_sub(1);
-        match self.engine.learn(conflict)? {
+        match self.state.learn(conflict)? {
             Lesson::Learned => Ok(Turn::On),
             Lesson::Refuted(clause) => Ok(Turn::Refuted(clause)),
             Lesson::Lost => Ok(Turn::GaveUp),
         }
     }
 
-    /// Propagates, and checks the tableau. A clause that is false, if one is.
+    /// Propagates, and checks the tableau where the negated goal and some hypotheses are in force. A clause that is false,
+    /// if one is.
     fn settle(&mut self) -> Result<Option<usize>, AllocError> {
-        let conflict = self.engine.propagate()?;
-        if conflict.is_some() || self.engine.theory.is_settled() {
+        let conflict = self.state.propagate()?;
+        if conflict.is_some() || self.is_early() || self.state.theory.is_settled() {
             return Ok(conflict);
         }
-        match self.engine.check_tableau()? {
-            Check::Refuted(needs) => self.engine.explain_conflict(needs),
+        match self.state.check_tableau()? {
+            Check::Refuted(needs) => self.state.explain_conflict(needs),
             Check::Feasible | Check::GaveUp => Ok(None),
         }
     }
 
+    /// Whether it is too early for the tableau.
+    fn is_early(&self) -> bool {
+        self.state.solver.trail.level() < GROUND || self.intake.is_at_start()
+    }
+
     /// One step: what follows, and then what a conflict teaches or what comes next.
     pub fn turn(&mut self) -> Result<Turn, AllocError> {
-        self.engine.spend(1);
+        self.state.spend(1);
         let conflict = self.settle()?;
-        if self.engine.is_over() {
+        if self.state.is_over() {
             return Ok(Turn::GaveUp);
         }
         match conflict {
@@ -144,12 +149,15 @@ impl<'a> Search<'a> {
     }
 
     fn advance(&mut self) -> Result<Turn, AllocError> {
-        if self.engine.solver.trail.level() == 0 {
-            if self.engine.has_unseen_operations() {
-                let conflict = self.engine.ask_for_operations()?;
-                return self.after(conflict);
+        let level = self.state.solver.trail.level();
+        if level <= GROUND {
+            if self.state.has_unseen_operations() {
+                return self.ask();
             }
-            if self.first < self.end {
+            if level < GROUND {
+                return self.stand();
+            }
+            if self.intake.is_open() || self.intake.widen() {
                 return self.assume_chunk();
             }
             if self.reach != Reach::Nowhere {
@@ -162,48 +170,81 @@ impl<'a> Search<'a> {
         self.decide()
     }
 
-    /// Takes further hypotheses in, from both ends.
-    fn assume_chunk(&mut self) -> Result<Turn, AllocError> {
-        let mut conflict = None;
-        for _ in 0..self.chunk {
-            if self.first < self.end && conflict.is_none() {
-                conflict = self.assume(self.first)?;
-                self.first = self.first.saturating_add(1);
-            }
-            if self.first < self.end && conflict.is_none() {
-                self.end = self.end.saturating_sub(1);
-                conflict = self.assume(self.end)?;
-            }
-        }
-        self.chunk = self.chunk.saturating_mul(4);
+    /// Has the negated goal be in force.
+    pub fn stand(&mut self) -> Result<Turn, AllocError> {
+        let conflict = self.state.stand(self.goal)?;
         self.after(conflict)
     }
 
-    /// Takes a hypothesis in. Its clause, where that is false.
+    /// Looks at the operations that were met.
+    fn ask(&mut self) -> Result<Turn, AllocError> {
+        self.state.cancel(0)?;
+        let conflict = self.state.ask_for_operations()?;
+        self.after(conflict)
+    }
+
+    /// Takes further hypotheses in, from both ends.
+    fn assume_chunk(&mut self) -> Result<Turn, AllocError> {
+        self.state.cancel(0)?;
+        let mut conflict = None;
+        for _ in 0..self.intake.next_chunk() {
+            if conflict.is_none() {
+                conflict = self.assume_first()?;
+            }
+            if conflict.is_none() {
+                conflict = self.assume_last()?;
+            }
+        }
+        self.after(conflict)
+    }
+
+    fn assume_first(&mut self) -> Result<Option<usize>, AllocError> {
+        match self.intake.next_first() {
+            Some(number) => self.assume(number),
+            None => Ok(None),
+        }
+    }
+
+    fn assume_last(&mut self) -> Result<Option<usize>, AllocError> {
+        match self.intake.next_last() {
+            Some(number) => self.assume(number),
+            None => Ok(None),
+        }
+    }
+
+    /// Takes a hypothesis in, where its turn is now. Its clause, where that is false.
     fn assume(&mut self, number: usize) -> Result<Option<usize>, AllocError> {
         let Some(formula) = self.sequent.hypotheses.as_slice().get(number).copied() else {
             return Ok(None);
         };
-        let literal = self.engine.literal(formula, true)?;
-        let literals = vec![in self.engine.alloc; literal]?;
-        self.engine.add_clause(literals, Origin::Hypothesis(number))
+        if self.is_wide(formula) && !self.intake.takes_wide {
+            self.intake.defer(number);
+            return Ok(None);
+        }
+        self.intake.take(number);
+        self.state.assume(formula, number)
+    }
+
+    /// Whether a formula is wide, and not known yet.
+    fn is_wide(&self, formula: usize) -> bool {
+        self.state.terms.width(formula) > WIDTH && self.state.variables.of_node(formula).is_none()
     }
 
     fn restart(&mut self) -> Result<(), AllocError> {
         self.restarts = self.restarts.saturating_add(1);
         self.conflicts = luby(self.restarts).saturating_mul(RESTART);
-        self.engine.cancel(0)
+        self.state.cancel(GROUND)
     }
 
     /// Decides a variable that has no value.
     fn decide(&mut self) -> Result<Turn, AllocError> {
         for _ in 0..usize::MAX {
-            let Some(variable) = self.engine.solver.order.next() else {
+            let Some(variable) = self.state.solver.order.next() else {
                 break;
             };
-            if self.engine.solver.trail.assignment(variable).is_none() {
+            if self.state.solver.trail.assignment(variable).is_none() {
                 let positive = self.phase(variable);
-                self.engine.decide(Literal { variable, positive })?;
+                self.state.decide(Literal { variable, positive })?;
                 return Ok(Turn::On);
             }
         }
@@ -212,10 +253,10 @@ impl<'a> Search<'a> {
 
     /// What a variable is decided to be: an atom what it is at the tableau's values.
     fn phase(&self, variable: usize) -> bool {
-        match self.engine.variables.meaning(variable) {
-            Meaning::Atom(atom) => self.engine.theory.holds(&atom),
+        match self.state.variables.meaning(variable) {
+            Meaning::Atom(atom) => self.state.theory.holds(&atom),
             Meaning::Constant(positive) => positive,
-            Meaning::Nothing => self.engine.solver.order.phase(variable),
+            Meaning::Nothing => self.state.solver.order.phase(variable),
         }
     }
 }

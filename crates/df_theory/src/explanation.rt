@@ -7,7 +7,7 @@ use std::alloc::{AllocError, Global};
 use std::collections::BTreeMap;
 
 /// What a row of an explanation is that of.
-#[derive(Clone, Copy, Debug)]
+#[derive(Clone, Copy)]
 pub(crate) enum Source {
     /// The literal at this place.
     Literal(usize),
@@ -16,7 +16,7 @@ pub(crate) enum Source {
 }
 
 /// A row so many times.
-#[derive(Clone, Copy, Debug)]
+#[derive(Clone, Copy)]
 pub(crate) struct Member {
     pub factor: i128,
     pub source: Source,

@@ -8,13 +8,13 @@ use std::alloc::{AllocError, Global};
 use std::collections::HashMap;
 
 /// A sum that is a column of its own.
-#[derive(Debug, Drop, PartialEq, Eq, Hash)]
+#[derive(Drop, PartialEq, Eq, Hash)]
 struct Form {
     entries: Vec<Entry>,
 }
 
 /// What stands behind a column.
-#[derive(Clone, Copy, Debug)]
+#[derive(Clone, Copy)]
 pub enum Column {
     Node(usize),
     /// The form of this number.
@@ -23,7 +23,7 @@ pub enum Column {
 
 /// What a comparison says of a column: it is true where the column has a bound on the side, and false
 /// where it has one on the other side.
-#[derive(Clone, Copy, Debug)]
+#[derive(Clone, Copy)]
 pub struct Atom {
     pub column: usize,
     pub side: Side,
@@ -34,7 +34,7 @@ pub struct Atom {
 }
 
 /// What a formula says to arithmetic.
-#[derive(Clone, Copy, Debug)]
+#[derive(Clone, Copy)]
 pub enum Meaning {
     Nothing,
     Constant(bool),
@@ -73,6 +73,11 @@ impl Forms {
 
     pub fn len(&self) -> usize {
         self.columns.len()
+    }
+
+    /// Whether linear forms have half of the entries that they may have.
+    pub fn are_half_full(&self) -> bool {
+        self.room < ROOM / 2
     }
 
     pub fn column(&self, column: usize) -> Option<Column> {

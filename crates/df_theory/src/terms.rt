@@ -1,14 +1,14 @@
 //! The nodes of a sequent, and those that clauses make.
 
+use crate::made_nodes::MadeNodes;
 use df_form::{Op, Sequent, Sort, World};
 use df_index::{Index, Made, Offset};
 use df_lang::Ty;
 use std::alloc::{AllocError, Global};
-use std::collections::HashMap;
 
 /// The ends of the numbers that are values of a type, where it has any: an end on one side, on both, or on
 /// none. A type of other values has none.
-#[derive(Clone, Copy, Debug, PartialEq, Eq)]
+#[derive(Clone, Copy, PartialEq, Eq)]
 pub struct Ends {
     pub low: Option<i128>,
     pub high: Option<i128>,
@@ -45,7 +45,7 @@ impl Ends {
 }
 
 /// What a node is to the engine.
-#[derive(Clone, Copy, Debug, PartialEq, Eq)]
+#[derive(Clone, Copy, PartialEq, Eq)]
 pub enum Shape {
     Number(i128),
     Sum(usize, usize),
@@ -104,13 +104,15 @@ fn type_test(world: World, ty: Ty, part: usize) -> Shape {
     }
 }
 
-/// The nodes of a sequent by their numbers, and after them those that clauses make.
+/// Where no operations stand, made nodes have numbers past all that sequents' nodes have.
+const FAR: usize = usize::MAX / 2;
+
+/// The nodes of a sequent by their numbers, and past them those that clauses make.
 #[derive(Drop)]
 pub struct Terms<'a> {
     sequent: &'a Sequent<'a>,
     index: &'a Index,
-    made: Vec<Made>,
-    places: HashMap<Made, usize>,
+    made: MadeNodes,
     /// Whether the sequent has products, quotients, remainders or characters.
     pub has_operations: bool,
 }
@@ -118,13 +120,37 @@ pub struct Terms<'a> {
 impl<'a> Terms<'a> {
     /// The nodes of a sequent that the index has met.
     pub fn new(alloc: Global, sequent: &'a Sequent<'a>, index: &'a Index) -> Terms<'a> {
+        let count = sequent.nodes.len();
+        let has_operations = index.has_operations(count);
+        let first = if has_operations { count } else { FAR };
         Terms {
             sequent,
             index,
-            made: Vec::new(alloc),
-            places: HashMap::new(alloc),
-            has_operations: index.has_operations(sequent.nodes.len()),
+            made: MadeNodes::new(alloc, first, count),
+            has_operations,
         }
+    }
+
+    /// The same, with nodes that clauses made for a sequent without operations, all whose nodes this one has.
+    pub fn again(
+        sequent: &'a Sequent<'a>,
+        index: &'a Index,
+        made: MadeNodes,
+    ) -> Result<Terms<'a>, AllocError> {
+        let mut made = made;
+        made.compare(&sequent.nodes)?;
+        Ok(Terms {
+            sequent,
+            index,
+            made,
+            has_operations: false,
+        })
+    }
+
+    /// The nodes that clauses made.
+    pub fn into_made(self) -> MadeNodes {
+        let Terms { made, .. } = self;
+        made
     }
 
     pub fn world(&self) -> World<'a> {
@@ -134,6 +160,16 @@ impl<'a> Terms<'a> {
     /// How many nodes there are.
     pub fn len(&self) -> usize {
         self.sequent.nodes.len().saturating_add(self.made.len())
+    }
+
+    /// The made node that a node of the sequent is like, or else the node: what is known of either is known of this one.
+    pub fn standing_for(&self, node: usize) -> usize {
+        self.made.standing_for(node)
+    }
+
+    /// The node of the sequent that a made one is like, or else the node: it has this number in the sequent.
+    pub fn own(&self, node: usize) -> usize {
+        self.made.own(node)
     }
 
     /// What the node does with its parts.
@@ -216,8 +252,7 @@ impl<'a> Terms<'a> {
 
     /// The node, where a clause made it.
     pub fn made(&self, node: usize) -> Option<Made> {
-        let place = node.checked_sub(self.sequent.nodes.len())?;
-        self.made.get(place).copied()
+        self.made.get(node)
     }
 
     /// What a node is as the sum of another one and a number; itself, where a clause made it.
@@ -229,6 +264,11 @@ impl<'a> Terms<'a> {
             base: Some(node),
             constant: 0,
         }
+    }
+
+    /// How many members a node of the sequent has as a sum, or what a comparison compares, at most.
+    pub fn width(&self, node: usize) -> usize {
+        self.index.width(node)
     }
 
     /// How many parts a node has.
@@ -252,9 +292,12 @@ impl<'a> Terms<'a> {
 
     /// The node that is like this one, if one stands.
     pub fn find(&self, made: Made) -> Option<usize> {
-        match self.places.get(&made) {
-            Some(node) => Some(*node),
-            None => self.index.find(made, self.sequent.nodes.len()),
+        match self.made.find(made) {
+            Some(node) => Some(node),
+            None => {
+                let count = self.sequent.nodes.len();
+                self.index.find(self.made.with_own(made), count)
+            }
         }
     }
 
@@ -263,10 +306,7 @@ impl<'a> Terms<'a> {
         if let Some(node) = self.find(made) {
             return Ok(node);
         }
-        let node = self.len();
-        self.made.push(made)?;
-        self.places.insert(made, node)?;
-        Ok(node)
+        self.made.add(made)
     }
 
     pub fn add_number(&mut self, number: i128) -> Result<usize, AllocError> {

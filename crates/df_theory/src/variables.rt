@@ -5,7 +5,7 @@ use std::alloc::{AllocError, Global};
 use std::collections::HashMap;
 
 /// What stands behind a variable.
-#[derive(Clone, Copy, Debug)]
+#[derive(Clone, Copy)]
 struct Variable {
     node: usize,
     meaning: Meaning,

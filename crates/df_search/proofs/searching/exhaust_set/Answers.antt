@@ -1,10 +1,12 @@
-use Rattle.std.proofs.Common.{List, sym, ◌∙◌, subst, arith}
+use Rattle.std.proofs.Common.{sym, ◌∙◌, subst, map, Vec, arith}
+use Rattle.std.specs.declared.alloc.Global.{Global}
 use Rattle.df_closure.specs.Closure.{ground_of}
 use Rattle.df_closure.proofs.Rounds.{length_mapped}
 use Rattle.df_form.specs.declared.log.Lit.{Lit}
 use Rattle.df_form.specs.SequentView.{sequent_of}
-use Rattle.df_search.specs.Found.{IsTooWide, HasManyRows}
-use Rattle.df_search.specs.Searching.{branches_of, Comes}
+use Rattle.df_search.specs.Found.{AreSpent}
+use Rattle.df_search.specs.Searching.{Comes}
+use Rattle.df_rules.proofs.Results.{if_ok}
 use Rattle.df_search.proofs.searching.exhaust_set.Goals as goal
 
 pub returns-in-Err : goal.returns-in-Err
@@ -22,18 +24,18 @@ loop-search-preserved c =
     let comes = subst (Comes s c.args.steps c.args.rounds c.turn.new.self) c.in-On.is (c.in_ok-turn.ensures.turns s c.args.rounds c.loop-search.invariant.searches c.loop-search.invariant.few) in
     record { searches = comes.0; few = comes.1 }
 
-pub confirmed-requires : goal.confirmed-requires
-confirmed-requires c =
+pub proved-requires : goal.proved-requires
+proved-requires c =
     let s = sequent_of c.args.sequent.now in
     subst (Comes s c.args.steps c.args.rounds c.turn.new.self) c.in-Proved.is (c.in_ok-turn.ensures.turns s c.args.rounds c.loop-search.invariant.searches c.loop-search.invariant.few)
 
 pub returns-in-Proved : goal.returns-in-Proved
-returns-in-Proved c = c.confirmed.ensures c.args.steps c.args.rounds
+returns-in-Proved c = c.proved.ensures c.args.steps c.args.rounds
 
 pub returns-in-Spent : goal.returns-in-Spent
 returns-in-Spent c =
     let s = sequent_of c.args.sequent.now in
-    subst (Comes s c.args.steps c.args.rounds c.turn.new.self) c.in-Spent.is (c.in_ok-turn.ensures.turns s c.args.rounds c.loop-search.invariant.searches c.loop-search.invariant.few)
+    subst (λ (closed : Vec (Vec Lit Global) Global). AreSpent s c.args.steps c.args.rounds (map (λ (branch : Vec Lit Global). branch.items) closed.items)) (sym c.into_closed.ensures) (subst (Comes s c.args.steps c.args.rounds c.turn.new.self) c.in-Spent.is (c.in_ok-turn.ensures.turns s c.args.rounds c.loop-search.invariant.searches c.loop-search.invariant.few))
 
 pub returns-in-Modelled : goal.returns-in-Modelled
 returns-in-Modelled c =
@@ -43,13 +45,11 @@ returns-in-Modelled c =
 pub returns-in-Wide : goal.returns-in-Wide
 returns-in-Wide c =
     let s = sequent_of c.args.sequent.now in
-    let state = c.turn.new.self in
-    let comes = subst (Comes s c.args.steps c.args.rounds state) c.in-Wide.is (c.in_ok-turn.ensures.turns s c.args.rounds c.loop-search.invariant.searches c.loop-search.invariant.few) in
-    subst (λ (branch : List Lit). IsTooWide s c.args.rounds (branches_of state) branch) (sym c.in_ok-branch-in-Wide.ensures) comes
+    let comes = subst (Comes s c.args.steps c.args.rounds c.turn.new.self) c.in-Wide.is (c.in_ok-turn.ensures.turns s c.args.rounds c.loop-search.invariant.searches c.loop-search.invariant.few) in
+    if_ok c.wide.result _ _ c.wide.ensures (λ found finds. finds s c.args.steps c.args.rounds comes)
 
 pub returns-in-Many : goal.returns-in-Many
 returns-in-Many c =
     let s = sequent_of c.args.sequent.now in
-    let state = c.turn.new.self in
-    let comes = subst (Comes s c.args.steps c.args.rounds state) c.in-Many.is (c.in_ok-turn.ensures.turns s c.args.rounds c.loop-search.invariant.searches c.loop-search.invariant.few) in
-    subst (λ (branch : List Lit). HasManyRows s c.args.rounds (branches_of state) branch c.in-Many.count) (sym c.in_ok-branch-in-Many.ensures) comes
+    let comes = subst (Comes s c.args.steps c.args.rounds c.turn.new.self) c.in-Many.is (c.in_ok-turn.ensures.turns s c.args.rounds c.loop-search.invariant.searches c.loop-search.invariant.few) in
+    if_ok c.many.result _ _ c.many.ensures (λ found finds. finds s c.args.steps c.args.rounds comes)

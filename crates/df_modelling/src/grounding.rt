@@ -2,29 +2,11 @@
 
 use crate::candidate::Candidate;
 use crate::codes::{Codes, is_code};
+use crate::operations::{Key, number_of};
 use df_form::{Nodes, Op};
 use df_theory::Made;
 use std::alloc::AllocError;
 use std::collections::BTreeMap;
-
-/// An operation, and the numbers of its parts.
-#[derive(Clone, Copy, PartialEq, Eq, PartialOrd, Ord)]
-pub(crate) struct Key {
-    pub op: u8,
-    pub first: i128,
-    pub second: i128,
-}
-
-/// An operation on numbers by a number of its own.
-pub(crate) fn number_of(op: Op) -> Option<u8> {
-    match op {
-        Op::Times => Some(0),
-        Op::Div => Some(1),
-        Op::Mod => Some(2),
-        Op::Chr => Some(3),
-        _ => None,
-    }
-}
 
 /// What nodes are, one after another: equal operations on equal parts are so too.
 #[derive(Drop)]
@@ -94,7 +76,11 @@ impl<'a> Candidate<'a> {
     }
 
     /// The terms that are like these nodes, of which so many first ones are the sequent's.
-    pub fn terms_like(&self, nodes: &Nodes, own: usize) -> Result<Vec<Option<usize>>, AllocError> {
+    pub(crate) fn terms_like(
+        &self,
+        nodes: &Nodes,
+        own: usize,
+    ) -> Result<Vec<Option<usize>>, AllocError> {
         let mut terms: Vec<Option<usize>> = Vec::new(self.alloc);
         for number in 0..nodes.len() {
             let term = if number < own {
@@ -108,7 +94,7 @@ impl<'a> Candidate<'a> {
     }
 
     /// The operations that the engine knows, and no nodes yet.
-    fn operations(&self) -> Result<Grounding, AllocError> {
+    fn known_operations(&self) -> Result<Grounding, AllocError> {
         let mut grounding = Grounding {
             numbers: Vec::new(self.alloc),
             labels: Vec::new(self.alloc),
@@ -116,10 +102,8 @@ impl<'a> Candidate<'a> {
             characters: BTreeMap::new(self.alloc),
             codes: Codes::new(self.alloc),
         };
-        for place in 0..self.instances.len() {
-            if let Some(node) = self.instances.operation(place) {
-                self.enter(&mut grounding, node)?;
-            }
+        for &node in self.operations.iter() {
+            self.enter(&mut grounding, node)?;
         }
         Ok(grounding)
     }
@@ -160,12 +144,12 @@ impl<'a> Candidate<'a> {
 
     /// The numbers and the labels of these nodes: the engine's own, else those of an operation on equal parts, and
     /// else what their parts give.
-    pub fn grounded(
+    pub(crate) fn grounded(
         &self,
         nodes: &Nodes,
         terms: &[Option<usize>],
     ) -> Result<Grounding, AllocError> {
-        let mut grounding = self.operations()?;
+        let mut grounding = self.known_operations()?;
         for number in 0..nodes.len() {
             let term = term_at(terms, number);
             let value = match self.known_number(term) {

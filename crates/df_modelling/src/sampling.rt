@@ -91,11 +91,7 @@ fn next_sample(
 }
 
 /// The table of small numbers by which the hypotheses are true and the goal is false, if one is found.
-pub(crate) fn sampled(
-    alloc: Global,
-    sequent: &Sequent,
-    rounds: u32,
-) -> Result<Option<Table>, AllocError> {
+pub fn sampled(alloc: Global, sequent: &Sequent, rounds: u32) -> Result<Option<Table>, AllocError> {
     let size = sequent.nodes.len();
     let places = places(alloc, &sequent.nodes)?;
     let mut sequence = Sequence { state: 1 };

@@ -1,7 +1,8 @@
 //! The state of the engine, its variables and its clauses.
 
 use crate::instances::Instances;
-use df_clauses::{Literal, Origin, Reason, Solver};
+use crate::kept::Kept;
+use df_clauses::{GROUND, Literal, Origin, Reason, Solver};
 use df_egraph::Graph;
 use df_form::Sequent;
 use df_simplex::{Cause, Check, Need, Side};
@@ -13,7 +14,7 @@ const PIVOTS: usize = 2_000;
 
 /// The state of the engine.
 #[derive(Drop)]
-pub struct Engine<'a> {
+pub struct State<'a> {
     pub alloc: Global,
     pub terms: Terms<'a>,
     pub variables: Variables,
@@ -27,19 +28,23 @@ pub struct Engine<'a> {
     pub fuel: u64,
     /// A number of an explanation is past 128 bits.
     pub(crate) is_lost: bool,
+    /// Comparisons that were new at a decision level, and may have values at lower ones.
+    late: Vec<usize>,
+    /// How many rows there were when the lowest level was reached last.
+    rows: usize,
 }
 
-impl<'a> Engine<'a> {
+impl<'a> State<'a> {
     pub fn new(
         alloc: Global,
         sequent: &'a Sequent<'a>,
         index: &'a Index,
         fuel: u64,
         rounds: u32,
-    ) -> Engine<'a> {
+    ) -> State<'a> {
         let terms = Terms::new(alloc, sequent, index);
         let has_classes = terms.has_operations;
-        Engine {
+        State {
             alloc,
             terms,
             variables: Variables::new(alloc),
@@ -50,7 +55,61 @@ impl<'a> Engine<'a> {
             instances: Instances::new(alloc, rounds),
             fuel,
             is_lost: false,
+            late: Vec::new(alloc),
+            rows: 0,
         }
+    }
+
+    /// An engine for the sequent, with what is known by a sequent without operations, of whose hypotheses and nodes this
+    /// one has all.
+    pub fn again(
+        alloc: Global,
+        sequent: &'a Sequent<'a>,
+        index: &'a Index,
+        kept: Kept,
+        fuel: u64,
+    ) -> Result<State<'a>, AllocError> {
+        let terms = Terms::again(sequent, index, kept.made)?;
+        let rows = kept.theory.rows.len();
+        let mut state = State {
+            alloc,
+            terms,
+            variables: kept.variables,
+            solver: kept.solver,
+            theory: kept.theory,
+            has_classes: false,
+            graph: Graph::new(alloc),
+            instances: Instances::new(alloc, 0),
+            fuel,
+            is_lost: false,
+            late: Vec::new(alloc),
+            rows,
+        };
+        state.cancel(0)?;
+        Ok(state)
+    }
+
+    /// What stays for further sequents, if it may: where there are no operations, and there is room left.
+    pub fn into_kept(self) -> Option<Kept> {
+        if self.has_classes
+            || self.solver.book.is_half_full()
+            || self.theory.forms.are_half_full()
+        {
+            return None;
+        }
+        let State {
+            terms,
+            variables,
+            solver,
+            theory,
+            ..
+        } = self;
+        Some(Kept {
+            made: terms.into_made(),
+            variables,
+            solver,
+            theory,
+        })
     }
 
     /// Uses fuel.
@@ -77,7 +136,8 @@ impl<'a> Engine<'a> {
     }
 
     /// The literal of a formula.
-    pub fn literal(&mut self, node: usize, positive: bool) -> Result<Literal, AllocError> {
+    pub fn literal(&mut self, formula: usize, positive: bool) -> Result<Literal, AllocError> {
+        let node = self.terms.standing_for(formula);
         let variable = match self.variables.of_node(node) {
             Some(variable) => variable,
             None => self.add_variable(node)?,
@@ -100,18 +160,46 @@ impl<'a> Engine<'a> {
         };
         let variable = self.variables.add(node, meaning)?;
         self.solver.add_variable()?;
+        if let Meaning::Atom(atom) = meaning {
+            self.theory.hear(atom.column, variable)?;
+        }
+        self.give_value(variable, meaning)?;
+        if self.solver.trail.level() > 0 && self.solver.trail.assignment(variable).is_some() {
+            self.late.push(variable)?;
+        }
+        Ok(variable)
+    }
+
+    /// Gives a comparison without a value the one that it has whatever is decided, if it has one.
+    fn give_value(&mut self, variable: usize, meaning: Meaning) -> Result<(), AllocError> {
         match meaning {
-            Meaning::Nothing => {}
+            Meaning::Nothing => Ok(()),
             Meaning::Constant(positive) => self
                 .solver
                 .trail
-                .assign(Literal { variable, positive }, Reason::Constant)?,
-            Meaning::Atom(atom) => {
-                self.theory.hear(atom.column, variable)?;
-                self.imply(variable, &atom)?;
+                .assign(Literal { variable, positive }, Reason::Constant),
+            Meaning::Atom(atom) => self.imply(variable, &atom),
+        }
+    }
+
+    /// Gives comparisons that were new at a level that has ended the values that they have still, and has the rows that
+    /// were new there wait again.
+    fn give_late(&mut self) -> Result<(), AllocError> {
+        for place in 0..self.late.len() {
+            let variable = self.late.get(place).copied().unwrap_or(0);
+            if self.solver.trail.assignment(variable).is_none() {
+                let meaning = self.variables.meaning(variable);
+                self.give_value(variable, meaning)?;
             }
         }
-        Ok(variable)
+        for row in self.rows..self.theory.rows.len() {
+            self.theory.rows.put(row)?;
+        }
+        if self.solver.trail.level() == 0 {
+            self.late.clear();
+            self.rows = self.theory.rows.len();
+        }
+        Ok(())
     }
 
     /// Gives an atom without a value the one that bounds imply.
@@ -194,7 +282,11 @@ impl<'a> Engine<'a> {
     pub fn cancel(&mut self, level: usize) -> Result<(), AllocError> {
         self.solver.cancel(level)?;
         self.theory.bounds.cancel(level);
-        self.graph.cancel(level)
+        self.graph.cancel(level)?;
+        if level <= GROUND {
+            self.give_late()?;
+        }
+        Ok(())
     }
 
     /// A decision level begins.
@@ -202,6 +294,43 @@ impl<'a> Engine<'a> {
         self.solver.trail.open()?;
         self.graph.open()?;
         self.theory.bounds.open()
+    }
+
+    /// Adds the clause of a hypothesis. Its number, where it is false. The lowest level knows it by this clause from here
+    /// on, even if it was known by others.
+    pub fn assume(&mut self, formula: usize, number: usize) -> Result<Option<usize>, AllocError> {
+        let literal = self.literal(formula, true)?;
+        let clause = self.solver.book.len();
+        let literals = vec![in self.alloc; literal]?;
+        let conflict = self.add_clause(literals, Origin::Hypothesis(number))?;
+        if conflict.is_none() {
+            self.solver.trail.explain(literal.variable, clause);
+            self.variables.set_unit(literal.variable, clause);
+        }
+        Ok(conflict)
+    }
+
+    /// The clause of the negated goal, which is not in force yet.
+    pub fn goal_clause(&mut self, goal: usize) -> Result<usize, AllocError> {
+        let literal = self.literal(goal, false)?;
+        let literals = vec![in self.alloc; literal]?;
+        self.solver.book.add(literals, Origin::Goal)
+    }
+
+    /// The level of the negated goal begins, whose clause this is. The clause, where it is false.
+    pub fn stand(&mut self, clause: usize) -> Result<Option<usize>, AllocError> {
+        let Some(literal) = self.solver.book.literal(clause, 0) else {
+            return Ok(None);
+        };
+        match self.solver.trail.value(literal) {
+            Some(true) => self.open()?,
+            Some(false) => return Ok(Some(clause)),
+            None => {
+                self.open()?;
+                self.solver.trail.assign(literal, Reason::Clause(clause))?;
+            }
+        }
+        Ok(None)
     }
 
     /// Decides that a literal is true.

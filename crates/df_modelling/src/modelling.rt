@@ -19,7 +19,7 @@ const OTHER: i128 = 68;
 
 /// What the engine has found, as a table.
 #[derive(Drop)]
-pub(crate) enum Tabled {
+pub enum Tabled {
     Table(Table),
     /// Two numbers are to be equal, or not, since operations on them have other numbers.
     Apart(Pair),
@@ -73,7 +73,7 @@ pub(crate) fn counterexample_of(
 
 impl<'a> Candidate<'a> {
     /// The label of a term's class.
-    pub fn label(&self, node: usize) -> usize {
+    pub(crate) fn label(&self, node: usize) -> usize {
         self.graph.labels().get(node).copied().unwrap_or(node)
     }
 
@@ -81,8 +81,7 @@ impl<'a> Candidate<'a> {
     /// has as its code.
     fn codes(&self) -> Result<Codes, AllocError> {
         let mut codes = Codes::new(self.alloc);
-        for place in 0..self.instances.len() {
-            let node = self.instances.operation(place).unwrap_or(0);
+        for &node in self.operations.iter() {
             let part = self.terms.part(node, 0).unwrap_or(0);
             match self.terms.op(node) {
                 Some(Op::Code) => {
@@ -172,8 +171,7 @@ impl<'a> Candidate<'a> {
     pub fn counterexample(&self, sequent: &Sequent) -> Result<Option<Table>, AllocError> {
         let numbers = self.numbers_and_codes(sequent)?;
         let known = self.known()?;
-        let rounds = self.instances.rounds;
-        counterexample_of(self.alloc, sequent, rounds, &numbers, &known)
+        counterexample_of(self.alloc, sequent, self.rounds, &numbers, &known)
     }
 
     /// The formulas of the sequent that have a value.
@@ -223,7 +221,7 @@ impl<'a> Candidate<'a> {
             Tabled::Apart(pair) => return Ok(Tabled::Apart(pair)),
             Tabled::Nothing => return Ok(Tabled::Nothing),
         }
-        match ground_of(self.alloc, sequent, self.instances.rounds)? {
+        match ground_of(self.alloc, sequent, self.rounds)? {
             Some(ground) => self.table_of(sequent, &ground.nodes),
             None => Ok(Tabled::Nothing),
         }
