@@ -5,7 +5,7 @@ use Rattle.df_form.specs.Sequent.{IsValid}
 use Rattle.df_nterm.specs.Term as trees
 use Rattle.df_nenc.specs.Tree.{tree_at}
 use Rattle.df_npass.specs.Laws as obligations
-use Rattle.df_nowed.proofs.Values.{as_logic, from_logic, logic_again, truth_same, sorted_same, Agrees, free_in, apply_same}
+use Rattle.df_nowed.proofs.Values.{as_logic, from_logic, logic_again, from_plain, truth_same, sorted_same, Agrees, free_in, apply_same}
 use Rattle.df_meaning.specs.Value.{Value, truth_of}
 
 module _ (depth : ℕ) (i : Interpretation) (a : formulas.Assignment) (agrees : Agrees i a) where
@@ -105,9 +105,12 @@ same_validity program declaration place kind s over = (valid, valid_back)
         ∙ h (interpretation_of program a) refl (trees_true depth (interpretation_of program a) a (interpreted program a) s.world over s.nodes s.hypotheses all)
 
 pub same_refutation : RefutedSequentsAreRefutedObligations
-same_refutation program declaration place kind s depth a over all none = record {
-  interpretation = interpretation_of program a;
-  program_is = refl;
-  hypotheses = trees_true depth (interpretation_of program a) a (interpreted program a) s.world over s.nodes s.hypotheses all;
-  goal = sym (in_world depth (interpretation_of program a) a (interpreted program a) s.world over s.nodes s.goal) ∙ none;
-}
+same_refutation program declaration place kind s depth a over all none = (
+  record {
+    interpretation = interpretation_of program a;
+    program_is = refl;
+    hypotheses = trees_true depth (interpretation_of program a) a (interpreted program a) s.world over s.nodes s.hypotheses all;
+    goal = sym (in_world depth (interpretation_of program a) a (interpreted program a) s.world over s.nodes s.goal) ∙ none;
+  },
+  λ free. from_plain (a.value (free_back (free_in free))) ∙ ap a.value (free_again free),
+)

@@ -34,6 +34,12 @@ logic_again (logic.Character c) = refl
 logic_again (logic.Number n) = refl
 logic_again (logic.Text characters) = refl
 
+pub from_plain : (v : logic.Value) → from_logic v ≡ v
+from_plain (logic.Truth b) = refl
+from_plain (logic.Character c) = refl
+from_plain (logic.Number n) = refl
+from_plain (logic.Text characters) = refl
+
 number_same : (v : Value) → logic.number_of (as_logic v) ≡ number_of v
 number_same (Truth b) = refl
 number_same (Character c) = refl

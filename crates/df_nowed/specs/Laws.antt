@@ -4,9 +4,11 @@ use Rattle.std.specs.List.{AllByRecursion}
 use Rattle.df_base.specs.declared.pos.Pos.{Pos}
 use Rattle.df_lang.specs.Program.{Param, Method, Program}
 use Rattle.df_form.specs.World.{of_program}
+use Rattle.df_form.specs.declared.node.Free.{Free}
 use Rattle.df_form.specs.Truth.{Assignment, truth}
 use Rattle.df_form.specs.Sequent as form
-use Rattle.df_nenc.specs.Tree.{tree_at, trees_at}
+use Rattle.df_nterm.specs.Meaning.{Interpretation}
+use Rattle.df_nenc.specs.Tree.{tree_at, trees_at, sort_of}
 use Rattle.df_meaning.specs.declared.kind.Kind.{Kind}
 use Rattle.df_npass.specs.Methods.{Obligation, way_in}
 use Rattle.df_npass.specs.Rules.{free_of}
@@ -20,11 +22,15 @@ abbrev pub ValidSequentsAreValidObligations : Type 0
 ValidSequentsAreValidObligations = (program : Program) (declaration : ℕ) (pos : Pos) (kind : Kind) (s : form.Sequent) → s.world ≡ of_program program
     → (form.IsValid s ↔ trees.IsValid program (obligation_of declaration pos kind s))
 
--- and where an assignment refutes the sequent, an interpretation over the program refutes the obligation
+-- the interpretation gives each free term the value that the assignment gives it
+abbrev pub GivesAs : Interpretation → Assignment → Type 0
+GivesAs i assignment = (free : Free) → i.value (record { number = free.number; sort = sort_of free.sort }) ≡ assignment.value free
+
+-- and where an assignment refutes the sequent, an interpretation over the program that gives the same values refutes the obligation
 abbrev pub RefutedSequentsAreRefutedObligations : Type 0
 RefutedSequentsAreRefutedObligations = (program : Program) (declaration : ℕ) (pos : Pos) (kind : Kind) (s : form.Sequent) (depth : ℕ) (assignment : Assignment) → s.world ≡ of_program program
     → AllByRecursion (λ h. truth depth s.world assignment s.nodes h ≡ true) s.hypotheses → truth depth s.world assignment s.nodes s.goal ≡ false
-    → trees.IsRefuted program (obligation_of declaration pos kind s)
+    → (refuted : trees.IsRefuted program (obligation_of declaration pos kind s)) × GivesAs refuted.interpretation assignment
 
 -- the parameters of a method are the free terms 0, 1, .. in order, of the sorts of their types
 abbrev pub ParametersAreFreeTerms : Type 0

@@ -8,7 +8,7 @@ pub fn valid_sequents_are_valid_obligations()
 {}
 
 /// Where an assignment makes the hypotheses of a sequent over a program true and its goal false, an interpretation over
-/// the program does so with the obligation that has its trees.
+/// the program that gives the same values does so with the obligation that has its trees.
 pub fn refuted_sequents_are_refuted_obligations()
     ensures { RefutedSequentsAreRefutedObligations }
 {}

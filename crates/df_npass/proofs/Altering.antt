@@ -4,9 +4,6 @@ use Rattle.df_npass.proofs.Lemmas.{list_once, IsReached}
 use Rattle.df_npass.proofs.Turns.{type_there}
 use Rattle.df_lemmas.proofs.Lists.{all_parts}
 
-there_split : (all : List Ty) (cs ds : List Changed) → are_there all (cs ++ ds) ≡ true → (are_there all cs ≡ true) × (are_there all ds ≡ true)
-there_split all cs ds h = all_parts (λ (c : Changed). option_map_or (same_type c.ty) (slice_get all c.local) false) cs ds h
-
 there_join : (all : List Ty) (cs ds : List Changed) → are_there all cs ≡ true → are_there all ds ≡ true → are_there all (cs ++ ds) ≡ true
 there_join all cs ds h g = list_all-append (λ (c : Changed). option_map_or (same_type c.ty) (slice_get all c.local) false) cs ds ∙ joined (are_there all cs) (are_there all ds) h g
 
@@ -16,12 +13,12 @@ outside_there all body h = list_once (λ (c : Changed). option_map_or (same_type
 in_branches_there : (all : List Ty) (branches : Branches) → are_there all (changed_by_branches branches) ≡ true → are_there all (changed_in_branches branches) ≡ true
 in_branches_there all no_branch h = refl
 in_branches_there all (branch at guard body rest) h =
-    let parts = there_split all (changed_by_all body) (changed_by_branches rest) h in
+    let parts = all_parts _ (changed_by_all body) (changed_by_branches rest) h in
     there_join all (changed_outside body) (changed_in_branches rest) (outside_there all body parts.0) (in_branches_there all rest parts.1)
 
 pub if_there : (all : List Ty) (branches : Branches) (otherwise : Stmts) → are_there all (changed_by_branches branches ++ changed_by_all otherwise) ≡ true → are_there all (changed_outside_if branches otherwise) ≡ true
 if_there all branches otherwise h =
-    let parts = there_split all (changed_by_branches branches) (changed_by_all otherwise) h in
+    let parts = all_parts _ (changed_by_branches branches) (changed_by_all otherwise) h in
     list_once (λ (c : Changed). option_map_or (same_type c.ty) (slice_get all c.local) false) [] (changed_in_branches branches ++ changed_outside otherwise)
     (there_join all (changed_in_branches branches) (changed_outside otherwise) (in_branches_there all branches parts.0) (outside_there all otherwise parts.1))
 

@@ -1,6 +1,5 @@
 -- Terms of arguments and results: a method begins with their values.
-use Rattle.df_npass.proofs.Words.{◌≡◌, ℕ, zero, suc, true, false, List, [], ◌∷◌, ◌++◌, length, slice_get, Option, Some, refl, ap, ◌∙◌, subst, length-map, AllByRecursion, Ty, Param, types_of, same_type, are_same_types, Value, Store, begin, both, same_type_equal, Within, first_locals, begun_assigned, Term, Interpretation, IsSorted, SameBelow, value_same, Way, is_unset, over, env_of, any_values, Environment, literal, pos, slice_index_or}
-use Rattle.df_nterm.specs.Meaning as meanings
+use Rattle.df_npass.proofs.Words.{meaning, ◌≡◌, ℕ, zero, suc, true, false, List, [], ◌∷◌, ◌++◌, length, slice_get, Option, Some, refl, ap, ◌∙◌, subst, length-map, AllByRecursion, Ty, Param, types_of, same_type, are_same_types, Value, Store, begin, both, same_type_equal, Within, first_locals, begun_assigned, Term, Interpretation, IsSorted, SameBelow, value_same, Way, is_unset, over, env_of, any_values, Environment, literal, pos, slice_index_or}
 use Rattle.df_npass.proofs.Lemmas.{path_true, Mode, values_at, AreOf, SortedAll, Sits, TermsBelow, free_set}
 use Rattle.df_npass.proofs.Taking.{AllSorted}
 
@@ -44,7 +43,7 @@ same_types_are as_types bs e = cc
 
 sorted_of : (i : Interpretation) (tys : List Ty) (terms : List Term) → AreOf i tys terms → SortedAll i tys (env_of terms)
 sorted_of i [] [] h k ty e = cc
-sorted_of i (t ∷ tys) (a ∷ terms) h zero ty e = let same : t ≡ ty = cc in subst (λ (x : Ty). IsSorted x (meanings.value i a)) same h.0.sorted
+sorted_of i (t ∷ tys) (a ∷ terms) h zero ty e = let same : t ≡ ty = cc in subst (λ (x : Ty). IsSorted x (meaning i a)) same h.0.sorted
 sorted_of i (t ∷ tys) (a ∷ terms) h (suc k) ty e = sorted_of i tys terms h.1 k ty e
 sorted_of i tys terms h k ty e = absurd h
 
@@ -54,7 +53,7 @@ set_of i (t ∷ tys) (a ∷ terms) h zero = h.0.set
 set_of i (t ∷ tys) (a ∷ terms) h (suc k) = set_of i tys terms h.1 k
 set_of i tys terms h k = absurd h
 
-pub over_value : (i : Interpretation) (terms : List Term) (env : Environment) (k : ℕ) (v : Value) → slice_get (values_at i terms) k ≡ Some v → meanings.value i (slice_index_or terms k (env k)) ≡ v
+pub over_value : (i : Interpretation) (terms : List Term) (env : Environment) (k : ℕ) (v : Value) → slice_get (values_at i terms) k ≡ Some v → meaning i (slice_index_or terms k (env k)) ≡ v
 over_value i [] env k v e = cc
 over_value i (a ∷ terms) env zero v e = cc
 over_value i (a ∷ terms) env (suc k) v e = over_value i terms (λ x. env (suc x)) k v e
@@ -66,7 +65,7 @@ begun_sits mode i way tys terms store there h = record {
   sorted = sorted_of i tys terms h;
   holds = (tt, λ k v has e. over_value i terms (λ n. literal (pos 0)) k v e);
   set = λ k has. set_of i tys terms h k;
-  present = λ e. begun_assigned (values_at i terms) store (length tys) (length-map terms (meanings.value i) ∙ of_long i tys terms h);
+  present = λ e. begun_assigned (values_at i terms) store (length tys) (length-map terms (meaning i) ∙ of_long i tys terms h);
 }
 
 pub within_itself : (tys : List Ty) → Within tys tys

@@ -1,7 +1,7 @@
 -- Branches, and what goes on where they come together.
-use Rattle.df_npass.proofs.Words.{◌≡◌, inl, ℕ, Bool, true, false, if◌then◌else◌, List, ◌++◌, Option, sym, ap, ◌∙◌, subst, Ty, Assigned, has_value, meet, Flowing, Outcome, Handed, State, Changed, is_changed, are_there, Term, Interpretation, SameBelow, Said, Way, paths_of, any_path, join_branches, Flow, Parted, ways_of, last_of, first_of, path_behind, rejoined, choice, or_left, or_right}
+use Rattle.df_npass.proofs.Words.{all_joined, ◌≡◌, inl, ℕ, Bool, true, false, if◌then◌else◌, List, ◌++◌, Option, sym, ap, ◌∙◌, subst, Ty, Assigned, has_value, meet, Flowing, Outcome, Handed, State, Changed, is_changed, are_there, Term, Interpretation, SameBelow, Said, Way, paths_of, any_path, join_branches, Flow, Parted, ways_of, last_of, first_of, path_behind, rejoined, choice, or_left, or_right}
 use Rattle.df_meaning.specs.Meaning as flows
-use Rattle.df_npass.proofs.Runs.{path_true, all_appended, Mode, Moves, moves_here, moves_then, same_itself, same_then, Play, play_behind, play_later, PathBelow, EnvBelow, env_grows, JoinGoing, branches_going, AllStay, Flows, Parts, behind_reaches, SortedAll, AllOff, OneSits, off_moves, path_same, sorted_moves, Many, branches_join_then, no_path, one_path, branches_off_said, branches_off_way, hand, Comes, Onward, Off, both_off, comes_left, comes_right, leads_off}
+use Rattle.df_npass.proofs.Runs.{path_true, Mode, Moves, moves_here, moves_then, same_itself, same_then, Play, play_behind, play_later, PathBelow, EnvBelow, env_grows, JoinGoing, branches_going, AllStay, Flows, Parts, behind_reaches, SortedAll, AllOff, OneSits, off_moves, path_same, sorted_moves, Many, branches_join_then, no_path, one_path, branches_off_said, branches_off_way, hand, Comes, Onward, Off, both_off, comes_left, comes_right, leads_off}
 
 -- ---- a branch and those after it
 
@@ -26,7 +26,7 @@ module _ (B : Type 0) (all : List Ty) (back : Assigned) (mode : Mode) (i : Inter
         (h.on k j f moves (comes_left k j all back all_said others.fresh (last_of flow) others one.behind two.behind one.breaks two.breaks f comes (others_off j moves.same off))));
     over = λ j same ways breaks returns loses.
         let away = both_off j all_said others.fresh (last_of flow) others (record { ways = ways; breaks = breaks; returns = returns }) (others_off j same off) in
-        all_appended j others.said more (parts.made.said.off j (sym (path_same n i j same other_path other_is) ∙ off)) (h.over j same away.ways away.breaks away.returns (or_left flow.loses others.loses loses));
+        all_joined _ others.said more (parts.made.said.off j (sym (path_same n i j same other_path other_is) ∙ off)) (h.over j same away.ways away.breaks away.returns (or_left flow.loses others.loses loses));
   }
 
   -- or one after it
@@ -41,10 +41,10 @@ module _ (B : Type 0) (all : List Ty) (back : Assigned) (mode : Mode) (i : Inter
         h.over j all_same away.ways away.breaks away.returns (or_right flow.loses others.loses loses);
   }
 
-  pub passed_play : (run : List Handed → Outcome B) → path_true i first_path ≡ false → (Onward B all back mode i flow.fresh others two.behind two.breaks more go → Play B mode i flow.fresh (others.said ++ more) run) → Play B mode i n (flow.said ++ (others.said ++ more)) run
-  passed_play run off play =
-      play_behind B mode i n flow.said (others.said ++ more) run (λ j same. flows_first.made.said.off j (sym (path_same n i j same first_path first_is) ∙ off))
-      (play_later B mode i n flow.fresh (others.said ++ more) run flows_first.made.grows (play (passed_onward off)))
+  pub passed_play : (start : Mode) (run : List Handed → Outcome B) → path_true i first_path ≡ false → (Onward B all back mode i flow.fresh others two.behind two.breaks more go → Play B start i flow.fresh (others.said ++ more) run) → Play B start i n (flow.said ++ (others.said ++ more)) run
+  passed_play start run off play =
+      play_behind B start i n flow.said (others.said ++ more) run (λ j same. flows_first.made.said.off j (sym (path_same n i j same first_path first_is) ∙ off))
+      (play_later B start i n flow.fresh (others.said ++ more) run flows_first.made.grows (play (passed_onward off)))
 
 -- ---- the ways of the branches come together
 
@@ -75,7 +75,7 @@ module _ (B : Type 0) (all : List Ty) (back : Assigned) (mode : Mode) (i : Inter
   pub rejoin_onward : Onward B all back mode i n parted behind carried ((join_branches after_path way.env changed parted.ways parted.fresh).said ++ more) go
   rejoin_onward = record {
     on = by_flow;
-    over = λ j same ways breaks returns loses. all_appended j (join_branches after_path way.env changed parted.ways parted.fresh).said more (branches_off_said j after_path way.env changed parted.ways parted.fresh ways)
+    over = λ j same ways breaks returns loses. all_joined _ (join_branches after_path way.env changed parted.ways parted.fresh).said more (branches_off_said j after_path way.env changed parted.ways parted.fresh ways)
         (h.over j same (branches_off_way j after_path way.env changed parted.ways parted.fresh ways (λ many. none_there j ways loses)) breaks returns loses);
   }
     where

@@ -1,9 +1,8 @@
 -- Where runs come to: one of some ways, and the flow of definite assignment there.
 use Rattle.df_npass.proofs.Words.{Bool, ◌≡◌, ◌⊎◌, inl, inr, ℕ, true, false, List, [], ◌∷◌, ◌++◌, Option, None, Some, refl, sym, ◌∙◌, subst, Ty, Assigned, Unreached, Reached, has_value, mark, State, HasValue, AreAssigned, both, Term, Interpretation, Environment, IsSorted, SameBelow, value_same, Way, all_joined, ap, assigned_has}
 use Rattle.df_lang.specs.Assignment.{join}
-use Rattle.df_npass.proofs.Saying.{path_true}
+use Rattle.df_npass.proofs.Saying.{path_true, PathBelow, EnvBelow}
 use Rattle.df_npass.proofs.Playing.{Mode, Moves, truth_same}
-use Rattle.df_npass.proofs.Proper.{PathBelow, EnvBelow}
 pub use Rattle.df_npass.proofs.Leading.{AllOff, off_lead}
 use Rattle.df_npass.proofs.Leading.{AllLead}
 use Rattle.df_npass.proofs.Reading.{SortedAll, Sits, IsReached}
@@ -78,9 +77,6 @@ abbrev pub OneSits : Mode → Interpretation → List Ty → List Way → Assign
 OneSits mode i all [] before s = ⊥
 OneSits mode i all (way ∷ ways) before s = (Sits mode i all way before s × AllOff i ways) ⊎ ((path_true i way.path ≡ false) × OneSits mode i all ways before s)
 
-pub off_append : (i : Interpretation) (ways others : List Way) → AllOff i ways → AllOff i others → AllOff i (ways ++ others)
-off_append i = all_joined (λ (way : Way). path_true i way.path ≡ false)
-
 pub off_moves : (i j : Interpretation) (n : ℕ) (path : Option Term) (ways : List Way) → AllLead n path ways → SameBelow n i j → AllOff i ways → AllOff j ways
 off_moves i j n path [] lead same h = tt
 off_moves i j n path (way ∷ ways) lead same h = (sym (path_same n i j same way.path lead.0.path_is) ∙ h.0, off_moves i j n path ways lead.1 same h.1)
@@ -88,7 +84,7 @@ off_moves i j n path (way ∷ ways) lead same h = (sym (path_same n i j same way
 module _ (mode : Mode) (i : Interpretation) (all : List Ty) where
   pub one_left : (ways others : List Way) (before : Assigned) (s : State) → OneSits mode i all ways before s → AllOff i others → OneSits mode i all (ways ++ others) before s
   one_left [] others before s h g = absurd h
-  one_left (way ∷ ways) others before s h g = elim h [ inl x ↦ inl (x.0, off_append i ways others x.1 g) | inr x ↦ inr (x.0, one_left ways others before s x.1 g) ]
+  one_left (way ∷ ways) others before s h g = elim h [ inl x ↦ inl (x.0, all_joined _ ways others x.1 g) | inr x ↦ inr (x.0, one_left ways others before s x.1 g) ]
 
   pub one_right : (ways others : List Way) (before : Assigned) (s : State) → AllOff i ways → OneSits mode i all others before s → OneSits mode i all (ways ++ others) before s
   one_right [] others before s h g = g

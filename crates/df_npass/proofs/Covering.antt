@@ -23,32 +23,6 @@ none_unmarked : (a : Assigned) (local k : ℕ) → IsReached a → has_value a k
 none_unmarked Unreached local k r h = absurd r
 none_unmarked (Reached set) local k r h = choice (λ (b : Bool). b ≡ false) (k == local) false (set k) refl h
 
-reached_declare : (variables : List Variable) (a : Assigned) → IsReached a → IsReached (declare a variables)
-reached_declare [] a r = r
-reached_declare (v ∷ vs) a r = reached_declare vs (mark false a v.local) (reached_mark false a v.local r)
-
-none_declared : (variables : List Variable) (a : Assigned) (k : ℕ) → IsReached a → has_value a k ≡ false → has_value (declare a variables) k ≡ false
-none_declared [] a k r h = h
-none_declared (v ∷ vs) a k r h = none_declared vs (mark false a v.local) k (reached_mark false a v.local r) (none_unmarked a v.local k r h)
-
-reached_assign : (targets : List Target) (a : Assigned) → IsReached a → IsReached (assign a targets)
-reached_assign [] a r = r
-reached_assign (t ∷ ts) a r = reached_assign ts (mark true a t.local) (reached_mark true a t.local r)
-
-none_assigned : (targets : List Target) (a : Assigned) (k : ℕ) → IsReached a → is_changed (map (λ (t : Target). record { local = t.local; ty = t.ty }) targets) k ≡ false → has_value a k ≡ false → has_value (assign a targets) k ≡ false
-none_assigned [] a k r e h = h
-none_assigned (t ∷ ts) a k r e h =
-    let u = unchanged (record { local = t.local; ty = t.ty }) (map (λ (x : Target). record { local = x.local; ty = x.ty }) ts) k e in
-    none_assigned ts (mark true a t.local) k (reached_mark true a t.local r) u.1 (none_marked a t.local k r (ne_eqb k t.local u.0) h)
-
-reached_update : (update : Option Update) (a : Assigned) → IsReached a → IsReached (assign_all a update)
-reached_update None a r = r
-reached_update (Some update) a r = reached_assign update.targets a r
-
-none_updated : (update : Option Update) (a : Assigned) (k : ℕ) → IsReached a → is_changed (changed_by_update update) k ≡ false → has_value a k ≡ false → has_value (assign_all a update) k ≡ false
-none_updated None a k r e h = h
-none_updated (Some update) a k r e h = none_assigned update.targets a k r e h
-
 -- where runs go on, the flow does too; and what is neither declared nor assigned gains no value
 pub record Gains (k : ℕ) (before behind : Assigned) (changed : List Changed) : Type 0 where
   pub reached : IsReached behind
@@ -56,6 +30,21 @@ pub record Gains (k : ℕ) (before behind : Assigned) (changed : List Changed) :
 
 gains_same : (k : ℕ) (before : Assigned) (changed : List Changed) → IsReached before → Gains k before before changed
 gains_same k before changed r = record { reached = r; none = λ h e. h }
+
+declare_gains : (variables : List Variable) (a : Assigned) (k : ℕ) → IsReached a → Gains k a (declare a variables) []
+declare_gains [] a k r = gains_same k a [] r
+declare_gains (v ∷ vs) a k r =
+    let rest = declare_gains vs (mark false a v.local) k (reached_mark false a v.local r) in record { reached = rest.reached; none = λ h e. rest.none (none_unmarked a v.local k r h) e }
+
+assign_gains : (targets : List Target) (a : Assigned) (k : ℕ) → IsReached a → Gains k a (assign a targets) (map (λ (t : Target). record { local = t.local; ty = t.ty }) targets)
+assign_gains [] a k r = gains_same k a [] r
+assign_gains (t ∷ ts) a k r =
+    let rest = assign_gains ts (mark true a t.local) k (reached_mark true a t.local r) in
+    record { reached = rest.reached; none = λ h e. let u = unchanged (record { local = t.local; ty = t.ty }) (map (λ (x : Target). record { local = x.local; ty = x.ty }) ts) k e in rest.none (none_marked a t.local k r (ne_eqb k t.local u.0) h) u.1 }
+
+update_gains : (update : Option Update) (a : Assigned) (k : ℕ) → IsReached a → Gains k a (assign_all a update) (changed_by_update update)
+update_gains None a k r = gains_same k a [] r
+update_gains (Some update) a k r = assign_gains update.targets a k r
 
 not_empty : (path : Option Term) (env : Environment) (changed : List Changed) (ways : List Way) (fresh : ℕ) (w : Way) → (join_branches path env changed ways fresh).way ≡ Some w → ways ≡ [] → ⊥
 not_empty path env changed [] fresh w e f = none-some w e
@@ -83,11 +72,11 @@ module _ (set : Setting) (own : Method) (k : ℕ) where
   mutual
     stmt_gains : (stmt : Stmt) (way : Way) (n : ℕ) (before : Assigned) (w : Way) → IsReached before → (pass_stmt set way stmt n).way ≡ Some w → Gains k before (flow own before stmt).behind (changed_by stmt)
     stmt_gains (Block at body) way n before w r e = all_gains body way n before w r e
-    stmt_gains (Var at variables update) way n before w r e = record {
-      reached = reached_update update (declare before variables) (reached_declare variables before r);
-      none = λ h f. none_updated update (declare before variables) k (reached_declare variables before r) (neither (changed_by_variables variables) (changed_by_update update) k f).1 (none_declared variables before k r h);
-    }
-    stmt_gains (Assign at update) way n before w r e = record { reached = reached_update (Some update) before r; none = λ h f. none_updated (Some update) before k r f h }
+    stmt_gains (Var at variables update) way n before w r e =
+        let declared = declare_gains variables before k r in
+        let updated = update_gains update (declare before variables) k declared.reached in
+        record { reached = updated.reached; none = λ h f. updated.none (declared.none h refl) (neither (changed_by_variables variables) (changed_by_update update) k f).1 }
+    stmt_gains (Assign at update) way n before w r e = update_gains (Some update) before k r
     stmt_gains (If branches otherwise) way n before w r e =
         branches_gains branches otherwise way n before r (λ last more w f. all_gains otherwise last more before w r f) (not_empty _ way.env (changed_outside_if branches otherwise) (pass_branches set way branches (λ last. pass_all set last otherwise) n).ways _ w e)
     stmt_gains (While at guard invariants decreases body) way n before w r e = record { reached = reached_left before (flow_all own before body).breaks r; none = λ h f. none_left before (flow_all own before body).breaks k r h }

@@ -1,9 +1,8 @@
 -- Statements lead on.
-use Rattle.df_npass.proofs.Words.{ℕ, List, [], ◌∷◌, Option, None, Some, refl, subst, le_trans, option_map_or, Pos, Clause, Measure, Stmt, Block, Var, Assign, CallOf, If, While, Break, Return, Assert, Print, Stmts, done, next, Branches, no_branch, branch, loop_measure, Changed, Term, negation, term_of, Measured, measured, term_below, Said, Way, narrowed, Moved, havoc, paths_of, any_path, join, join_branches, Setting, Flow, saying, goes_on, followed_by, then_next, at_clause, assert_clauses, assume_clauses, assert_expr, assert_measure, changed_outside, changed_outside_if, Parted, ways_of, first_of, path_behind, rejoined, assert_turn, behind_loop, pass_stmt, pass_all, pass_branches, last_of, choice}
+use Rattle.df_npass.proofs.Words.{all_joined, ℕ, List, [], ◌∷◌, Option, None, Some, refl, subst, le_trans, option_map_or, Pos, Clause, Measure, Stmt, Block, Var, Assign, CallOf, If, While, Break, Return, Assert, Print, Stmts, done, next, Branches, no_branch, branch, loop_measure, Changed, Term, negation, term_of, Measured, measured, term_below, Said, Way, narrowed, Moved, havoc, paths_of, any_path, join, join_branches, Setting, Flow, saying, goes_on, followed_by, then_next, at_clause, assert_clauses, assume_clauses, assert_expr, assert_measure, changed_outside, changed_outside_if, Parted, ways_of, first_of, path_behind, rejoined, assert_turn, behind_loop, pass_stmt, pass_all, pass_branches, last_of, choice, assert_operand}
 use Rattle.df_meaning.specs.declared.kind.Kind.TheVariants as kinds
-use Rattle.df_npass.proofs.Proper.{PathBelow, EnvBelow, Proper, path_grows, env_grows, proper_grows, nothing_proper, append_proper, owed_proper, expr_proper, clauses_proper, handed_proper, measure_proper, operands_proper, MeasureBelow, measured_below, measure_grows, order_below}
-use Rattle.df_npass.proofs.Leading.{Leads, AllLead, lead_grows, all_lead_grow, append_lead, itself, farther, farther_proper, narrowed_leads, Going, havoc_going, Reaches, join_going, branches_going, any_path_reaches, call_giving, update_going, optional_going, Says, says, says_nothing, says_then}
-use Rattle.df_npass.proofs.Saying.{by_option}
+use Rattle.df_npass.proofs.Saying.{PathBelow, EnvBelow, Proper, path_grows, env_grows, proper_grows, nothing_proper, append_proper, owed_proper, expr_proper, clauses_proper, handed_proper, measure_proper, each_proper, MeasureBelow, measured_below, measure_grows, order_below, by_option, operand_proper}
+use Rattle.df_npass.proofs.Leading.{Leads, AllLead, lead_grows, all_lead_grow, itself, farther, farther_proper, narrowed_leads, Going, havoc_going, Reaches, join_going, branches_going, any_path_reaches, call_giving, update_going, optional_going, Says, says, says_nothing, says_then}
 
 pub record Parts (fresh : ℕ) (path : Option Term) (parted : Parted) : Type 0 where
   pub made : Says fresh path parted.said parted.fresh
@@ -40,8 +39,8 @@ then_flows fresh path flow go h g = by_option (Flows fresh path) (λ way. follow
     record {
       made = says_then fresh flow.fresh last.fresh path flow.said last.said h.made more.made;
       ways = more.ways;
-      breaks = append_lead last.fresh path flow.breaks last.breaks (all_lead_grow flow.fresh last.fresh path flow.breaks more.made.grows h.breaks) more.breaks;
-      returns = append_lead last.fresh path flow.returns last.returns (all_lead_grow flow.fresh last.fresh path flow.returns more.made.grows h.returns) more.returns;
+      breaks = all_joined _ flow.breaks last.breaks (all_lead_grow flow.fresh last.fresh path flow.breaks more.made.grows h.breaks) more.breaks;
+      returns = all_joined _ flow.returns last.returns (all_lead_grow flow.fresh last.fresh path flow.returns more.made.grows h.returns) more.returns;
     })
 
 -- ---- `if`
@@ -68,9 +67,9 @@ first_parts fresh path asked flow rest a h g =
     let more = rest flow.fresh in
     record {
       made = says_then fresh fresh more.fresh path asked _ (says fresh path asked a) (says_then fresh flow.fresh more.fresh path flow.said more.said h.made g.made);
-      ways = append_lead more.fresh path (ways_of flow.way) more.ways (all_lead_grow flow.fresh more.fresh path (ways_of flow.way) g.made.grows h.ways) g.ways;
-      breaks = append_lead more.fresh path flow.breaks more.breaks (all_lead_grow flow.fresh more.fresh path flow.breaks g.made.grows h.breaks) g.breaks;
-      returns = append_lead more.fresh path flow.returns more.returns (all_lead_grow flow.fresh more.fresh path flow.returns g.made.grows h.returns) g.returns;
+      ways = all_joined _ (ways_of flow.way) more.ways (all_lead_grow flow.fresh more.fresh path (ways_of flow.way) g.made.grows h.ways) g.ways;
+      breaks = all_joined _ flow.breaks more.breaks (all_lead_grow flow.fresh more.fresh path flow.breaks g.made.grows h.breaks) g.breaks;
+      returns = all_joined _ flow.returns more.returns (all_lead_grow flow.fresh more.fresh path flow.returns g.made.grows h.returns) g.returns;
     }
 
 -- ---- `while`
@@ -138,7 +137,7 @@ module _ (setting : Setting) where
         record { made = going.made; ways = tt; breaks = tt; returns = (going.way, tt) }
     stmt_flows way (Assert at condition) fresh env path entry =
         said_flows fresh way _ env path (append_proper fresh way.path (assert_expr way condition) _ (expr_proper fresh way path env condition) (owed_proper fresh way.path at kinds.Assert (term_of way.env condition) path (term_below fresh way.env env condition)))
-    stmt_flows way (Print at operands) fresh env path entry = said_flows fresh way _ env path (operands_proper fresh way path env operands)
+    stmt_flows way (Print at operands) fresh env path entry = said_flows fresh way _ env path (each_proper fresh way.path (assert_operand way) (operand_proper fresh way path env) operands)
 
     pub all_flows : (way : Way) (stmts : Stmts) (fresh : ℕ) → EnvBelow fresh way.env → PathBelow fresh way.path → MeasureBelow fresh setting.entry → Flows fresh way.path (pass_all setting way stmts fresh)
     all_flows way done fresh env path entry = said_flows fresh way [] env path (nothing_proper fresh way.path)

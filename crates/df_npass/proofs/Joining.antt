@@ -1,13 +1,11 @@
 -- Where ways come together, one of them is the one that runs come by.
-use Rattle.df_npass.proofs.Words.{◌≡◌, ◌⊎◌, inl, inr, ℕ, suc, ◌≤◌, ◌==◌, Bool, true, false, List, [], ◌∷◌, ◌++◌, slice_get, Option, None, Some, refl, sym, ap, ◌∙◌, subst, eqb-true, eq-eqb, cond-false, cond_both, or_right, option_map_or, Ty, same_type, Assigned, has_value, Value, same_truth, same_value, Handed, State, Outcome, Changed, is_changed, both, choice, are_there, Term, terms_of, same_term, Interpretation, truth, Environment, equal_in, IsSorted, SameBelow, value_same, term_is, same_int, equal_told, Said, Way, is_unset, assume, assume_there, with_term, free_of, Moved, assume_joined, are_same, join_locals, either_path, paths_of, any_path, over, changed_alone, join, join_branches, same_Some, true_is_not_false}
+use Rattle.df_npass.proofs.Words.{all_back, all_front, all_joined, meaning, ◌≡◌, ◌⊎◌, inl, inr, ℕ, suc, ◌≤◌, ◌==◌, Bool, true, false, List, [], ◌∷◌, ◌++◌, slice_get, Option, None, Some, refl, sym, ap, ◌∙◌, subst, eqb-true, eq-eqb, cond-false, cond_both, or_right, option_map_or, Ty, same_type, Assigned, has_value, Value, same_truth, same_value, Handed, State, Outcome, Changed, is_changed, both, choice, are_there, Term, terms_of, same_term, Interpretation, truth, Environment, equal_in, IsSorted, SameBelow, value_same, term_is, same_int, equal_told, Said, Way, is_unset, assume, assume_there, with_term, free_of, Moved, assume_joined, are_same, join_locals, either_path, paths_of, any_path, over, changed_alone, join, join_branches, same_Some, true_is_not_false}
 use Rattle.std.proofs.lemmas.Bool.Decides.{Decides-int_eq}
 use Rattle.df_lang.specs.declared.ty.Ty.TheVariants as types
 use Rattle.df_meaning.specs.Value as values
-use Rattle.df_nterm.specs.Meaning as meanings
-use Rattle.df_npass.proofs.Lemmas.{AllTrue, path_true, all_appended, all_front, all_rest, off_path, on_it, Mode, Following, Taking, Moves, moves_here, same_itself, same_then, all_same, Play, play_taking, play_behind, AreKnown, known_append, known_then_follow, by_bool, PathBelow, EnvBelow, AllBelow, AllLead, all_lead_grow, free_below, suc_more, any_true, disjunction_truth, JoinGoing, Leads, AllStay, join_locals_stay, alone_stays, by_locals, kept, renewed, SortedAll, Sits, AllOff, OneSits, off_moves, path_same, sorted_moves, sits_moves, free_set}
+use Rattle.df_npass.proofs.Lemmas.{AllTrue, path_true, off_path, on_it, Mode, Following, Taking, Moves, moves_here, moves_taking, same_itself, same_then, all_same, Play, play_taking, play_behind, AreKnown, known_append, known_then_follow, by_bool, PathBelow, EnvBelow, AllBelow, AllLead, all_lead_grow, free_below, suc_more, any_true, disjunction_truth, JoinGoing, Leads, AllStay, join_locals_stay, alone_stays, by_locals, kept, renewed, SortedAll, Sits, AllOff, OneSits, off_moves, path_same, sorted_moves, sits_moves, free_set}
 use Rattle.df_npass.proofs.Taking.{taking, free_takes, others_stay, on_any_path, free_sorted}
-use Rattle.df_npass.proofs.Handing.{at_itself, one_of}
-use Rattle.df_npass.proofs.Turns.{type_there}
+use Rattle.df_npass.proofs.Turns.{at_itself, one_of, type_there}
 
 -- ---- the one way
 
@@ -33,7 +31,7 @@ there_off i ty a b path e = choice (AllTrue i) (is_unset b) [] (assume path (equ
 pub joined_off : (i : Interpretation) (ty : Ty) (k : ℕ) (a : Term) (ways : List Way) → AllOff i ways → AllTrue i (assume_joined ty k a ways)
 joined_off i ty k a [] off = tt
 joined_off i ty k a (x ∷ xs) off =
-    all_appended i (assume_there ty a x.path (x.env k)) (assume_joined ty k a xs) (there_off i ty a (x.env k) x.path off.0) (joined_off i ty k a xs off.1)
+    all_joined _ (assume_there ty a x.path (x.env k)) (assume_joined ty k a xs) (there_off i ty a (x.env k) x.path off.0) (joined_off i ty k a xs off.1)
 
 module _ (i : Interpretation) where
   pub any_path_true : (paths : Option (List Term)) → path_true i (any_path paths) ≡ any_true i paths
@@ -65,8 +63,8 @@ module _ (i : Interpretation) (w : Way) where
   joined_said ty k a (x ∷ xs) h e =
       let here = assume_there ty a x.path (x.env k) in
       elim h [
-        | inl s ↦ all_appended i here (assume_joined ty k a xs) (choice (AllTrue i) (is_unset (x.env k)) [] (assume x.path (equal_in ty a (x.env k))) tt (on_any_path i x.path (equal_in ty a (x.env k)) (subst (λ (y : Way). truth i (equal_in ty a (y.env k)) ≡ true) (sym s.0) e), tt)) (joined_off i ty k a xs s.2)
-        | inr s ↦ all_appended i here (assume_joined ty k a xs) (there_off i ty a (x.env k) x.path s.0) (joined_said ty k a xs s.1 e)
+        | inl s ↦ all_joined _ here (assume_joined ty k a xs) (choice (AllTrue i) (is_unset (x.env k)) [] (assume x.path (equal_in ty a (x.env k))) tt (on_any_path i x.path (equal_in ty a (x.env k)) (subst (λ (y : Way). truth i (equal_in ty a (y.env k)) ≡ true) (sym s.0) e), tt)) (joined_off i ty k a xs s.2)
+        | inr s ↦ all_joined _ here (assume_joined ty k a xs) (there_off i ty a (x.env k) x.path s.0) (joined_said ty k a xs s.1 e)
       ]
 
   joined_told : (ty : Ty) (k : ℕ) (a : Term) (ways : List Way) → IsSole i w ways → is_unset (w.env k) ≡ false → AllTrue i (assume_joined ty k a ways) → truth i (equal_in ty a (w.env k)) ≡ true
@@ -74,8 +72,8 @@ module _ (i : Interpretation) (w : Way) where
   joined_told ty k a (x ∷ xs) h known all =
       let here = assume_there ty a x.path (x.env k) in
       elim h [
-        | inl s ↦ there_told ty a (w.env k) w.path known s.1 (subst (λ (y : Way). AllTrue i (assume_there ty a y.path (y.env k))) s.0 (all_front i here (assume_joined ty k a xs) all))
-        | inr s ↦ joined_told ty k a xs s.1 known (all_rest i here (assume_joined ty k a xs) all)
+        | inl s ↦ there_told ty a (w.env k) w.path known s.1 (subst (λ (y : Way). AllTrue i (assume_there ty a y.path (y.env k))) s.0 (all_front _ here (assume_joined ty k a xs) all))
+        | inr s ↦ joined_told ty k a xs s.1 known (all_back _ here (assume_joined ty k a xs) all)
       ]
 
   pub sole_stays : (k : ℕ) (env : Environment) (ways : List Way) → IsSole i w ways → AllStay k env ways → w.env k ≡ env k
@@ -154,18 +152,18 @@ module _ (ways : List Way) (path : Option Term) where
 
     -- the changed locals have the values that they have on the one way, where they have one there
     abbrev Agree : Interpretation → List Changed → Environment → Type 0
-    Agree i changed env = (k : ℕ) → is_changed changed k ≡ true → is_unset (w.env k) ≡ false → meanings.value i (env k) ≡ meanings.value i (w.env k)
+    Agree i changed env = (k : ℕ) → is_changed changed k ≡ true → is_unset (w.env k) ≡ false → meaning i (env k) ≡ meaning i (w.env k)
 
     agree_kept : (i : Interpretation) (c : Changed) (others : List Changed) (fresh : ℕ) (env : Environment) → IsSole i w ways → are_same (env c.local) ways c.local ≡ true
         → Agree i others (kept ways path others fresh env).way.env → Agree i (c ∷ others) (kept ways path others fresh env).way.env
-    agree_kept i c others fresh env sole same h k e known = by_bool (is_changed others k) (λ r. h k r known) (λ r. ap (meanings.value i) (kept_term i c others fresh env k sole same e r))
+    agree_kept i c others fresh env sole same h k e known = by_bool (is_changed others k) (λ r. h k r known) (λ r. ap (meaning i) (kept_term i c others fresh env k sole same e r))
 
-    agree_anew : (i : Interpretation) (c : Changed) (others : List Changed) (fresh : ℕ) (env : Environment) → (is_unset (w.env c.local) ≡ false → meanings.value i (free_of fresh c.ty) ≡ meanings.value i (w.env c.local))
+    agree_anew : (i : Interpretation) (c : Changed) (others : List Changed) (fresh : ℕ) (env : Environment) → (is_unset (w.env c.local) ≡ false → meaning i (free_of fresh c.ty) ≡ meaning i (w.env c.local))
         → Agree i others (renewed ways path c others fresh env).way.env → Agree i (c ∷ others) (renewed ways path c others fresh env).way.env
     agree_anew i c others fresh env same h k e known = by_bool (is_changed others k) (λ r. h k r known) (λ r.
         let is = one_of c others k e r in
-        ap (meanings.value i) (free_term c others fresh env k e r)
-        ∙ subst (λ (n : ℕ). meanings.value i (free_of fresh c.ty) ≡ meanings.value i (w.env n)) is (same (subst (λ (n : ℕ). is_unset (w.env n) ≡ false) (sym is) known)))
+        ap (meaning i) (free_term c others fresh env k e r)
+        ∙ subst (λ (n : ℕ). meaning i (free_of fresh c.ty) ≡ meaning i (w.env n)) is (same (subst (λ (n : ℕ). is_unset (w.env n) ≡ false) (sym is) known)))
 
     join_set : (i : Interpretation) → IsSole i w ways → (k : ℕ) → is_unset (w.env k) ≡ false → (changed : List Changed) (fresh : ℕ) (env : Environment) → is_changed changed k ≡ true → is_unset ((join_locals changed ways fresh env path).way.env k) ≡ false
     join_set i sole k known = by_locals ways path (λ changed fresh env moved. is_changed changed k ≡ true → is_unset (moved.way.env k) ≡ false) (λ fresh env e. cc)
@@ -177,8 +175,8 @@ module _ (ways : List Way) (path : Option Term) where
         (λ c others fresh env same h sorted there. h sorted (both (option_map_or (same_type c.ty) (slice_get all c.local) false) (are_there all others) there).1)
         (λ c others fresh env h sorted there.
         let there = both (option_map_or (same_type c.ty) (slice_get all c.local) false) (are_there all others) there in
-        h (λ k ty e. cond_both (k == c.local) (free_of fresh c.ty) (env k) (λ (x : Term). IsSorted ty (meanings.value i x))
-        (λ here. subst (λ (u : Ty). IsSorted u (meanings.value i (free_of fresh c.ty))) (same_Some c.ty ty (sym (type_there all c there.0) ∙ subst (λ (x : ℕ). slice_get all x ≡ Some ty) (eqb-true k c.local here) e)) (free_sorted i fresh c.ty))
+        h (λ k ty e. cond_both (k == c.local) (free_of fresh c.ty) (env k) (λ (x : Term). IsSorted ty (meaning i x))
+        (λ here. subst (λ (u : Ty). IsSorted u (meaning i (free_of fresh c.ty))) (same_Some c.ty ty (sym (type_there all c there.0) ∙ subst (λ (x : ℕ). slice_get all x ≡ Some ty) (eqb-true k c.local here) e)) (free_sorted i fresh c.ty))
         (λ other. sorted k ty e)) there.1)
 
     -- what is said makes it so
@@ -191,9 +189,9 @@ module _ (ways : List Way) (path : Option Term) where
         let free = free_of fresh c.ty in
         let joined = assume_joined c.ty c.local free ways in
         let next = (renewed ways path c others fresh env).said in
-        let same = (λ (known : is_unset (w.env c.local) ≡ false). values_equal (meanings.value i free) (meanings.value i (w.env c.local))
-        (equal_told i c.ty free (w.env c.local) (free_sorted i fresh c.ty) (sorted c.local c.ty (type_there all c there.0)) ∙ joined_told i w c.ty c.local free ways sole known (all_front i joined next said))) in
-        agree_anew i c others fresh env same (h there.1 (all_rest i joined next said)))
+        let same = (λ (known : is_unset (w.env c.local) ≡ false). values_equal (meaning i free) (meaning i (w.env c.local))
+        (equal_told i c.ty free (w.env c.local) (free_sorted i fresh c.ty) (sorted c.local c.ty (type_there all c there.0)) ∙ joined_told i w c.ty c.local free ways sole known (all_front _ joined next said))) in
+        agree_anew i c others fresh env same (h there.1 (all_back _ joined next said)))
 
     -- the interpretation takes the values of the one way
     record TookJoin (i : Interpretation) (fresh : ℕ) (changed : List Changed) (moved : Moved) : Type 0 where
@@ -211,7 +209,7 @@ module _ (ways : List Way) (path : Option Term) where
         record { to = took.to; same = took.same; said = took.said; agree = agree_kept took.to c others fresh env (sole_moves i w took.to fresh before ways lead took.same sole) same took.agree })
         (λ c others fresh env h i sole lead sorted there.
         let there = both (option_map_or (same_type c.ty) (slice_get all c.local) false) (are_there all others) there in
-        let v = meanings.value i (w.env c.local) in
+        let v = meaning i (w.env c.local) in
         let is = sorted c.local c.ty (type_there all c there.0) in
         let j = taking i fresh c.ty v is in
         let free = free_of fresh c.ty in
@@ -219,14 +217,14 @@ module _ (ways : List Way) (path : Option Term) where
         let env_is = (sole_leads i w fresh before ways lead sole).env in
         let took = h j (sole_moves i w j fresh before ways lead others_same sole) (all_lead_grow fresh (suc fresh) before ways (suc_more fresh) lead) (sorted_moves fresh i j others_same all w.env env_is sorted) there.1 in
         let same = same_then fresh (suc fresh) i j took.to (suc_more fresh) others_same took.same in
-        let here : meanings.value took.to free ≡ v = sym (value_same (suc fresh) j took.to took.same free (free_below fresh c.ty)) ∙ free_takes i fresh c.ty v is in
-        let there : meanings.value took.to (w.env c.local) ≡ v = sym (value_same fresh i took.to same (w.env c.local) (env_is c.local)) in
-        let equal : same_value (meanings.value took.to free) (meanings.value took.to (w.env c.local)) ≡ true = subst (λ x. same_value x (meanings.value took.to (w.env c.local)) ≡ true) (sym here) (subst (λ x. same_value v x ≡ true) (sym there) (value_itself c.ty v is)) in
-        let sorted_there : IsSorted c.ty (meanings.value took.to (w.env c.local)) = subst (λ x. IsSorted c.ty x) (sym there) is in
+        let here : meaning took.to free ≡ v = sym (value_same (suc fresh) j took.to took.same free (free_below fresh c.ty)) ∙ free_takes i fresh c.ty v is in
+        let there : meaning took.to (w.env c.local) ≡ v = sym (value_same fresh i took.to same (w.env c.local) (env_is c.local)) in
+        let equal : same_value (meaning took.to free) (meaning took.to (w.env c.local)) ≡ true = subst (λ x. same_value x (meaning took.to (w.env c.local)) ≡ true) (sym here) (subst (λ x. same_value v x ≡ true) (sym there) (value_itself c.ty v is)) in
+        let sorted_there : IsSorted c.ty (meaning took.to (w.env c.local)) = subst (λ x. IsSorted c.ty x) (sym there) is in
         record {
           to = took.to;
           same = same;
-          said = all_appended took.to (assume_joined c.ty c.local free ways) (renewed ways path c others fresh env).said
+          said = all_joined _ (assume_joined c.ty c.local free ways) (renewed ways path c others fresh env).said
               (joined_said took.to w c.ty c.local free ways (sole_moves i w took.to fresh before ways lead same sole) (sym (equal_told took.to c.ty free (w.env c.local) (free_sorted took.to fresh c.ty) sorted_there) ∙ equal)) took.said;
           agree = agree_anew took.to c others fresh env (λ known. here ∙ sym there) took.agree;
         })
@@ -261,7 +259,7 @@ module _ (B : Type 0) (n : ℕ) (all : List Ty) (path before_path : Option Term)
         holds = (
           sits.holds.0,
           λ k v has e. by_bool (is_changed changed k) (λ c. agree k c (sits.set k has) ∙ sits.holds.1 k v has e) (λ c.
-              ap (meanings.value j) (join_locals_stay changed ways n env path k c ∙ sym (sole_stays i w k env ways sole.is (cover k has c))) ∙ sits.holds.1 k v has e),
+              ap (meaning j) (join_locals_stay changed ways n env path k c ∙ sym (sole_stays i w k env ways sole.is (cover k has c))) ∙ sits.holds.1 k v has e),
         );
         set = λ k has. by_bool (is_changed changed k) (λ c. join_set ways path all w i sole.is k (sits.set k has) changed n env c) (λ c.
             subst (λ x. is_unset x ≡ false) (sym (join_locals_stay changed ways n env path k c ∙ sym (sole_stays i w k env ways sole.is (cover k has c)))) (sits.set k has));
@@ -274,17 +272,17 @@ module _ (B : Type 0) (n : ℕ) (all : List Ty) (path before_path : Option Term)
         → n ≤ (join_locals changed ways n env path).fresh → AllBelow (join_locals changed ways n env path).fresh (join_locals changed ways n env path).said
         → ((j : Interpretation) → Moves mode i n mode j → Sits mode j all (join_locals changed ways n env path).way before s → Play B mode j (join_locals changed ways n env path).fresh more run)
         → Play B mode i n ((join_locals changed ways n env path).said ++ more) run
-    many_then Following is ways one lead here path_is cover grows below h =
+    many_then (Following handed) is ways one lead here path_is cover grows below h =
         let sole = sole_of mode i all ways before s one in
         let go = (λ (said : AllTrue i (join_locals changed ways n env path).said). h i (moves_here mode i n) (joined_sits mode mode i i ways sole lead (moves_here mode i n) sorted env_is here path_is there cover
         (join_told ways path all sole.way i sole.is sole.sits.sorted changed n env there said))) in
         subst (λ k. Play B k i n ((join_locals changed ways n env path).said ++ more) run) (sym is)
-        (known_then_follow B i n (join_locals changed ways n env path).said more run (join_known ways path changed n env) (λ said. subst (λ k. Play B k i (join_locals changed ways n env path).fresh more run) is (go said)))
+        (known_then_follow B handed i n (join_locals changed ways n env path).said more run (join_known ways path changed n env) (λ said. subst (λ k. Play B k i (join_locals changed ways n env path).fresh more run) is (go said)))
     many_then (Taking handed) is ways one lead here path_is cover grows below h =
         let sole = sole_of mode i all ways before s one in
         let took = take_join ways path all sole.way before_path changed n env i sole.is lead sole.sits.sorted there in
         let moved = join_locals changed ways n env path in
-        let moves : Moves mode i n mode took.to = record { same = took.same; mode = refl } in
+        let moves = subst (λ k. Moves k i n k took.to) (sym is) (moves_taking handed handed i took.to n took.same) in
         let rest = h took.to moves (joined_sits mode mode i took.to ways sole lead moves sorted env_is here path_is there cover took.agree) in
         subst (λ k. Play B k i n (moved.said ++ more) run) (sym is)
         (play_taking B handed i took.to n moved.fresh (moved.said ++ more) run grows took.same
@@ -295,13 +293,13 @@ module _ (B : Type 0) (n : ℕ) (all : List Ty) (path before_path : Option Term)
     alone_sits : (way : Way) → Sits mode i all way before s → ((k : ℕ) → has_value before k ≡ true → is_changed changed k ≡ false → way.env k ≡ env k) → Sits mode i all (over (changed_alone changed env way.env) way) before s
     alone_sits way sits cover = record {
       there = sits.there;
-      sorted = λ k ty e. by_bool (is_changed changed k) (λ c. subst (λ x. IsSorted ty (meanings.value i x)) (sym (alone_changes changed env way.env k c)) (sits.sorted k ty e))
-          (λ c. subst (λ x. IsSorted ty (meanings.value i x)) (sym (alone_stays changed env way.env k c)) (sorted k ty e));
+      sorted = λ k ty e. by_bool (is_changed changed k) (λ c. subst (λ x. IsSorted ty (meaning i x)) (sym (alone_changes changed env way.env k c)) (sits.sorted k ty e))
+          (λ c. subst (λ x. IsSorted ty (meaning i x)) (sym (alone_stays changed env way.env k c)) (sorted k ty e));
       holds = (
         sits.holds.0,
         λ k v has e.
-            by_bool (is_changed changed k) (λ c. ap (meanings.value i) (alone_changes changed env way.env k c) ∙ sits.holds.1 k v has e)
-            (λ c. ap (meanings.value i) (alone_stays changed env way.env k c ∙ sym (cover k has c)) ∙ sits.holds.1 k v has e),
+            by_bool (is_changed changed k) (λ c. ap (meaning i) (alone_changes changed env way.env k c) ∙ sits.holds.1 k v has e)
+            (λ c. ap (meaning i) (alone_stays changed env way.env k c ∙ sym (cover k has c)) ∙ sits.holds.1 k v has e),
       );
       set = λ k has. by_bool (is_changed changed k) (λ c. subst (λ x. is_unset x ≡ false) (sym (alone_changes changed env way.env k c)) (sits.set k has))
           (λ c. subst (λ x. is_unset x ≡ false) (sym (alone_stays changed env way.env k c ∙ sym (cover k has c))) (sits.set k has));

@@ -1,10 +1,8 @@
 -- Passing over statements leads on: numbers of free terms grow, and what is said and where it leads is proper.
-use Rattle.df_npass.proofs.Words.{◌≡◌, ℕ, zero, suc, ◌≤◌, nat_lt, ◌==◌, Bool, true, false, List, [], ◌∷◌, ◌++◌, map, filter, Option, None, Some, refl, sym, ◌∙◌, arith, le_trans, le_refl, AllByRecursion, list_any, Pos, Ty, Expr, Target, Call, Conversion, Source, Single, Results, Update, Param, Method, method_at, method_measure, truth_of, Changed, and_joined, choice, Term, Terms, no_term, term, terms_of, disjunction, Interpretation, truth, Environment, term_of, equal_in, narrowing, measured, IsBelow, below, all_below, below_grows, equal_below, disjunction_below, narrowing_below, term_below, Said, Way, narrowed, over, with_term, assume, assert_all, assume_type, free_of, Moved, havoc, is_unset, assume_there, assume_joined, join_locals, either_path, paths_of, any_path, Joined, changed_alone, join, join_branches, Setting, assert_measure, env_of, Given, any_values, assert_decrease, pass_method_call, pass_call, assert_conversions, pass_source, pass_sources, Taken, taken_by, assert_equal, give_all, pass_update, pass_optional, ways_of, all_joined, literal, pos, slice_index_or}
+use Rattle.df_npass.proofs.Words.{Decreases, Distinct, Requires, ◌≡◌, ℕ, zero, suc, ◌≤◌, nat_lt, ◌==◌, Bool, true, false, List, [], ◌∷◌, ◌++◌, map, filter, Option, None, Some, refl, sym, ◌∙◌, arith, le_trans, le_refl, AllByRecursion, list_any, Pos, Ty, Expr, Target, Call, Conversion, Source, Single, Results, Update, Param, Method, method_at, method_measure, truth_of, Changed, and_joined, choice, Term, Terms, no_term, term, terms_of, disjunction, Interpretation, truth, Environment, term_of, equal_in, narrowing, measured, IsBelow, below, all_below, below_grows, equal_below, disjunction_below, narrowing_below, term_below, Said, Way, narrowed, over, with_term, assume, assert_all, assume_type, free_of, Moved, havoc, is_unset, assume_there, assume_joined, join_locals, either_path, paths_of, any_path, Joined, changed_alone, join, join_branches, Setting, assert_measure, env_of, Given, any_values, assert_decrease, pass_method_call, pass_call, assert_conversions, pass_source, pass_sources, Taken, taken_by, assert_equal, give_all, pass_update, pass_optional, ways_of, all_joined, literal, pos, slice_index_or, assert_expr}
 use Rattle.df_lang.specs.declared.ty.Ty.TheVariants as types
-use Rattle.df_meaning.specs.declared.kind.Kind.TheVariants as kinds
 use Rattle.df_nterm.specs.Meaning as meanings
-use Rattle.df_npass.proofs.Saying.{path_true, narrowed_false, all_weaken, by_option}
-use Rattle.df_npass.proofs.Proper.{PathBelow, EnvBelow, Proper, path_grows, env_grows, proper_grows, nothing_proper, append_proper, narrowed_below, known_proper, owed_proper, asserted_proper, expr_proper, exprs_proper, clauses_proper, handed_proper, measure_proper, MeasureBelow, measured_below, measure_grows, order_below}
+use Rattle.df_npass.proofs.Saying.{path_true, narrowed_false, all_weaken, by_option, PathBelow, EnvBelow, Proper, path_grows, env_grows, proper_grows, nothing_proper, append_proper, narrowed_below, known_proper, owed_proper, asserted_proper, expr_proper, each_proper, clauses_proper, handed_proper, measure_proper, MeasureBelow, measured_below, measure_grows, order_below}
 use Rattle.df_npass.proofs.Staying.{by_locals, renewed}
 use Rattle.std.proofs.Math.Bool.{or-false}
 
@@ -22,9 +20,6 @@ lead_grows n m path way more h = record { env = env_grows n m way.env more h.env
 
 pub all_lead_grow : (n m : ℕ) (path : Option Term) (ways : List Way) → n ≤ m → AllLead n path ways → AllLead m path ways
 all_lead_grow n m path ways more = all_weaken (Leads n path) (Leads m path) (λ way. lead_grows n m path way more) ways
-
-pub append_lead : (n : ℕ) (path : Option Term) (ways others : List Way) → AllLead n path ways → AllLead n path others → AllLead n path (ways ++ others)
-append_lead n path = all_joined (Leads n path)
 
 -- a way leads to itself, and on to others
 pub itself : (n : ℕ) (way : Way) → EnvBelow n way.env → PathBelow n way.path → Leads n way.path way
@@ -191,9 +186,6 @@ TermsBelow n terms = AllByRecursion (IsBelow n) terms
 pub terms_grow : (n m : ℕ) (terms : List Term) → n ≤ m → TermsBelow n terms → TermsBelow m terms
 terms_grow n m terms more = all_weaken (IsBelow n) (IsBelow m) (below_grows n m more) terms
 
-pub terms_append : (n : ℕ) (terms others : List Term) → TermsBelow n terms → TermsBelow n others → TermsBelow n (terms ++ others)
-terms_append n = all_joined (IsBelow n)
-
 pub over_below : (n : ℕ) (terms : List Term) (env : Environment) → TermsBelow n terms → EnvBelow n env → (k : ℕ) → IsBelow n (slice_index_or terms k (env k))
 over_below n [] env below h k = h k
 over_below n (a ∷ terms) env below h zero = below.0
@@ -221,7 +213,7 @@ module _ (setting : Setting) where
   decrease_proper n call method way path env entry =
       choice (Proper n way.path) (setting.in_group call.callee) _ []
       (append_proper n way.path (assert_measure way (method_measure method)) _ (measure_proper n way path env (method_measure method))
-      (owed_proper n way.path call.pos kinds.Decreases _ path (order_below n (measured way.env (method_measure method)) setting.entry (measured_below n way.env env (method_measure method)) entry)))
+      (owed_proper n way.path call.pos Decreases _ path (order_below n (measured way.env (method_measure method)) setting.entry (measured_below n way.env env (method_measure method)) entry)))
       (nothing_proper n way.path)
 
   method_call_giving : (call : Call) (method : Method) (arguments : List Term) (way : Way) (fresh : ℕ) → PathBelow fresh way.path → TermsBelow fresh arguments → MeasureBelow fresh setting.entry → Giving fresh way.path (pass_method_call setting call method arguments way fresh)
@@ -231,9 +223,9 @@ module _ (setting : Setting) where
       let results = any_values way.path method.results fresh in
       let any = any_giving way.path method.results fresh path in
       let ensured = over (env_of (arguments ++ results.terms)) way in
-      let ensured_env = env_of_below results.fresh (arguments ++ results.terms) (terms_append results.fresh arguments results.terms (terms_grow fresh results.fresh arguments any.made.grows terms) any.terms) in
+      let ensured_env = env_of_below results.fresh (arguments ++ results.terms) (all_joined _ arguments results.terms (terms_grow fresh results.fresh arguments any.made.grows terms) any.terms) in
       record {
-        made = says_then fresh fresh results.fresh way.path _ _ (says fresh way.path _ (clauses_proper fresh inside path env (λ clause. call.pos) kinds.Requires method.preconditions))
+        made = says_then fresh fresh results.fresh way.path _ _ (says fresh way.path _ (clauses_proper fresh inside path env (λ clause. call.pos) Requires method.preconditions))
             (says_then fresh fresh results.fresh way.path _ _ (says fresh way.path _ (decrease_proper fresh call method inside path env entry))
             (says_then fresh results.fresh results.fresh way.path results.said _ any.made (says results.fresh way.path _ (handed_proper results.fresh ensured (path_grows fresh results.fresh way.path any.made.grows path) ensured_env method.postconditions))));
         terms = any.terms;
@@ -244,7 +236,7 @@ module _ (setting : Setting) where
       let terms = map (term_of way.env) call.arguments in
       let given = by_option (Giving fresh way.path) (λ (method : Method). pass_method_call setting call method terms way fresh) (method_at setting.program call.callee) (record { said = []; fresh = fresh; terms = [] })
       (λ e. record { made = says_nothing fresh way.path; terms = tt }) (λ method e. method_call_giving call method terms way fresh path (exprs_below fresh way.env env call.arguments) entry) in
-      record { made = says_then fresh fresh _ way.path _ _ (says fresh way.path _ (exprs_proper fresh way path env call.arguments)) given.made; terms = given.terms }
+      record { made = says_then fresh fresh _ way.path _ _ (says fresh way.path _ (each_proper fresh way.path (assert_expr way) (expr_proper fresh way path env) call.arguments)) given.made; terms = given.terms }
 
   conversions_proper : (n : ℕ) (at : Pos) (way : Way) (cs : List Conversion) (terms : List Term) → PathBelow n way.path → TermsBelow n terms → Proper n way.path (assert_conversions at way cs terms)
   conversions_proper n at way [] terms path h = nothing_proper n way.path
@@ -268,7 +260,7 @@ module _ (setting : Setting) where
       let grows = one.made.grows in
       let more = sources_giving others way given.fresh (path_grows fresh given.fresh way.path grows path) (env_grows fresh given.fresh way.env grows env) (measure_grows fresh given.fresh setting.entry grows entry) in
       let rest = pass_sources setting others way given.fresh in
-      record { made = says_then fresh given.fresh rest.fresh way.path given.said rest.said one.made more.made; terms = terms_append rest.fresh given.terms rest.terms (terms_grow given.fresh rest.fresh given.terms more.made.grows one.terms) more.terms }
+      record { made = says_then fresh given.fresh rest.fresh way.path given.said rest.said one.made more.made; terms = all_joined _ given.terms rest.terms (terms_grow given.fresh rest.fresh given.terms more.made.grows one.terms) more.terms }
 
   -- ---- assignment
 
@@ -283,7 +275,7 @@ module _ (setting : Setting) where
 
   equal_proper : (n : ℕ) (path : Option Term) (target : Target) (a : Term) (others : List Term) → PathBelow n path → IsBelow n a → TermsBelow n others → Proper n path (assert_equal path target a others)
   equal_proper n path target a [] p h g = nothing_proper n path
-  equal_proper n path target a (b ∷ others) p h g = owed_proper n path target.pos kinds.Distinct _ p (equal_below n target.ty a b h g.0)
+  equal_proper n path target a (b ∷ others) p h g = owed_proper n path target.pos Distinct _ p (equal_below n target.ty a b h g.0)
 
   give_going : (earlier : List Taken) (targets : List Target) (terms : List Term) (fresh : ℕ) (way : Way) → PathBelow fresh way.path → EnvBelow fresh way.env → TakenBelow fresh earlier → TermsBelow fresh terms → Going fresh way.path (give_all earlier targets terms fresh way)
   give_going earlier [] terms fresh way path env taken h = record { made = says_nothing fresh way.path; way = itself fresh way env path }

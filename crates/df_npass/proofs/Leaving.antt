@@ -1,6 +1,6 @@
 -- Where no run comes by any of some ways, none comes behind their join.
-use Rattle.df_npass.proofs.Words.{◌≡◌, ℕ, true, false, List, [], ◌∷◌, Option, ap, ◌∙◌, Ty, Assigned, State, Changed, Term, Interpretation, Environment, Way, free_of, assume_joined, join_locals, paths_of, any_path, join, join_branches, ways_of}
-use Rattle.df_npass.proofs.Lemmas.{AllTrue, path_true, all_appended, Mode, off_any, AllOff, OneSits, by_locals, renewed}
+use Rattle.df_npass.proofs.Words.{all_joined, ◌≡◌, ℕ, true, false, List, [], ◌∷◌, Option, ap, ◌∙◌, Ty, Assigned, State, Changed, Term, Interpretation, Environment, Way, free_of, assume_joined, join_locals, paths_of, any_path, join, join_branches, ways_of}
+use Rattle.df_npass.proofs.Lemmas.{AllTrue, path_true, Mode, off_any, AllOff, OneSits, by_locals, renewed}
 use Rattle.df_npass.proofs.Joining.{joined_off, any_path_true, sole_of, sole_any, join_path, Many}
 
 -- one of the paths
@@ -12,7 +12,7 @@ one_path mode i all ways before s one = let sole = sole_of mode i all ways befor
 
 locals_off : (i : Interpretation) (ways : List Way) → AllOff i ways → (path : Option Term) (changed : List Changed) (fresh : ℕ) (env : Environment) → AllTrue i (join_locals changed ways fresh env path).said
 locals_off i ways off path = by_locals ways path (λ changed fresh env moved. AllTrue i moved.said) (λ fresh env. tt) (λ c others fresh env same h. h)
-    (λ c others fresh env h. all_appended i (assume_joined c.ty c.local (free_of fresh c.ty) ways) (renewed ways path c others fresh env).said (joined_off i c.ty c.local (free_of fresh c.ty) ways off) h)
+    (λ c others fresh env h. all_joined _ (assume_joined c.ty c.local (free_of fresh c.ty) ways) (renewed ways path c others fresh env).said (joined_off i c.ty c.local (free_of fresh c.ty) ways off) h)
 
 pub join_off_said : (i : Interpretation) (path : Option Term) (env : Environment) (changed : List Changed) (ways : List Way) (fresh : ℕ) → AllOff i ways → AllTrue i (join path env changed ways fresh).said
 join_off_said i path env changed [] fresh off = tt

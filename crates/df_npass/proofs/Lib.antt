@@ -2,7 +2,6 @@ pub mod Words
 pub mod Runs
 pub mod Lemmas
 pub mod Saying
-pub mod Proper
 pub mod Playing
 pub mod Unset
 pub mod Reading
@@ -12,7 +11,6 @@ pub mod Staying
 pub mod Coming
 pub mod Taking
 pub mod Turning
-pub mod Handing
 pub mod Turns
 pub mod Joining
 pub mod Measures
@@ -26,8 +24,6 @@ pub mod Covering
 pub mod Sequencing
 pub mod Branching
 pub mod Looping
-pub mod Nesting
-pub mod Returning
 pub mod Altering
 pub mod Loops
 pub mod Passing
@@ -35,5 +31,4 @@ pub mod Obligations
 pub mod Ending
 pub mod Beginning
 pub mod Laws
-pub mod Grouping
 mod Rows

@@ -1,10 +1,8 @@
 -- The one turn of a loop, and what goes on behind the loop.
-use Rattle.df_npass.proofs.Words.{◌≡◌, inl, inr, ℕ, Bool, true, false, not, if◌then◌else◌, List, [], ◌∷◌, ◌++◌, map, Option, None, Some, refl, sym, ap, ◌∙◌, subst, append_assoc, option_map_or, Ty, Measure, Program, loop_measure, are_clauses, Assigned, Unreached, has_value, meet, reads_of_clauses, reads_of_measures, unassigned, Value, truth_of, Outcome, Wrong, Dismissed, after, Handed, State, Meaning, Loop, check_all, Changed, measure_values, check_below, behind_once, is_changed, are_there, Within, Term, negation, Interpretation, truth, term_of, Measured, measured, are_below, AreMeasured, IsBelow, SameBelow, below_orders, Said, Way, narrowed, assert, paths_of, any_path, Joined, join, Flow, ways_of, last_of, at_clause, assert_clauses, assert_measure, assert_turn, behind_loop, Gives}
-use Rattle.df_meaning.specs.declared.kind.Kind.TheVariants as kinds
+use Rattle.df_npass.proofs.Words.{Decreases, Turn, all_joined, meaning, ◌≡◌, inl, inr, ℕ, Bool, true, false, not, if◌then◌else◌, List, [], ◌∷◌, ◌++◌, map, Option, None, Some, refl, sym, ap, ◌∙◌, subst, append_assoc, option_map_or, Ty, Measure, Program, loop_measure, are_clauses, Assigned, Unreached, has_value, meet, reads_of_clauses, reads_of_measures, unassigned, Value, truth_of, Outcome, Wrong, Dismissed, after, Handed, State, Meaning, Loop, check_all, Changed, measure_values, check_below, behind_once, is_changed, are_there, Within, Term, negation, Interpretation, truth, term_of, Measured, measured, are_below, AreMeasured, IsBelow, SameBelow, below_orders, Said, Way, narrowed, assert, paths_of, any_path, Joined, join, Flow, ways_of, last_of, at_clause, assert_clauses, assert_measure, assert_turn, behind_loop, Gives}
 use Rattle.df_meaning.specs.Meaning as flows
 use Rattle.df_meaning.specs.Order as order
-use Rattle.df_nterm.specs.Meaning as meanings
-use Rattle.df_npass.proofs.Runs.{AllTrue, path_true, all_appended, narrowed_true, Mode, Moves, moves_here, moves_then, Play, play_as, play_behind, play_later, PathBelow, EnvBelow, MeasureBelow, env_grows, measured_below, measure_grows, narrowed_below, order_below, AllLead, lead_grows, farther, narrowed_leads, JoinGoing, join_going, any_path_reaches, AllStay, Flows, turn_proper, with_handed, SortedAll, Sits, check_then, measures_then, checked_then, after_after, after_either, then_same, IsReached, AllOff, OneSits, off_lead, off_moves, path_same, sorted_moves, sits_less, one_less, one_reached, reached_left, reached_right, join_left, join_right, AreTyped, measure_moves, measured_moves, join_then, no_path, one_path, join_off_said, join_off_way, hand, Comes, Onward, only, ended_then}
+use Rattle.df_npass.proofs.Runs.{AllTrue, path_true, narrowed_true, Mode, Moves, moves_here, moves_then, Play, play_as, play_behind, play_later, PathBelow, EnvBelow, MeasureBelow, env_grows, measured_below, measure_grows, narrowed_below, order_below, AllLead, lead_grows, farther, narrowed_leads, JoinGoing, join_going, any_path_reaches, AllStay, Flows, turn_proper, with_handed, SortedAll, Sits, check_then, measures_then, checked_then, after_after, after_either, then_same, IsReached, AllOff, OneSits, off_lead, off_moves, path_same, sorted_moves, sits_less, one_less, one_reached, reached_left, reached_right, join_left, join_right, AreTyped, measure_moves, measured_moves, join_then, no_path, one_path, join_off_said, join_off_way, hand, Comes, Onward, only, ended_then}
 
 pub three_parts : {A : Type 0} (xs ys zs more : List A) → (xs ++ (ys ++ zs)) ++ more ≡ xs ++ (ys ++ (zs ++ more))
 three_parts xs ys zs more = append_assoc xs (ys ++ zs) more ∙ ap (λ r. xs ++ r) (append_assoc ys zs more)
@@ -16,21 +14,21 @@ negated i a b e = ap not e
 turn_ends : (B : Type 0) (all : List Ty) (program : Program) (m : Meaning) (m_is : m.program ≡ program) (locals : List Ty) (within : Within locals all) (loop : Loop) (mode : Mode) (i : Interpretation) (n : ℕ) (way : Way) (before : Assigned) (s : State) (earlier : List Measured) (rest : List Said) (go : flows.Flow → Outcome B)
     → i.program ≡ program → EnvBelow n way.env → PathBelow n way.path → Sits mode i all way before s → are_clauses program locals loop.invariants ≡ true → unassigned before (reads_of_clauses loop.invariants) ≡ []
     → AreTyped program locals (loop_measure loop.guard loop.decreases) → unassigned before (reads_of_measures (Some (loop_measure loop.guard loop.decreases))) ≡ [] → MeasureBelow n earlier → AreMeasured i earlier → AllTrue i rest
-    → Play B mode i n (assert_turn loop.pos loop.invariants (loop_measure loop.guard loop.decreases) earlier way ++ rest) (λ handed. after (behind_once m loop (map (λ (one : Measured). meanings.value i one.value) earlier) (flows.Next (with_handed s handed))) go)
+    → Play B mode i n (assert_turn loop.pos loop.invariants (loop_measure loop.guard loop.decreases) earlier way ++ rest) (λ handed. after (behind_once m loop (map (λ (one : Measured). meaning i one.value) earlier) (flows.Next (with_handed s handed))) go)
 turn_ends B all program m m_is locals within loop mode i n way before s earlier rest go program_is env path sits typed read measures_typed measures_read earlier_below earlier_measured true_behind =
     let measures = loop_measure loop.guard loop.decreases in
-    let values = map (λ (one : Measured). meanings.value i one.value) earlier in
-    let now = map (λ (one : Measured). meanings.value i one.value) (measured way.env measures) in
-    let owed = assert way.path loop.pos kinds.Decreases (are_below (measured way.env measures) earlier) in
+    let values = map (λ (one : Measured). meaning i one.value) earlier in
+    let now = map (λ (one : Measured). meaning i one.value) (measured way.env measures) in
+    let owed = assert way.path loop.pos Decreases (are_below (measured way.env measures) earlier) in
     let falls : List Value → Outcome B = (λ now. after (check_below loop.pos now values) (λ checked. Dismissed)) in
-    subst (λ said. Play B mode i n said (λ handed. after (behind_once m loop values (flows.Next (with_handed s handed))) go)) (sym (three_parts (assert_clauses at_clause kinds.Turn way loop.invariants) (assert_measure way measures) owed rest))
-    (play_as B mode i n _ _ (λ handed. after (check_all m (with_handed s handed) kinds.Turn loop.invariants) (λ u. after (measure_values m u measures) falls))
-    (λ handed. after_after (check_all m (with_handed s handed) kinds.Turn loop.invariants) _ go ∙ then_same (check_all m (with_handed s handed) kinds.Turn loop.invariants) _ _ (λ u. after_after (measure_values m u measures) _ go
+    subst (λ said. Play B mode i n said (λ handed. after (behind_once m loop values (flows.Next (with_handed s handed))) go)) (sym (three_parts (assert_clauses at_clause Turn way loop.invariants) (assert_measure way measures) owed rest))
+    (play_as B mode i n _ _ (λ handed. after (check_all m (with_handed s handed) Turn loop.invariants) (λ u. after (measure_values m u measures) falls))
+    (λ handed. after_after (check_all m (with_handed s handed) Turn loop.invariants) _ go ∙ then_same (check_all m (with_handed s handed) Turn loop.invariants) _ _ (λ u. after_after (measure_values m u measures) _ go
     ∙ then_same (measure_values m u measures) _ _ (λ now. after_after (check_below loop.pos now values) _ go)))
-    (check_then B mode i n program m m_is program_is locals all within before way s sits env path kinds.Turn loop.invariants (assert_measure way measures ++ (owed ++ rest)) (λ handed u. after (measure_values m u measures) falls) typed read
+    (check_then B mode i n program m m_is program_is locals all within before way s sits env path Turn loop.invariants (assert_measure way measures ++ (owed ++ rest)) (λ handed u. after (measure_values m u measures) falls) typed read
     (measures_then B mode i n program m m_is program_is locals all within before way s sits env path measures (owed ++ rest) (λ handed now. falls now) measures_typed measures_read (λ are.
-    play_as B mode i n (owed ++ rest) _ (λ handed. if order.are_below now values then Dismissed else Wrong loop.pos kinds.Decreases) (λ handed. after_either (order.are_below now values) (Gives now) (Wrong loop.pos kinds.Decreases) (λ checked. Dismissed) (Wrong loop.pos kinds.Decreases) refl)
-    (checked_then B mode i n way.path sits.there path loop.pos kinds.Decreases (are_below (measured way.env measures) earlier) (order.are_below now values) rest (λ handed. Dismissed) (order_below n (measured way.env measures) earlier (measured_below n way.env env measures) earlier_below)
+    play_as B mode i n (owed ++ rest) _ (λ handed. if order.are_below now values then Dismissed else Wrong loop.pos Decreases) (λ handed. after_either (order.are_below now values) (Gives now) (Wrong loop.pos Decreases) (λ checked. Dismissed) (Wrong loop.pos Decreases) refl)
+    (checked_then B mode i n way.path sits.there path loop.pos Decreases (are_below (measured way.env measures) earlier) (order.are_below now values) rest (λ handed. Dismissed) (order_below n (measured way.env measures) earlier (measured_below n way.env env measures) earlier_below)
     (sym (ap truth_of (below_orders i (measured way.env measures) earlier are earlier_measured))) (ended_then B mode i n rest (λ handed. Dismissed) true_behind (λ handed. refl)))))))
 
 module _ (B : Type 0) (all : List Ty) (back : Assigned) (program : Program) (m : Meaning) (m_is : m.program ≡ program) (locals : List Ty) (within : Within locals all) (loop : Loop) (mode : Mode) (i : Interpretation) (n : ℕ) (any : Way) (changed : List Changed) (flow : Flow)
@@ -108,10 +106,10 @@ module _ (B : Type 0) (all : List Ty) (back : Assigned) (program : Program) (m :
 
   -- the guard is true: the body runs once
   pub inside_onward : truth i (term_of any.env loop.guard) ≡ true → AreMeasured i earlier
-      → Onward B all back mode i n (last_of flow) behind breaks (turn_said ++ ((join after_path outside.env changed ways flow.fresh).said ++ more)) (λ f. after (behind_once m loop (map (λ (one : Measured). meanings.value i one.value) earlier) f) go)
+      → Onward B all back mode i n (last_of flow) behind breaks (turn_said ++ ((join after_path outside.env changed ways flow.fresh).said ++ more)) (λ f. after (behind_once m loop (map (λ (one : Measured). meaning i one.value) earlier) f) go)
   inside_onward is_true are = record {
     on = by_flow;
-    over = λ j same no_way no_break no_return loses. all_appended j turn_said (joined.said ++ more) (turn_off j no_way) (behind_true j same no_break no_return);
+    over = λ j same no_way no_break no_return loses. all_joined _ turn_said (joined.said ++ more) (turn_off j no_way) (behind_true j same no_break no_return);
   }
     where
       joined : Joined
@@ -126,10 +124,10 @@ module _ (B : Type 0) (all : List Ty) (back : Assigned) (program : Program) (m :
       behind_true : (j : Interpretation) → SameBelow n i j → AllOff j flow.breaks → AllOff j flow.returns → AllTrue j (joined.said ++ more)
       behind_true j same no_break no_return =
           let off : AllOff j ways = (off_out j same, no_break) in
-          all_appended j joined.said more (join_off_said j after_path outside.env changed ways flow.fresh off) (h.over j same (join_off_way j after_path outside.env changed ways flow.fresh off (λ many. no_path j ways off)) tt no_return refl)
+          all_joined _ joined.said more (join_off_said j after_path outside.env changed ways flow.fresh off) (h.over j same (join_off_way j after_path outside.env changed ways flow.fresh off (λ many. no_path j ways off)) tt no_return refl)
 
       values : List Value
-      values = map (λ (one : Measured). meanings.value i one.value) earlier
+      values = map (λ (one : Measured). meaning i one.value) earlier
 
       by_flow : (k : Mode) (j : Interpretation) (f : flows.Flow) → Moves mode i n k j → Comes k j all back (last_of flow) behind breaks f
           → Play B k j flow.fresh (turn_said ++ (joined.said ++ more)) (λ handed. after (behind_once m loop values (hand f handed)) go)

@@ -52,8 +52,7 @@ module _ (p : Program) (locals : List Ty) where
     where
       cast : (e : Expr) → is_expr p locals (types.Newtype id) e ≡ true → ((is_integer p (types.Newtype id) && true) && is_expr p locals (types.Newtype id) e) ≡ true
       cast e is = joined _ _ (joined _ true int refl) is
-  distance_typed types.Bool at low high int h k = cc
-  distance_typed types.Char at low high int h k = cc
+  distance_typed ty at low high int h k = cc
 
   comparison_typed : (ty : Ty) (at : Pos) (a : Expr) (comparison : Comparison) (b : Expr) → compares p ty comparison ≡ true → is_expr p locals ty a ≡ true → is_expr p locals ty b ≡ true → Typed (comparison_measure ty at a comparison b)
   comparison_typed types.Bool at a comparison b c h k = tt

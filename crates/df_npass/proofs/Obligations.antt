@@ -1,8 +1,9 @@
--- The obligation that the first false formula is, and the obligations of declarations.
-use Rattle.df_npass.proofs.Words.{◌≡◌, ◌⊎◌, inl, inr, ℕ, zero, suc, ◌+◌, true, false, List, [], ◌∷◌, ◌++◌, slice_get, Contains, Some, refl, sym, ap, subst, arith, AllByRecursion, list_any, option_and_then, Pos, Method, Decl, NewtypeDecl, MethodDecl, Program, as_method, Kind, Term, Interpretation, truth, same_term, term_is, Said, Known, Owed, Obligation, known_with, obligations_of, obligations_of_method, obligations_of_decl, obligations_from, all_front, all_joined, none_there, choice, cond_both, or_cases}
+-- The obligation that the first false formula is, and the obligations of declarations: by all groups they are the same.
+use Rattle.df_npass.proofs.Words.{◌≡◌, ◌⊎◌, inl, inr, ℕ, zero, suc, ◌+◌, true, false, List, [], ◌∷◌, ◌++◌, slice_get, Contains, Some, refl, sym, ap, subst, arith, AllByRecursion, list_any, option_and_then, Pos, Method, Decl, NewtypeDecl, MethodDecl, Program, as_method, Kind, Term, Interpretation, truth, same_term, term_is, Said, Known, Owed, Obligation, known_with, obligations_of, obligations_of_method, obligations_of_decl, obligations_from, all_front, all_joined, none_there, choice, cond_both, or_cases, ◌==◌, ◌<◌, Bool, ◌&&◌, length, nat_lt, ltb-true, eqb-true, eq-eqb, AreGroups, group_at, grouped_with, setting_of, pass_within, OneListOfObligations}
 use Rattle.std.proofs.lemmas.List.Elements.{Contains-append_left, Contains-append_right, Contains-append_cases}
 use Rattle.df_npass.proofs.Playing.{FirstFalse}
 use Rattle.df_lemmas.proofs.Alls.{all_there}
+use Rattle.df_npass.proofs.Updating.{same_by}
 
 abbrev pub AllHold : Interpretation → List Term → Type 0
 AllHold i formulas = AllByRecursion (λ (formula : Term). truth i formula ≡ true) formulas
@@ -109,3 +110,33 @@ module _ (program : Program) (groups : List ℕ) (o : Obligation) where
       here : (d : Decl) → Contains (obligations_of_decl program groups first d) o → OfMethod first (d ∷ decls)
       here (NewtypeDecl newtype) there = absurd (none_there o there)
       here (MethodDecl own) there = let number : first ≡ first + 0 = omega arith in record { k = 0; method = own; found = refl; there = subst (λ (x : ℕ). Contains (obligations_of_method program groups x own) o) number there }
+
+-- a test behind another one
+same_behind : (test a b : Bool) → (test ≡ true → a ≡ b) → (test && a) ≡ (test && b)
+same_behind true a b same = same refl
+same_behind false a b same = refl
+
+module _ (program : Program) where
+  shared : (groups others : List ℕ) → AreGroups program groups → AreGroups program others → (one other : ℕ) → one < length program.decls → other < length program.decls
+      → (group_at groups one == group_at groups other) ≡ true → (group_at others one == group_at others other) ≡ true
+  shared groups others are also one other first second same =
+      let e = eqb-true (group_at groups one) (group_at groups other) same in
+      let long = are.each in
+      let also_long = also.each in
+      eq-eqb (group_at others one) (group_at others other)
+      (also.together one other (omega arith) (omega arith) (are.apart one other (omega arith) (omega arith) e) (are.apart other one (omega arith) (omega arith) (sym e)))
+
+  module _ (groups others : List ℕ) (are : AreGroups program groups) (also : AreGroups program others) where
+    same_group : (number : ℕ) → number < length program.decls → grouped_with program groups number ≡ grouped_with program others number
+    same_group number less = λ i other.
+        same_behind (nat_lt other (length program.decls)) (group_at groups number == group_at groups other) (group_at others number == group_at others other)
+        (λ e. let there = ltb-true other (length program.decls) e in same_by _ _ (shared groups others are also number other less there) (shared others groups also are number other less there)) i
+
+    same_from : (decls : List Decl) (first : ℕ) → first + length decls ≡ length program.decls → obligations_from program groups first decls ≡ obligations_from program others first decls
+    same_from [] first e = refl
+    same_from (NewtypeDecl newtype ∷ decls) first e = same_from decls (suc first) (omega arith)
+    same_from (MethodDecl method ∷ decls) first e = λ i.
+        obligations_of first [] (pass_within (record (setting_of program groups first method) { in_group = same_group first (omega arith) i }) method) ++ same_from decls (suc first) (omega arith) i
+
+pub one_list_of_obligations : OneListOfObligations
+one_list_of_obligations program groups others are also = same_from program groups others are also program.decls 0 (omega arith)

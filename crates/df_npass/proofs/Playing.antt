@@ -1,16 +1,45 @@
 -- A run and what is said of it: what is false first tells where the run is wrong. Either the interpretation is given,
--- and what is handed in is read from it; or what is handed in is given, and the interpretation takes it.
-use Rattle.df_npass.proofs.Words.{◌≡◌, ◌⊎◌, inl, inr, ℕ, ◌≤◌, Bool, true, false, List, [], ◌∷◌, ◌++◌, refl, sym, ap, ◌∙◌, arith, Pos, Kind, truth_of, Outcome, Wrong, TooDeep, Dismissed, Handed, Term, Interpretation, truth, IsBelow, SameBelow, value_same, Said, Known, Owed, true_is_not_false}
-use Rattle.df_npass.proofs.Saying.{formula_of, AllTrue}
-use Rattle.df_npass.proofs.Proper.{AllBelow}
+-- and hands in what the run takes; or what is handed in is given, and the interpretation takes it.
+use Rattle.df_npass.proofs.Words.{◌≡◌, ◌⊎◌, inl, inr, ℕ, ◌≤◌, Bool, true, false, List, [], ◌∷◌, ◌++◌, refl, sym, ap, ◌∙◌, subst, arith, Pos, Kind, truth_of, Outcome, Wrong, TooDeep, Dismissed, Handed, Term, Interpretation, truth, IsBelow, SameBelow, value_same, Said, Known, Owed, true_is_not_false, true≢false}
+use Rattle.df_npass.proofs.Saying.{formula_of, AllTrue, AllBelow}
 
+-- what is still to be handed in: by the interpretation, or to it
 pub data Mode : Type 0 where
-  Following : Mode
+  Following : List Handed → Mode
   Taking : List Handed → Mode
 
 abbrev pub is_taking : Mode → Bool
-is_taking Following = false
+is_taking (Following handed) = false
 is_taking (Taking handed) = true
+
+-- where the interpretation hands in, this comes first
+abbrev pub handing : Handed → Mode → Mode
+handing one (Following handed) = Following (one ∷ handed)
+handing one (Taking handed) = Taking handed
+
+abbrev pub ahead : List Handed → Mode → Mode
+ahead [] mode = mode
+ahead (one ∷ others) mode = handing one (ahead others mode)
+
+handing_is : (one : Handed) (mode : Mode) → is_taking (handing one mode) ≡ is_taking mode
+handing_is one (Following handed) = refl
+handing_is one (Taking handed) = refl
+
+pub ahead_is : (ones : List Handed) (mode : Mode) → is_taking (ahead ones mode) ≡ is_taking mode
+ahead_is [] mode = refl
+ahead_is (one ∷ others) mode = handing_is one (ahead others mode) ∙ ahead_is others mode
+
+pub ahead_append : (ones more : List Handed) (mode : Mode) → ahead (ones ++ more) mode ≡ ahead ones (ahead more mode)
+ahead_append [] more mode = refl
+ahead_append (one ∷ others) more mode = ap (handing one) (ahead_append others more mode)
+
+pub ahead_taking : (ones handed : List Handed) → ahead ones (Taking handed) ≡ Taking handed
+ahead_taking [] handed = refl
+ahead_taking (one ∷ others) handed = ap (handing one) (ahead_taking others handed)
+
+pub ahead_following : (ones : List Handed) → ahead ones (Following []) ≡ Following ones
+ahead_following [] = refl
+ahead_following (one ∷ others) = ap (handing one) (ahead_following others)
 
 -- ---- choices
 
@@ -34,16 +63,34 @@ pub all_same : (n : ℕ) (i j : Interpretation) → SameBelow n i j → (said : 
 all_same n i j same [] h all = tt
 all_same n i j same (x ∷ said) h all = (sym (truth_same n i j same (formula_of x) h.0) ∙ all.0, all_same n i j same said h.1 all.1)
 
--- to another interpretation, in the same mode
+-- to another interpretation that takes what is handed in; one that hands in stays
 pub record Moves (a : Mode) (i : Interpretation) (n : ℕ) (b : Mode) (j : Interpretation) : Type 0 where
   pub same : SameBelow n i j
   pub mode : is_taking a ≡ is_taking b
+  pub stays : is_taking a ≡ false → (a ≡ b) × (i ≡ j)
 
 pub moves_here : (a : Mode) (i : Interpretation) (n : ℕ) → Moves a i n a i
-moves_here a i n = record { same = same_itself n i; mode = refl }
+moves_here a i n = record { same = same_itself n i; mode = refl; stays = λ following. (refl, refl) }
+
+pub moves_taking : (given left : List Handed) (i j : Interpretation) (n : ℕ) → SameBelow n i j → Moves (Taking given) i n (Taking left) j
+moves_taking given left i j n same = record { same = same; mode = refl; stays = λ following. absurd (true≢false following) }
 
 pub moves_then : (a b c : Mode) (i j k : Interpretation) (n m : ℕ) → n ≤ m → Moves a i n b j → Moves b j m c k → Moves a i n c k
-moves_then a b c i j k n m le h g = record { same = same_then n m i j k le h.same g.same; mode = h.mode ∙ g.mode }
+moves_then a b c i j k n m le h g = record {
+  same = same_then n m i j k le h.same g.same;
+  mode = h.mode ∙ g.mode;
+  stays = λ following. let one = h.stays following in let two = g.stays (sym h.mode ∙ following) in (one.0 ∙ two.0, one.1 ∙ two.1);
+}
+
+-- a run comes to where all that was ahead is handed in
+pub resume : (P : Mode → Type 0) (ones : Interpretation → List Handed) (mode : Mode) (i : Interpretation) (n : ℕ) (k : Mode) (j : Interpretation) → Moves (ahead (ones i) mode) i n k j
+    → ((from : Mode) → Moves mode i n from j → is_taking k ≡ is_taking from → P (ahead (ones j) from)) → P k
+resume P ones (Following handed) i n k j moves go =
+    let stays = moves.stays (ahead_is (ones i) (Following handed)) in
+    subst P (ap (λ u. ahead (ones u) (Following handed)) (sym stays.1) ∙ stays.0)
+    (go (Following handed) (record { same = moves.same; mode = refl; stays = λ following. (refl, stays.1) }) (sym moves.mode ∙ ahead_is (ones i) (Following handed)))
+resume P ones (Taking handed) i n (Following left) j moves go = absurd (true≢false (sym (ahead_is (ones i) (Taking handed)) ∙ moves.mode))
+resume P ones (Taking handed) i n (Taking left) j moves go = subst P (ahead_taking (ones j) left) (go (Taking left) (moves_taking handed left i j n moves.same) refl)
 
 -- ---- what is false first
 
@@ -78,9 +125,8 @@ module _ (i : Interpretation) (at : Pos) (kind : Kind) where
 
 -- ---- runs
 
-pub record Followed (B : Type 0) (i : Interpretation) (said : List Said) (run : List Handed → Outcome B) : Type 0 where
-  pub new : List Handed
-  pub tells : (at : Pos) (kind : Kind) → FirstFalse i said at kind → run new ≡ Wrong at kind
+pub record Followed (B : Type 0) (i : Interpretation) (handed : List Handed) (said : List Said) (run : List Handed → Outcome B) : Type 0 where
+  pub tells : (at : Pos) (kind : Kind) → FirstFalse i said at kind → run handed ≡ Wrong at kind
 
 pub record Blamed (B : Type 0) (i : Interpretation) (n : ℕ) (said : List Said) (run : Outcome B) : Type 0 where
   pub to : Interpretation
@@ -88,7 +134,7 @@ pub record Blamed (B : Type 0) (i : Interpretation) (n : ℕ) (said : List Said)
   pub blames : (at : Pos) (kind : Kind) → run ≡ Wrong at kind → FirstFalse to said at kind
 
 abbrev pub Play : (B : Type 0) → Mode → Interpretation → ℕ → List Said → (List Handed → Outcome B) → Type 0
-Play B Following i n said run = Followed B i said run
+Play B (Following handed) i n said run = Followed B i handed said run
 Play B (Taking handed) i n said run = Blamed B i n said (run handed)
 
 pub not_wrong : {A : Type 0} {o : Outcome A} (at : Pos) (kind : Kind) → o ≡ Dismissed → o ≡ Wrong at kind → ⊥
@@ -111,7 +157,7 @@ wrong_owed (Owed own what formula) o at kind e w = let a : own ≡ at = cc in le
 
 -- the run is another one
 pub play_as : (B : Type 0) (mode : Mode) (i : Interpretation) (n : ℕ) (said : List Said) (run other : List Handed → Outcome B) → ((handed : List Handed) → run handed ≡ other handed) → Play B mode i n said other → Play B mode i n said run
-play_as B Following i n said run other e h = record { new = h.new; tells = λ at kind f. e h.new ∙ h.tells at kind f }
+play_as B (Following handed) i n said run other e h = record { tells = λ at kind f. e handed ∙ h.tells at kind f }
 play_as B (Taking handed) i n said run other e h = record { to = h.to; same = h.same; blames = λ at kind w. h.blames at kind (sym (e handed) ∙ w) }
 
 -- a run that is not wrong blames nothing
@@ -119,24 +165,24 @@ pub play_silent : (B : Type 0) (i : Interpretation) (n : ℕ) (said : List Said)
 play_silent B i n said o h = record { to = i; same = same_itself n i; blames = λ at kind w. absurd (h at kind w) }
 
 -- where all is true nothing is told
-pub play_over : (B : Type 0) (i : Interpretation) (n : ℕ) (said : List Said) (run : List Handed → Outcome B) → AllTrue i said → Play B Following i n said run
-play_over B i n said run all = record { new = []; tells = λ at kind f. absurd (none_false i at kind said all f) }
+pub play_over : (B : Type 0) (handed : List Handed) (i : Interpretation) (n : ℕ) (said : List Said) (run : List Handed → Outcome B) → AllTrue i said → Play B (Following handed) i n said run
+play_over B handed i n said run all = record { tells = λ at kind f. absurd (none_false i at kind said all f) }
 
 -- what is handed in first
-pub play_handed : (B : Type 0) (i : Interpretation) (n : ℕ) (said : List Said) (run other : List Handed → Outcome B) (first : Handed) → ((handed : List Handed) → run (first ∷ handed) ≡ other handed) → Play B Following i n said other → Play B Following i n said run
-play_handed B i n said run other first e h = record { new = first ∷ h.new; tells = λ at kind f. e h.new ∙ h.tells at kind f }
+pub play_handed : (B : Type 0) (i : Interpretation) (n : ℕ) (said : List Said) (run other : List Handed → Outcome B) (first : Handed) (handed : List Handed) → run (first ∷ handed) ≡ other handed → Play B (Following handed) i n said other → Play B (Following (first ∷ handed)) i n said run
+play_handed B i n said run other first handed e h = record { tells = λ at kind f. e ∙ h.tells at kind f }
 
 pub play_took : (B : Type 0) (i : Interpretation) (n : ℕ) (said : List Said) (run other : List Handed → Outcome B) (first : Handed) (handed : List Handed) → run (first ∷ handed) ≡ other handed → Play B (Taking handed) i n said other → Play B (Taking (first ∷ handed)) i n said run
 play_took B i n said run other first handed e h = record { to = h.to; same = h.same; blames = λ at kind w. h.blames at kind (sym e ∙ w) }
 
 -- behind what is true of all interpretations that agree
 pub play_behind : (B : Type 0) (mode : Mode) (i : Interpretation) (n : ℕ) (said more : List Said) (run : List Handed → Outcome B) → ((j : Interpretation) → SameBelow n i j → AllTrue j said) → Play B mode i n more run → Play B mode i n (said ++ more) run
-play_behind B Following i n said more run all h = record { new = h.new; tells = λ at kind f. h.tells at kind (first_rest i at kind said more (all i (same_itself n i)) f) }
+play_behind B (Following handed) i n said more run all h = record { tells = λ at kind f. h.tells at kind (first_rest i at kind said more (all i (same_itself n i)) f) }
 play_behind B (Taking handed) i n said more run all h = record { to = h.to; same = h.same; blames = λ at kind w. first_behind h.to at kind said more (all h.to h.same) (h.blames at kind w) }
 
 -- from a later number on
 pub play_later : (B : Type 0) (mode : Mode) (i : Interpretation) (n m : ℕ) (said : List Said) (run : List Handed → Outcome B) → n ≤ m → Play B mode i m said run → Play B mode i n said run
-play_later B Following i n m said run le h = h
+play_later B (Following handed) i n m said run le h = h
 play_later B (Taking handed) i n m said run le h = record { to = h.to; same = same_then n m i i h.to le (same_itself n i) h.same; blames = h.blames }
 
 -- the interpretation takes something
@@ -146,9 +192,9 @@ play_taking B handed i j n m said run le same h = record { to = h.to; same = sam
 -- one formula more: it is true, or it tells how the run ends
 pub said_then : (B : Type 0) (mode : Mode) (i : Interpretation) (n : ℕ) (x : Said) (more : List Said) (run : List Handed → Outcome B) → IsBelow n (formula_of x) → (truth i (formula_of x) ≡ true → Play B mode i n more run)
     → (truth i (formula_of x) ≡ false → (handed : List Handed) → Ends x (run handed)) → Play B mode i n (x ∷ more) run
-said_then B Following i n x more run below h g = by_bool (truth i (formula_of x))
-    (λ e. let p = h e in record { new = p.new; tells = λ at kind f. p.tells at kind (first_tail i at kind x more e f) })
-    (λ e. record { new = []; tells = λ at kind f. ends_wrong x (run []) at kind (first_head i at kind x more e f) (g e []) })
+said_then B (Following handed) i n x more run below h g = by_bool (truth i (formula_of x))
+    (λ e. let p = h e in record { tells = λ at kind f. p.tells at kind (first_tail i at kind x more e f) })
+    (λ e. record { tells = λ at kind f. ends_wrong x (run handed) at kind (first_head i at kind x more e f) (g e handed) })
 said_then B (Taking handed) i n x more run below h g = by_bool (truth i (formula_of x))
     (λ e. let p = h e in record { to = p.to; same = p.same; blames = λ at kind w. inl (sym (truth_same n i p.to p.same (formula_of x) below) ∙ e, p.blames at kind w) })
     (λ e. record { to = i; same = same_itself n i; blames = λ at kind w. inr (e, wrong_owed x (run handed) at kind (g e handed) w) })
@@ -171,9 +217,9 @@ known_first i at kind (Known formula ∷ said) more known f = elim f [ inl g ↦
 known_first i at kind (Owed own what formula ∷ said) more known f = absurd known
 
 -- where it is not all true the run is left open
-pub known_then_follow : (B : Type 0) (i : Interpretation) (n : ℕ) (said more : List Said) (run : List Handed → Outcome B) → AreKnown said → (AllTrue i said → Play B Following i n more run) → Play B Following i n (said ++ more) run
-known_then_follow B i n [] more run known h = h tt
-known_then_follow B i n (Known formula ∷ said) more run known h = by_bool (truth i formula)
-    (λ e. let p = known_then_follow B i n said more run known (λ all. h (e, all)) in record { new = p.new; tells = λ at kind f. p.tells at kind (first_tail i at kind (Known formula) (said ++ more) e f) })
-    (λ e. record { new = []; tells = λ at kind f. absurd (first_head i at kind (Known formula) (said ++ more) e f) })
-known_then_follow B i n (Owed at kind formula ∷ said) more run known h = absurd known
+pub known_then_follow : (B : Type 0) (handed : List Handed) (i : Interpretation) (n : ℕ) (said more : List Said) (run : List Handed → Outcome B) → AreKnown said → (AllTrue i said → Play B (Following handed) i n more run) → Play B (Following handed) i n (said ++ more) run
+known_then_follow B handed i n [] more run known h = h tt
+known_then_follow B handed i n (Known formula ∷ said) more run known h = by_bool (truth i formula)
+    (λ e. let p = known_then_follow B handed i n said more run known (λ all. h (e, all)) in record { tells = λ at kind f. p.tells at kind (first_tail i at kind (Known formula) (said ++ more) e f) })
+    (λ e. record { tells = λ at kind f. absurd (first_head i at kind (Known formula) (said ++ more) e f) })
+known_then_follow B handed i n (Owed at kind formula ∷ said) more run known h = absurd known

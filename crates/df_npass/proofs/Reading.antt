@@ -1,14 +1,11 @@
 -- What is said of expressions, clauses and measures tells of their evaluation, and of what goes on from there.
-use Rattle.df_npass.proofs.Words.{◌≡◌, inl, inr, ℕ, Bool, true, false, if◌then◌else◌, List, [], ◌∷◌, ◌++◌, map, slice_get, Option, Some, refl, sym, ap, ◌∙◌, subst, append_assoc, flat_map, list_all, Pos, Ty, Expr, Clause, Measure, Program, is_expr, are_exprs, are_clauses, Use, Assigned, Unreached, Reached, reads, reads_of_clauses, reads_of_measures, unassigned, Kind, Value, truth_of, Outcome, Gives, Wrong, Dismissed, after, Handed, State, store_with, with_store, AreAssigned, Meaning, evaluate, evaluate_all, check_all, check_call, assume_each, or_dismissed, measure_values, both, Within, parted, use_has, evaluate_counts, not_dismissed, Term, sort_of_type, Interpretation, truth, has_sort, Environment, Condition, term_of, conditions_of, Measured, measured, told, AreMeasured, IsOr, told_after, IsSorted, HoldsOn, term_sorted, IsBelow, AreBelow, term_below, conditions_below, Said, Known, Owed, Way, is_unset, on_path, assume_all, assert_all, assume, assert, at_clause, assert_clauses, assume_clauses, assert_expr, assert_exprs, assert_measure, require_all, has_value}
+use Rattle.df_npass.proofs.Words.{Requires, meaning, ◌≡◌, inl, inr, ℕ, Bool, true, false, if◌then◌else◌, List, [], ◌∷◌, ◌++◌, map, slice_get, Option, Some, refl, sym, ap, ◌∙◌, subst, append_assoc, flat_map, list_all, Pos, Ty, Expr, Clause, Measure, Program, is_expr, are_exprs, are_clauses, Use, Assigned, Unreached, Reached, reads, reads_of_clauses, reads_of_measures, unassigned, Kind, Value, truth_of, Outcome, Gives, Wrong, Dismissed, after, Handed, State, store_with, with_store, AreAssigned, Meaning, evaluate, evaluate_all, check_all, check_call, assume_each, or_dismissed, measure_values, both, Within, parted, use_has, evaluate_counts, not_dismissed, Term, sort_of_type, Interpretation, truth, has_sort, Environment, Condition, term_of, conditions_of, Measured, measured, told, AreMeasured, IsOr, told_after, IsSorted, HoldsOn, term_sorted, IsBelow, AreBelow, term_below, conditions_below, Said, Known, Owed, Way, is_unset, on_path, assume_all, assert_all, assume, assert, at_clause, assert_clauses, assume_clauses, assert_expr, assert_exprs, assert_measure, require_all, has_value}
 use Rattle.df_meaning.proofs.Same.{evaluate_same, after_same}
 use Rattle.df_lang.specs.declared.ty.Ty.TheVariants as types
-use Rattle.df_meaning.specs.declared.kind.Kind.TheVariants as kinds
 use Rattle.df_meaning.specs.Outcome as outcomes
-use Rattle.df_nterm.specs.Meaning as meanings
 use Rattle.df_nterm.proofs.Laws.{evaluation_or_dismissed}
-use Rattle.df_npass.proofs.Saying.{path_true, on_it}
+use Rattle.df_npass.proofs.Saying.{path_true, on_it, PathBelow, EnvBelow, on_path_below}
 use Rattle.df_npass.proofs.Playing.{Mode, Following, Taking, is_taking, Play, play_as, play_silent, said_then, not_wrong}
-use Rattle.df_npass.proofs.Proper.{PathBelow, EnvBelow, on_path_below}
 use Rattle.df_npass.proofs.Unset.{SetAll, AllHold, is_set}
 
 -- the state with this still to be handed in
@@ -22,11 +19,11 @@ IsReached (Reached set) = Unit {0}
 
 -- and the term of each local that has a value by it has this value
 abbrev pub HoldAll : Interpretation → Environment → Assigned → State → Type 0
-HoldAll i env before s = IsReached before × ((local : ℕ) (v : Value) → has_value before local ≡ true → s.locals local ≡ Some v → meanings.value i (env local) ≡ v)
+HoldAll i env before s = IsReached before × ((local : ℕ) (v : Value) → has_value before local ≡ true → s.locals local ≡ Some v → meaning i (env local) ≡ v)
 
 -- that of each local, also of one without a value, is of the sort of its type
 abbrev pub SortedAll : Interpretation → List Ty → Environment → Type 0
-SortedAll i all env = (local : ℕ) (ty : Ty) → slice_get all local ≡ Some ty → IsSorted ty (meanings.value i (env local))
+SortedAll i all env = (local : ℕ) (ty : Ty) → slice_get all local ≡ Some ty → IsSorted ty (meaning i (env local))
 
 -- Runs come to a way with a state. Where what is handed in is read from the interpretation, locals have the values that the flow says.
 pub record Sits (mode : Mode) (i : Interpretation) (all : List Ty) (way : Way) (before : Assigned) (s : State) : Type 0 where
@@ -36,6 +33,9 @@ pub record Sits (mode : Mode) (i : Interpretation) (all : List Ty) (way : Way) (
   pub set : SetAll way.env before
   pub present : is_taking mode ≡ false → AreAssigned before s
 
+pub sits_as : (a b : Mode) (i : Interpretation) (all : List Ty) (way : Way) (before : Assigned) (s : State) → is_taking a ≡ is_taking b → Sits a i all way before s → Sits b i all way before s
+sits_as a b i all way before s kind h = record { there = h.there; sorted = h.sorted; holds = h.holds; set = h.set; present = λ following. h.present (kind ∙ following) }
+
 hold_on : (i : Interpretation) (locals all : List Ty) (env : Environment) (s : State) → SortedAll i all env → Within locals all → (before : Assigned) → HoldAll i env before s → (uses : List Use) → unassigned before uses ≡ [] → HoldsOn i locals env s uses
 hold_on i locals all env s sorted within before h [] e = tt
 hold_on i locals all env s sorted within before h (u ∷ uses) e = (
@@ -44,11 +44,11 @@ hold_on i locals all env s sorted within before h (u ∷ uses) e = (
 )
 
 abbrev pub values_at : Interpretation → List Term → List Value
-values_at i terms = map (meanings.value i) terms
+values_at i terms = map (meaning i) terms
 
 -- the term has a value of the sort of the type, and is not that of a local without one
 pub record IsGiven (i : Interpretation) (ty : Ty) (a : Term) : Type 0 where
-  pub sorted : IsSorted ty (meanings.value i a)
+  pub sorted : IsSorted ty (meaning i a)
   pub set : is_unset a ≡ false
 
 -- so of each
@@ -59,7 +59,7 @@ AreOf i tys terms = ⊥
 
 -- the value of the term, of the sort of the type
 pub record IsTerm (i : Interpretation) (env : Environment) (e : Expr) (ty : Ty) (v : Value) : Type 0 where
-  pub value : v ≡ meanings.value i (term_of env e)
+  pub value : v ≡ meaning i (term_of env e)
   pub sorted : has_sort (sort_of_type ty) v ≡ true
 
 -- of four parts the first two and the third
@@ -125,35 +125,35 @@ module _ (B : Type 0) (mode : Mode) (i : Interpretation) (n : ℕ) where
         (λ e handed. ap (λ c. if c then run handed else Dismissed) (same ∙ sym (on_it i path formula there) ∙ e))
 
   module _ (p : Program) (m : Meaning) (m_is : m.program ≡ p) (i_is : i.program ≡ p) (locals all : List Ty) (within : Within locals all) (before : Assigned) (way : Way) (s : State) (sits : Sits mode i all way before s) (env_is : EnvBelow n way.env) (path_is : PathBelow n way.path) where
-    pub is_term : (e : Expr) (ty : Ty) → is_expr p locals ty e ≡ true → unassigned before (reads e) ≡ [] → IsTerm i way.env e ty (meanings.value i (term_of way.env e))
+    pub is_term : (e : Expr) (ty : Ty) → is_expr p locals ty e ≡ true → unassigned before (reads e) ≡ [] → IsTerm i way.env e ty (meaning i (term_of way.env e))
     is_term e ty is read = record { value = refl; sorted = term_sorted i p locals way.env s e ty is (hold_on i locals all way.env s sits.sorted within before sits.holds (reads e) read) }
 
     -- what is still to be handed in is no matter
     evaluated : (e : Expr) (handed : List Handed) → evaluate m (with_handed s handed) e ≡ evaluate m s e
     evaluated e handed = evaluate_same m m (with_handed s handed) s (record { program = refl; locals = λ local. refl }) e
 
-    told_or : (e : Expr) (ty : Ty) → is_expr p locals ty e ≡ true → unassigned before (reads e) ≡ [] → IsOr (evaluate m s e) (told i (conditions_of way.env e) (Gives (meanings.value i (term_of way.env e))))
+    told_or : (e : Expr) (ty : Ty) → is_expr p locals ty e ≡ true → unassigned before (reads e) ≡ [] → IsOr (evaluate m s e) (told i (conditions_of way.env e) (Gives (meaning i (term_of way.env e))))
     told_or e ty is read =
         evaluation_or_dismissed m i locals way.env s ty e (i_is ∙ sym m_is) (subst (λ q. is_expr q locals ty e ≡ true) (sym m_is) is) (hold_on i locals all way.env s sits.sorted within before sits.holds (reads e) read)
 
     -- an expression, and what goes on from its value
     pub expr_set_then : (e : Expr) (ty : Ty) (more : List Said) (go : List Handed → Value → Outcome B) → is_expr p locals ty e ≡ true → unassigned before (reads e) ≡ []
-        → (IsTerm i way.env e ty (meanings.value i (term_of way.env e)) → is_unset (term_of way.env e) ≡ false → Plays more (λ handed. go handed (meanings.value i (term_of way.env e))))
+        → (IsTerm i way.env e ty (meaning i (term_of way.env e)) → is_unset (term_of way.env e) ≡ false → Plays more (λ handed. go handed (meaning i (term_of way.env e))))
         → Plays (assert_expr way e ++ more) (λ handed. after (evaluate m (with_handed s handed) e) (go handed))
     expr_set_then e ty more go is read h = by_told (told_or e ty is read) mode refl
       where
-        by_told : IsOr (evaluate m s e) (told i (conditions_of way.env e) (Gives (meanings.value i (term_of way.env e)))) → (k : Mode) → mode ≡ k → Plays (assert_expr way e ++ more) (λ handed. after (evaluate m (with_handed s handed) e) (go handed))
+        by_told : IsOr (evaluate m s e) (told i (conditions_of way.env e) (Gives (meaning i (term_of way.env e)))) → (k : Mode) → mode ≡ k → Plays (assert_expr way e ++ more) (λ handed. after (evaluate m (with_handed s handed) e) (go handed))
         by_told (inr t) k is_mode =
-            play_as B mode i n (assert_expr way e ++ more) _ (λ handed. told i (conditions_of way.env e) (go handed (meanings.value i (term_of way.env e))))
-            (λ handed. ap (λ o. after o (go handed)) (evaluated e handed ∙ t) ∙ told_after i (conditions_of way.env e) (Gives (meanings.value i (term_of way.env e))) (go handed))
-            (told_all way.path sits.there path_is (conditions_of way.env e) more (λ handed. go handed (meanings.value i (term_of way.env e))) (conditions_below n way.env env_is e) (λ holds. h (is_term e ty is read) (is_set i way.env before sits.set e read holds)))
+            play_as B mode i n (assert_expr way e ++ more) _ (λ handed. told i (conditions_of way.env e) (go handed (meaning i (term_of way.env e))))
+            (λ handed. ap (λ o. after o (go handed)) (evaluated e handed ∙ t) ∙ told_after i (conditions_of way.env e) (Gives (meaning i (term_of way.env e))) (go handed))
+            (told_all way.path sits.there path_is (conditions_of way.env e) more (λ handed. go handed (meaning i (term_of way.env e))) (conditions_below n way.env env_is e) (λ holds. h (is_term e ty is read) (is_set i way.env before sits.set e read holds)))
         by_told (inl d) (Taking handed) is_mode =
             subst (λ k. Play B k i n (assert_expr way e ++ more) (λ handed. after (evaluate m (with_handed s handed) e) (go handed))) (sym is_mode)
             (play_silent B i n _ _ (λ at kind w. not_wrong at kind (ap (λ o. after o (go handed)) (evaluated e handed ∙ d)) w))
-        by_told (inl d) Following is_mode = absurd (not_dismissed _ (evaluate m s e) (evaluate_counts m before s (sits.present (ap is_taking is_mode)) e read) d)
+        by_told (inl d) (Following handed) is_mode = absurd (not_dismissed _ (evaluate m s e) (evaluate_counts m before s (sits.present (ap is_taking is_mode)) e read) d)
 
     pub expr_then : (e : Expr) (ty : Ty) (more : List Said) (go : List Handed → Value → Outcome B) → is_expr p locals ty e ≡ true → unassigned before (reads e) ≡ []
-        → (IsTerm i way.env e ty (meanings.value i (term_of way.env e)) → Plays more (λ handed. go handed (meanings.value i (term_of way.env e))))
+        → (IsTerm i way.env e ty (meaning i (term_of way.env e)) → Plays more (λ handed. go handed (meaning i (term_of way.env e))))
         → Plays (assert_expr way e ++ more) (λ handed. after (evaluate m (with_handed s handed) e) (go handed))
     expr_then e ty more go is read h = expr_set_then e ty more go is read (λ one set. h one)
 
@@ -176,18 +176,18 @@ module _ (B : Type 0) (mode : Mode) (i : Interpretation) (n : ℕ) where
         checked_then way.path sits.there path_is clause.pos kind (term_of way.env clause.condition) _ (assert_clauses at_clause kind way others ++ more) _ (term_below n way.env env_is clause.condition) (condition_is clause.condition _ h) rest)))
 
     pub call_then : (at : Pos) (clauses : List Clause) (more : List Said) (go : List Handed → State → Outcome B) → are_clauses p locals clauses ≡ true → unassigned before (reads_of_clauses clauses) ≡ []
-        → Plays more (λ handed. go handed (with_handed s handed)) → Plays (assert_clauses (λ clause. at) kinds.Requires way clauses ++ more) (λ handed. after (check_call m (with_handed s handed) at clauses) (go handed))
+        → Plays more (λ handed. go handed (with_handed s handed)) → Plays (assert_clauses (λ clause. at) Requires way clauses ++ more) (λ handed. after (check_call m (with_handed s handed) at clauses) (go handed))
     call_then at [] more go are read h = h
     call_then at (clause ∷ others) more go are read h =
         let are = both (is_expr p locals types.Bool clause.condition) (are_clauses p locals others) are in
         let read = parted before (reads clause.condition) (reads_of_clauses others) read in
         let rest = call_then at others more go are.1 read.1 h in
         subst (λ said. Plays said (λ handed. after (check_call m (with_handed s handed) at (clause ∷ others)) (go handed)))
-        (sym (three_parts (assert_expr way clause.condition) (assert way.path at kinds.Requires (term_of way.env clause.condition)) (assert_clauses (λ clause. at) kinds.Requires way others) more))
-        (play_as B mode i n _ _ (λ handed. after (evaluate m (with_handed s handed) clause.condition) (λ v. if truth_of v then after (check_call m (with_handed s handed) at others) (go handed) else Wrong at kinds.Requires))
-        (λ handed. after_if (evaluate m (with_handed s handed) clause.condition) (check_call m (with_handed s handed) at others) (Wrong at kinds.Requires) (go handed) (Wrong at kinds.Requires) refl)
-        (expr_then clause.condition types.Bool (assert way.path at kinds.Requires (term_of way.env clause.condition) ++ (assert_clauses (λ clause. at) kinds.Requires way others ++ more)) _ are.0 read.0 (λ h.
-        checked_then way.path sits.there path_is at kinds.Requires (term_of way.env clause.condition) _ (assert_clauses (λ clause. at) kinds.Requires way others ++ more) _ (term_below n way.env env_is clause.condition) (condition_is clause.condition _ h) rest)))
+        (sym (three_parts (assert_expr way clause.condition) (assert way.path at Requires (term_of way.env clause.condition)) (assert_clauses (λ clause. at) Requires way others) more))
+        (play_as B mode i n _ _ (λ handed. after (evaluate m (with_handed s handed) clause.condition) (λ v. if truth_of v then after (check_call m (with_handed s handed) at others) (go handed) else Wrong at Requires))
+        (λ handed. after_if (evaluate m (with_handed s handed) clause.condition) (check_call m (with_handed s handed) at others) (Wrong at Requires) (go handed) (Wrong at Requires) refl)
+        (expr_then clause.condition types.Bool (assert way.path at Requires (term_of way.env clause.condition) ++ (assert_clauses (λ clause. at) Requires way others ++ more)) _ are.0 read.0 (λ h.
+        checked_then way.path sits.there path_is at Requires (term_of way.env clause.condition) _ (assert_clauses (λ clause. at) Requires way others ++ more) _ (term_below n way.env env_is clause.condition) (condition_is clause.condition _ h) rest)))
 
     pub require_then : (clauses : List Clause) (more : List Said) (go : List Handed → State → Outcome B) → are_clauses p locals clauses ≡ true → unassigned before (reads_of_clauses clauses) ≡ []
         → Plays more (λ handed. go handed (with_handed s handed)) → Plays (require_all way clauses ++ more) (λ handed. after (assume_each m (with_handed s handed) clauses) (go handed))
@@ -216,7 +216,7 @@ module _ (B : Type 0) (mode : Mode) (i : Interpretation) (n : ℕ) where
         e = clause.condition
 
         v : Value
-        v = meanings.value i (term_of way.env e)
+        v = meaning i (term_of way.env e)
 
         by_told : (others : List Clause) → is_expr p locals types.Bool e ≡ true → unassigned before (reads e) ≡ [] → Plays (assume_clauses way others ++ more) (λ handed. after (or_dismissed (assume_each m (with_handed s handed) others)) (go handed))
             → IsOr (evaluate m s e) (told i (conditions_of way.env e) (Gives v)) → (k : Mode) → mode ≡ k
@@ -244,26 +244,25 @@ module _ (B : Type 0) (mode : Mode) (i : Interpretation) (n : ℕ) where
         by_told others is read rest (inl d) (Taking handed) is_mode =
             subst (λ k. Play B k i n (assume_clauses way (clause ∷ others) ++ more) (λ handed. after (or_dismissed (assume_each m (with_handed s handed) (clause ∷ others))) (go handed))) (sym is_mode)
             (play_silent B i n _ _ (λ at kind w. not_wrong at kind (ap (λ o. after (or_dismissed (after o (λ w. if truth_of w then assume_each m (with_handed s handed) others else Dismissed))) (go handed)) (evaluated e handed ∙ d)) w))
-        by_told others is read rest (inl d) Following is_mode = absurd (not_dismissed _ (evaluate m s e) (evaluate_counts m before s (sits.present (ap is_taking is_mode)) e read) d)
+        by_told others is read rest (inl d) (Following handed) is_mode = absurd (not_dismissed _ (evaluate m s e) (evaluate_counts m before s (sits.present (ap is_taking is_mode)) e read) d)
 
     -- ---- expressions in order
 
     pub exprs_then : (tys : List Ty) (es : List Expr) (more : List Said) (go : List Handed → List Value → Outcome B) → are_exprs p locals tys es ≡ true → unassigned before (flat_map reads es) ≡ []
         → (AreOf i tys (map (term_of way.env) es) → Plays more (λ handed. go handed (values_at i (map (term_of way.env) es)))) → Plays (assert_exprs way es ++ more) (λ handed. after (evaluate_all m (with_handed s handed) es) (go handed))
     exprs_then [] [] more go are read h = h tt
-    exprs_then [] (e ∷ es) more go are read h = cc
-    exprs_then (ty ∷ tys) [] more go are read h = cc
     exprs_then (ty ∷ tys) (e ∷ es) more go are read h =
         let are = both (is_expr p locals ty e) (are_exprs p locals tys es) are in
         let read = parted before (reads e) (flat_map reads es) read in
         subst (λ said. Plays said (λ handed. after (evaluate_all m (with_handed s handed) (e ∷ es)) (go handed))) (sym (append_assoc (assert_expr way e) (assert_exprs way es) more))
         (play_as B mode i n _ _ (λ handed. after (evaluate m (with_handed s handed) e) (λ v. after (evaluate_all m (with_handed s handed) es) (λ vs. go handed (v ∷ vs)))) (λ handed. after_listed (evaluate m (with_handed s handed) e) (evaluate_all m (with_handed s handed) es) (go handed))
-        (expr_set_then e ty (assert_exprs way es ++ more) _ are.0 read.0 (λ one set. exprs_then tys es more (λ handed vs. go handed (meanings.value i (term_of way.env e) ∷ vs)) are.1 read.1 (λ others. h (record { sorted = one.sorted; set = set }, others)))))
+        (expr_set_then e ty (assert_exprs way es ++ more) _ are.0 read.0 (λ one set. exprs_then tys es more (λ handed vs. go handed (meaning i (term_of way.env e) ∷ vs)) are.1 read.1 (λ others. h (record { sorted = one.sorted; set = set }, others)))))
+    exprs_then tys es more go are read h = cc
 
     -- ---- measures
 
     abbrev pub measure_at : List Measure → List Value
-    measure_at measures = map (λ (one : Measured). meanings.value i one.value) (measured way.env measures)
+    measure_at measures = map (λ (one : Measured). meaning i one.value) (measured way.env measures)
 
     pub measures_then : (measures : List Measure) (more : List Said) (go : List Handed → List Value → Outcome B) → list_all (λ (measure : Measure). is_expr p locals measure.ty measure.value) measures ≡ true
         → unassigned before (reads_of_measures (Some measures)) ≡ []
@@ -274,4 +273,4 @@ module _ (B : Type 0) (mode : Mode) (i : Interpretation) (n : ℕ) where
         let read = parted before (reads measure.value) (reads_of_measures (Some others)) read in
         subst (λ said. Plays said (λ handed. after (measure_values m (with_handed s handed) (measure ∷ others)) (go handed))) (sym (append_assoc (assert_expr way measure.value) (assert_measure way others) more))
         (play_as B mode i n _ _ (λ handed. after (evaluate m (with_handed s handed) measure.value) (λ v. after (measure_values m (with_handed s handed) others) (λ vs. go handed (v ∷ vs)))) (λ handed. after_listed (evaluate m (with_handed s handed) measure.value) (measure_values m (with_handed s handed) others) (go handed))
-        (expr_then measure.value measure.ty (assert_measure way others ++ more) _ are.0 read.0 (λ one. measures_then others more (λ handed vs. go handed (meanings.value i (term_of way.env measure.value) ∷ vs)) are.1 read.1 (λ more. h (one.sorted, more)))))
+        (expr_then measure.value measure.ty (assert_measure way others ++ more) _ are.0 read.0 (λ one. measures_then others more (λ handed vs. go handed (meaning i (term_of way.env measure.value) ∷ vs)) are.1 read.1 (λ more. h (one.sorted, more)))))

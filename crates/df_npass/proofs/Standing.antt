@@ -1,7 +1,6 @@
 -- What stands where a run has come to a way.
-use Rattle.df_npass.proofs.Words.{◌≡◌, ℕ, ◌≤◌, ◌==◌, true, false, List, [], ◌∷◌, slice_get, is_some, None, Some, refl, sym, ap, ◌∙◌, subst, inl, inr, eqb-true, cond-false, cond-true, cond_both, false≢true, Ty, Variable, Program, Assigned, Unreached, Reached, has_value, mark, declare, Value, Handed, State, with_local, without_local, declare_all, assigned_has, Term, Interpretation, Measured, IsSorted, IsBelow, Way, is_unset, over, with_term, same_Some}
-use Rattle.df_nterm.specs.Meaning as meanings
-use Rattle.df_npass.proofs.Lemmas.{Mode, Moves, by_bool, PathBelow, EnvBelow, MeasureBelow, path_grows, env_grows, measure_grows, with_below, with_handed, Sits, IsReached, reached_mark, assigned_make, sits_moves, sits_change}
+use Rattle.df_npass.proofs.Words.{meaning, ◌≡◌, ℕ, ◌≤◌, ◌==◌, true, false, List, [], ◌∷◌, slice_get, is_some, None, Some, refl, sym, ap, ◌∙◌, subst, inl, inr, eqb-true, cond-false, cond-true, cond_both, false≢true, Ty, Variable, Program, Assigned, Unreached, Reached, has_value, mark, declare, Value, Handed, State, with_local, without_local, declare_all, assigned_has, Term, Interpretation, Measured, IsSorted, IsBelow, Way, is_unset, over, with_term, same_Some}
+use Rattle.df_npass.proofs.Lemmas.{Mode, ahead, ahead_is, sits_as, Moves, by_bool, PathBelow, EnvBelow, MeasureBelow, path_grows, env_grows, measure_grows, with_below, with_handed, Sits, IsReached, reached_mark, assigned_make, sits_moves, sits_change}
 use Rattle.df_npass.proofs.Calling.{Entered, entered_moves}
 use Rattle.df_lemmas.proofs.Truths.{choice}
 
@@ -17,20 +16,20 @@ marked Unreached local k r e h = absurd r
 marked (Reached set) local k r e h = sym (cond-false (k == local) true (set k) e) ∙ h
 
 -- a local takes a value of its type, and the term of it
-pub sits_given : (mode : Mode) (i : Interpretation) (all : List Ty) (way : Way) (before : Assigned) (s : State) (local : ℕ) (ty : Ty) (a : Term) → slice_get all local ≡ Some ty → IsSorted ty (meanings.value i a) → is_unset a ≡ false
-    → Sits mode i all way before s → Sits mode i all (over (with_term way.env local a) way) (mark true before local) (with_local s local (meanings.value i a))
+pub sits_given : (mode : Mode) (i : Interpretation) (all : List Ty) (way : Way) (before : Assigned) (s : State) (local : ℕ) (ty : Ty) (a : Term) → slice_get all local ≡ Some ty → IsSorted ty (meaning i a) → is_unset a ≡ false
+    → Sits mode i all way before s → Sits mode i all (over (with_term way.env local a) way) (mark true before local) (with_local s local (meaning i a))
 sits_given mode i all way before s local ty a typed is set h =
-    let v = meanings.value i a in
+    let v = meaning i a in
     let reached = h.holds.0 in
     record {
       there = h.there;
-      sorted = λ k t e. cond_both (k == local) a (way.env k) (λ (x : Term). IsSorted t (meanings.value i x))
+      sorted = λ k t e. cond_both (k == local) a (way.env k) (λ (x : Term). IsSorted t (meaning i x))
           (λ here. subst (λ (u : Ty). IsSorted u v) (same_Some ty t (sym typed ∙ subst (λ (x : ℕ). slice_get all x ≡ Some t) (eqb-true k local here) e)) is) (λ other. h.sorted k t e);
       holds = (
         reached_mark true before local reached,
         λ k w has e. by_bool (k == local)
-            (λ here. ap (meanings.value i) (cond-true (k == local) a (way.env k) here) ∙ same_Some v w (sym (cond-true (k == local) (Some v) (s.locals k) here) ∙ e))
-            (λ other. ap (meanings.value i) (cond-false (k == local) a (way.env k) other) ∙ h.holds.1 k w (marked before local k reached other has) (sym (cond-false (k == local) (Some v) (s.locals k) other) ∙ e)),
+            (λ here. ap (meaning i) (cond-true (k == local) a (way.env k) here) ∙ same_Some v w (sym (cond-true (k == local) (Some v) (s.locals k) here) ∙ e))
+            (λ other. ap (meaning i) (cond-false (k == local) a (way.env k) other) ∙ h.holds.1 k w (marked before local k reached other has) (sym (cond-false (k == local) (Some v) (s.locals k) other) ∙ e)),
       );
       set = λ k has. cond_both (k == local) a (way.env k) (λ (x : Term). is_unset x ≡ false) (λ here. set) (λ other. h.set k (marked before local k reached other has));
       present = λ following. assigned_make (mark true before local) (with_local s local v) (reached_mark true before local reached) (λ k has. by_bool (k == local)
@@ -50,8 +49,12 @@ module _ (program : Program) (entry : List Measured) (entered : List Value) (all
         sits = sits_change b j all way before before s t moved.holds.0 (λ k has. (has, same k)) moved;
       }
 
-  pub stands_given : (mode : Mode) (i : Interpretation) (n : ℕ) (way : Way) (before : Assigned) (s : State) (local : ℕ) (ty : Ty) (a : Term) → slice_get all local ≡ Some ty → IsBelow n a → IsSorted ty (meanings.value i a) → is_unset a ≡ false
-      → Stands program entry entered all mode i n way before s → Stands program entry entered all mode i n (over (with_term way.env local a) way) (mark true before local) (with_local s local (meanings.value i a))
+  pub stands_ahead : (ones : List Handed) (mode : Mode) (i : Interpretation) (n : ℕ) (way : Way) (before : Assigned) (s : State) → Stands program entry entered all mode i n way before s → Stands program entry entered all (ahead ones mode) i n way before s
+  stands_ahead ones mode i n way before s h =
+      record { env = h.env; path = h.path; below = h.below; entered_is = h.entered_is; sits = sits_as mode (ahead ones mode) i all way before s (sym (ahead_is ones mode)) h.sits }
+
+  pub stands_given : (mode : Mode) (i : Interpretation) (n : ℕ) (way : Way) (before : Assigned) (s : State) (local : ℕ) (ty : Ty) (a : Term) → slice_get all local ≡ Some ty → IsBelow n a → IsSorted ty (meaning i a) → is_unset a ≡ false
+      → Stands program entry entered all mode i n way before s → Stands program entry entered all mode i n (over (with_term way.env local a) way) (mark true before local) (with_local s local (meaning i a))
   stands_given mode i n way before s local ty a typed below is set h =
       record { env = with_below n way.env local a h.env below; path = h.path; below = h.below; entered_is = h.entered_is; sits = sits_given mode i all way before s local ty a typed is set h.sits }
 

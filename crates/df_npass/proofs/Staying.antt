@@ -8,9 +8,6 @@ Stays n env way = way.env n ≡ env n
 abbrev pub AllStay : ℕ → Environment → List Way → Type 0
 AllStay n env ways = AllByRecursion (Stays n env) ways
 
-append_stay : (n : ℕ) (env : Environment) (ways others : List Way) → AllStay n env ways → AllStay n env others → AllStay n env (ways ++ others)
-append_stay n env = all_joined (Stays n env)
-
 stay_as : (n : ℕ) (env other : Environment) (ways : List Way) → other n ≡ env n → AllStay n other ways → AllStay n env ways
 stay_as n env other ways e = all_weaken (Stays n other) (Stays n env) (λ way h. h ∙ e) ways
 
@@ -102,7 +99,7 @@ then_stays : (n : ℕ) (env : Environment) (flow : Flow) (go : ℕ → Way → F
 then_stays n env flow go h g = by_option (FlowStays n env) (λ way. followed_by flow (go flow.fresh way)) flow.way flow (λ e. h) (λ way e.
     let there : AllStay n env (ways_of (Some way)) = subst (λ o. AllStay n env (ways_of o)) e h.ways in
     let more = g way there.0 in
-    record { ways = more.ways; breaks = append_stay n env flow.breaks (go flow.fresh way).breaks h.breaks more.breaks })
+    record { ways = more.ways; breaks = all_joined _ flow.breaks (go flow.fresh way).breaks h.breaks more.breaks })
 
 -- none of all branches is none of what each changes outside
 pub fewer_in_branches : (branches : Branches) (n : ℕ) → is_changed (changed_by_branches branches) n ≡ false → is_changed (changed_in_branches branches) n ≡ false
@@ -166,4 +163,4 @@ module _ (setting : Setting) where
         let first = all_stay taken body fresh n parts.0 in
         let flow = pass_all setting taken body fresh in
         let more = branches_stay (narrowed way (negation (term_of way.env guard))) rest otherwise flow.fresh n parts.1 g in
-        record { ways = append_stay n way.env (ways_of flow.way) _ first.ways more.ways; breaks = append_stay n way.env flow.breaks _ first.breaks more.breaks }
+        record { ways = all_joined _ (ways_of flow.way) _ first.ways more.ways; breaks = all_joined _ flow.breaks _ first.breaks more.breaks }

@@ -71,9 +71,8 @@ module _ (env : Environment) where
 
   junction_set : (junction : JunctionKind) (a : Term) (rest : Members) → is_unset a ≡ false → is_unset (joined junction (term a (members_of env rest))) ≡ false
   junction_set junctions.And a no_member h = h
-  junction_set junctions.And a (member at operand rest) h = refl
   junction_set junctions.Or a no_member h = h
-  junction_set junctions.Or a (member at operand rest) h = refl
+  junction_set junction a rest h = refl
 
   implication_set : (a : Term) (rest : Members) → is_unset a ≡ false → is_unset (implication_of env a rest) ≡ false
   implication_set a no_member h = h

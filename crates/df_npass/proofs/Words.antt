@@ -40,6 +40,7 @@ pub use Rattle.df_meaning.specs.Types.{has_type, have_types}
 pub use Rattle.df_meaning.specs.Value.{Value, truth_of, same_truth, same_value, Truth, Character, Number}
 pub use Rattle.df_meaning.specs.Whole.{end_of, run_body, check_call, turns_with}
 pub use Rattle.df_meaning.specs.declared.kind.Kind.{Kind}
+pub use Rattle.df_meaning.specs.declared.kind.Kind.TheVariants.{Decreases, Distinct, Ensures, Entry, Requires, Turn}
 pub use Rattle.df_nterm.proofs.Answering.{equal_told, conversion_told}
 pub use Rattle.df_nterm.proofs.Below.{SameBelow, value_same, IsBelow, term_below, below, all_below, below_grows, equal_below, disjunction_below, narrowing_below, AreBelow, conditions_below}
 pub use Rattle.df_nterm.proofs.Equal.{term_is, same_int, sort_is}
@@ -48,10 +49,11 @@ pub use Rattle.df_nterm.proofs.Sorted.{IsSorted, typed_sorted, HoldsOn, term_sor
 pub use Rattle.df_nterm.proofs.Told.{IsOr, told_after, all_left, all_right}
 pub use Rattle.df_nterm.specs.Expressions.{Environment, term_of, equal_in, narrowing, Condition, conditions_of, sum_of, product_of, members_of, implication_of, equivalence_of, comparisons_of, summed, multiplied, number_in, value_in, compared, under, in_range, conditions_of_addends, conditions_of_factors, conditions_of_junction, conditions_of_implication, conditions_of_members}
 pub use Rattle.df_nterm.specs.Laws.{AreMeasured, told}
-pub use Rattle.df_nterm.specs.Meaning.{Interpretation, has_sort, truth}
+pub use Rattle.df_nterm.specs.Meaning.{Interpretation, has_sort, truth, value as meaning}
 pub use Rattle.df_nterm.specs.Measuring.{Measured, measured, are_below, below_of, same_of, is_below, is_same}
 pub use Rattle.df_nterm.specs.Same.{same_term, same_sort}
 pub use Rattle.df_nterm.specs.Term.{Term, literal, Sort, Numbers, Truths, Characters, sort_of_type, negation, terms_of, Free, Terms, no_term, term, disjunction, either, Is, of_one, equal, less, implies, truth_term, iff, at_most, conjunction}
+pub use Rattle.df_npass.specs.Handing.{results_in, turn_in, handed_at_call, handed_at_source, handed_at_sources, handed_at_update, takes, handed_behind, handed_at, handed_at_all, handed_at_branches, handed_in}
 pub use Rattle.df_npass.specs.Laws.{OneListOfObligations, WrongIsRefuted, RefutedIsWrong, ValidIsSafe, SafeIsValid, AllValidIsSafe, RefutedMemberIsWrong, ValidMembersAreSafe}
 pub use Rattle.df_npass.specs.Methods.{locals_of, unset, way_in, require_all, ended, setting_of, locals_from, obligations_of, obligations_from, pass_within, pass_method, obligations_of_method, Obligation, known_with, obligations_of_decl}
 pub use Rattle.df_npass.specs.Rules.{Way, is_unset, over, Said, some_term, paths_of, any_path, join_branches, assert, narrowed, Joined, join, Moved, havoc, with_term, assume_type, free_of, assume, assume_there, assume_joined, are_same, join_locals, either_path, changed_alone, assert_all, Known, Owed, on_path, narrowed_path, assume_all}

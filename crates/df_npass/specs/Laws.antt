@@ -1,5 +1,5 @@
 -- Obligations and modular runs.
-use Rattle.std.specs.Prelude.{◌≡◌, ℕ, true, false, List, map, Contains, None, Some}
+use Rattle.std.specs.Prelude.{◌≡◌, ℕ, true, false, List, [], map, Contains, None, Some}
 use Rattle.std.specs.List.{AllByRecursion}
 use Rattle.df_base.specs.declared.pos.Pos.{Pos}
 use Rattle.df_lang.specs.Groups.{AreGroups}
@@ -8,11 +8,13 @@ use Rattle.df_lang.specs.Typing.{is_well_typed}
 use Rattle.df_lang.specs.Assignment.{IsDefinitelyAssigned}
 use Rattle.df_meaning.specs.declared.kind.Kind.{Kind}
 use Rattle.df_meaning.specs.Value.{Value}
+use Rattle.df_meaning.specs.State.{store_with}
 use Rattle.df_meaning.specs.Modular.{IsModularlyWrong, IsModularlySafe, IsSafe}
 use Rattle.df_nterm.specs.Term.{Term}
 use Rattle.df_nterm.specs.Meaning.{Interpretation, value, truth}
 use Rattle.df_npass.specs.Statements.{any_values}
 use Rattle.df_npass.specs.Methods.{Obligation, obligations_of_method, obligations}
+use Rattle.df_npass.specs.Handing.{handed_in}
 
 -- an interpretation over the program makes the hypotheses true and the goal false
 pub record IsRefuted (program : Program) (obligation : Obligation) : Type 0 where
@@ -32,23 +34,27 @@ pub record IsOwed (program : Program) (groups : List ℕ) (number : ℕ) (method
   pub place : obligation.pos ≡ pos
   pub kind_is : obligation.kind ≡ kind
 
--- where a modular run of a method is wrong, an obligation of that kind at that place is refuted
-abbrev pub WrongIsRefuted : Type 0
-WrongIsRefuted = (program : Program) (groups : List ℕ) (number : ℕ) (method : Method) (pos : Pos) (kind : Kind)
-    → is_well_typed program ≡ true → IsDefinitelyAssigned program → method_at program number ≡ Some method
-    → IsModularlyWrong program groups number method pos kind
-    → (obligation : Obligation) × IsOwed program groups number method pos kind obligation × IsRefuted program obligation
-
 -- the values that an interpretation gives to the parameters of a method, in order
 abbrev pub arguments_in : Interpretation → Method → List Value
 arguments_in i method = map (value i) (any_values None method.parameters 0).terms
 
--- and where an obligation is refuted, a modular run on the arguments of the interpretation is wrong there by its kind
+-- where a modular run of a method is wrong, an obligation of that kind at that place is refuted by an interpretation
+-- that gives its arguments
+abbrev pub WrongIsRefuted : Type 0
+WrongIsRefuted = (program : Program) (groups : List ℕ) (number : ℕ) (method : Method) (pos : Pos) (kind : Kind)
+    → is_well_typed program ≡ true → IsDefinitelyAssigned program → method_at program number ≡ Some method
+    → (wrong : IsModularlyWrong program groups number method pos kind)
+    → (obligation : Obligation) × IsOwed program groups number method pos kind obligation × (refuted : IsRefuted program obligation)
+    × (arguments_in refuted.interpretation method ≡ wrong.arguments)
+
+-- and where an obligation is refuted, the modular run on what the interpretation gives is wrong there by its kind: on
+-- its arguments, and on what it hands in at calls and loops
 abbrev pub RefutedIsWrong : Type 0
 RefutedIsWrong = (program : Program) (groups : List ℕ) (number : ℕ) (method : Method) (pos : Pos) (kind : Kind) (obligation : Obligation)
     → is_well_typed program ≡ true → IsDefinitelyAssigned program → method_at program number ≡ Some method
     → IsOwed program groups number method pos kind obligation → (refuted : IsRefuted program obligation)
     → (wrong : IsModularlyWrong program groups number method pos kind) × (wrong.arguments ≡ arguments_in refuted.interpretation method)
+    × (wrong.store ≡ store_with [] (handed_in refuted.interpretation program groups number method))
 
 -- so where all obligations of a method are valid, no modular run of it is wrong
 abbrev pub ValidIsSafe : Type 0

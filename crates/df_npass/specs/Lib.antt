@@ -1,4 +1,5 @@
 pub mod Rules
 pub mod Statements
 pub mod Methods
+pub mod Handing
 pub mod Laws

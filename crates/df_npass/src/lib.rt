@@ -5,13 +5,15 @@
 ghost use Rattle.df_npass.specs.Laws.{WrongIsRefuted, RefutedIsWrong, ValidIsSafe, SafeIsValid, AllValidIsSafe, RefutedMemberIsWrong, ValidMembersAreSafe, OneListOfObligations};
 
 /// Where a modular run of a method is wrong, an obligation of that kind at that place is refuted: by an
-/// interpretation that makes all its hypotheses true and its goal false.
+/// interpretation that gives the run's arguments, and makes all its hypotheses true and its goal false.
+#[tactic(auto, using(crate::proofs::Laws::wrong_is_refuted))]
 pub fn wrong_is_refuted()
     ensures { WrongIsRefuted }
 {}
 
-/// Where an obligation of a method is refuted, a modular run of it is wrong at its place by its kind, on the arguments
-/// that the interpretation gives and on something that is handed in at calls and loops.
+/// Where an obligation of a method is refuted, the modular run on what the interpretation gives is wrong at its place by
+/// its kind: on its arguments, and on its values of the free terms that are made at the calls and loops that the run
+/// meets, in order.
 pub fn refuted_is_wrong()
     ensures { RefutedIsWrong }
 {}
@@ -27,11 +29,13 @@ pub fn safe_is_valid()
 {}
 
 /// Where all obligations of a program over its groups are valid, the program is safe.
+#[tactic(auto, using(crate::proofs::Laws::all_valid_is_safe))]
 pub fn all_valid_is_safe()
     ensures { AllValidIsSafe }
 {}
 
 /// Where an obligation of a program is refuted, a modular run of the method that it is an obligation of is wrong there.
+#[tactic(auto, using(crate::proofs::Laws::refuted_member_is_wrong))]
 pub fn refuted_member_is_wrong()
     ensures { RefutedMemberIsWrong }
 {}
@@ -42,6 +46,7 @@ pub fn valid_members_are_safe()
 {}
 
 /// All groups of a program give it the same obligations: whether a callee is in the group of its caller is one answer.
+#[tactic(auto, using(crate::proofs::Obligations::one_list_of_obligations))]
 pub fn one_list_of_obligations()
     ensures { OneListOfObligations }
 {}

@@ -1,5 +1,7 @@
 -- What is judged with no failure is valid, and so it is safe and correct.
-use Rattle.std.proofs.Common.{◌≡◌, ℕ, zero, suc, ◌+◌, ◌<◌, true, List, [], ◌∷◌, map, length, get_or, Some, refl, sym, subst, rules, arith}
+use Rattle.std.proofs.Common.{◌≡◌, ℕ, zero, suc, ◌+◌, ◌<◌, true, List, [], ◌∷◌, map, length, get_or, Some, None, refl, sym, ap, ◌∙◌, subst, rules, arith}
+use Rattle.df_lang.specs.declared.ty.Ty.{Ty}
+use Rattle.df_lang.specs.declared.ty.Ty.TheVariants as types
 use Rattle.df_lang.specs.Assignment.{IsDefinitelyAssigned}
 use Rattle.df_lang.specs.Groups.{AreGroups}
 use Rattle.df_lang.specs.Program.{Param, Method, Decl, NewtypeDecl, MethodDecl, Program, method_at}
@@ -9,15 +11,22 @@ use Rattle.df_meaning.specs.Modular.{IsModularlySafe}
 use Rattle.df_hoare.specs.Total.{SafeIsCorrect}
 use Rattle.df_form.specs.Log.{Step, step_of}
 use Rattle.df_form.specs.Sequent.{Sequent, IsSequent, IsValid}
+use Rattle.df_form.specs.Truth.{Assignment}
+use Rattle.df_form.specs.Types as form
 use Rattle.df_rules.specs.Derivation.{Derives}
+use Rattle.df_nterm.specs.Term.{sort_of_type}
+use Rattle.df_nterm.specs.Meaning.{Interpretation, value}
+use Rattle.df_nenc.specs.Tree.{sort_of}
+use Rattle.df_npass.specs.Rules.{free_of}
+use Rattle.df_npass.specs.Statements.{any_values}
 use Rattle.df_npass.specs.Methods.{Obligation, obligations_of_method}
 use Rattle.df_npass.specs.Laws.{ValidIsSafe}
 use Rattle.df_npass.specs.Laws as trees
-use Rattle.df_nowed.specs.Laws.{ValidSequentsAreValidObligations, RefutedSequentsAreRefutedObligations}
+use Rattle.df_nowed.specs.Laws.{GivesAs, ValidSequentsAreValidObligations, RefutedSequentsAreRefutedObligations}
 use Rattle.df_search.specs.declared.found.Budget.{Budget}
 use Rattle.df_report.specs.Report.{Failure, Outcome, is_verified}
 use Rattle.df_nverdict.specs.declared.judging.Proof.{Proof}
-use Rattle.df_nverdict.specs.Laws.{RefutedIsWrong}
+use Rattle.df_nverdict.specs.Laws.{arguments_by, RefutedIsWrong}
 use Rattle.df_nverdict.specs.Sequents.{IsSequentOf}
 use Rattle.df_nverdict.specs.Verdict.{IsConfirmed, Judges, none, proved, failed, IsJudgedMethod, AreJudged, IsJudged, are_verified}
 
@@ -88,8 +97,23 @@ module _ (valid : (s : Sequent) (log : List Step) → IsSequent s → Derives s 
                 (method_at_is_safe program groups budget 0 program.decls outcomes judged.0 number method typed definite (subst (λ (i : ℕ). method_at program i ≡ Some method) same there) there judged.1 verified);
           })
 
--- what refutes the sequent of an obligation makes a modular run wrong
+-- ---- what refutes the sequent of an obligation makes the modular run on what it gives wrong
+
+type_sort : (ty : Ty) → sort_of (form.sort_of_type ty) ≡ sort_of_type ty
+type_sort types.Bool = refl
+type_sort ty = refl
+
+arguments_are : (i : Interpretation) (a : Assignment) → GivesAs i a → (params : List Param) (n : ℕ) → map (value i) (any_values None params n).terms ≡ arguments_by a n params
+arguments_are i a same [] n = refl
+arguments_are i a same (param ∷ others) n =
+    let first : value i (free_of n param.ty) ≡ a.value (record { number = n; sort = form.sort_of_type param.ty }) =
+    ap (λ sort. i.value (record { number = n; sort = sort })) (sym (type_sort param.ty)) ∙ same (record { number = n; sort = form.sort_of_type param.ty }) in
+    λ k. first k ∷ arguments_are i a same others (suc n) k
+
 pub is_wrong : RefutedSequentsAreRefutedObligations → trees.RefutedIsWrong → RefutedIsWrong
 is_wrong refuted wrong program groups number method o s depth assignment typed definite there contains is_of hypotheses goal =
-    (wrong program groups number method o.pos o.kind o typed definite there (record { owed = contains; place = refl; kind_is = refl })
-    (subst (trees.IsRefuted program) is_of.owed (refuted program o.declaration o.pos o.kind s depth assignment is_of.world hypotheses goal))).0
+    let r = subst (λ (x : Obligation). (one : trees.IsRefuted program x) × GivesAs one.interpretation assignment) is_of.owed (refuted program o.declaration o.pos o.kind s depth assignment is_of.world hypotheses goal) in
+    let run = wrong program groups number method o.pos o.kind o typed definite there (record { owed = contains; place = refl; kind_is = refl }) r.0 in (
+      run.0,
+      record { interpretation = r.0.interpretation; values = r.1; arguments = run.1 ∙ arguments_are r.0.interpretation assignment r.1 method.parameters 0; store = run.2 },
+    )

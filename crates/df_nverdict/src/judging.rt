@@ -17,7 +17,7 @@ use df_kern::Accepted;
 use df_lang::{Param, Program};
 use df_nowed::{MethodObligations, Obligation};
 use df_report::{Evidence, Failure, Parameter};
-use df_search::{Budget, Found, Index, search_with};
+use df_search::{Budget, Engine, Found, search_with};
 use std::alloc::{AllocError, Global};
 
 /// A method whose obligations are judged.
@@ -57,7 +57,7 @@ fn found(alloc: Global, evidence: Evidence) -> Finding
 /// Why there is no proof of the sequent, where none is found; else the proof is added.
 fn judge(
     alloc: Global,
-    index: &mut Index,
+    engine: &mut Engine,
     params: &[Param],
     sequent: &Sequent,
     proofs: &mut Vec<Proof>,
@@ -66,7 +66,7 @@ fn judge(
     requires { 1 ≤ budget.steps }
     ensures { IfOk result (Finds (map param_of params.now) (sequent_of sequent.now) budget proofs.old.items proofs.new.items) }
 {
-    match search_with(alloc, index, sequent, budget)? {
+    match search_with(alloc, engine, sequent, budget)? {
         Found::Proved { accepted, log } => {
             proofs.push(Proof { accepted, log })?;
             Ok(None)
@@ -100,7 +100,7 @@ fn failure(alloc: Global, obligation: &Obligation, finding: Finding) -> Result<F
 fn add(
     alloc: Global,
     entry: &Entry,
-    index: &mut Index,
+    engine: &mut Engine,
     failures: &mut Vec<Failure>,
     proofs: &mut Vec<Proof>,
     obligation: &Obligation,
@@ -111,7 +111,7 @@ fn add(
     ensures { OnOk result (Adds (program_of entry.now.program.now) (map param_of entry.now.params.now) budget (obligation_in entry.now.owed.now.declaration entry.now.owed.now.nodes entry.now.owed.now.known obligation.now) (map failure_of failures.old.items) (map failure_of failures.new.items) proofs.old.items proofs.new.items) }
 {
     let sequent = entry.owed.sequent(alloc, entry.program, obligation)?;
-    match judge(alloc, index, entry.params, &sequent, proofs, budget)? {
+    match judge(alloc, engine, entry.params, &sequent, proofs, budget)? {
         Some(finding) => {
             failures.push(failure(alloc, obligation, finding)?)?;
             Ok(())
@@ -131,13 +131,13 @@ pub(crate) fn failures(
     requires none { proofs.old.items ≡ [] }
     ensures { IfOk result (λ failures. Judges (program_of entry.now.program.now) (map param_of entry.now.params.now) budget (obligations_in entry.now.owed.now) (map failure_of failures.items) proofs.new.items) }
 {
-    let mut index = Index::new(alloc);
+    let mut engine = Engine::new(alloc);
     let mut failures = Vec::new(alloc);
     for obligation in &entry.owed.obligations {
         add(
             alloc,
             entry,
-            &mut index,
+            &mut engine,
             &mut failures,
             proofs,
             obligation,

@@ -26,8 +26,9 @@ pub fn verified_is_safe()
     valid_is_safe();
 }
 
-/// Where an assignment refutes the sequent of an obligation of a method, a modular run of the method is wrong at its
-/// position by its kind: so no obligation is one too many.
+/// Where an assignment refutes the sequent of an obligation of a method, the modular run of the method on what it gives
+/// is wrong at its position by its kind: on its values of the parameters, and of the free terms that are made at the
+/// calls and loops that the run meets. So no obligation is one too many.
 pub fn refuted_is_wrong()
     ensures { RefutedIsWrong }
 {

@@ -1,5 +1,0 @@
-use Rattle.df_npass.proofs.Laws.{refuted_member_is_wrong}
-use Rattle.df_npass.proofs.refuted_member_is_wrong.Goals as goal
-
-pub returns : goal.returns
-returns c = refuted_member_is_wrong
