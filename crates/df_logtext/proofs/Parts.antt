@@ -7,6 +7,7 @@ use Rattle.df_lemmas.proofs.Alls.{all_joined}
 use Rattle.df_form.specs.Log.{Step}
 use Rattle.df_logtext.specs.HasText.{HasNumbers, HaveNumbers}
 use Rattle.df_logtext.specs.LogText.{ended, part_lines, parts_lines, text_of_lines}
+use Rattle.df_logtext.specs.Writes.{Writes}
 
 -- one more log
 pub parts-more : (names : List (List ℕ)) (number : ℕ) (logs : List (List Step)) (log : List Step) → parts_lines names number (logs ++ log ∷ []) ≡ parts_lines names number logs ++ part_lines names (number + length logs) log
@@ -21,19 +22,20 @@ pub parts_text_more : (names : List (List ℕ)) (number next : ℕ) (logs : List
 parts_text_more names number next logs log e =
     ap text_of_lines (parts-more names number logs log) ∙ flat_map-append ended (parts_lines names number logs) _ ∙ ap (λ n. text_of_lines (parts_lines names number logs) ++ text_of_lines (part_lines names n log)) e
 
--- in a loop
-pub parts_step : {X : Type 0} (names : List (List ℕ)) (view : X → List Step) (logs : List X) (n : ℕ) (x : X) → n < length logs → x ≡ get_or logs n x
-    → text_of_lines (parts_lines names 1 (map view (take (n + 1) logs))) ≡ text_of_lines (parts_lines names 1 (map view (take n logs))) ++ text_of_lines (part_lines names (n + 1) (view x))
-parts_step names view logs n x h is =
-    let t : take (n + 1) logs ≡ take n logs ++ x ∷ [] = take_more logs n x h ∙ ap (λ y. take n logs ++ y ∷ []) (sym is) in
-    let m : map view (take (n + 1) logs) ≡ map view (take n logs) ++ view x ∷ [] = ap (map view) t ∙ map-append view (take n logs) (x ∷ []) in
-    let len : 1 + length (map view (take n logs)) ≡ n + 1 = omega (arith, length-map (take n logs) view, length-take-le n logs (omega arith)) in
-    ap (λ ls. text_of_lines (parts_lines names 1 ls)) m ∙ parts_text_more names 1 (n + 1) (map view (take n logs)) (view x) len
+-- A loop over logs: behind the first ones one more is written.
+module _ {X : Type 0} (names : List (List ℕ)) (view : X → List Step) (logs : List X) (n : ℕ) (x : X) (inside : n < length logs) (here : x ≡ get_or logs n x) where
+  views_more : map view (take (n + 1) logs) ≡ map view (take n logs) ++ view x ∷ []
+  views_more = ap (map view) (take_more logs n x inside ∙ ap (λ y. take n logs ++ y ∷ []) (sym here)) ∙ map-append view (take n logs) (x ∷ [])
 
--- the numbers of one more log fit
-pub numbers_step : {X : Type 0} (view : X → List Step) (logs : List X) (n : ℕ) (x : X) → n < length logs → x ≡ get_or logs n x
-    → HaveNumbers (map view (take n logs)) → AllByRecursion HasNumbers (view x) → HaveNumbers (map view (take (n + 1) logs))
-numbers_step view logs n x h is so_far here =
-    let t : take (n + 1) logs ≡ take n logs ++ x ∷ [] = take_more logs n x h ∙ ap (λ y. take n logs ++ y ∷ []) (sym is) in
-    let m : map view (take (n + 1) logs) ≡ map view (take n logs) ++ view x ∷ [] = ap (map view) t ∙ map-append view (take n logs) (x ∷ []) in
-    subst HaveNumbers (sym m) (all_joined (λ (log : List Step). AllByRecursion HasNumbers log) (map view (take n logs)) (view x ∷ []) so_far (here, tt))
+  text_more : text_of_lines (parts_lines names 1 (map view (take (n + 1) logs))) ≡ text_of_lines (parts_lines names 1 (map view (take n logs))) ++ text_of_lines (part_lines names (n + 1) (view x))
+  text_more =
+      let next : 1 + length (map view (take n logs)) ≡ n + 1 = omega (arith, length-map (take n logs) view, length-take-le n logs (omega arith)) in
+      ap (λ ls. text_of_lines (parts_lines names 1 ls)) views_more ∙ parts_text_more names 1 (n + 1) (map view (take n logs)) (view x) next
+
+  pub part_more : (old middle new : List ℕ) → Writes old middle (text_of_lines (parts_lines names 1 (map view (take n logs)))) (HaveNumbers (map view (take n logs)))
+      → Writes middle new (text_of_lines (part_lines names (n + 1) (view x))) (AllByRecursion HasNumbers (view x))
+      → Writes old new (text_of_lines (parts_lines names 1 (map view (take (n + 1) logs)))) (HaveNumbers (map view (take (n + 1) logs)))
+  part_more old middle new before part = record {
+    text = part.text ∙ ap (λ text. text ++ text_of_lines (part_lines names (n + 1) (view x))) before.text ∙ append_assoc old _ _ ∙ ap (λ text. old ++ text) (sym text_more);
+    fits = subst HaveNumbers (sym views_more) (all_joined (λ (log : List Step). AllByRecursion HasNumbers log) (map view (take n logs)) (view x ∷ []) before.fits (part.fits, tt));
+  }

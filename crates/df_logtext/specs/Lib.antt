@@ -5,6 +5,7 @@ pub mod Numeral
 pub mod Parting
 pub mod View
 pub mod Words
+pub mod Writes
 pub mod Arguments
 pub mod Reading
 pub mod ReaderView

@@ -14,7 +14,7 @@ use std::alloc::{AllocError, Global};
 use std::mem::replace;
 
 /// Where in a text the lines so far end.
-#[derive(Clone, Copy, Debug, PartialEq, Eq)]
+#[derive(Clone, Copy, PartialEq, Eq)]
 pub enum Stage {
     /// At its beginning.
     Before,

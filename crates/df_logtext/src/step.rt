@@ -10,6 +10,7 @@ ghost use Rattle.df_logtext.specs.Joined.{behind};
 ghost use Rattle.df_logtext.specs.StepText.{literal_word, pair_words, combination_words, type_name, op_word, op_number, node_words, letter as letter_of, arguments, step_line};
 ghost use Rattle.df_logtext.specs.LogText.{ended};
 ghost use Rattle.df_logtext.specs.View.{names_of};
+ghost use Rattle.df_logtext.specs.Writes.{Writes};
 
 use crate::word::{
     push_combinations, push_integer, push_literals, push_number, push_numbers, push_pairs,
@@ -51,8 +52,7 @@ fn push_type(text: &mut Vec<u8>, names: &[String], ty: Ty) -> Result<(), AllocEr
 }
 
 fn push_op(text: &mut Vec<u8>, names: &[String], op: Op) -> Result<(), AllocError>
-    ensures written { OnOk result (text.new.items ≡ text.old.items ++ behind 32 (op_word (names_of names.now) op ∷ op_number op)) }
-    ensures numbers { OnOk result (HasNumber op) }
+    ensures { OnOk result (Writes text.old.items text.new.items (behind 32 (op_word (names_of names.now) op ∷ op_number op)) (HasNumber op)) }
 {
     match op {
         Op::Number(number) => {
@@ -78,8 +78,7 @@ fn push_op(text: &mut Vec<u8>, names: &[String], op: Op) -> Result<(), AllocErro
 }
 
 fn push_node(text: &mut Vec<u8>, names: &[String], node: &Node) -> Result<(), AllocError>
-    ensures written { OnOk result (text.new.items ≡ text.old.items ++ behind 32 (node_words (names_of names.now) (node_of node.now))) }
-    ensures numbers { OnOk result (HasNumber node.now.op × AllByRecursion IsIndex node.now.parts.items) }
+    ensures { OnOk result (Writes text.old.items text.new.items (behind 32 (node_words (names_of names.now) (node_of node.now))) (HasNumber node.now.op × AllByRecursion IsIndex node.now.parts.items)) }
 {
     push_op(text, names, node.op)?;
     push_numbers(text, &node.parts)
@@ -91,8 +90,7 @@ fn push_schema(
     clause: u32,
     terms: &[usize],
 ) -> Result<(), AllocError>
-    ensures written { OnOk result (text.new.items ≡ text.old.items ++ behind 32 (decimal schema ∷ decimal clause ∷ map decimal terms.now)) }
-    ensures numbers { OnOk result ((schema < 2 ^ 8) × (clause < 2 ^ 32) × AllByRecursion IsIndex terms.now) }
+    ensures { OnOk result (Writes text.old.items text.new.items (behind 32 (decimal schema ∷ decimal clause ∷ map decimal terms.now)) ((schema < 2 ^ 8) × (clause < 2 ^ 32) × AllByRecursion IsIndex terms.now)) }
 {
     push_number(text, schema.into())?;
     push_number(text, clause.into())?;
@@ -104,8 +102,7 @@ fn push_propagation(
     clauses: &[usize],
     conclusion: &[Lit],
 ) -> Result<(), AllocError>
-    ensures written { OnOk result (text.new.items ≡ text.old.items ++ behind 32 (map decimal clauses.now ++ codes ":" ∷ map literal_word conclusion.now)) }
-    ensures numbers { OnOk result (AllByRecursion IsIndex clauses.now × AllByRecursion HasLiteral conclusion.now) }
+    ensures { OnOk result (Writes text.old.items text.new.items (behind 32 (map decimal clauses.now ++ codes ":" ∷ map literal_word conclusion.now)) (AllByRecursion IsIndex clauses.now × AllByRecursion HasLiteral conclusion.now)) }
 {
     push_numbers(text, clauses)?;
     push_word(text, b":")?;
@@ -113,8 +110,7 @@ fn push_propagation(
 }
 
 fn push_congruence(text: &mut Vec<u8>, conclusion: &[Lit], pairs: &[Pair]) -> Result<(), AllocError>
-    ensures written { OnOk result (text.new.items ≡ text.old.items ++ behind 32 (map literal_word conclusion.now ++ codes ":" ∷ flat_map pair_words pairs.now)) }
-    ensures numbers { OnOk result (AllByRecursion HasLiteral conclusion.now × AllByRecursion HasPair pairs.now) }
+    ensures { OnOk result (Writes text.old.items text.new.items (behind 32 (map literal_word conclusion.now ++ codes ":" ∷ flat_map pair_words pairs.now)) (AllByRecursion HasLiteral conclusion.now × AllByRecursion HasPair pairs.now)) }
 {
     push_literals(text, conclusion)?;
     push_word(text, b":")?;
@@ -126,8 +122,7 @@ fn push_linear(
     conclusion: &[Lit],
     combinations: &[Combination],
 ) -> Result<(), AllocError>
-    ensures written { OnOk result (text.new.items ≡ text.old.items ++ behind 32 (map literal_word conclusion.now ++ codes ":" ∷ flat_map combination_words (map combination_of combinations.now))) }
-    ensures numbers { OnOk result (AllByRecursion HasLiteral conclusion.now × AllByRecursion HasCombination (map combination_of combinations.now)) }
+    ensures { OnOk result (Writes text.old.items text.new.items (behind 32 (map literal_word conclusion.now ++ codes ":" ∷ flat_map combination_words (map combination_of combinations.now))) (AllByRecursion HasLiteral conclusion.now × AllByRecursion HasCombination (map combination_of combinations.now))) }
 {
     push_literals(text, conclusion)?;
     push_word(text, b":")?;
@@ -135,16 +130,14 @@ fn push_linear(
 }
 
 fn push_two(text: &mut Vec<u8>, first: usize, second: usize) -> Result<(), AllocError>
-    ensures written { OnOk result (text.new.items ≡ text.old.items ++ behind 32 (decimal first ∷ decimal second ∷ [])) }
-    ensures numbers { OnOk result (IsIndex first × IsIndex second) }
+    ensures { OnOk result (Writes text.old.items text.new.items (behind 32 (decimal first ∷ decimal second ∷ [])) (IsIndex first × IsIndex second)) }
 {
     push_number(text, first as u64)?;
     push_number(text, second as u64)
 }
 
 fn push_split(text: &mut Vec<u8>, node: usize, bound: i128) -> Result<(), AllocError>
-    ensures written { OnOk result (text.new.items ≡ text.old.items ++ behind 32 (decimal node ∷ signed_decimal bound ∷ [])) }
-    ensures numbers { OnOk result (IsIndex node × IsWide bound) }
+    ensures { OnOk result (Writes text.old.items text.new.items (behind 32 (decimal node ∷ signed_decimal bound ∷ [])) (IsIndex node × IsWide bound)) }
 {
     push_number(text, node as u64)?;
     push_integer(text, bound)
@@ -167,8 +160,7 @@ fn letter(step: &Step) -> &'static [u8]
 }
 
 fn push_arguments(text: &mut Vec<u8>, names: &[String], step: &Step) -> Result<(), AllocError>
-    ensures written { OnOk result (text.new.items ≡ text.old.items ++ behind 32 (arguments (names_of names.now) (step_of step.now))) }
-    ensures numbers { OnOk result (HasNumbers (step_of step.now)) }
+    ensures { OnOk result (Writes text.old.items text.new.items (behind 32 (arguments (names_of names.now) (step_of step.now))) (HasNumbers (step_of step.now))) }
 {
     match step {
         Step::Hypothesis(number) => push_number(text, *number as u64),
@@ -195,8 +187,7 @@ fn push_arguments(text: &mut Vec<u8>, names: &[String], step: &Step) -> Result<(
 
 /// The line of a step.
 pub fn push_step(text: &mut Vec<u8>, names: &[String], step: &Step) -> Result<(), AllocError>
-    ensures written { OnOk result (text.new.items ≡ text.old.items ++ ended (step_line (names_of names.now) (step_of step.now))) }
-    ensures numbers { OnOk result (HasNumbers (step_of step.now)) }
+    ensures { OnOk result (Writes text.old.items text.new.items (ended (step_line (names_of names.now) (step_of step.now))) (HasNumbers (step_of step.now))) }
 {
     text.extend_from_slice(letter(step))?;
     push_arguments(text, names, step)?;

@@ -7,6 +7,7 @@ ghost use Rattle.df_form.specs.Log.{combination_of};
 ghost use Rattle.df_logtext.specs.HasText.{IsIndex, HasLiteral, HasPair, HasMultiple, HasCombination};
 ghost use Rattle.df_logtext.specs.Joined.{behind};
 ghost use Rattle.df_logtext.specs.StepText.{literal_word, pair_words, multiple_text, sum_words, combination_words};
+ghost use Rattle.df_logtext.specs.Writes.{Writes};
 
 use df_form::{Combination, Lit, Multiple, Pair};
 use itoa::Buffer;
@@ -57,8 +58,7 @@ pub fn push_integer(text: &mut Vec<u8>, number: i128) -> Result<(), AllocError>
 
 /// Numbers from 0 on.
 pub fn push_numbers(text: &mut Vec<u8>, numbers: &[usize]) -> Result<(), AllocError>
-    ensures written { OnOk result (text.new.items ≡ text.old.items ++ behind 32 (map decimal numbers.now)) }
-    ensures numbers { OnOk result (AllByRecursion IsIndex numbers.now) }
+    ensures { OnOk result (Writes text.old.items text.new.items (behind 32 (map decimal numbers.now)) (AllByRecursion IsIndex numbers.now)) }
 {
     for number in numbers {
         push_number(text, *number as u64)?;
@@ -67,8 +67,7 @@ pub fn push_numbers(text: &mut Vec<u8>, numbers: &[usize]) -> Result<(), AllocEr
 }
 
 fn push_literal(text: &mut Vec<u8>, literal: Lit) -> Result<(), AllocError>
-    ensures written { OnOk result (text.new.items ≡ text.old.items ++ behind 32 (literal_word literal ∷ [])) }
-    ensures numbers { OnOk result (HasLiteral literal) }
+    ensures { OnOk result (Writes text.old.items text.new.items (behind 32 (literal_word literal ∷ [])) (HasLiteral literal)) }
 {
     if literal.positive {
         text.extend_from_slice(b" +")?;
@@ -80,8 +79,7 @@ fn push_literal(text: &mut Vec<u8>, literal: Lit) -> Result<(), AllocError>
 
 /// Literals.
 pub fn push_literals(text: &mut Vec<u8>, literals: &[Lit]) -> Result<(), AllocError>
-    ensures written { OnOk result (text.new.items ≡ text.old.items ++ behind 32 (map literal_word literals.now)) }
-    ensures numbers { OnOk result (AllByRecursion HasLiteral literals.now) }
+    ensures { OnOk result (Writes text.old.items text.new.items (behind 32 (map literal_word literals.now)) (AllByRecursion HasLiteral literals.now)) }
 {
     for literal in literals {
         push_literal(text, *literal)?;
@@ -90,8 +88,7 @@ pub fn push_literals(text: &mut Vec<u8>, literals: &[Lit]) -> Result<(), AllocEr
 }
 
 fn push_pair(text: &mut Vec<u8>, pair: &Pair) -> Result<(), AllocError>
-    ensures written { OnOk result (text.new.items ≡ text.old.items ++ behind 32 (pair_words pair.now)) }
-    ensures numbers { OnOk result (HasPair pair.now) }
+    ensures { OnOk result (Writes text.old.items text.new.items (behind 32 (pair_words pair.now)) (HasPair pair.now)) }
 {
     push_number(text, pair.left as u64)?;
     push_number(text, pair.right as u64)
@@ -99,8 +96,7 @@ fn push_pair(text: &mut Vec<u8>, pair: &Pair) -> Result<(), AllocError>
 
 /// Pairs.
 pub fn push_pairs(text: &mut Vec<u8>, pairs: &[Pair]) -> Result<(), AllocError>
-    ensures written { OnOk result (text.new.items ≡ text.old.items ++ behind 32 (flat_map pair_words pairs.now)) }
-    ensures numbers { OnOk result (AllByRecursion HasPair pairs.now) }
+    ensures { OnOk result (Writes text.old.items text.new.items (behind 32 (flat_map pair_words pairs.now)) (AllByRecursion HasPair pairs.now)) }
 {
     for pair in pairs {
         push_pair(text, pair)?;
@@ -113,8 +109,7 @@ fn push_multiple(
     separator: &[u8],
     multiple: &Multiple,
 ) -> Result<(), AllocError>
-    ensures written { OnOk result (text.new.items ≡ text.old.items ++ (separator.now ++ multiple_text multiple.now)) }
-    ensures numbers { OnOk result (HasMultiple multiple.now) }
+    ensures { OnOk result (Writes text.old.items text.new.items (separator.now ++ multiple_text multiple.now) (HasMultiple multiple.now)) }
 {
     text.extend_from_slice(separator)?;
     push_signed_digits(text, multiple.factor)?;
@@ -123,8 +118,7 @@ fn push_multiple(
 }
 
 fn push_more_multiples(text: &mut Vec<u8>, multiples: &[Multiple]) -> Result<(), AllocError>
-    ensures written { OnOk result (text.new.items ≡ text.old.items ++ behind 43 (map multiple_text multiples.now)) }
-    ensures numbers { OnOk result (AllByRecursion HasMultiple multiples.now) }
+    ensures { OnOk result (Writes text.old.items text.new.items (behind 43 (map multiple_text multiples.now)) (AllByRecursion HasMultiple multiples.now)) }
 {
     for multiple in multiples {
         push_multiple(text, b"+", multiple)?;
@@ -134,8 +128,7 @@ fn push_more_multiples(text: &mut Vec<u8>, multiples: &[Multiple]) -> Result<(),
 
 /// A sum, if it has members.
 fn push_sum(text: &mut Vec<u8>, multiples: &[Multiple]) -> Result<(), AllocError>
-    ensures written { OnOk result (text.new.items ≡ text.old.items ++ behind 32 (sum_words multiples.now)) }
-    ensures numbers { OnOk result (AllByRecursion HasMultiple multiples.now) }
+    ensures { OnOk result (Writes text.old.items text.new.items (behind 32 (sum_words multiples.now)) (AllByRecursion HasMultiple multiples.now)) }
 {
     match multiples {
         [] => Ok(()),
@@ -147,8 +140,7 @@ fn push_sum(text: &mut Vec<u8>, multiples: &[Multiple]) -> Result<(), AllocError
 }
 
 fn push_combination(text: &mut Vec<u8>, combination: &Combination) -> Result<(), AllocError>
-    ensures written { OnOk result (text.new.items ≡ text.old.items ++ behind 32 (combination_words (combination_of combination.now))) }
-    ensures numbers { OnOk result (HasCombination (combination_of combination.now)) }
+    ensures { OnOk result (Writes text.old.items text.new.items (behind 32 (combination_words (combination_of combination.now))) (HasCombination (combination_of combination.now))) }
 {
     push_integer(text, combination.divisor)?;
     push_sum(text, &combination.members)
@@ -156,8 +148,7 @@ fn push_combination(text: &mut Vec<u8>, combination: &Combination) -> Result<(),
 
 /// Combinations of rows.
 pub fn push_combinations(text: &mut Vec<u8>, combinations: &[Combination]) -> Result<(), AllocError>
-    ensures written { OnOk result (text.new.items ≡ text.old.items ++ behind 32 (flat_map combination_words (map combination_of combinations.now))) }
-    ensures numbers { OnOk result (AllByRecursion HasCombination (map combination_of combinations.now)) }
+    ensures { OnOk result (Writes text.old.items text.new.items (behind 32 (flat_map combination_words (map combination_of combinations.now))) (AllByRecursion HasCombination (map combination_of combinations.now))) }
 {
     for combination in combinations {
         push_combination(text, combination)?;

@@ -6,6 +6,7 @@ ghost use Rattle.df_logtext.specs.HasText.{HasNumbers, HaveNumbers};
 ghost use Rattle.df_logtext.specs.LogText.{ended, part_line, part_lines, parts_lines, text_of_lines, log_text};
 ghost use Rattle.df_logtext.specs.StepText.{step_line};
 ghost use Rattle.df_logtext.specs.View.{log_of, logs_of, names_of};
+ghost use Rattle.df_logtext.specs.Writes.{Writes};
 
 use crate::step::push_step;
 use crate::word::push_digits;
@@ -23,8 +24,7 @@ fn push_part_line(text: &mut Vec<u8>, number: u64) -> Result<(), AllocError>
 }
 
 fn push_steps(text: &mut Vec<u8>, names: &[String], steps: &[Step]) -> Result<(), AllocError>
-    ensures written { OnOk result (text.new.items ≡ text.old.items ++ text_of_lines (map (step_line (names_of names.now)) (log_of steps.now))) }
-    ensures numbers { OnOk result (AllByRecursion HasNumbers (log_of steps.now)) }
+    ensures { OnOk result (Writes text.old.items text.new.items (text_of_lines (map (step_line (names_of names.now)) (log_of steps.now))) (AllByRecursion HasNumbers (log_of steps.now))) }
 {
     for step in steps {
         push_step(text, names, step)?;
@@ -38,8 +38,7 @@ fn push_part(
     number: u64,
     steps: &[Step],
 ) -> Result<(), AllocError>
-    ensures written { OnOk result (text.new.items ≡ text.old.items ++ text_of_lines (part_lines (names_of names.now) number (log_of steps.now))) }
-    ensures numbers { OnOk result (AllByRecursion HasNumbers (log_of steps.now)) }
+    ensures { OnOk result (Writes text.old.items text.new.items (text_of_lines (part_lines (names_of names.now) number (log_of steps.now))) (AllByRecursion HasNumbers (log_of steps.now))) }
 {
     push_part_line(text, number)?;
     push_steps(text, names, steps)?;
@@ -48,8 +47,7 @@ fn push_part(
 }
 
 fn push_parts(text: &mut Vec<u8>, names: &[String], logs: &[Vec<Step>]) -> Result<(), AllocError>
-    ensures written { OnOk result (text.new.items ≡ text.old.items ++ text_of_lines (parts_lines (names_of names.now) 1 (logs_of logs.now))) }
-    ensures numbers { OnOk result (HaveNumbers (logs_of logs.now)) }
+    ensures { OnOk result (Writes text.old.items text.new.items (text_of_lines (parts_lines (names_of names.now) 1 (logs_of logs.now))) (HaveNumbers (logs_of logs.now))) }
 {
     for (number, log) in logs.iter().enumerate() {
         push_part(text, names, number as u64 + 1, log)?;

@@ -90,7 +90,7 @@ module _ (words : List (List ℕ)) (files : Store) where
 
           by_files : (command : Command) (status : Status) (line : List ℕ) → FilesTell files command status line → IsLine words command → Appends s.err.old new line → AnswersSo status
           by_files command status line (unread name named rose) is put = (rose, record { command = command; line = is; holds = (name, named, (quiet, put)) })
-          by_files command status line (large loads long) is put = (line, record { command = command; line = is; holds = large loads long }, (quiet, put))
+          by_files command status line (large loads none long) is put = (line, record { command = command; line = is; holds = large loads none long }, (quiet, put))
           by_files command status line (loaded source log there is_log told) is put = by_source command log source status line (loaded source log there is_log told) told is put
 
       pub told_end : (line : List ℕ) (status result : Status) → FilesTell files command status line → s.out.new ≡ s.out.old → s.err.new ≡ s.err.old → Tells status line line_err result → AnswersSo result

@@ -305,7 +305,7 @@ module _ (call : Call)
 
   files_due : (command : Command) (source : List ℕ) (log : LogFile) (status : Status) (line : List ℕ) → HoldsSource call.files.held command source → HoldsLog call.files.held (log_of command) log → FilesTell call.files command status line → IsCutShort status ⊎ Due command source log status
   files_due command source log status line there there_log (unread name named rose) = inl complete.unread
-  files_due command source log status line there there_log (large loads long) = inr (of_long command source log (large_of command source loads there long))
+  files_due command source log status line there there_log (large loads none long) = inr (of_long command source log (large_of command source loads there long))
   files_due command source log status line there there_log (loaded other other_log is is_log told) =
       inr (of_both command source log there there_log other other_log status is is_log (source_due command other other_log status line is_log told))
 

@@ -44,7 +44,7 @@ same_log files (Some name) TooLong (Log bytes) is (whole, there, long) =
     let same = same_bytes files.held name bytes whole is.held there in
     absurd (not_both (length bytes) log_limit is.short (subst (λ (x : List ℕ). log_limit < length x) (sym same) long))
 same_log files (Some name) (Log bytes) NoLog is holds = absurd is
-same_log files (Some name) (Log bytes) TooLong is (there, short) = absurd (not_both (length bytes) log_limit short (longer_bytes log_limit files.held name bytes is there))
+same_log files (Some name) (Log bytes) TooLong is (there, short) = absurd (not_both (length bytes) log_limit short (longer_bytes log_limit files.held name bytes is.longer there))
 same_log files (Some name) (Log bytes) (Log other) is (there, short) = ap Log (same_bytes files.held name other bytes is.held there)
 
 -- where none is named there is none

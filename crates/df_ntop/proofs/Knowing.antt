@@ -27,7 +27,7 @@ use Rattle.df_ntop.specs.Command.{IsFileOf, file_of, log_of, log_name_of, compil
 use Rattle.df_ntop.specs.Entry.{HasNoEntry}
 use Rattle.df_ntop.specs.Loaded.{IsSourceOf, IsLonger, LogFile, TooLong, Log, IsLogFile}
 use Rattle.df_ntop.specs.Lines.{native_line, no_main_line, large_line, too_large_line, not_a_log_line, bad_part_line}
-use Rattle.df_ntop.specs.Answer.{IsReady, ProgramTells, not_native, no_main, too_large, not_a_log, bad_part, SourceTells, refused, lawful, FilesTell, large, loaded}
+use Rattle.df_ntop.specs.Answer.{IsReady, IsWithoutSource, ProgramTells, not_native, no_main, too_large, not_a_log, bad_part, SourceTells, refused, lawful, FilesTell, large, loaded}
 use Rattle.df_ntop.specs.Ending.{Known, IsToldBy, IsQuiet, Ends, of_program, of_source, of_files}
 
 -- a line is told, if there is memory for it
@@ -64,8 +64,8 @@ pub refused_tells : (source : List ℕ) (command : Command) (log : LogFile) (nam
 refused_tells source command log name names r same why =
     subst (λ (n : List ℕ). SourceTells source command log statuses.Refused (refusal_line n names r)) (sym same) (refused names r why)
 
-pub large_tells : (files : Store) (command : Command) (name : List ℕ) → name ≡ file_of command → IsFileOf command (file_of command) → IsLonger byte_limit files.held (file_of command) → FilesTell files command statuses.Refused (large_line name)
-large_tells files command name same loads long = subst (λ (n : List ℕ). FilesTell files command statuses.Refused (large_line n)) (sym same) (large loads long)
+pub large_tells : (files : Store) (command : Command) (name : List ℕ) → name ≡ file_of command → IsFileOf command (file_of command) → IsWithoutSource files command → IsLonger byte_limit files.held (file_of command) → FilesTell files command statuses.Refused (large_line name)
+large_tells files command name same loads none long = subst (λ (n : List ℕ). FilesTell files command statuses.Refused (large_line n)) (sym same) (large loads none long)
 
 -- ---- files that are too long
 

@@ -14,7 +14,7 @@ use Rattle.df_ntop.specs.Command.{IsFileOf, file_of, log_of}
 use Rattle.df_ntop.specs.Lines.{unread_line}
 use Rattle.df_ntop.specs.Loaded.{IsLoaded, IsSourceOf, IsLonger, log_limit, LogFile, NoLog, TooLong, Log, is_absent, IsLogFile, IsNamed}
 use Rattle.df_nfront.specs.Source.{byte_limit}
-use Rattle.df_ntop.specs.Answer.{IsBehindSource, IsUnread, unread_source, unread_log, unread}
+use Rattle.df_ntop.specs.Answer.{IsBehindSource, IsWithoutSource, IsUnread, unread_source, unread_log, unread}
 use Rattle.df_ntop.specs.Ending.{IsToldBy, IsQuiet, Ends, of_files, LoadsSource, LoadsLog, IsSourceFault, IsLogFault, FailsToLoad}
 use Rattle.df_ntop.proofs.Bulk.{later}
 
@@ -39,7 +39,7 @@ pub source_unread : (files : Store) (command : Command) (name : List ℕ) → Is
 source_unread files command name loads (is, kept) = subst (IsUnread files command) (sym is) (unread_source loads kept)
 
 behind_source : (files first : Store) (command : Command) (source : Option (Vec ℕ)) → first.had ≡ files.had → first.held ≡ files.held → files.given ≡ first.given → LoadsSource first (file_of command) source → IsBehindSource files command
-behind_source files first command None has holds gives loads = inr (gives ∙ loads.0 ∙ has, subst (λ (h : Option Contents). IsLonger byte_limit h (file_of command)) holds loads.1)
+behind_source files first command None has holds gives loads = inr (gives ∙ loads.0 ∙ has, subst (λ (h : Option Contents). IsLonger byte_limit h (file_of command)) holds loads.2)
 behind_source files first command (Some source) has holds gives loads = inl (source.items, gives ∙ loads.0 ∙ ap (λ (rest : List (List ℕ × List ℕ)). (file_of command, source.items) ∷ rest) has)
 
 -- why the log is not, behind the load of the source
@@ -89,7 +89,11 @@ log_is_loaded files second file source None NoLog has gives holds loads = tt
 log_is_loaded files second file source None TooLong has gives holds loads = loads
 log_is_loaded files second file source None (Log bytes) has gives holds loads = loads
 log_is_loaded files second file source (Some name) NoLog has gives holds loads = loads
-log_is_loaded files second file source (Some name) TooLong has gives holds loads = subst (λ (h : Option Contents). IsLonger log_limit h name) holds loads.1
+log_is_loaded files second file source (Some name) TooLong has gives holds loads = record {
+  first = (file, source);
+  given = sym gives ∙ loads.0 ∙ has;
+  longer = subst (λ (h : Option Contents). IsLonger log_limit h name) holds loads.2;
+}
 log_is_loaded files second file source (Some name) (Log bytes) has gives holds loads = record {
   first = (file, source);
   given = sym gives ∙ loads.0 ∙ ap (λ (rest : List (List ℕ × List ℕ)). (name, bytes) ∷ rest) has;
@@ -99,7 +103,7 @@ log_is_loaded files second file source (Some name) (Log bytes) has gives holds l
 
 -- and the source stays the first
 pub source_is_loaded : (files second : Store) (file source : List ℕ) (name : Option (List ℕ)) (log : LogFile) → second.had ≡ (file, source) ∷ files.had → second.given ≡ files.given → LoadsLog second name log → IfSome files.held (λ held. bytes_of held file ≡ Some source) → IsLoaded files file source
-source_is_loaded files second file source None NoLog has gives loads holds = record { others = []; given = sym gives ∙ loads ∙ has; held = holds }
+source_is_loaded files second file source None NoLog has gives loads holds = record { others = []; given = sym gives ∙ loads.0 ∙ has; held = holds }
 source_is_loaded files second file source None TooLong has gives loads holds = absurd loads
 source_is_loaded files second file source None (Log bytes) has gives loads holds = absurd loads
 source_is_loaded files second file source (Some name) NoLog has gives loads holds = absurd loads
@@ -109,6 +113,16 @@ source_is_loaded files second file source (Some name) (Log bytes) has gives load
   given = sym gives ∙ loads.0 ∙ ap (λ (rest : List (List ℕ × List ℕ)). (name, bytes) ∷ rest) has;
   held = holds;
 }
+
+-- where the load of the source gave nothing, no more is given than the log
+pub without_source : (files second : Store) (command : Command) (name : Option (List ℕ)) (log : LogFile) → log_of command ≡ name → second.had ≡ files.had → second.given ≡ files.given → second.before ≡ files.before → second.after ≡ files.after → LoadsLog second name log → IsWithoutSource files command
+without_source files second command None NoLog is has gives clean counts loads = inl (sym gives ∙ loads.0 ∙ has, sym counts ∙ loads.1 ∙ clean)
+without_source files second command None TooLong is has gives clean counts loads = absurd loads
+without_source files second command None (Log bytes) is has gives clean counts loads = absurd loads
+without_source files second command (Some name) NoLog is has gives clean counts loads = absurd loads
+without_source files second command (Some name) TooLong is has gives clean counts loads = inl (sym gives ∙ loads.0 ∙ has, sym counts ∙ loads.1 ∙ clean)
+without_source files second command (Some name) (Log bytes) is has gives clean counts loads =
+    inr (name, bytes, is, sym gives ∙ loads.0 ∙ ap (λ (rest : List (List ℕ × List ℕ)). (name, bytes) ∷ rest) has)
 
 -- the source of a command that loads its file
 pub source_of : (files : Store) (command : Command) (source : List ℕ) → IsFileOf command (file_of command) → IsLoaded files (file_of command) source → IsSourceOf files command source
@@ -124,8 +138,8 @@ source_of files (Bulk seed count) source is loaded = absurd is
 pub loads_named : (files : Store) (name : Option (List ℕ)) (found : List ℕ) (log : LogFile) → name ≡ Some found → LoadsLog files (Some found) log → LoadsLog files name log
 loads_named files name found log is loads = subst (λ (n : Option (List ℕ)). LoadsLog files n log) (sym is) loads
 
-pub loads_none : (files : Store) (name : Option (List ℕ)) → name ≡ None → files.given ≡ files.had → LoadsLog files name NoLog
-loads_none files name is same = subst (λ (n : Option (List ℕ)). LoadsLog files n NoLog) (sym is) same
+pub loads_none : (files : Store) (name : Option (List ℕ)) → name ≡ None → files.given ≡ files.had → files.after ≡ files.before → LoadsLog files name NoLog
+loads_none files name is same clean = subst (λ (n : Option (List ℕ)). LoadsLog files n NoLog) (sym is) (same, clean)
 
 -- ---- bulk loads nothing
 

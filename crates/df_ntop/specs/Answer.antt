@@ -223,6 +223,12 @@ IsBehindSource files command =
     ((source : List ℕ) × (files.given ≡ (file_of command, source) ∷ files.had))
     ⊎ ((files.given ≡ files.had) × IsLonger byte_limit files.held (file_of command))
 
+-- no bytes of the source are given: none at all, and no fault is counted, or those of the log alone
+abbrev pub IsWithoutSource : Store → Command → Type 0
+IsWithoutSource files command =
+    ((files.given ≡ files.had) × (files.after ≡ files.before))
+    ⊎ ((name : List ℕ) × (bytes : List ℕ) × (log_of command ≡ Some name) × (files.given ≡ (name, bytes) ∷ files.had))
+
 -- Of the command this file is not read: its source, before anything is given, or its log, behind the source or where that is
 -- too long.
 pub data IsUnread (files : Store) (command : Command) : List ℕ → Type 0 where
@@ -232,7 +238,7 @@ pub data IsUnread (files : Store) (command : Command) : List ℕ → Type 0 wher
 -- with the files
 pub data FilesTell (files : Store) (command : Command) : Status → List ℕ → Type 0 where
   unread : (name : List ℕ) → IsUnread files command name → Rose files.before files.after → FilesTell files command statuses.Unread (unread_line name)
-  large : IsFileOf command (file_of command) → IsLonger byte_limit files.held (file_of command) → FilesTell files command statuses.Refused (large_line (file_of command))
+  large : IsFileOf command (file_of command) → IsWithoutSource files command → IsLonger byte_limit files.held (file_of command) → FilesTell files command statuses.Refused (large_line (file_of command))
   loaded : {status : Status} {line : List ℕ} (source : List ℕ) (log : LogFile) → IsSourceOf files command source → IsLogFile files (log_of command) log → SourceTells source command log status line → FilesTell files command status line
 
 -- with the words

@@ -170,18 +170,18 @@ of_files command files = record {
 
 -- ---- loads
 
--- what the load of a source gave: its bytes, or that there are too many
+-- what the load of a source gave: its bytes, or that there are too many, which is no fault
 abbrev pub LoadsSource : Store → List ℕ → Option (Vec ℕ) → Type 0
-LoadsSource files name None = (files.given ≡ files.had) × IsLonger byte_limit files.held name
+LoadsSource files name None = (files.given ≡ files.had) × (files.after ≡ files.before) × IsLonger byte_limit files.held name
 LoadsSource files name (Some source) = (files.given ≡ (name, source.items) ∷ files.had) × IfSome files.held (λ held. bytes_of held name ≡ Some source.items)
 
 -- what the load of a log gave, if one is named
 abbrev pub LoadsLog : Store → Option (List ℕ) → LogFile → Type 0
-LoadsLog files None NoLog = files.given ≡ files.had
+LoadsLog files None NoLog = (files.given ≡ files.had) × (files.after ≡ files.before)
 LoadsLog files None TooLong = ⊥
 LoadsLog files None (Log bytes) = ⊥
 LoadsLog files (Some name) NoLog = ⊥
-LoadsLog files (Some name) TooLong = (files.given ≡ files.had) × IsLonger log_limit files.held name
+LoadsLog files (Some name) TooLong = (files.given ≡ files.had) × (files.after ≡ files.before) × IsLonger log_limit files.held name
 LoadsLog files (Some name) (Log bytes) = (files.given ≡ (name, bytes) ∷ files.had) × IfSome files.held (λ held. bytes_of held name ≡ Some bytes) × (length bytes ≤ log_limit)
 
 -- nothing is given, where this is the name of the source of a command

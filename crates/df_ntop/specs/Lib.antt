@@ -1,5 +1,7 @@
 pub mod Command
 pub mod Call
+pub mod HasNames
+pub mod Keeps
 pub mod Lines
 pub mod Loaded
 pub mod View

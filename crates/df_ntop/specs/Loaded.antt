@@ -54,13 +54,19 @@ pub record IsLogLoaded (files : Store) (name bytes : List ℕ) : Type 0 where
   pub held : IfSome files.held (λ held. bytes_of held name ≡ Some bytes)
   pub short : length bytes ≤ log_limit
 
+-- the files gave the source alone, and nothing of the log, which is longer than the limit, where they tell it
+pub record IsLogTooLong (files : Store) (name : List ℕ) : Type 0 where
+  pub first : List ℕ × List ℕ
+  pub given : files.given ≡ first ∷ files.had
+  pub longer : IsLonger log_limit files.held name
+
 -- of a log of this name, if one is named
 abbrev pub IsLogFile : Store → Option (List ℕ) → LogFile → Type 0
 IsLogFile files None NoLog = Unit {0}
 IsLogFile files None TooLong = ⊥
 IsLogFile files None (Log bytes) = ⊥
 IsLogFile files (Some name) NoLog = ⊥
-IsLogFile files (Some name) TooLong = IsLonger log_limit files.held name
+IsLogFile files (Some name) TooLong = IsLogTooLong files name
 IsLogFile files (Some name) (Log bytes) = IsLogLoaded files name bytes
 
 -- there is one exactly where one is named

@@ -10,6 +10,7 @@ ghost use Rattle.df_ntop.specs.Command.{IsLine, IsFileOf, file_of, budget_of as 
 ghost use Rattle.df_ntop.specs.Complete.{IsComplete};
 ghost use Rattle.df_ntop.specs.Ending.{Ends, of_files};
 ghost use Rattle.df_ntop.specs.Headline.{AcceptsRight, JudgesRight};
+ghost use Rattle.df_ntop.specs.Keeps.{Keeps};
 ghost use Rattle.df_ntop.specs.Proved.{DerivesAll};
 
 use crate::ending::End;
@@ -39,8 +40,8 @@ fn end_files<F: Files, O: Sink, E: Sink>(
     requires budget { IsBudget (budget_in (command_of command.now)) }
     ensures ends { Ends (of_files (command_of command.now) (store F.Files files.old files.new)) (streams O.Sink out.old out.new E.Sink err.old err.new) result }
     ensures held { F.holds files.new ≡ F.holds files.old }
-    ensures counts { (F.fault_count files.old ≤ F.fault_count files.new) × (O.fault_count out.old ≤ O.fault_count out.new) × (E.fault_count err.old ≤ E.fault_count err.new) }
-    ensures stays { (O.takes_memory out.new ≡ O.takes_memory out.old) × (E.takes_memory err.new ≡ E.takes_memory err.old) }
+    ensures counts { F.fault_count files.old ≤ F.fault_count files.new }
+    ensures keeps { Keeps O.Sink out.old out.new × Keeps E.Sink err.old err.new }
     ensures allows { (other : List ℕ) → F.allowed files.old other ↔ F.allowed files.new other }
 {
     let source = match load_source(alloc, command, files) {
@@ -77,8 +78,7 @@ fn end_bulk<O: Sink, E: Sink>(
     requires bulk { command_of command.now ≡ lines.Bulk seed count }
     requires limits { IsInLimits (command_of command.now) }
     ensures ends { (files : Store) → Ends (of_files (command_of command.now) files) (streams O.Sink out.old out.new E.Sink err.old err.new) result }
-    ensures counts { (O.fault_count out.old ≤ O.fault_count out.new) × (E.fault_count err.old ≤ E.fault_count err.new) }
-    ensures stays { (O.takes_memory out.new ≡ O.takes_memory out.old) × (E.takes_memory err.new ≡ E.takes_memory err.old) }
+    ensures keeps { Keeps O.Sink out.old out.new × Keeps E.Sink err.old err.new }
 {
     match source(alloc, seed, narrow(count)) {
         Ok(source) => end_source(
@@ -105,8 +105,8 @@ fn end_command<F: Files, O: Sink, E: Sink>(
     requires limits { IsInLimits (command_of command.now) }
     ensures ends { Ends (of_files (command_of command.now) (store F.Files files.old files.new)) (streams O.Sink out.old out.new E.Sink err.old err.new) result }
     ensures held { F.holds files.new ≡ F.holds files.old }
-    ensures counts { (F.fault_count files.old ≤ F.fault_count files.new) × (O.fault_count out.old ≤ O.fault_count out.new) × (E.fault_count err.old ≤ E.fault_count err.new) }
-    ensures stays { (O.takes_memory out.new ≡ O.takes_memory out.old) × (E.takes_memory err.new ≡ E.takes_memory err.old) }
+    ensures counts { F.fault_count files.old ≤ F.fault_count files.new }
+    ensures keeps { Keeps O.Sink out.old out.new × Keeps E.Sink err.old err.new }
     ensures allows { (other : List ℕ) → F.allowed files.old other ↔ F.allowed files.new other }
 {
     match command {
@@ -132,8 +132,8 @@ fn carry_out<F: Files, O: Sink, E: Sink>(
     requires allowed { (name : List ℕ) → IsFileOf (command_of command.now) name → F.allowed files.old name }
     ensures answers { Answers (call_of (map string_bytes words.now) F.Files files.old files.new O.Sink out.old out.new E.Sink err.old err.new) result }
     ensures held { F.holds files.new ≡ F.holds files.old }
-    ensures counts { (F.fault_count files.old ≤ F.fault_count files.new) × (O.fault_count out.old ≤ O.fault_count out.new) × (E.fault_count err.old ≤ E.fault_count err.new) }
-    ensures stays { (O.takes_memory out.new ≡ O.takes_memory out.old) × (E.takes_memory err.new ≡ E.takes_memory err.old) }
+    ensures counts { F.fault_count files.old ≤ F.fault_count files.new }
+    ensures keeps { Keeps O.Sink out.old out.new × Keeps E.Sink err.old err.new }
     ensures allows { (other : List ℕ) → F.allowed files.old other ↔ F.allowed files.new other }
 {
     limits();
@@ -158,8 +158,8 @@ fn answer<F: Files, O: Sink, E: Sink>(
     requires { (command : lines.Command) (name : List ℕ) → IsLine (map string_bytes words.now) command → IsFileOf command name → F.allowed files.old name }
     ensures answers { Answers (call_of (map string_bytes words.now) F.Files files.old files.new O.Sink out.old out.new E.Sink err.old err.new) result }
     ensures held { F.holds files.new ≡ F.holds files.old }
-    ensures counts { (F.fault_count files.old ≤ F.fault_count files.new) × (O.fault_count out.old ≤ O.fault_count out.new) × (E.fault_count err.old ≤ E.fault_count err.new) }
-    ensures stays { (O.takes_memory out.new ≡ O.takes_memory out.old) × (E.takes_memory err.new ≡ E.takes_memory err.old) }
+    ensures counts { F.fault_count files.old ≤ F.fault_count files.new }
+    ensures keeps { Keeps O.Sink out.old out.new × Keeps E.Sink err.old err.new }
     ensures allows { (other : List ℕ) → F.allowed files.old other ↔ F.allowed files.new other }
 {
     match line(alloc, words) {

@@ -16,7 +16,7 @@ use df_nmach::{Code, Heap};
 use df_nvm::Vm;
 
 /// How the run of Main ended.
-#[derive(Clone, Copy, Debug, PartialEq, Eq)]
+#[derive(Clone, Copy, PartialEq, Eq)]
 pub(crate) enum Ran {
     /// The whole text is put.
     Ended,

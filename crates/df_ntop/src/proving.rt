@@ -4,10 +4,10 @@ ghost use Rattle.std.specs.Prelude.{◌≡◌, ◌≤◌, IfOk, map};
 ghost use Rattle.df_report.specs.Report.{count_unproved};
 ghost use Rattle.df_report.specs.View.{outcome_of};
 ghost use Rattle.df_lang.specs.View.{program_of};
-ghost use Rattle.df_nproof.specs.Names.{HaveTypeNames};
 ghost use Rattle.df_nverdict.specs.Verdict.{are_verified};
 ghost use Rattle.df_ntop.specs.Proving.{Reports, IsAttempt, Attempts};
 ghost use Rattle.df_ntop.specs.Answer.{IsReport, IsLastLine};
+ghost use Rattle.df_ntop.specs.HasNames.{HasNames};
 
 use df_base::{Global, Memory};
 use df_groups::groups;
@@ -99,7 +99,7 @@ pub(crate) fn prove_with_logs(
     budget: Budget,
 ) -> Result<Attempt, Memory>
     requires steps { 1 ≤ budget.steps }
-    requires names { HaveTypeNames (program_of program.now.program) }
+    requires names { HasNames (program_of program.now.program) }
     ensures { IfOk result (Attempts (program_of program.now.program) (record { steps = budget.steps; rounds = budget.rounds })) }
 {
     logs_of_verdicts_derive();

@@ -5,6 +5,7 @@ ghost use Rattle.df_base.specs.Outside.{Appends, AppendsPrefix, HasCause};
 ghost use Rattle.df_nmach.specs.View.{code_of};
 ghost use Rattle.df_ntop.specs.Call.{stream};
 ghost use Rattle.df_ntop.specs.Ending.{PutsText, PutsListing};
+ghost use Rattle.df_ntop.specs.Keeps.{Keeps};
 ghost use Rattle.df_ntop.specs.Running.{IsCutLine};
 
 use crate::ending::End;
@@ -43,8 +44,7 @@ fn put_lines<S: Sink>(sink: &mut S, text: &[u8]) -> Result<(), SinkFault>
 /// Puts a report.
 pub(crate) fn put_report<S: Sink>(sink: &mut S, report: &Report) -> End
     ensures puts { PutsText report.now.verified report.now.text.items (stream S.Sink sink.old sink.new) result }
-    ensures counts { S.fault_count sink.old ≤ S.fault_count sink.new }
-    ensures stays { S.takes_memory sink.new ≡ S.takes_memory sink.old }
+    ensures keeps { Keeps S.Sink sink.old sink.new }
 {
     match put_lines(sink, report.text.as_slice()) {
         Ok(()) if report.verified => End::Done,
@@ -57,8 +57,7 @@ pub(crate) fn put_report<S: Sink>(sink: &mut S, report: &Report) -> End
 /// Puts the listing of a code, all at once.
 pub(crate) fn put_listing<S: Sink>(alloc: Global, sink: &mut S, code: &Code) -> End
     ensures puts { PutsListing (code_of code.now) (stream S.Sink sink.old sink.new) result }
-    ensures counts { S.fault_count sink.old ≤ S.fault_count sink.new }
-    ensures stays { S.takes_memory sink.new ≡ S.takes_memory sink.old }
+    ensures keeps { Keeps S.Sink sink.old sink.new }
 {
     one_code();
     let Ok(text) = write(alloc, code) else {
@@ -74,8 +73,7 @@ pub(crate) fn put_listing<S: Sink>(alloc: Global, sink: &mut S, code: &Code) -> 
 /// Puts the text of logs, all at once.
 pub(crate) fn put_logs<S: Sink>(sink: &mut S, text: &[u8]) -> End
     ensures puts { PutsText true text.now (stream S.Sink sink.old sink.new) result }
-    ensures counts { S.fault_count sink.old ≤ S.fault_count sink.new }
-    ensures stays { S.takes_memory sink.new ≡ S.takes_memory sink.old }
+    ensures keeps { Keeps S.Sink sink.old sink.new }
 {
     match sink.put(text) {
         Ok(()) => End::Done,
@@ -88,8 +86,7 @@ pub(crate) fn put_logs<S: Sink>(sink: &mut S, text: &[u8]) -> End
 pub(crate) fn put_line<S: Sink>(sink: &mut S, line: &[u8]) -> Result<(), End>
     ensures put { OnOk result (Appends (S.taken sink.old) (S.taken sink.new) line.now) }
     ensures cut { IfErr result (IsCutLine line.now (stream S.Sink sink.old sink.new)) }
-    ensures counts { S.fault_count sink.old ≤ S.fault_count sink.new }
-    ensures stays { S.takes_memory sink.new ≡ S.takes_memory sink.old }
+    ensures keeps { Keeps S.Sink sink.old sink.new }
 {
     match sink.put(line) {
         Ok(()) => Ok(()),

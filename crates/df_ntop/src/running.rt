@@ -1,10 +1,9 @@
 //! Commands that compile and run a program.
 
-ghost use Rattle.std.specs.Prelude.{◌≡◌, ◌≤◌, true, None, IfOk, IfErr, OnOk};
+ghost use Rattle.std.specs.Prelude.{◌≡◌, true, None, IfOk, IfErr, OnOk};
 ghost use Rattle.df_lang.specs.Native.{IsNative};
 ghost use Rattle.df_lang.specs.View.{program_of};
 ghost use Rattle.df_meaning.specs.Correct.{AreCorrect};
-ghost use Rattle.df_nback.specs.Compiled.{has_names};
 ghost use Rattle.df_nback.specs.Run.{IsCompiled};
 ghost use Rattle.df_ncmd.specs.Line as lines;
 ghost use Rattle.df_ncmd.specs.Line.{IsBudget};
@@ -15,6 +14,8 @@ ghost use Rattle.df_ntop.specs.Call.{Stream, Streams, IsSilent, stream, streams}
 ghost use Rattle.df_ntop.specs.Command.{file_of, log_of, budget_of as budget_in, is_bulk, puts_report, compiles, runs};
 ghost use Rattle.df_ntop.specs.Ending.{IsQuiet, Ends, of_program};
 ghost use Rattle.df_ntop.specs.Entry.{IsEntryAt};
+ghost use Rattle.df_ntop.specs.HasNames.{HasNames};
+ghost use Rattle.df_ntop.specs.Keeps.{Keeps};
 ghost use Rattle.df_ntop.specs.Loaded.{LogFile as LogsOf, IsNamed};
 ghost use Rattle.df_ntop.specs.Running.{IsRunEnd};
 ghost use Rattle.df_ntop.specs.View.{log_file_of};
@@ -41,7 +42,7 @@ const MOST_FUEL: u64 = 9_223_372_036_854_775_807;
 
 /// The code of a program, or how a command ends without it: the first rule that is broken on what compiles is told.
 fn compiled(alloc: Global, command: &Command, program: &Checked) -> Result<Code, End>
-    requires names { has_names (program_of program.now.program) ≡ true }
+    requires names { HasNames (program_of program.now.program) }
     requires compiles { compiles (command_of command.now) ≡ true }
     ensures compiled { IfOk result (λ code. IsCompiled (program_of program.now.program) (code_of code)) }
     ensures native { IfOk result (λ code. IsNative (program_of program.now.program)) }
@@ -84,8 +85,7 @@ fn searched<E: Sink>(
     ensures proved { OnOk result (IsProved (program_of program.now.program) (budget_in (command_of command.now))) }
     ensures silent { OnOk result (err.new ≡ err.old) }
     ensures ends { IfErr result (λ end. (log : LogsOf) (out : Stream) → IsSilent out → Ends (of_program (command_of command.now) log (program_of program.now.program)) (record { out = out; err = stream E.Sink err.old err.new }) end) }
-    ensures counts { E.fault_count err.old ≤ E.fault_count err.new }
-    ensures stays { E.takes_memory err.new ≡ E.takes_memory err.old }
+    ensures keeps { Keeps E.Sink err.old err.new }
 {
     let Ok(report) = prove(alloc, program, budget(command)) else {
         return Err(End::Memory);
@@ -112,8 +112,7 @@ fn proved<E: Sink>(
     ensures proves { OnOk result (ProvesBy (program_of program.now.program) (log_file_of log.now)) }
     ensures silent { OnOk result (err.new ≡ err.old) }
     ensures ends { IfErr result (λ end. (out : Stream) → IsSilent out → Ends (of_program (command_of command.now) (log_file_of log.now) (program_of program.now.program)) (record { out = out; err = stream E.Sink err.old err.new }) end) }
-    ensures counts { E.fault_count err.old ≤ E.fault_count err.new }
-    ensures stays { E.takes_memory err.new ≡ E.takes_memory err.old }
+    ensures keeps { Keeps E.Sink err.old err.new }
 {
     if is_absent(log) {
         return match searched(alloc, command, program, err) {
@@ -138,11 +137,10 @@ pub(crate) fn build<O: Sink, E: Sink>(
 ) -> End
     requires build { command_of command.now ≡ lines.Build (file_of (command_of command.now)) (log_of (command_of command.now)) (budget_in (command_of command.now)) }
     requires budget { IsBudget (budget_in (command_of command.now)) }
-    requires names { has_names (program_of program.now.program) ≡ true }
+    requires names { HasNames (program_of program.now.program) }
     requires named { IsNamed (log_of (command_of command.now)) (log_file_of log.now) }
     ensures ends { Ends (of_program (command_of command.now) (log_file_of log.now) (program_of program.now.program)) (streams O.Sink out.old out.new E.Sink err.old err.new) result }
-    ensures counts { (O.fault_count out.old ≤ O.fault_count out.new) × (E.fault_count err.old ≤ E.fault_count err.new) }
-    ensures stays { (O.takes_memory out.new ≡ O.takes_memory out.old) × (E.takes_memory err.new ≡ E.takes_memory err.old) }
+    ensures keeps { Keeps O.Sink out.old out.new × Keeps E.Sink err.old err.new }
 {
     let code = match compiled(alloc, command, program) {
         Ok(code) => code,
@@ -167,8 +165,7 @@ fn run_entry<O: Sink>(
     requires compiled { IsCompiled (program_of program.now) (code_of code.now) }
     requires entry { IsEntryAt (program_of program.now) number }
     ensures runs { IsRunEnd (program_of program.now) (code_of code.now) number fuel (stream O.Sink out.old out.new) result }
-    ensures counts { O.fault_count out.old ≤ O.fault_count out.new }
-    ensures stays { O.takes_memory out.new ≡ O.takes_memory out.old }
+    ensures keeps { Keeps O.Sink out.old out.new }
 {
     match run_main(alloc, program, code, number, fuel, out) {
         Ran::Ended => End::Done,
@@ -190,11 +187,10 @@ pub(crate) fn run<O: Sink, E: Sink>(
 ) -> End
     requires run { command_of command.now ≡ lines.Run (file_of (command_of command.now)) (log_of (command_of command.now)) (budget_in (command_of command.now)) fuel }
     requires budget { IsBudget (budget_in (command_of command.now)) }
-    requires names { has_names (program_of program.now.program) ≡ true }
+    requires names { HasNames (program_of program.now.program) }
     requires named { IsNamed (log_of (command_of command.now)) (log_file_of log.now) }
     ensures ends { Ends (of_program (command_of command.now) (log_file_of log.now) (program_of program.now.program)) (streams O.Sink out.old out.new E.Sink err.old err.new) result }
-    ensures counts { (O.fault_count out.old ≤ O.fault_count out.new) × (E.fault_count err.old ≤ E.fault_count err.new) }
-    ensures stays { (O.takes_memory out.new ≡ O.takes_memory out.old) × (E.takes_memory err.new ≡ E.takes_memory err.old) }
+    ensures keeps { Keeps O.Sink out.old out.new × Keeps E.Sink err.old err.new }
 {
     let code = match compiled(alloc, command, program) {
         Ok(code) => code,
@@ -225,8 +221,7 @@ fn report_and_run<O: Sink>(
     requires compiled { IsCompiled (program_of program.now.program) (code_of code.now) }
     requires entry { IsEntryAt (program_of program.now.program) number }
     ensures ends { (log : LogsOf) (err : Stream) → IsSilent err → Ends (of_program (command_of command.now) log (program_of program.now.program)) (record { out = stream O.Sink out.old out.new; err = err }) result }
-    ensures counts { O.fault_count out.old ≤ O.fault_count out.new }
-    ensures stays { O.takes_memory out.new ≡ O.takes_memory out.old }
+    ensures keeps { Keeps O.Sink out.old out.new }
 {
     outcomes_are();
     let Ok(report) = prove(alloc, program, budget(command)) else {
@@ -247,10 +242,9 @@ fn report_and_run<O: Sink>(
 pub(crate) fn bulk<O: Sink>(alloc: Global, command: &Command, program: &Checked, out: &mut O) -> End
     requires bulk { is_bulk (command_of command.now) ≡ true }
     requires budget { IsBudget (budget_in (command_of command.now)) }
-    requires names { has_names (program_of program.now.program) ≡ true }
+    requires names { HasNames (program_of program.now.program) }
     ensures ends { (log : LogsOf) (err : Stream) → IsSilent err → Ends (of_program (command_of command.now) log (program_of program.now.program)) (record { out = stream O.Sink out.old out.new; err = err }) result }
-    ensures counts { O.fault_count out.old ≤ O.fault_count out.new }
-    ensures stays { O.takes_memory out.new ≡ O.takes_memory out.old }
+    ensures keeps { Keeps O.Sink out.old out.new }
 {
     let code = match compiled(alloc, command, program) {
         Ok(code) => code,

@@ -1,14 +1,13 @@
 //! Commands on sources.
 
-ghost use Rattle.std.specs.Prelude.{◌≡◌, ◌≤◌, true};
 ghost use Rattle.df_lang.specs.View.{program_of};
-ghost use Rattle.df_nback.specs.Compiled.{has_names};
 ghost use Rattle.df_ncmd.specs.Line.{IsBudget};
 ghost use Rattle.df_ncmd.specs.View.{command_of};
-ghost use Rattle.df_nproof.specs.Names.{HaveTypeNames};
 ghost use Rattle.df_ntop.specs.Call.{streams};
 ghost use Rattle.df_ntop.specs.Command.{log_of, budget_of as budget_in};
 ghost use Rattle.df_ntop.specs.Ending.{Ends, of_program, of_source};
+ghost use Rattle.df_ntop.specs.HasNames.{HasNames};
+ghost use Rattle.df_ntop.specs.Keeps.{Keeps};
 ghost use Rattle.df_ntop.specs.Loaded.{IsNamed};
 ghost use Rattle.df_ntop.specs.View.{log_file_of};
 
@@ -34,12 +33,10 @@ fn end_program<O: Sink, E: Sink>(
     err: &mut E,
 ) -> End
     requires budget { IsBudget (budget_in (command_of command.now)) }
-    requires names { has_names (program_of program.now.program) ≡ true }
-    requires types { HaveTypeNames (program_of program.now.program) }
+    requires names { HasNames (program_of program.now.program) }
     requires named { IsNamed (log_of (command_of command.now)) (log_file_of log.now) }
     ensures ends { Ends (of_program (command_of command.now) (log_file_of log.now) (program_of program.now.program)) (streams O.Sink out.old out.new E.Sink err.old err.new) result }
-    ensures counts { (O.fault_count out.old ≤ O.fault_count out.new) × (E.fault_count err.old ≤ E.fault_count err.new) }
-    ensures stays { (O.takes_memory out.new ≡ O.takes_memory out.old) × (E.takes_memory err.new ≡ E.takes_memory err.old) }
+    ensures keeps { Keeps O.Sink out.old out.new × Keeps E.Sink err.old err.new }
 {
     match command {
         Command::Verify { .. } => verify(alloc, command, program, out),
@@ -63,8 +60,7 @@ pub(crate) fn end_source<O: Sink, E: Sink>(
     requires budget { IsBudget (budget_in (command_of command.now)) }
     requires named { IsNamed (log_of (command_of command.now)) (log_file_of log.now) }
     ensures ends { Ends (of_source (command_of command.now) (log_file_of log.now) source.now) (streams O.Sink out.old out.new E.Sink err.old err.new) result }
-    ensures counts { (O.fault_count out.old ≤ O.fault_count out.new) × (E.fault_count err.old ≤ E.fault_count err.new) }
-    ensures stays { (O.takes_memory out.new ≡ O.takes_memory out.old) × (E.takes_memory err.new ≡ E.takes_memory err.old) }
+    ensures keeps { Keeps O.Sink out.old out.new × Keeps E.Sink err.old err.new }
 {
     declarations_have_names();
     methods_have_names();

@@ -3,6 +3,7 @@
 ghost use Rattle.std.specs.Prelude.{◌≡◌, ◌≤◌, ◌++◌, IfOk};
 ghost use Rattle.df_ntop.specs.Call.{stream};
 ghost use Rattle.df_ntop.specs.Ending.{IsToldBy};
+ghost use Rattle.df_ntop.specs.Keeps.{Keeps};
 ghost use Rattle.df_ntop.specs.Lines.{usage_line, memory_line, fuel_line, unread_line, large_line, native_line, no_main_line, too_large_line, not_a_log_line, bad_part_line};
 ghost use Rattle.df_ntop.specs.Telling.{Tells};
 
@@ -28,8 +29,7 @@ pub fn tell_memory<E: Sink>(err: &mut E) -> Status
 /// Tells why a status comes.
 pub(crate) fn tell<E: Sink>(err: &mut E, line: &[u8], status: Status) -> Status
     ensures tells { Tells status line.now (stream E.Sink err.old err.new) result }
-    ensures counts { E.fault_count err.old ≤ E.fault_count err.new }
-    ensures stays { E.takes_memory err.new ≡ E.takes_memory err.old }
+    ensures keeps { Keeps E.Sink err.old err.new }
 {
     match err.put(line) {
         Ok(()) => status,
@@ -41,8 +41,7 @@ pub(crate) fn tell<E: Sink>(err: &mut E, line: &[u8], status: Status) -> Status
 /// Tells that the words are no command.
 pub(crate) fn tell_usage<E: Sink>(err: &mut E) -> Status
     ensures tells { Tells Status.Usage usage_line (stream E.Sink err.old err.new) result }
-    ensures counts { E.fault_count err.old ≤ E.fault_count err.new }
-    ensures stays { E.takes_memory err.new ≡ E.takes_memory err.old }
+    ensures keeps { Keeps E.Sink err.old err.new }
 {
     tell(err, b"dfy: usage\n", Status::Usage)
 }
@@ -50,8 +49,7 @@ pub(crate) fn tell_usage<E: Sink>(err: &mut E) -> Status
 /// Tells that the fuel is spent.
 pub(crate) fn tell_fuel<E: Sink>(err: &mut E) -> Status
     ensures tells { Tells Status.FuelSpent fuel_line (stream E.Sink err.old err.new) result }
-    ensures counts { E.fault_count err.old ≤ E.fault_count err.new }
-    ensures stays { E.takes_memory err.new ≡ E.takes_memory err.old }
+    ensures keeps { Keeps E.Sink err.old err.new }
 {
     tell(err, b"dfy: fuel spent\n", Status::FuelSpent)
 }

@@ -1,12 +1,10 @@
-use Rattle.std.proofs.Common.{◌≡◌, ◌++◌, take}
+use Rattle.std.proofs.Common.{take}
 use Rattle.std.specs.List.{flat_map, AllByRecursion}
 use Rattle.df_logtext.specs.HasText.{HasPair}
 use Rattle.df_logtext.specs.Joined.{behind}
 use Rattle.df_logtext.specs.StepText.{pair_words}
+use Rattle.df_logtext.specs.Writes.{Writes}
 use Rattle.df_logtext.proofs.word.push_pairs.Given as goal
 
 abbrev pub invariant-loop-pair : goal.invariant-loop-pair
-invariant-loop-pair l = record {
-  written : l.text.items ≡ l.initial.text.items ++ behind 32 (flat_map pair_words (take l.pair-index l.pairs));
-  numbers : AllByRecursion HasPair (take l.pair-index l.pairs);
-}
+invariant-loop-pair l = Writes l.initial.text.items l.text.items (behind 32 (flat_map pair_words (take l.pair-index l.pairs))) (AllByRecursion HasPair (take l.pair-index l.pairs))

@@ -7,7 +7,7 @@ use Rattle.df_ntop.specs.Ending.{IsSourceFault, IsLogFault, of_files}
 use Rattle.df_ntop.specs.View.{log_file_of}
 use Rattle.df_ntop.proofs.Knowing.{told_ends, large_tells, files_ends}
 use Rattle.df_ntop.proofs.Limits.{loads_log}
-use Rattle.df_ntop.proofs.Loads.{load_ends, source_unread, log_unread, named_log, log_is_loaded, source_is_loaded, source_of}
+use Rattle.df_ntop.proofs.Loads.{load_ends, source_unread, log_unread, named_log, log_is_loaded, source_is_loaded, without_source, source_of}
 use Rattle.df_ntop.proofs.command.end_files.Goals as goal
 
 pub load_source-requires-clause-allowed : goal.load_source-requires-clause-allowed
@@ -58,6 +58,7 @@ returns-clause-ends g c =
     let command = command_of c.args.command.now in
     let files = store g.F.Files c.args.files.now c.load_log.new.files in
     let s = streams g.O.Sink c.args.out.now c.args.out.now g.E.Sink c.args.err.now c.args.err.now in
+    let second = store g.F.Files c.load_source.new.files c.load_log.new.files in
     let loads = rw c.in-None.is at c.in-Ok.ensures.loads in
     told_ends (of_files command files) s statuses.Refused _ c.large_text.result c.told.result (refl, refl)
-    (large_tells files command c.file.result.now c.file.ensures c.requires.file loads.1) c.large_text.ensures c.told.ensures
+    (large_tells files command c.file.result.now c.file.ensures c.requires.file (without_source files second command (log_of command) (log_file_of c.in-Ok-load_log.log) refl loads.0 refl loads.1 refl c.in-Ok-load_log.ensures.loads) loads.2) c.large_text.ensures c.told.ensures

@@ -21,4 +21,4 @@ returns-in-Some-clause-loads g c = IfOk-weaker c.load_named.result _ _ (λ log h
 
 pub returns-in-None-clause-loads : goal.returns-in-None-clause-loads
 returns-in-None-clause-loads g c =
-    loads_none (store g.F.Files c.args.files.now c.args.files.now) (log_of (command_of c.args.command.now)) (sym c.log.ensures ∙ ap (option_map (λ name. name.now)) c.in-None.is) refl
+    loads_none (store g.F.Files c.args.files.now c.args.files.now) (log_of (command_of c.args.command.now)) (sym c.log.ensures ∙ ap (option_map (λ name. name.now)) c.in-None.is) refl refl

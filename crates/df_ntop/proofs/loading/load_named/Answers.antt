@@ -19,4 +19,4 @@ returns-in-Err-Failed-clause-fails g c =
 
 pub returns-in-Err-Large-clause-loads : goal.returns-in-Err-Large-clause-loads
 returns-in-Err-Large-clause-loads g c =
-    (c.in-Err-Large.ensures.kept, is_longer 268435456 (g.F.Files.holds c.args.files.now) c.args.name.now (c.in-Err-Large.ensures.longer c.in-Err-Large.field-0-0 (rw c.in-Err-Large.field-0-is refl)) (c.in-Err-Large.ensures.there c.in-Err-Large.field-0-0 (rw c.in-Err-Large.field-0-is refl)))
+    (c.in-Err-Large.ensures.kept, c.in-Err-Large.ensures.clean c.in-Err-Large.field-0-0 (rw c.in-Err-Large.field-0-is refl), is_longer 268435456 (g.F.Files.holds c.args.files.now) c.args.name.now (c.in-Err-Large.ensures.longer c.in-Err-Large.field-0-0 (rw c.in-Err-Large.field-0-is refl)) (c.in-Err-Large.ensures.there c.in-Err-Large.field-0-0 (rw c.in-Err-Large.field-0-is refl)))

@@ -19,4 +19,4 @@ returns-in-Err-Failed-clause-fails g c =
 pub returns-in-Err-Large-clause-loads : goal.returns-in-Err-Large-clause-loads
 returns-in-Err-Large-clause-loads g c =
     let name = c.file.result.now in
-    (c.in-Err-Large.ensures.kept, rw c.file.ensures at (is_longer 4194304 (g.F.Files.holds c.args.files.now) name (c.in-Err-Large.ensures.longer c.in-Err-Large.field-0-0 (rw c.in-Err-Large.field-0-is refl)) (c.in-Err-Large.ensures.there c.in-Err-Large.field-0-0 (rw c.in-Err-Large.field-0-is refl))))
+    (c.in-Err-Large.ensures.kept, c.in-Err-Large.ensures.clean c.in-Err-Large.field-0-0 (rw c.in-Err-Large.field-0-is refl), rw c.file.ensures at (is_longer 4194304 (g.F.Files.holds c.args.files.now) name (c.in-Err-Large.ensures.longer c.in-Err-Large.field-0-0 (rw c.in-Err-Large.field-0-is refl)) (c.in-Err-Large.ensures.there c.in-Err-Large.field-0-0 (rw c.in-Err-Large.field-0-is refl))))

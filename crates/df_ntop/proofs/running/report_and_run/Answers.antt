@@ -61,4 +61,4 @@ returns-clause-ends g c = λ log err silent.
     subst (λ (x : Command). Ends (of_program x log program) s c.run_entry.result) (sym b.2)
     (run_ends program log s b.0 b.1 c.args.number (code_of c.args.code.now) report.last.items (g.O.Sink.taken c.put_line.new.sink)
     (record { proved = line_proves program usual report.last.items last; native = c.requires.native; compiled = c.requires.compiled }) last (verified_line program c.outcomes_are.ensures usual report.last.items last) (rw c.as_slice.ensures.value at c.in-Ok-put_line.ensures.put) silent
-    ended.ran c.run_entry.result ended.end_is ended.runs (λ write. later _ _ _ c.put_line.ensures.counts (ended.rose write)))
+    ended.ran c.run_entry.result ended.end_is ended.runs (λ write. later _ _ _ c.put_line.ensures.keeps.counts (ended.rose write)))

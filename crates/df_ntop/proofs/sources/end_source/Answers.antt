@@ -25,9 +25,8 @@ returns-in-Err-Refused-clause-ends g c =
 pub end_program-requires-clause-names : goal.end_program-requires-clause-names
 end_program-requires-clause-names g c =
     let program = program_of c.in-Ok-read.program.program in
-    c.methods_by_number_have_names.ensures program (c.methods_have_names.ensures c.args.source.now program c.in-Ok-read.ensures.lawful)
-
-pub end_program-requires-clause-types : goal.end_program-requires-clause-types
-end_program-requires-clause-types g c =
-    let program = program_of c.in-Ok-read.program.program in
-    have_type_names program (c.declarations_have_names.ensures c.args.source.now program c.in-Ok-read.ensures.lawful)
+    let lawful = c.in-Ok-read.ensures.lawful in
+    record {
+      methods = c.methods_by_number_have_names.ensures program (c.methods_have_names.ensures c.args.source.now program lawful);
+      types = have_type_names program (c.declarations_have_names.ensures c.args.source.now program lawful);
+    }
