@@ -251,25 +251,39 @@ const LISTING: &str = "dfycode 1\nshape num\nshape truth\nshape char\nshape text
     jump 2\nret 0\n\
     method Main 0 0 1 2\ncall 0\nret 0\nend\n";
 
-/// The listing of the program's code.
-fn listed(alloc: Global) -> Result<Vec<u8>, Fail> {
-    let program = digits_program(alloc, Ty::Newtype(0))?;
-    let code = compile(alloc, &program)?;
-    Ok(write(alloc, &code)?)
+/// Whether the listing of a code is this one.
+fn is_written(alloc: Global, code: &Code) -> bool {
+    match write(alloc, code) {
+        Ok(text) => text.as_slice() == LISTING.as_bytes(),
+        Err(_) => false,
+    }
+}
+
+/// Whether a program has a code of this listing.
+fn is_listed(alloc: Global, program: &Program) -> bool
+    requires { has_names (program_of program.now) ≡ true }
+{
+    match compile(alloc, program) {
+        Ok(code) => is_written(alloc, &code),
+        Err(_) => false,
+    }
 }
 
 #[test]
 fn a_program_becomes_its_code(rt: HostRuntime) -> Result<(), Fail> {
-    let text = listed(rt.alloc())?;
-    assert!(rt; text.as_slice() == LISTING.as_bytes());
+    let program = digits_program(rt.alloc(), Ty::Newtype(0))?;
+    assert!(rt; is_listed(rt.alloc(), &program));
     Ok(())
 }
+
+/// Declarations and their numbers on the machine.
+const NUMBERED: [(usize, usize); 4] = [(0, 0), (1, 0), (2, 1), (3, 2)];
 
 #[test]
 fn its_methods_have_numbers_on_the_machine(rt: HostRuntime) -> Result<(), Fail> {
     let program = digits_program(rt.alloc(), Ty::Newtype(0))?;
-    for (number, on_machine) in [(0, 0), (1, 0), (2, 1), (3, 2)] {
-        assert_eq!(rt; number_on_machine(&program, number), on_machine);
+    for (number, on_machine) in &NUMBERED {
+        assert!(rt; number_on_machine(&program, *number) == *on_machine);
     }
     Ok(())
 }
@@ -278,28 +292,42 @@ fn its_methods_have_numbers_on_the_machine(rt: HostRuntime) -> Result<(), Fail> 
 const STEPS: u64 = 42;
 
 /// Whether the code ends with this fuel, or else spends it.
-fn runs(alloc: Global, fuel: u64, ends: bool, sink: &mut SureSink) -> Result<bool, Fail> {
-    let program = digits_program(alloc, Ty::Newtype(0))?;
-    let code = compile(alloc, &program)?;
-    let ran = entry_vm(alloc, &program, &code)?.run(fuel, sink);
-    Ok(is_ended(ran, ends))
+fn runs(alloc: Global, program: &Program, fuel: u64, ends: bool, sink: &mut SureSink) -> bool
+    requires program { program_of program.now ≡ pure.program (types.Newtype 0) }
+    requires names { has_names (program_of program.now) ≡ true }
+{
+    match compile(alloc, program) {
+        Ok(code) => match entry_vm(alloc, program, &code) {
+            Ok(vm) => is_ended(&vm.run(fuel, sink), ends),
+            Err(_) => false,
+        },
+        Err(_) => false,
+    }
 }
 
 #[test]
 fn its_code_runs(rt: HostRuntime) -> Result<(), Fail> {
+    let program = digits_program(rt.alloc(), Ty::Newtype(0))?;
     let mut sink = SureSink::new(rt.alloc());
-    for (fuel, ends) in [(STEPS - 1, false), (STEPS, true)] {
-        assert!(rt; runs(rt.alloc(), fuel, ends, &mut sink)?, "{fuel}");
-    }
+    assert!(rt; runs(rt.alloc(), &program, STEPS - 1, false, &mut sink));
+    assert!(rt; runs(rt.alloc(), &program, STEPS, true, &mut sink));
     assert!(rt; sink.taken() == b"012012".as_slice());
     Ok(())
 }
 
+/// Whether a program is refused for the local without bounds.
+fn is_refused(alloc: Global, program: &Program) -> bool
+    requires { has_names (program_of program.now) ≡ true }
+{
+    match compile(alloc, program) {
+        Ok(_) => false,
+        Err(fault) => fault == EraseFault::NotNative(LOCAL, 1),
+    }
+}
+
 #[test]
 fn a_local_without_bounds_is_refused(rt: HostRuntime) -> Result<(), Fail> {
-    let alloc = rt.alloc();
-    let program = digits_program(alloc, Ty::Int)?;
-    let refused = compile(alloc, &program).err();
-    assert!(rt; refused == Some(EraseFault::NotNative(LOCAL, 1)));
+    let program = digits_program(rt.alloc(), Ty::Int)?;
+    assert!(rt; is_refused(rt.alloc(), &program));
     Ok(())
 }

@@ -7,6 +7,8 @@ mod compiling;
 #[cfg(test)]
 mod ending;
 #[cfg(test)]
+mod expecting;
+#[cfg(test)]
 mod listing;
 #[cfg(test)]
 mod machine;

@@ -3,8 +3,7 @@
 use df_codes::{method, shapes};
 use df_listing::{one_code, write};
 use df_nmach::{BinaryOperator, Code, Instruction, Method, Range, UnaryOperator};
-use std::alloc::{AllocError, Global};
-use std::test::Fail;
+use std::alloc::Global;
 
 const WIDE: Range = Range {
     low: i128::MIN,
@@ -83,68 +82,94 @@ const JUMPS: [(Instruction, &str); 7] = [
 const HEAD: &str =
     "dfycode 1\nshape num\nshape truth\nshape char\nshape text\nmethod Main 0 2 5 30\n";
 
-/// The instructions of the tables.
-fn instructions(alloc: Global) -> Result<Vec<Instruction>, AllocError> {
-    let mut instructions = Vec::new(alloc);
-    for table in [
-        PLACES.as_slice(),
-        RANGES.as_slice(),
-        OPERATORS.as_slice(),
-        JUMPS.as_slice(),
-    ] {
-        for (instruction, _) in table {
-            instructions.push(*instruction)?;
+/// Adds a line. Where memory is refused it is left out, so that the text is another.
+fn put(text: &mut String, line: &str) {
+    let _ = text.push_str(line);
+}
+
+/// Adds the instructions of a table, and their lines.
+fn put_table(
+    instructions: &mut Vec<Instruction>,
+    text: &mut String,
+    table: &[(Instruction, &str)],
+) -> bool {
+    for (instruction, line) in table {
+        if instructions.push(*instruction).is_err() {
+            return false;
         }
+        put(text, *line);
     }
-    Ok(instructions)
+    true
 }
 
-/// A method of all instructions, and one of none.
-fn methods(alloc: Global) -> Result<Vec<Method>, AllocError> {
-    let main = method(alloc, "Main", (0, 2, 5), instructions(alloc)?)?;
-    let other = method(alloc, "M_1.C'.new?", (2, 0, 0), Vec::new(alloc))?;
-    Ok(Vec::from_array(alloc, [main, other])?)
+/// Adds the instructions of the tables, and their lines.
+fn put_tables(instructions: &mut Vec<Instruction>, text: &mut String) -> bool {
+    put_table(instructions, text, &PLACES)
+        && put_table(instructions, text, &RANGES)
+        && put_table(instructions, text, &OPERATORS)
+        && put_table(instructions, text, &JUMPS)
 }
 
-fn listed(alloc: Global) -> Result<Vec<u8>, AllocError> {
-    let methods = methods(alloc)?;
-    let shapes = shapes(alloc)?;
-    write(alloc, &Code { methods, shapes })
-}
-
-/// The lines of the tables, with those around them.
-fn wanted(alloc: Global) -> Result<String, AllocError> {
-    let mut wanted = String::from_str(alloc, HEAD)?;
-    for table in [
-        PLACES.as_slice(),
-        RANGES.as_slice(),
-        OPERATORS.as_slice(),
-        JUMPS.as_slice(),
-    ] {
-        for (_, line) in table {
-            wanted.push_str(*line)?;
-        }
+/// Adds a method of these instructions.
+fn push_main(alloc: Global, methods: &mut Vec<Method>, instructions: Vec<Instruction>) -> bool {
+    match method(alloc, "Main", (0, 2, 5), instructions) {
+        Ok(main) => methods.push(main).is_ok(),
+        Err(_) => false,
     }
-    wanted.push_str("method M_1.C'.new? 2 0 0 0\nend\n")?;
-    Ok(wanted)
+}
+
+/// Adds a method of none.
+fn push_other(alloc: Global, methods: &mut Vec<Method>) -> bool {
+    match method(alloc, "M_1.C'.new?", (2, 0, 0), Vec::new(alloc)) {
+        Ok(other) => methods.push(other).is_ok(),
+        Err(_) => false,
+    }
+}
+
+/// The code of a method of these instructions, and of one of none.
+fn both(alloc: Global, instructions: Vec<Instruction>) -> Option<Code> {
+    let mut methods = Vec::new(alloc);
+    if !push_main(alloc, &mut methods, instructions) || !push_other(alloc, &mut methods) {
+        return None;
+    }
+    match shapes(alloc) {
+        Ok(shapes) => Some(Code { methods, shapes }),
+        Err(_) => None,
+    }
+}
+
+/// Whether the text of a code is this one.
+fn is_written(alloc: Global, code: &Code, wanted: &str) -> bool {
+    match write(alloc, code) {
+        Ok(text) => text.as_slice() == wanted.as_bytes(),
+        Err(_) => false,
+    }
+}
+
+/// Whether the text of both methods is this one.
+fn are_written(alloc: Global, instructions: Vec<Instruction>, wanted: &str) -> bool {
+    match both(alloc, instructions) {
+        Some(code) => is_written(alloc, &code, wanted),
+        None => false,
+    }
 }
 
 #[test]
-fn writes_a_line_for_each_instruction(rt: HostRuntime) -> Result<(), Fail> {
+fn writes_a_line_for_each_instruction(rt: HostRuntime) {
     one_code();
-    let text = listed(rt.alloc())?;
-    let wanted = wanted(rt.alloc())?;
-    assert!(rt; text.as_slice() == wanted.as_bytes());
-    Ok(())
+    let mut instructions = Vec::new(rt.alloc());
+    let mut wanted = String::new(rt.alloc());
+    put(&mut wanted, HEAD);
+    assert!(rt; put_tables(&mut instructions, &mut wanted));
+    put(&mut wanted, "method M_1.C'.new? 2 0 0 0\nend\n");
+    assert!(rt; are_written(rt.alloc(), instructions, wanted.as_str()));
 }
 
 #[test]
-fn writes_a_code_of_nothing(rt: HostRuntime) -> Result<(), Fail> {
-    let alloc = rt.alloc();
+fn writes_a_code_of_nothing(rt: HostRuntime) {
     let code = Code {
-        methods: Vec::new(alloc),
-        shapes: Vec::new(alloc),
+        methods: Vec::new(rt.alloc()),
+        shapes: Vec::new(rt.alloc()),
     };
-    assert!(rt; write(alloc, &code)?.as_slice() == b"dfycode 1\nend\n".as_slice());
-    Ok(())
+    assert!(rt; is_written(rt.alloc(), &code, "dfycode 1\nend\n"));
 }

@@ -1,6 +1,7 @@
 //! Instructions on the machine.
 
 use crate::ending::is_ended;
+use crate::expecting::expect;
 use df_base::{MemSink, Sink, SureSink};
 use df_codes::{
     edge_code, edge_vm, number_code, number_vm, quotient_code, quotient_vm, refusing_code,
@@ -8,8 +9,7 @@ use df_codes::{
 };
 use df_nmach::Value;
 use df_nvm::{Ran, Stepped, Vm};
-use std::alloc::{AllocError, Global};
-use std::test::Fail;
+use std::alloc::Global;
 
 /// What the edges print, item by item.
 const ITEMS: [&str; 32] = [
@@ -67,33 +67,35 @@ const NUMBERS: [&str; 19] = [
     "170141183460469231731687303715884105727",
 ];
 
-/// Items one after another.
-fn joined(alloc: Global, items: &[&str]) -> Result<String, AllocError> {
-    let mut text = String::new(alloc);
+/// Adds items one after another. Where memory is refused one is left out, so that the text is another.
+fn join(text: &mut String, items: &[&str]) {
     for item in items {
-        text.push_str(*item)?;
+        let _ = text.push_str(*item);
     }
-    Ok(text)
 }
 
 /// Whether a text is that of the items.
 fn is_joined(alloc: Global, text: &[u8], items: &[&str]) -> bool {
-    match joined(alloc, items) {
-        Ok(wanted) => text == wanted.as_bytes(),
-        Err(_) => false,
-    }
+    let mut wanted = String::new(alloc);
+    join(&mut wanted, items);
+    text == wanted.as_bytes()
 }
 
 /// Runs the edges to their end.
-fn run_edges<S: Sink>(alloc: Global, sink: &mut S) -> Result<Ran, AllocError> {
-    let code = edge_code(alloc)?;
-    Ok(edge_vm(alloc, &code)?.run(u64::MAX, sink))
+fn run_edges<S: Sink>(alloc: Global, sink: &mut S) -> Option<Ran> {
+    match edge_code(alloc) {
+        Ok(code) => match edge_vm(alloc, &code) {
+            Ok(vm) => Some(vm.run(u64::MAX, sink)),
+            Err(_) => None,
+        },
+        Err(_) => None,
+    }
 }
 
 /// Whether a run ended with 5 and 7.
-fn gives_five_and_seven(ran: Ran) -> bool {
+fn gives_five_and_seven(ran: &Option<Ran>) -> bool {
     match ran {
-        Ran::Ended(results, _) => {
+        Some(Ran::Ended(results, _)) => {
             matches!(results.as_slice(), [Value::Number(5), Value::Number(7)])
         }
         _ => false,
@@ -101,35 +103,46 @@ fn gives_five_and_seven(ran: Ran) -> bool {
 }
 
 #[test]
-fn instructions_do_their_work(rt: HostRuntime) -> Result<(), Fail> {
+fn instructions_do_their_work(rt: HostRuntime) {
     let mut sink = SureSink::new(rt.alloc());
-    let ran = run_edges(rt.alloc(), &mut sink)?;
-    assert!(rt; gives_five_and_seven(ran));
+    assert!(rt; gives_five_and_seven(&run_edges(rt.alloc(), &mut sink)));
     assert!(rt; is_joined(rt.alloc(), sink.taken(), ITEMS.as_slice()));
-    Ok(())
 }
 
-/// Whether the quotients end, and print what they should.
-fn prints_quotients(alloc: Global) -> Result<bool, AllocError> {
-    let code = quotient_code(alloc)?;
-    let mut sink = SureSink::new(alloc);
-    let ran = quotient_vm(alloc, &code)?.run(u64::MAX, &mut sink);
-    Ok(is_ended(ran, true) && is_joined(alloc, sink.taken(), QUOTIENTS.as_slice()))
+/// Whether the quotients end.
+fn run_quotients(alloc: Global, sink: &mut SureSink) -> bool {
+    match quotient_code(alloc) {
+        Ok(code) => match quotient_vm(alloc, &code) {
+            Ok(vm) => is_ended(&vm.run(u64::MAX, sink), true),
+            Err(_) => false,
+        },
+        Err(_) => false,
+    }
 }
 
-/// Whether the numbers end, and print what they should.
-fn prints_numbers(alloc: Global) -> Result<bool, AllocError> {
-    let code = number_code(alloc)?;
-    let mut sink = SureSink::new(alloc);
-    let ran = number_vm(alloc, &code)?.run(u64::MAX, &mut sink);
-    Ok(is_ended(ran, true) && is_joined(alloc, sink.taken(), NUMBERS.as_slice()))
+/// Whether the numbers end.
+fn run_numbers(alloc: Global, sink: &mut SureSink) -> bool {
+    match number_code(alloc) {
+        Ok(code) => match number_vm(alloc, &code) {
+            Ok(vm) => is_ended(&vm.run(u64::MAX, sink), true),
+            Err(_) => false,
+        },
+        Err(_) => false,
+    }
 }
 
 #[test]
-fn numbers_are_computed(rt: HostRuntime) -> Result<(), Fail> {
-    assert!(rt; prints_quotients(rt.alloc())?);
-    assert!(rt; prints_numbers(rt.alloc())?);
-    Ok(())
+fn quotients_are_computed(rt: HostRuntime) {
+    let mut sink = SureSink::new(rt.alloc());
+    assert!(rt; run_quotients(rt.alloc(), &mut sink));
+    assert!(rt; is_joined(rt.alloc(), sink.taken(), QUOTIENTS.as_slice()));
+}
+
+#[test]
+fn numbers_are_computed(rt: HostRuntime) {
+    let mut sink = SureSink::new(rt.alloc());
+    assert!(rt; run_numbers(rt.alloc(), &mut sink));
+    assert!(rt; is_joined(rt.alloc(), sink.taken(), NUMBERS.as_slice()));
 }
 
 /// Each item is one write, and an empty one is none: writes of the edges that fail after so many bytes, and what is
@@ -143,71 +156,84 @@ const FAILURES: [(u64, usize, &str); 6] = [
     (6, 0, "57true!hi65"),
 ];
 
+fn is_stopped(alloc: Global, sink: &mut MemSink) -> bool {
+    matches!(&run_edges(alloc, sink), Some(Ran::Write))
+}
+
 /// Whether a write that fails so stops the edges, where this text is there.
-fn stops(alloc: Global, call: u64, takes: usize, text: &str) -> Result<bool, Fail> {
+fn stops(alloc: Global, call: u64, takes: usize, text: &str) -> bool {
     let mut sink = MemSink::new(alloc);
-    sink.fail_at(call, takes)?;
-    let ran = run_edges(alloc, &mut sink)?;
-    let is_stopped = matches!(ran, Ran::Write);
-    Ok(is_stopped && sink.taken() == text.as_bytes() && sink.faults() == 1)
+    sink.fail_at(call, takes).is_ok()
+        && is_stopped(alloc, &mut sink)
+        && sink.taken() == text.as_bytes()
+        && sink.faults() == 1
 }
 
 #[test]
-fn a_failing_write_stops_a_run(rt: HostRuntime) -> Result<(), Fail> {
-    for (call, takes, text) in FAILURES {
-        assert!(rt; stops(rt.alloc(), call, takes, text)?, "{text}");
+fn a_failing_write_stops_a_run(rt: HostRuntime) {
+    for (number, (call, takes, text)) in FAILURES.iter().enumerate() {
+        expect(&rt, number, stops(rt.alloc(), *call, *takes, *text));
     }
-    Ok(())
 }
 
 /// More locals than any memory has words.
 const LOCALS: usize = 1 << 62;
 
 /// Runs a call of so many locals.
-fn run_call(alloc: Global, locals: usize, sink: &mut SureSink) -> Result<Ran, AllocError> {
-    let code = refusing_code(alloc, locals)?;
-    Ok(refusing_vm(alloc, &code, locals)?.run(u64::MAX, sink))
+fn run_call(alloc: Global, locals: usize, sink: &mut SureSink) -> Option<Ran> {
+    match refusing_code(alloc, locals) {
+        Ok(code) => match refusing_vm(alloc, &code, locals) {
+            Ok(vm) => Some(vm.run(u64::MAX, sink)),
+            Err(_) => None,
+        },
+        Err(_) => None,
+    }
 }
 
 /// Whether steps come to the call, which is refused again and again.
-fn steps_are_refused(mut vm: Vm, sink: &mut SureSink) -> bool {
-    for stepped in [Stepped::On, Stepped::On, Stepped::Memory, Stepped::Memory] {
-        if vm.step(sink) != stepped {
-            return false;
-        }
-    }
-    true
+fn steps_are_refused(vm: &mut Vm, sink: &mut SureSink) -> bool {
+    vm.step(sink) == Stepped::On
+        && vm.step(sink) == Stepped::On
+        && vm.step(sink) == Stepped::Memory
+        && vm.step(sink) == Stepped::Memory
 }
 
 /// Whether the call of too many locals is refused step by step.
-fn step_call(alloc: Global, sink: &mut SureSink) -> Result<bool, AllocError> {
-    let code = refusing_code(alloc, LOCALS)?;
-    let vm = refusing_vm(alloc, &code, LOCALS)?;
-    Ok(steps_are_refused(vm, sink))
+fn step_call(alloc: Global, sink: &mut SureSink) -> bool {
+    match refusing_code(alloc, LOCALS) {
+        Ok(code) => match refusing_vm(alloc, &code, LOCALS) {
+            Ok(mut vm) => steps_are_refused(&mut vm, sink),
+            Err(_) => false,
+        },
+        Err(_) => false,
+    }
 }
 
 #[test]
-fn a_refused_call_is_not_begun(rt: HostRuntime) -> Result<(), Fail> {
+fn a_refused_call_is_not_begun(rt: HostRuntime) {
     let mut sink = SureSink::new(rt.alloc());
-    let ran = run_call(rt.alloc(), LOCALS, &mut sink)?;
-    assert!(rt; matches!(ran, Ran::Memory));
+    assert!(rt; matches!(&run_call(rt.alloc(), LOCALS, &mut sink), Some(Ran::Memory)));
     assert!(rt; sink.taken() == b"1".as_slice());
-    Ok(())
 }
 
 #[test]
-fn a_refused_call_is_refused_again(rt: HostRuntime) -> Result<(), Fail> {
+fn a_refused_call_is_refused_again(rt: HostRuntime) {
     let mut sink = SureSink::new(rt.alloc());
-    assert!(rt; step_call(rt.alloc(), &mut sink)?);
+    assert!(rt; step_call(rt.alloc(), &mut sink));
     assert!(rt; sink.taken() == b"1".as_slice());
-    Ok(())
+}
+
+/// Whether a call of so many locals ends.
+fn call_ends(alloc: Global, locals: usize, sink: &mut SureSink) -> bool {
+    match &run_call(alloc, locals, sink) {
+        Some(ran) => is_ended(ran, true),
+        None => false,
+    }
 }
 
 #[test]
-fn a_call_of_few_locals_is_begun(rt: HostRuntime) -> Result<(), Fail> {
+fn a_call_of_few_locals_is_begun(rt: HostRuntime) {
     let mut sink = SureSink::new(rt.alloc());
-    let ran = run_call(rt.alloc(), 3, &mut sink)?;
-    assert!(rt; is_ended(ran, true));
+    assert!(rt; call_ends(rt.alloc(), 3, &mut sink));
     assert!(rt; sink.taken() == b"12".as_slice());
-    Ok(())
 }

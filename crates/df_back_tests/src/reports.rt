@@ -1,9 +1,9 @@
 //! Reports.
 
+use crate::expecting::expect;
 use df_base::Pos;
 use df_report::{Evidence, Failure, Outcome, Parameter, lines};
 use std::alloc::Global;
-use std::test::Fail;
 
 /// A parameter and its number.
 type Named<'a> = (&'a str, i128);
@@ -40,57 +40,120 @@ const REPORTS: [(&[(&str, &[Failed])], &str); 4] = [
     ),
 ];
 
-fn parameters(alloc: Global, named: &[Named]) -> Result<Vec<Parameter>, Fail> {
-    let mut parameters = Vec::new(alloc);
-    for (name, value) in named {
-        parameters.push(Parameter {
-            name: String::from_str(alloc, name)?,
-            value: *value,
-        })?;
+fn push_parameter(alloc: Global, parameters: &mut Vec<Parameter>, named: Named) -> bool {
+    let (name, value) = named;
+    match String::from_str(alloc, name) {
+        Ok(name) => parameters.push(Parameter { name, value }).is_ok(),
+        Err(_) => false,
     }
-    Ok(parameters)
 }
 
-fn failure(alloc: Global, failed: &Failed) -> Result<Failure, Fail> {
-    let (line, col, kind, evidence, named) = *failed;
-    let kind = String::from_str(alloc, kind)?;
-    let parameters = parameters(alloc, named)?;
-    Ok(Failure {
-        pos: Pos { line, col },
-        kind,
-        evidence,
-        parameters,
-    })
+fn push_parameters(alloc: Global, parameters: &mut Vec<Parameter>, named: &[Named]) -> bool {
+    for one in named {
+        if !push_parameter(alloc, parameters, *one) {
+            return false;
+        }
+    }
+    true
 }
 
-fn failures(alloc: Global, failed: &[Failed]) -> Result<Vec<Failure>, Fail> {
-    let mut failures = Vec::new(alloc);
+/// A failure without its parameters.
+fn bare(alloc: Global, failed: Failed) -> Option<Failure> {
+    let (line, col, kind, evidence, _) = failed;
+    match String::from_str(alloc, kind) {
+        Ok(kind) => Some(Failure {
+            pos: Pos { line, col },
+            kind,
+            evidence,
+            parameters: Vec::new(alloc),
+        }),
+        Err(_) => None,
+    }
+}
+
+fn failure(alloc: Global, failed: Failed) -> Option<Failure> {
+    let (.., named) = failed;
+    let mut failure = bare(alloc, failed)?;
+    if push_parameters(alloc, &mut failure.parameters, named) {
+        Some(failure)
+    } else {
+        None
+    }
+}
+
+fn push_failure(alloc: Global, failures: &mut Vec<Failure>, failed: Failed) -> bool {
+    match failure(alloc, failed) {
+        Some(failure) => failures.push(failure).is_ok(),
+        None => false,
+    }
+}
+
+fn push_failures(alloc: Global, failures: &mut Vec<Failure>, failed: &[Failed]) -> bool {
     for one in failed {
-        failures.push(failure(alloc, one)?)?;
+        if !push_failure(alloc, failures, *one) {
+            return false;
+        }
     }
-    Ok(failures)
+    true
 }
 
-fn outcome(alloc: Global, name: &str, failed: &[Failed]) -> Result<Outcome, Fail> {
-    let name = String::from_str(alloc, name)?;
-    let failures = failures(alloc, failed)?;
-    Ok(Outcome { name, failures })
+/// What came of a declaration without failures.
+fn verified(alloc: Global, name: &str) -> Option<Outcome> {
+    match String::from_str(alloc, name) {
+        Ok(name) => Some(Outcome {
+            name,
+            failures: Vec::new(alloc),
+        }),
+        Err(_) => None,
+    }
 }
 
-/// The report on declarations.
-fn report(alloc: Global, declarations: &[(&str, &[Failed])]) -> Result<Vec<u8>, Fail> {
-    let mut outcomes = Vec::new(alloc);
+fn outcome(alloc: Global, name: &str, failed: &[Failed]) -> Option<Outcome> {
+    let mut outcome = verified(alloc, name)?;
+    if push_failures(alloc, &mut outcome.failures, failed) {
+        Some(outcome)
+    } else {
+        None
+    }
+}
+
+fn push_outcome(alloc: Global, outcomes: &mut Vec<Outcome>, name: &str, failed: &[Failed]) -> bool {
+    match outcome(alloc, name, failed) {
+        Some(outcome) => outcomes.push(outcome).is_ok(),
+        None => false,
+    }
+}
+
+fn push_outcomes(
+    alloc: Global,
+    outcomes: &mut Vec<Outcome>,
+    declarations: &[(&str, &[Failed])],
+) -> bool {
     for (name, failed) in declarations {
-        outcomes.push(outcome(alloc, name, failed)?)?;
+        if !push_outcome(alloc, outcomes, *name, *failed) {
+            return false;
+        }
     }
-    Ok(lines(alloc, &outcomes)?)
+    true
+}
+
+/// Whether this is the report on outcomes.
+fn are_told(alloc: Global, outcomes: &[Outcome], wanted: &str) -> bool {
+    match lines(alloc, outcomes) {
+        Ok(text) => text.as_slice() == wanted.as_bytes(),
+        Err(_) => false,
+    }
+}
+
+/// Whether this is the report on declarations.
+fn is_told(alloc: Global, declarations: &[(&str, &[Failed])], wanted: &str) -> bool {
+    let mut outcomes = Vec::new(alloc);
+    push_outcomes(alloc, &mut outcomes, declarations) && are_told(alloc, &outcomes, wanted)
 }
 
 #[test]
-fn tells_what_is_verified(rt: HostRuntime) -> Result<(), Fail> {
+fn tells_what_is_verified(rt: HostRuntime) {
     for (number, (declarations, wanted)) in REPORTS.iter().enumerate() {
-        let text = report(rt.alloc(), *declarations)?;
-        assert_eq!(rt; text.as_slice(), wanted.as_bytes(), "at {number}");
+        expect(&rt, number, is_told(rt.alloc(), *declarations, *wanted));
     }
-    Ok(())
 }

@@ -10,6 +10,7 @@ ghost use Rattle.df_bench.specs.Steps as pure;
 use anyhow::{Context, Result};
 use df_lang::{AddendOperator, Interval};
 use df_nemit::emit;
+use df_nmach::Code;
 use df_nplain::{Addend, Expr, Kind, Method, Plain, Range, Source, Stmt, Update};
 use std::alloc::{AllocError, Global};
 use std::time::{Duration, Instant};
@@ -69,16 +70,27 @@ fn program(alloc: Global, size: u32) -> Result<Plain>
     Ok(Plain::new(methods))
 }
 
+/// How many instructions the first method has.
+fn instruction_count(code: &Code) -> usize {
+    match code.methods.first() {
+        Some(method) => method.instructions.len(),
+        None => 0,
+    }
+}
+
+/// Emits the code of a program: how many instructions it has, and how long that took.
+fn timed(rt: &HostRuntime, plain: &Plain) -> Result<(usize, Duration)>
+    requires { are_named (plain_of plain.now) ≡ true }
+{
+    let begun = Instant::now(rt)?;
+    let code = emit(rt.alloc(), plain)?;
+    let time = begun.elapsed(rt)?;
+    Ok((instruction_count(&code), time))
+}
+
 /// Emits the code of so many statements: how many instructions it has, and how long that took.
 pub(crate) fn emit_statements(rt: &HostRuntime, size: u32) -> Result<(String, Duration)> {
-    let alloc = rt.alloc();
-    let plain = program(alloc, size)?;
-    let begun = Instant::now(rt)?;
-    let code = emit(alloc, &plain)?;
-    let time = begun.elapsed(rt)?;
-    let count = code
-        .methods
-        .first()
-        .map_or(0, |method| method.instructions.len());
-    Ok((format!(in alloc; "{count} instructions")?, time))
+    let plain = program(rt.alloc(), size)?;
+    let (count, time) = timed(rt, &plain)?;
+    Ok((format!(in rt.alloc(); "{count} instructions")?, time))
 }

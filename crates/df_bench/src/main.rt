@@ -14,7 +14,7 @@ use std::env;
 use std::time::Duration;
 
 /// A layer.
-#[derive(Clone, Copy, Debug, PartialEq, Eq)]
+#[derive(Clone, Copy, PartialEq, Eq)]
 enum Layer {
     /// The machine, from a method.
     Machine(Start),

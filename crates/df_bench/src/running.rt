@@ -13,7 +13,7 @@ use std::alloc::{AllocError, Global};
 use std::time::{Duration, Instant};
 
 /// Where a run begins.
-#[derive(Clone, Copy, Debug, PartialEq, Eq)]
+#[derive(Clone, Copy, PartialEq, Eq)]
 pub(crate) enum Start {
     /// A loop that counts up to the size.
     Count,
@@ -49,16 +49,20 @@ fn told(alloc: Global, ran: &Ran) -> Result<String, AllocError> {
     }
 }
 
+/// Runs a machine to the end: what it came to, and how long it took.
+fn timed(rt: &HostRuntime, vm: Vm) -> Result<(String, Duration)> {
+    let mut sink = SureSink::new(rt.alloc());
+    let begun = Instant::now(rt)?;
+    let ran = vm.run(u64::MAX, &mut sink);
+    let time = begun.elapsed(rt)?;
+    Ok((told(rt.alloc(), &ran)?, time))
+}
+
 /// Runs to the end: what it came to, and how long it took.
 pub(crate) fn run(rt: &HostRuntime, start: Start, size: u32) -> Result<(String, Duration)>
     requires { size < 2 ^ 31 }
 {
-    let alloc = rt.alloc();
-    let code = program_code(alloc)?;
-    let vm = machine(alloc, &code, start, size)?;
-    let mut sink = SureSink::new(alloc);
-    let begun = Instant::now(rt)?;
-    let ran = vm.run(u64::MAX, &mut sink);
-    let time = begun.elapsed(rt)?;
-    Ok((told(alloc, &ran)?, time))
+    let code = program_code(rt.alloc())?;
+    let vm = machine(rt.alloc(), &code, start, size)?;
+    timed(rt, vm)
 }

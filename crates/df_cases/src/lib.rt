@@ -117,163 +117,266 @@ pub fn program(alloc: Global) -> Result<Program, Fail> {
     Ok(Program::new(decls))
 }
 
-/// Puts the terms on the stack.
-fn put(draft: &mut Draft, terms: Terms) -> Result<(), Fail> {
+/// Puts a term on the stack, whose parts are the last ones there. Whether there are so many, of its sorts.
+fn put_term(draft: &mut Draft, op: Op, count: usize) -> bool {
+    if count > draft.stack.len() {
+        return false;
+    }
+    let start = draft.stack.len() - count;
+    let Ok(parts) = Vec::from_slice(*draft.stack.allocator(), &draft.stack[start..]) else {
+        return false;
+    };
+    if !draft.nodes.admits(&Node { op, parts }) {
+        return false;
+    }
+    draft.apply(op, count).is_ok()
+}
+
+/// Puts the terms on the stack. Whether they are of their sorts.
+fn put(draft: &mut Draft, terms: Terms) -> bool {
     for (op, count) in terms {
-        if *count > draft.stack.len() {
-            return Err(Fail::new("there are too few terms"));
+        if !put_term(draft, *op, *count) {
+            return false;
         }
-        let start = draft.stack.len() - *count;
-        let parts = Vec::from_slice(*draft.stack.allocator(), &draft.stack[start..])?;
-        if !draft.nodes.admits(&Node { op: *op, parts }) {
-            return Err(Fail::new("the terms are not of their sorts"));
+    }
+    true
+}
+
+/// Puts the terms of a hypothesis. Whether they leave one formula.
+pub fn assume(draft: &mut Draft, terms: Terms) -> bool {
+    if !put(draft, terms) {
+        return false;
+    }
+    if draft.stack.len() != 1 || !draft.nodes.is_formula(draft.stack[0]) {
+        return false;
+    }
+    draft.assume().is_ok()
+}
+
+/// Puts the terms of hypotheses. Whether each leaves one formula.
+pub fn assume_all(draft: &mut Draft, hypotheses: &[Terms]) -> bool {
+    for hypothesis in hypotheses {
+        if !assume(draft, *hypothesis) {
+            return false;
         }
-        draft.apply(*op, *count)?;
     }
-    Ok(())
+    true
 }
 
-/// Puts the terms of a hypothesis, which leave one formula.
-pub fn assume(draft: &mut Draft, terms: Terms) -> Result<(), Fail> {
-    put(draft, terms)?;
+/// Puts the terms of the goal, and ends the sequent; nothing where they do not leave one formula.
+pub fn conclude<'a>(alloc: Global, draft: &mut Draft<'a>, goal: Terms) -> Option<Sequent<'a>> {
+    if !put(draft, goal) {
+        return None;
+    }
     if draft.stack.len() != 1 || !draft.nodes.is_formula(draft.stack[0]) {
-        return Err(Fail::new("the terms leave no formula"));
+        return None;
     }
-    Ok(draft.assume()?)
+    draft.sequent(alloc).ok()
 }
 
-/// Puts the terms of the goal, which leave one formula, and ends the sequent.
-pub fn conclude<'a>(
-    alloc: Global,
-    draft: &mut Draft<'a>,
-    goal: Terms,
-) -> Result<Sequent<'a>, Fail> {
-    put(draft, goal)?;
-    if draft.stack.len() != 1 || !draft.nodes.is_formula(draft.stack[0]) {
-        return Err(Fail::new("the terms leave no formula"));
-    }
-    Ok(draft.sequent(alloc)?)
-}
-
-/// The sequent of these hypotheses and this goal.
+/// The sequent of these hypotheses and this goal; nothing where the terms of one do not leave one formula.
 pub fn sequent<'a>(
     alloc: Global,
     program: &'a Program,
     hypotheses: &[Terms],
     goal: Terms,
-) -> Result<Sequent<'a>, Fail> {
+) -> Option<Sequent<'a>> {
     let mut draft = Draft::new(alloc, World { program });
-    for hypothesis in hypotheses {
-        assume(&mut draft, *hypothesis)?;
+    if assume_all(&mut draft, hypotheses) {
+        conclude(alloc, &mut draft, goal)
+    } else {
+        None
     }
-    conclude(alloc, &mut draft, goal)
 }
 
-/// Nodes in this order.
-pub fn nodes(alloc: Global, plain: &[Plain]) -> Result<Nodes, Fail> {
-    let mut nodes = Nodes::new(alloc);
-    for (op, parts) in plain {
-        let node = Node {
-            op: *op,
-            parts: Vec::from_slice(alloc, *parts)?,
-        };
-        if !nodes.admits(&node) {
-            return Err(Fail::new("the parts are not of their sorts"));
+/// Adds a node. Whether its parts are of their sorts.
+fn add(alloc: Global, nodes: &mut Nodes, plain: Plain) -> bool {
+    let (op, parts) = plain;
+    let Ok(parts) = Vec::from_slice(alloc, parts) else {
+        return false;
+    };
+    let node = Node { op, parts };
+    if !nodes.admits(&node) {
+        return false;
+    }
+    nodes.add(node).is_ok()
+}
+
+fn add_all(alloc: Global, nodes: &mut Nodes, plain: &[Plain]) -> bool {
+    for node in plain {
+        if !add(alloc, nodes, *node) {
+            return false;
         }
-        nodes.add(node)?;
     }
-    Ok(nodes)
+    true
 }
 
-/// Literals in this order.
-pub fn literals(alloc: Global, signed: &[Signed]) -> Result<Vec<Lit>, Fail> {
+/// Nodes in this order; a word where the parts of one are not of their sorts, or memory is refused.
+pub fn nodes(alloc: Global, plain: &[Plain]) -> Result<Nodes, &'static str> {
+    let mut nodes = Nodes::new(alloc);
+    if add_all(alloc, &mut nodes, plain) {
+        Ok(nodes)
+    } else {
+        Err("no nodes")
+    }
+}
+
+/// Literals in this order; nothing where memory is refused, as below.
+pub fn literals(alloc: Global, signed: &[Signed]) -> Option<Vec<Lit>> {
     let mut literals = Vec::new(alloc);
     for &(positive, node) in signed {
-        literals.push(Lit { positive, node })?;
+        if literals.push(Lit { positive, node }).is_err() {
+            return None;
+        }
     }
-    Ok(literals)
+    Some(literals)
 }
 
 /// Pairs in this order.
-fn pairs(alloc: Global, named: &[(usize, usize)]) -> Result<Vec<Pair>, Fail> {
+fn pairs(alloc: Global, named: &[(usize, usize)]) -> Option<Vec<Pair>> {
     let mut pairs = Vec::new(alloc);
     for &(left, right) in named {
-        pairs.push(Pair { left, right })?;
+        if pairs.push(Pair { left, right }).is_err() {
+            return None;
+        }
     }
-    Ok(pairs)
+    Some(pairs)
 }
 
-fn combination(alloc: Global, sum: &Sum) -> Result<Combination, Fail> {
-    let (divisor, multiples) = *sum;
+fn members(alloc: Global, multiples: &[(i128, usize)]) -> Option<Vec<Multiple>> {
     let mut members = Vec::new(alloc);
     for &(factor, row) in multiples {
-        members.push(Multiple { factor, row })?;
+        if members.push(Multiple { factor, row }).is_err() {
+            return None;
+        }
     }
-    Ok(Combination { divisor, members })
+    Some(members)
 }
 
-pub fn combinations(alloc: Global, sums: &[Sum]) -> Result<Vec<Combination>, Fail> {
+fn push_combination(alloc: Global, combinations: &mut Vec<Combination>, sum: &Sum) -> bool {
+    let (divisor, multiples) = *sum;
+    match members(alloc, multiples) {
+        Some(members) => combinations.push(Combination { divisor, members }).is_ok(),
+        None => false,
+    }
+}
+
+pub fn combinations(alloc: Global, sums: &[Sum]) -> Option<Vec<Combination>> {
     let mut combinations = Vec::new(alloc);
     for sum in sums {
-        combinations.push(combination(alloc, sum)?)?;
+        if !push_combination(alloc, &mut combinations, sum) {
+            return None;
+        }
     }
-    Ok(combinations)
+    Some(combinations)
 }
 
-pub fn step(alloc: Global, line: Line) -> Result<Step, Fail> {
-    Ok(match line {
-        Line::H(number) => Step::Hypothesis(number),
-        Line::G => Step::Goal,
-        Line::X(node, clause) => Step::Connective { node, clause },
-        Line::A(schema, clause, terms) => Step::Schema {
+fn schema_step(alloc: Global, schema: u8, clause: u32, terms: &[usize]) -> Option<Step> {
+    match Vec::from_slice(alloc, terms) {
+        Ok(terms) => Some(Step::Schema {
             schema,
             clause,
-            terms: Vec::from_slice(alloc, terms)?,
-        },
-        Line::U(clauses, conclusion) => Step::Propagation {
-            clauses: Vec::from_slice(alloc, clauses)?,
-            conclusion: literals(alloc, conclusion)?,
-        },
-        Line::E(conclusion, named) => Step::Congruence {
-            conclusion: literals(alloc, conclusion)?,
-            pairs: pairs(alloc, named)?,
-        },
-        Line::L(conclusion, sums) => Step::Linear {
-            conclusion: literals(alloc, conclusion)?,
-            combinations: combinations(alloc, sums)?,
-        },
-        Line::S(node, bound) => Step::Split { node, bound },
-        Line::N(op, parts) => Step::Make(Node {
-            op,
-            parts: Vec::from_slice(alloc, parts)?,
+            terms,
         }),
+        Err(_) => None,
+    }
+}
+
+fn propagation(alloc: Global, clauses: &[usize], conclusion: &[Signed]) -> Option<Step> {
+    let conclusion = literals(alloc, conclusion)?;
+    match Vec::from_slice(alloc, clauses) {
+        Ok(clauses) => Some(Step::Propagation {
+            clauses,
+            conclusion,
+        }),
+        Err(_) => None,
+    }
+}
+
+fn congruence(alloc: Global, conclusion: &[Signed], named: &[(usize, usize)]) -> Option<Step> {
+    let conclusion = literals(alloc, conclusion)?;
+    let pairs = pairs(alloc, named)?;
+    Some(Step::Congruence { conclusion, pairs })
+}
+
+fn linear(alloc: Global, conclusion: &[Signed], sums: &[Sum]) -> Option<Step> {
+    let conclusion = literals(alloc, conclusion)?;
+    let combinations = combinations(alloc, sums)?;
+    Some(Step::Linear {
+        conclusion,
+        combinations,
     })
 }
 
+fn making(alloc: Global, op: Op, parts: &[usize]) -> Option<Step> {
+    match Vec::from_slice(alloc, parts) {
+        Ok(parts) => Some(Step::Make(Node { op, parts })),
+        Err(_) => None,
+    }
+}
+
+pub fn step(alloc: Global, line: Line) -> Option<Step> {
+    match line {
+        Line::H(number) => Some(Step::Hypothesis(number)),
+        Line::G => Some(Step::Goal),
+        Line::X(node, clause) => Some(Step::Connective { node, clause }),
+        Line::A(schema, clause, terms) => schema_step(alloc, schema, clause, terms),
+        Line::U(clauses, conclusion) => propagation(alloc, clauses, conclusion),
+        Line::E(conclusion, named) => congruence(alloc, conclusion, named),
+        Line::L(conclusion, sums) => linear(alloc, conclusion, sums),
+        Line::S(node, bound) => Some(Step::Split { node, bound }),
+        Line::N(op, parts) => making(alloc, op, parts),
+    }
+}
+
+fn push_step(alloc: Global, log: &mut Vec<Step>, line: Line) -> bool {
+    match step(alloc, line) {
+        Some(step) => log.push(step).is_ok(),
+        None => false,
+    }
+}
+
+fn push_steps(alloc: Global, log: &mut Vec<Step>, lines: &[Line]) -> bool {
+    for line in lines {
+        if !push_step(alloc, log, *line) {
+            return false;
+        }
+    }
+    true
+}
+
 /// A log of the first lines and the others after them.
-pub fn steps(alloc: Global, first: &[Line], others: &[Line]) -> Result<Vec<Step>, Fail> {
+pub fn steps(alloc: Global, first: &[Line], others: &[Line]) -> Option<Vec<Step>> {
     let mut log = Vec::new(alloc);
-    for line in first {
-        log.push(step(alloc, *line)?)?;
+    if push_steps(alloc, &mut log, first) && push_steps(alloc, &mut log, others) {
+        Some(log)
+    } else {
+        None
     }
-    for line in others {
-        log.push(step(alloc, *line)?)?;
-    }
-    Ok(log)
 }
 
-pub fn row(alloc: Global, sparse: Sparse) -> Result<Row, Fail> {
+/// A row; nothing where its entries are out of order.
+pub fn row(alloc: Global, sparse: Sparse) -> Option<Row> {
     let (coefficients, constant) = sparse;
-    match Row::new(Vec::from_slice(alloc, coefficients)?, constant) {
-        Some(row) => Ok(row),
-        None => Err(Fail::new("the entries are out of order")),
+    match Vec::from_slice(alloc, coefficients) {
+        Ok(coefficients) => Row::new(coefficients, constant),
+        Err(_) => None,
     }
 }
 
-pub fn rows(alloc: Global, sparse: &[Sparse]) -> Result<Vec<Row>, Fail> {
+fn push_row(alloc: Global, rows: &mut Vec<Row>, sparse: Sparse) -> bool {
+    match row(alloc, sparse) {
+        Some(row) => rows.push(row).is_ok(),
+        None => false,
+    }
+}
+
+pub fn rows(alloc: Global, sparse: &[Sparse]) -> Option<Vec<Row>> {
     let mut rows = Vec::new(alloc);
     for given in sparse {
-        rows.push(row(alloc, *given)?)?;
+        if !push_row(alloc, &mut rows, *given) {
+            return None;
+        }
     }
-    Ok(rows)
+    Some(rows)
 }

@@ -11,7 +11,7 @@ use anyhow::{Context, Result, ensure};
 use std::{env, io};
 
 /// How many rows there were, and how many of them differ from what is written.
-#[derive(Clone, Copy, Debug, Default)]
+#[derive(Clone, Copy, Default)]
 struct Count {
     rows: u64,
     differ: u64,
@@ -35,14 +35,26 @@ fn given_folder(rt: &HostRuntime) -> io::Result<String> {
     }
 }
 
-fn main(rt: HostRuntime) -> Result<()> {
-    let mut count = Count::default();
-    let folder = given_folder(&rt)?;
-    for name in &sources(&rt, folder.as_str())? {
+/// Plays the rows of these paths.
+fn play_all(rt: &HostRuntime, names: &[String], count: &mut Count) -> Result<()> {
+    for name in names {
         let name = name.as_str();
-        count.add(play(&rt, name).context(format_args!("{name}"))?);
+        count.add(play(rt, name).context(format_args!("{name}"))?);
     }
-    let Count { rows, differ } = count;
+    Ok(())
+}
+
+/// Plays the rows of a folder.
+fn play_folder(rt: &HostRuntime, folder: &str) -> Result<Count> {
+    let mut count = Count::default();
+    let names = sources(rt, folder)?;
+    play_all(rt, &names, &mut count)?;
+    Ok(count)
+}
+
+fn main(rt: HostRuntime) -> Result<()> {
+    let folder = given_folder(&rt)?;
+    let Count { rows, differ } = play_folder(&rt, folder.as_str())?;
     println!(rt; "{rows} rows, {differ} differ")?;
     ensure!(differ == 0, "what is printed above differs");
     Ok(())

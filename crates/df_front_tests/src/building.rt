@@ -1,75 +1,88 @@
 //! Texts of many parts, and what they are read as.
 
-use df_base::{Global, Names, Refusal, Stop};
+use df_base::{Code, Global, Names, Stop};
 use df_npexpr::expression;
 use df_ntree::Expr;
 use df_tok::{Tokens, tokens};
-use std::alloc::AllocError;
-use std::test::Fail;
 
-/// Adds a part so often.
-pub(crate) fn extend_repeated(
-    text: &mut Vec<u8>,
-    part: &str,
-    count: usize,
-) -> Result<(), AllocError> {
-    for _ in 0..count {
-        text.extend_from_slice(part.as_bytes())?;
-    }
-    Ok(())
+/// Adds a text. Where memory is refused it is left out, so that the text is none that a test wants.
+pub(crate) fn put(text: &mut Vec<u8>, part: &[u8]) {
+    let _ = text.extend_from_slice(part);
 }
 
-/// A text, then another so often, then a third.
-pub(crate) fn repeated(
-    alloc: Global,
+/// Adds a part so often.
+pub(crate) fn put_often(text: &mut Vec<u8>, part: &str, count: usize) -> bool {
+    for _ in 0..count {
+        if text.extend_from_slice(part.as_bytes()).is_err() {
+            return false;
+        }
+    }
+    true
+}
+
+/// Adds a text, then another so often, then a third.
+pub(crate) fn put_between(
+    text: &mut Vec<u8>,
     first: &str,
     part: &str,
     count: usize,
     last: &str,
-) -> Result<Vec<u8>, Fail> {
-    let mut text = Vec::from_slice(alloc, first.as_bytes())?;
-    extend_repeated(&mut text, part, count)?;
-    text.extend_from_slice(last.as_bytes())?;
-    Ok(text)
+) -> bool {
+    put(text, first.as_bytes());
+    let is_put = put_often(text, part, count);
+    put(text, last.as_bytes());
+    is_put
 }
 
-/// A text between others, each of these so often.
-pub(crate) fn nested(
-    alloc: Global,
-    open: &str,
-    inner: &str,
-    close: &str,
-    count: usize,
-) -> Result<Vec<u8>, Fail> {
-    let mut text = repeated(alloc, "", open, count, inner)?;
-    extend_repeated(&mut text, close, count)?;
-    Ok(text)
+/// Gives a text the next name, where there are few.
+fn name(names: &mut Names, text: &str) -> bool {
+    if names.len() > 9 {
+        return false;
+    }
+    names.intern(text).is_ok()
+}
+
+/// Gives `a` the name 0 and `b` the name 1.
+pub(crate) fn name_letters(names: &mut Names) -> bool {
+    name(names, "a") && name(names, "b")
+}
+
+/// The tokens of a text, where names are given to the letters.
+fn tokens_with<'a>(alloc: Global, text: &'a [u8], names: &mut Names) -> Option<Tokens<'a>> {
+    if !name_letters(names) || names.len() > 9 {
+        return None;
+    }
+    tokens(alloc, text, names).ok()
 }
 
 /// The tokens of a text, where `a` is the name 0 and `b` the name 1.
-pub(crate) fn tokens_of(alloc: Global, text: &[u8]) -> Result<Tokens<'_>, Fail> {
-    let mut names = Names::new(alloc)?;
-    names.intern("a")?;
-    names.intern("b")?;
-    match tokens(alloc, text, &mut names) {
-        Ok(tokens) => Ok(tokens),
-        Err(_) => Err(Fail::new("the text is not divided")),
+pub(crate) fn tokens_of(alloc: Global, text: &[u8]) -> Option<Tokens<'_>> {
+    match Names::new(alloc) {
+        Ok(mut names) => tokens_with(alloc, text, &mut names),
+        Err(_) => None,
+    }
+}
+
+/// The expression that tokens begin with.
+fn tree_of(alloc: Global, tokens: &Tokens) -> Option<Expr> {
+    match expression(alloc, tokens, 0) {
+        Ok((tree, _)) => Some(tree),
+        Err(_) => None,
     }
 }
 
 /// The expression that a text begins with.
-pub(crate) fn expression_of(alloc: Global, text: &[u8]) -> Result<Expr, Fail> {
-    let tokens = tokens_of(alloc, text)?;
-    match expression(alloc, &tokens, 0) {
-        Ok((tree, _)) => Ok(tree),
-        Err(_) => Err(Fail::new("the text begins with no expression")),
+pub(crate) fn expression_of(alloc: Global, text: &[u8]) -> Option<Expr> {
+    match tokens_of(alloc, text) {
+        Some(tokens) => tree_of(alloc, &tokens),
+        None => None,
     }
 }
 
-/// A refusal, and not want of memory.
-pub(crate) fn refusal_of(stop: Stop) -> Result<Refusal, Fail> {
+/// Whether this is the code of a refusal.
+pub(crate) fn has_code(stop: &Stop, code: Code) -> bool {
     match stop {
-        Stop::Refused(refusal) => Ok(refusal),
-        Stop::Memory => Err(Fail::new("memory was refused")),
+        Stop::Refused(refusal) => refusal.code == code,
+        Stop::Memory => false,
     }
 }

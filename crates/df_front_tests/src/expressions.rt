@@ -1,11 +1,11 @@
 //! Expressions and types as they are read, and where reading stops.
 
-use crate::building::{expression_of, nested, refusal_of, repeated, tokens_of};
-use df_base::{Code, Global, Name};
+use crate::building::{expression_of, has_code, put, put_between, put_often, tokens_of};
+use crate::expecting::expect;
+use df_base::{Code, Global, Name, Stop};
 use df_npexpr::{expression, ty};
 use df_ntree::{BinaryOperator, Expr, TreeType, UnaryOperator};
 use df_tok::Tokens;
-use std::alloc::AllocError;
 use std::test::Fail;
 
 fn sign(operator: BinaryOperator) -> &'static [u8] {
@@ -30,76 +30,67 @@ fn sign(operator: BinaryOperator) -> &'static [u8] {
 }
 
 /// A leaf: a letter for a name or a truth, a digit for a number.
-fn leaf(out: &mut Vec<u8>, tree: &Expr) -> Result<(), AllocError> {
+fn leaf(out: &mut Vec<u8>, tree: &Expr) {
     match tree {
         Expr::Number(literal) => {
             if literal.negative {
-                out.push(b'~')?;
+                put(out, b"~");
             }
-            out.push((literal.magnitude % 10) as u8 + b'0')?;
+            put(out, &[(literal.magnitude % 10) as u8 + b'0']);
         }
-        Expr::Truth { value, .. } => out.push(if *value { b'T' } else { b'F' })?,
-        Expr::Name(ident) => out.push((ident.name % 26) as u8 + b'a')?,
+        Expr::Truth { value, .. } => put(out, if *value { b"T" } else { b"F" }),
+        Expr::Name(ident) => put(out, &[(ident.name % 26) as u8 + b'a']),
         _ => {}
     }
-    Ok(())
 }
 
 /// Writes a tree, with brackets round each row of operands.
-fn write(out: &mut Vec<u8>, tree: &Expr) -> Result<(), AllocError> {
+fn write(out: &mut Vec<u8>, tree: &Expr) {
     match tree {
         Expr::Parentheses { inner, .. } => {
-            out.push(b'(')?;
-            write(out, inner)?;
-            out.push(b')')?;
-            Ok(())
+            put(out, b"(");
+            write(out, inner);
+            put(out, b")");
         }
         Expr::Unary {
             operator,
             operand,
             ..
         } => {
-            out.push(match operator {
-                UnaryOperator::Negate => b'-',
-                UnaryOperator::Not => b'!',
-            })?;
-            write(out, operand)
+            put(
+                out,
+                match operator {
+                    UnaryOperator::Negate => b"-",
+                    UnaryOperator::Not => b"!",
+                },
+            );
+            write(out, operand);
         }
         Expr::Operations { first, rest } => {
-            out.push(b'[')?;
-            write(out, first)?;
+            put(out, b"[");
+            write(out, first);
             for operation in rest {
-                out.extend_from_slice(sign(operation.operator))?;
-                write(out, &operation.operand)?;
+                put(out, sign(operation.operator));
+                write(out, &operation.operand);
             }
-            out.push(b']')?;
-            Ok(())
+            put(out, b"]");
         }
         Expr::Leading { operations } => {
-            out.push(b'{')?;
+            put(out, b"{");
             for operation in operations {
-                out.extend_from_slice(sign(operation.operator))?;
-                write(out, &operation.operand)?;
+                put(out, sign(operation.operator));
+                write(out, &operation.operand);
             }
-            out.push(b'}')?;
-            Ok(())
+            put(out, b"}");
         }
         _ => leaf(out, tree),
     }
 }
 
-/// A tree as it is written.
-fn written(alloc: Global, tree: &Expr) -> Result<Vec<u8>, AllocError> {
-    let mut out = Vec::new(alloc);
-    write(&mut out, tree)?;
-    Ok(out)
-}
-
 fn is_written(alloc: Global, tree: &Expr, wanted: &str) -> bool {
-    match written(alloc, tree) {
-        Ok(out) => out.as_slice() == wanted.as_bytes(),
-        Err(_) => false,
-    }
+    let mut out = Vec::new(alloc);
+    write(&mut out, tree);
+    out.as_slice() == wanted.as_bytes()
 }
 
 /// Texts, and their trees.
@@ -130,29 +121,18 @@ const READ: [(&str, &str); 24] = [
     ("a ==> && b && c", "[a==>{&&b&&c}]"),
 ];
 
-#[test]
-fn texts_have_their_trees(rt: HostRuntime) -> Result<(), Fail> {
-    let alloc = rt.alloc();
-    for (text, shown) in &READ {
-        let tree = expression_of(alloc, text.as_bytes())?;
-        assert!(rt; is_written(alloc, &tree, *shown), "at {text}");
+/// Whether a text begins with an expression of this tree.
+fn has_tree(alloc: Global, text: &str, shown: &str) -> bool {
+    match expression_of(alloc, text.as_bytes()) {
+        Some(tree) => is_written(alloc, &tree, shown),
+        None => false,
     }
-    Ok(())
 }
 
-/// The column where the syntax of a text is refused, or none where an expression is read.
-fn refused_at(alloc: Global, text: &[u8]) -> Result<Option<u32>, Fail> {
-    let tokens = tokens_of(alloc, text)?;
-    match expression(alloc, &tokens, 0) {
-        Ok(_) => Ok(None),
-        Err(stop) => {
-            let refusal = refusal_of(stop)?;
-            if refusal.code == Code::Syntax {
-                Ok(Some(refusal.pos.col))
-            } else {
-                Err(Fail::new("another refusal"))
-            }
-        }
+#[test]
+fn texts_have_their_trees(rt: HostRuntime) {
+    for (number, (text, shown)) in READ.iter().enumerate() {
+        expect(&rt, number, has_tree(rt.alloc(), *text, *shown));
     }
 }
 
@@ -174,14 +154,18 @@ fn begins(alloc: Global, tokens: &Tokens, shown: &str, end: usize) -> bool {
     }
 }
 
-#[test]
-fn parts_end_before_a_barred_operator(rt: HostRuntime) -> Result<(), Fail> {
-    let alloc = rt.alloc();
-    for (text, shown, end) in &BEGUN {
-        let tokens = tokens_of(alloc, text.as_bytes())?;
-        assert!(rt; begins(alloc, &tokens, *shown, *end), "at {text}");
+fn begins_with(alloc: Global, text: &str, shown: &str, end: usize) -> bool {
+    match tokens_of(alloc, text.as_bytes()) {
+        Some(tokens) => begins(alloc, &tokens, shown, end),
+        None => false,
     }
-    Ok(())
+}
+
+#[test]
+fn parts_end_before_a_barred_operator(rt: HostRuntime) {
+    for (number, (text, shown, end)) in BEGUN.iter().enumerate() {
+        expect(&rt, number, begins_with(rt.alloc(), *text, *shown, *end));
+    }
 }
 
 /// Texts that begin with no expression, and the columns where reading stops.
@@ -194,13 +178,34 @@ const REFUSED: [(&str, u32); 6] = [
     ("", 1),
 ];
 
-#[test]
-fn what_has_no_tree_is_refused(rt: HostRuntime) -> Result<(), Fail> {
-    for (text, col) in REFUSED {
-        let found = refused_at(rt.alloc(), text.as_bytes())?;
-        assert_eq!(rt; found, Some(col), "at {text}");
+/// Whether this is a refusal of the syntax at this column.
+fn is_syntax_at(stop: &Stop, col: u32) -> bool {
+    match stop {
+        Stop::Refused(refusal) => refusal.code == Code::Syntax && refusal.pos.col == col,
+        Stop::Memory => false,
     }
-    Ok(())
+}
+
+fn are_refused_at(alloc: Global, tokens: &Tokens, col: u32) -> bool {
+    match expression(alloc, tokens, 0) {
+        Ok(_) => false,
+        Err(stop) => is_syntax_at(&stop, col),
+    }
+}
+
+/// Whether the syntax of a text is refused at this column.
+fn is_refused_at(alloc: Global, text: &str, col: u32) -> bool {
+    match tokens_of(alloc, text.as_bytes()) {
+        Some(tokens) => are_refused_at(alloc, &tokens, col),
+        None => false,
+    }
+}
+
+#[test]
+fn what_has_no_tree_is_refused(rt: HostRuntime) {
+    for (number, (text, col)) in REFUSED.iter().enumerate() {
+        expect(&rt, number, is_refused_at(rt.alloc(), *text, *col));
+    }
 }
 
 /// The token behind the expression from a token on, or none where there is no expression.
@@ -211,14 +216,18 @@ fn end_of_expression(alloc: Global, tokens: &Tokens, start: usize) -> Option<usi
     }
 }
 
+fn ends_at(alloc: Global, tokens: &Tokens) -> bool {
+    end_of_expression(alloc, tokens, 1) == Some(4)
+        && end_of_expression(alloc, tokens, 4).is_none()
+        && end_of_expression(alloc, tokens, 9).is_none()
+}
+
 #[test]
 fn a_part_ends_where_nothing_continues_it(rt: HostRuntime) -> Result<(), Fail> {
-    let alloc = rt.alloc();
-    let tokens = tokens_of(alloc, b"b a + 1 ; 2")?;
-    for (start, end) in [(1, Some(4)), (4, None), (9, None)] {
-        let found = end_of_expression(alloc, &tokens, start);
-        assert_eq!(rt; found, end, "from {start}");
-    }
+    let Some(tokens) = tokens_of(rt.alloc(), b"b a + 1 ; 2") else {
+        return Err(Fail::new("the text is not divided"));
+    };
+    assert!(rt; ends_at(rt.alloc(), &tokens));
     Ok(())
 }
 
@@ -230,12 +239,16 @@ fn named_type(alloc: Global, tokens: &Tokens, start: usize) -> Option<(Name, u32
     }
 }
 
+fn has_one_type(alloc: Global, tokens: &Tokens) -> bool {
+    named_type(alloc, tokens, 1) == Some((0, 3, 2)) && ty(alloc, tokens, 5).is_err()
+}
+
 #[test]
 fn a_type_is_one_token(rt: HostRuntime) -> Result<(), Fail> {
-    let alloc = rt.alloc();
-    let tokens = tokens_of(alloc, b"b a + 1 ; 2")?;
-    assert!(rt; named_type(alloc, &tokens, 1) == Some((0, 3, 2)));
-    assert!(rt; ty(alloc, &tokens, 5).is_err());
+    let Some(tokens) = tokens_of(rt.alloc(), b"b a + 1 ; 2") else {
+        return Err(Fail::new("the text is not divided"));
+    };
+    assert!(rt; has_one_type(rt.alloc(), &tokens));
     Ok(())
 }
 
@@ -248,47 +261,62 @@ const HIGHEST: [(&str, &str, &str, usize); 5] = [
     ("- ", "a", "", 199),
 ];
 
-/// Whether a text so often between others is read.
-fn is_read(
-    alloc: Global,
-    open: &str,
-    inner: &str,
-    close: &str,
-    times: usize,
-) -> Result<bool, Fail> {
-    let text = nested(alloc, open, inner, close, times)?;
-    Ok(refused_at(alloc, &text)?.is_none())
+/// Whether tokens begin with an expression, or the syntax is refused.
+fn are_read(alloc: Global, tokens: &Tokens, wanted: bool) -> bool {
+    match expression(alloc, tokens, 0) {
+        Ok(_) => wanted,
+        Err(stop) => !wanted && has_code(&stop, Code::Syntax),
+    }
+}
+
+fn is_read(alloc: Global, text: &[u8], wanted: bool) -> bool {
+    match tokens_of(alloc, text) {
+        Some(tokens) => are_read(alloc, &tokens, wanted),
+        None => false,
+    }
+}
+
+/// What stands around a text, and the text.
+type Nested = (&'static str, &'static str, &'static str);
+
+/// Whether a text so often between others is read, or refused.
+fn is_nested_read(alloc: Global, parts: Nested, times: usize, wanted: bool) -> bool {
+    let (open, inner, close) = parts;
+    let mut text = Vec::new(alloc);
+    put_between(&mut text, "", open, times, inner)
+        && put_often(&mut text, close, times)
+        && is_read(alloc, &text, wanted)
 }
 
 #[test]
-fn heights_end_at_200(rt: HostRuntime) -> Result<(), Fail> {
-    let alloc = rt.alloc();
-    for (open, inner, close, count) in HIGHEST {
+fn heights_end_at_200(rt: HostRuntime) {
+    for (number, (open, inner, close, count)) in HIGHEST.iter().enumerate() {
+        let parts = (*open, *inner, *close);
         let fewer = count.saturating_sub(1);
         let more = count.saturating_add(1);
-        for (times, wanted) in [(fewer, true), (count, true), (more, false)] {
-            let found = is_read(alloc, open, inner, close, times)?;
-            assert!(rt; found == wanted, "{times} of {open}");
-        }
+        expect(&rt, number, is_nested_read(rt.alloc(), parts, fewer, true));
+        expect(&rt, number, is_nested_read(rt.alloc(), parts, *count, true));
+        expect(&rt, number, is_nested_read(rt.alloc(), parts, more, false));
     }
-    Ok(())
 }
 
 /// How many operands are behind the first one of a row, where a text is one.
-fn further_operands(alloc: Global, text: &[u8]) -> Result<Option<usize>, Fail> {
-    match expression_of(alloc, text)? {
-        Expr::Operations { rest, .. } => Ok(Some(rest.len())),
-        _ => Ok(None),
+fn further_operands(alloc: Global, text: &[u8]) -> Option<usize> {
+    match &expression_of(alloc, text) {
+        Some(Expr::Operations { rest, .. }) => Some(rest.len()),
+        _ => None,
     }
 }
 
+/// Whether so many operands are read behind the first one.
+fn has_operands(alloc: Global, part: &str, count: usize) -> bool {
+    let mut text = Vec::new(alloc);
+    put_between(&mut text, "a", part, count, "") && further_operands(alloc, &text) == Some(count)
+}
+
 #[test]
-fn operands_of_one_level_are_many(rt: HostRuntime) -> Result<(), Fail> {
-    let alloc = rt.alloc();
-    for part in [" + a", " < a", " ==> a"] {
-        let text = repeated(alloc, "a", part, 100_000, "")?;
-        let found = further_operands(alloc, &text)?;
-        assert_eq!(rt; found, Some(100_000), "{part}");
+fn operands_of_one_level_are_many(rt: HostRuntime) {
+    for (number, part) in [" + a", " < a", " ==> a"].iter().enumerate() {
+        expect(&rt, number, has_operands(rt.alloc(), *part, 100_000));
     }
-    Ok(())
 }

@@ -1,12 +1,12 @@
 //! Files of the grammar, short, long and high.
 
-use crate::building::{extend_repeated, refusal_of, repeated};
+use crate::building::{has_code, put, put_between, put_often};
+use crate::expecting::expect;
 use df_base::{Code, Names, Stop};
 use df_npdecl::parse;
 use df_ntree::File;
 use df_tok::tokens;
 use std::alloc::Global;
-use std::test::Fail;
 
 /// Files of the grammar.
 const FILES: [&str; 24] = [
@@ -43,24 +43,26 @@ fn file_of(alloc: Global, source: &[u8]) -> Result<File, Stop> {
     parse(alloc, &tokens)
 }
 
-/// The code by which a source is refused, or none where it is read.
-fn code_of(alloc: Global, source: &[u8]) -> Result<Option<Code>, Fail> {
-    match file_of(alloc, source) {
-        Ok(_) => Ok(None),
-        Err(stop) => Ok(Some(refusal_of(stop)?.code)),
+/// Whether a source is refused by this code, or read where there is none.
+fn is_refused_by(alloc: Global, source: &[u8], code: Option<Code>) -> bool {
+    match &file_of(alloc, source) {
+        Ok(_) => code.is_none(),
+        Err(stop) => match code {
+            Some(code) => has_code(stop, code),
+            None => false,
+        },
     }
 }
 
 #[test]
-fn reads_files(rt: HostRuntime) -> Result<(), Fail> {
-    for source in FILES {
-        assert_eq!(rt;
-            code_of(rt.alloc(), source.as_bytes())?,
-            None,
-            "at {source}"
+fn reads_files(rt: HostRuntime) {
+    for (number, source) in FILES.iter().enumerate() {
+        expect(
+            &rt,
+            number,
+            is_refused_by(rt.alloc(), source.as_bytes(), None),
         );
     }
-    Ok(())
 }
 
 /// What stands many times between others, how often, and the code of the refusal, if it is refused.
@@ -89,13 +91,26 @@ const LONG: [(&str, &str, usize, &str, Option<Code>); 10] = [
     ("method M() { ", "assert a; ", 150_000, "}", None),
 ];
 
+/// Whether a part so often between others is refused by this code, or read where there is none.
+fn is_long_refused_by(
+    alloc: Global,
+    around: (&str, &str),
+    part: &str,
+    count: usize,
+    code: Option<Code>,
+) -> bool {
+    let (first, last) = around;
+    let mut text = Vec::new(alloc);
+    put_between(&mut text, first, part, count, last) && is_refused_by(alloc, &text, code)
+}
+
 #[test]
-fn reads_long_files(rt: HostRuntime) -> Result<(), Fail> {
-    for (first, part, count, last, code) in LONG {
-        let text = repeated(rt.alloc(), first, part, count, last)?;
-        assert_eq!(rt; code_of(rt.alloc(), &text)?, code, "{count} of {part}");
+fn reads_long_files(rt: HostRuntime) {
+    for (number, (first, part, count, last, code)) in LONG.iter().enumerate() {
+        let around = (*first, *last);
+        let is_right = is_long_refused_by(rt.alloc(), around, *part, *count, *code);
+        expect(&rt, number, is_right);
     }
-    Ok(())
 }
 
 /// A text, what stands around another one, that one, and the rest; and how often it may stand around.
@@ -109,32 +124,39 @@ const HIGHEST: [(&str, &str, &str, &str, &str, usize); 7] = [
     ("newtype N = x | ", "(", "x", ")", "", 199),
 ];
 
-/// A text between two others so often, and what is around all of it.
-fn surrounded(
-    alloc: Global,
-    around: (&str, &str),
-    between: (&str, &str),
-    inner: &str,
-    times: usize,
-) -> Result<Vec<u8>, Fail> {
-    let (first, last) = around;
-    let (open, close) = between;
-    let mut text = repeated(alloc, first, open, times, inner)?;
-    extend_repeated(&mut text, close, times)?;
-    text.extend_from_slice(last.as_bytes())?;
-    Ok(text)
+/// What stands around all, and around a text so often, and this text.
+type Nested = (
+    &'static str,
+    &'static str,
+    &'static str,
+    &'static str,
+    &'static str,
+);
+
+/// Adds a text so often between two others, and what is around all of it.
+fn put_nested(text: &mut Vec<u8>, parts: Nested, times: usize) -> bool {
+    let (first, open, inner, close, last) = parts;
+    let is_put = put_between(text, first, open, times, inner) && put_often(text, close, times);
+    put(text, last.as_bytes());
+    is_put
+}
+
+fn is_nested_refused_by(alloc: Global, parts: Nested, times: usize, code: Option<Code>) -> bool {
+    let mut text = Vec::new(alloc);
+    put_nested(&mut text, parts, times) && is_refused_by(alloc, &text, code)
+}
+
+/// Whether a text is read so often between others, and once less, and not once more.
+fn ends_at(alloc: Global, parts: Nested, count: usize) -> bool {
+    is_nested_refused_by(alloc, parts, count.saturating_sub(1), None)
+        && is_nested_refused_by(alloc, parts, count, None)
+        && is_nested_refused_by(alloc, parts, count.saturating_add(1), Some(Code::Syntax))
 }
 
 #[test]
-fn heights_end_at_200(rt: HostRuntime) -> Result<(), Fail> {
-    let alloc = rt.alloc();
-    for (first, open, inner, close, last, count) in HIGHEST {
-        let fewer = count.saturating_sub(1);
-        let more = count.saturating_add(1);
-        for (times, code) in [(fewer, None), (count, None), (more, Some(Code::Syntax))] {
-            let text = surrounded(alloc, (first, last), (open, close), inner, times)?;
-            assert_eq!(rt; code_of(alloc, &text)?, code, "{times} of {open}");
-        }
+fn heights_end_at_200(rt: HostRuntime) {
+    for (number, (first, open, inner, close, last, count)) in HIGHEST.iter().enumerate() {
+        let parts = (*first, *open, *inner, *close, *last);
+        expect(&rt, number, ends_at(rt.alloc(), parts, *count));
     }
-    Ok(())
 }

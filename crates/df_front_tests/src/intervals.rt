@@ -1,5 +1,6 @@
 //! Intervals of whole numbers.
 
+use crate::expecting::expect;
 use df_lang::Interval;
 
 /// The ends of intervals, a number, and whether it lies inside: none where the ends are turned.
@@ -16,10 +17,17 @@ const ROWS: [(i128, i128, i128, Option<bool>); 10] = [
     (i128::MAX, i128::MIN, 0, None),
 ];
 
+/// Whether a number lies inside: none where the ends are turned.
+fn inside(low: i128, high: i128, number: i128) -> Option<bool> {
+    match Interval::new(low, high) {
+        Some(interval) => Some(interval.holds(number)),
+        None => None,
+    }
+}
+
 #[test]
 fn an_interval_holds_its_ends_and_nothing_beyond(rt: HostRuntime) {
-    for (low, high, number, holds) in ROWS {
-        let found = Interval::new(low, high).map(|interval| interval.holds(number));
-        assert!(rt; found == holds, "{number} in {low} to {high}");
+    for (row, (low, high, number, holds)) in ROWS.iter().enumerate() {
+        expect(&rt, row, inside(*low, *high, *number) == *holds);
     }
 }

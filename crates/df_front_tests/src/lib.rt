@@ -4,6 +4,8 @@
 #[cfg(test)]
 mod building;
 #[cfg(test)]
+mod expecting;
+#[cfg(test)]
 mod expressions;
 #[cfg(test)]
 mod files;

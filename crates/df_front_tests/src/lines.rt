@@ -1,6 +1,8 @@
 //! The lines of refusals, one for each code.
 
-use df_base::{Code, Detail, Global, Memory, Names, Pos, Refusal};
+use crate::building::name_letters;
+use crate::expecting::expect;
+use df_base::{Code, Detail, Global, Names, Pos, Refusal};
 use df_nfront::{pos_text, refusal_line};
 use std::test::Fail;
 
@@ -39,14 +41,6 @@ const LINES: [(Code, Detail, &str); 15] = [
     (Code::Empty, Detail::Nothing, "p.dfy:12:3: S15 empty\n"),
 ];
 
-/// Names, where `a` is 0 and `b` is 1.
-fn two_names(alloc: Global) -> Result<Names, Memory> {
-    let mut names = Names::new(alloc)?;
-    names.intern("a")?;
-    names.intern("b")?;
-    Ok(names)
-}
-
 fn has_line(alloc: Global, names: &Names, refusal: &Refusal, line: &str) -> bool {
     match refusal_line(alloc, "p.dfy", names, refusal) {
         Ok(found) => found.as_slice() == line.as_bytes(),
@@ -54,17 +48,26 @@ fn has_line(alloc: Global, names: &Names, refusal: &Refusal, line: &str) -> bool
     }
 }
 
+/// Whether the refusal at line 12 and column 3 has this line.
+fn is_told(alloc: Global, names: &Names, code: Code, detail: Detail, line: &str) -> bool {
+    let refusal = Refusal {
+        code,
+        pos: Pos { line: 12, col: 3 },
+        detail,
+    };
+    has_line(alloc, names, &refusal, line)
+}
+
 #[test]
 fn each_code_has_its_line(rt: HostRuntime) -> Result<(), Fail> {
-    let alloc = rt.alloc();
-    let names = two_names(alloc)?;
+    let mut names = Names::new(rt.alloc())?;
+    assert!(rt; name_letters(&mut names));
     for (number, (code, detail, line)) in LINES.iter().enumerate() {
-        let refusal = Refusal {
-            code: *code,
-            pos: Pos { line: 12, col: 3 },
-            detail: *detail,
-        };
-        assert!(rt; has_line(alloc, &names, &refusal, *line), "at {number}");
+        expect(
+            &rt,
+            number,
+            is_told(rt.alloc(), &names, *code, *detail, *line),
+        );
     }
     Ok(())
 }
@@ -72,6 +75,6 @@ fn each_code_has_its_line(rt: HostRuntime) -> Result<(), Fail> {
 #[test]
 fn a_position_has_its_text(rt: HostRuntime) -> Result<(), Fail> {
     let text = pos_text(rt.alloc(), "d/q.dfy", Pos { line: 1, col: 204 })?;
-    assert_eq!(rt; text.as_slice(), b"d/q.dfy:1:204: ".as_slice());
+    assert!(rt; text.as_slice() == b"d/q.dfy:1:204: ".as_slice());
     Ok(())
 }

@@ -1,37 +1,52 @@
 //! Names, files, sinks and statuses.
 
+use crate::expecting::expect;
 use df_base::{
-    Files, HostFiles, HostSink, LoadFault, MemFiles, MemSink, Memory, Names, Sink, SinkFault,
+    Files, HostFiles, HostSink, LoadFault, MemFiles, MemSink, Memory, Name, Names, Sink, SinkFault,
     Status, Stop, SureFiles, SureSink,
 };
 use std::alloc::Global;
 use std::io::Write;
-use std::test::Fail;
 use std::{fs, io};
 
-/// Whether two texts have names of their own.
-fn two_texts_have_names(alloc: Global) -> Result<bool, Memory> {
-    let mut names = Names::new(alloc)?;
-    let first = names.intern("first")?;
-    let is_first = names.text(first) == "first";
-    let second = names.intern("second")?;
-    let is_second = names.text(second) == "second";
-    Ok(is_first && is_second && first != second && names.len() == 2)
+/// The name of a text, where the text is that of the name.
+fn own_name(names: &mut Names, text: &str) -> Option<Name> {
+    if names.len() > 9 {
+        return None;
+    }
+    let Ok(name) = names.intern(text) else {
+        return None;
+    };
+    if names.text(name) == text {
+        Some(name)
+    } else {
+        None
+    }
 }
 
-/// Whether a text has its name again.
-fn a_text_keeps_its_name(alloc: Global) -> Result<bool, Memory> {
-    let mut names = Names::new(alloc)?;
-    let first = names.intern("first")?;
-    let again = names.intern("first")?;
-    Ok(first == again && names.len() == 1)
+/// Whether the names of two texts are different, where so many are given then.
+fn are_apart(names: &mut Names, first: &str, second: &str, count: usize) -> Option<bool> {
+    let first = own_name(names, first)?;
+    let second = own_name(names, second)?;
+    if names.len() == count {
+        Some(first != second)
+    } else {
+        None
+    }
+}
+
+/// Whether the names of two texts are different, where these are all that are given.
+fn are_named_apart(alloc: Global, first: &str, second: &str, count: usize) -> Option<bool> {
+    match Names::new(alloc) {
+        Ok(mut names) => are_apart(&mut names, first, second, count),
+        Err(_) => None,
+    }
 }
 
 #[test]
-fn a_text_has_one_name(rt: HostRuntime) -> Result<(), Fail> {
-    assert!(rt; two_texts_have_names(rt.alloc())?);
-    assert!(rt; a_text_keeps_its_name(rt.alloc())?);
-    Ok(())
+fn a_text_has_one_name(rt: HostRuntime) {
+    assert!(rt; are_named_apart(rt.alloc(), "first", "second", 2) == Some(true));
+    assert!(rt; are_named_apart(rt.alloc(), "first", "first", 1) == Some(false));
 }
 
 /// What a load comes to.
@@ -44,24 +59,38 @@ enum Loaded<'a> {
     Failed,
 }
 
-fn comes_to(load: Result<Vec<u8>, LoadFault>, wanted: Loaded) -> bool {
-    match (load, wanted) {
-        (Ok(bytes), Loaded::Text(text)) => bytes.as_slice() == text.as_bytes(),
-        (Ok(bytes), Loaded::Bytes(count)) => bytes.len() == count,
-        (Err(LoadFault::Large(size)), Loaded::Large(wanted)) => size == wanted,
-        (Err(LoadFault::Failed), Loaded::Failed) => true,
-        _ => false,
+fn are_bytes(bytes: &[u8], wanted: Loaded) -> bool {
+    match wanted {
+        Loaded::Text(text) => bytes == text.as_bytes(),
+        Loaded::Bytes(count) => bytes.len() == count,
+        Loaded::Large(_) | Loaded::Failed => false,
     }
 }
 
-/// Files of which one is added twice, and the fifth load fails.
-fn planned_files(alloc: Global) -> Result<MemFiles, Memory> {
-    let mut files = MemFiles::new(alloc);
-    for (name, text) in [("a", "old"), ("b", "other"), ("a", "new!")] {
-        files.add(name, text.as_bytes())?;
+fn is_fault(fault: &LoadFault, wanted: Loaded) -> bool {
+    match wanted {
+        Loaded::Large(limit) => match fault {
+            LoadFault::Large(size) => *size == limit,
+            LoadFault::Failed | LoadFault::Memory => false,
+        },
+        Loaded::Failed => matches!(fault, LoadFault::Failed),
+        Loaded::Text(_) | Loaded::Bytes(_) => false,
     }
-    files.fail_at(4)?;
-    Ok(files)
+}
+
+fn comes_to(load: &Result<Vec<u8>, LoadFault>, wanted: Loaded) -> bool {
+    match load {
+        Ok(bytes) => are_bytes(bytes, wanted),
+        Err(fault) => is_fault(fault, wanted),
+    }
+}
+
+/// Adds files of which one is added twice, where the fifth load fails.
+fn plan_files(files: &mut MemFiles) -> bool {
+    files.add("a", b"old").is_ok()
+        && files.add("b", b"other").is_ok()
+        && files.add("a", b"new!").is_ok()
+        && files.fail_at(4).is_ok()
 }
 
 /// Names and limits, what their loads come to one after another, and how many faults there are then.
@@ -75,17 +104,14 @@ const PLANNED: [(&str, u64, Loaded, u64); 6] = [
 ];
 
 #[test]
-fn files_in_memory_fail_where_planned(rt: HostRuntime) -> Result<(), Fail> {
-    let mut files = planned_files(rt.alloc())?;
-    for (name, limit, wanted, faults) in PLANNED {
-        let load = files.load(rt.alloc(), name, limit);
-        let is_wanted = comes_to(load, wanted);
-        assert!(rt;
-            is_wanted && files.faults() == faults,
-            "{name} within {limit}"
-        );
+fn files_in_memory_fail_where_planned(rt: HostRuntime) {
+    let mut files = MemFiles::new(rt.alloc());
+    assert!(rt; plan_files(&mut files));
+    for (number, (name, limit, wanted, faults)) in PLANNED.iter().enumerate() {
+        let load = files.load(rt.alloc(), *name, *limit);
+        let is_right = comes_to(&load, *wanted) && files.faults() == *faults;
+        expect(&rt, number, is_right);
     }
-    Ok(())
 }
 
 /// Names and limits, and what their loads come to where `a` is `text`.
@@ -96,23 +122,25 @@ const SURE: [(&str, u64, Loaded); 3] = [
 ];
 
 #[test]
-fn sure_files_are_empty_where_none_was_added(rt: HostRuntime) -> Result<(), Fail> {
+fn sure_files_are_empty_where_none_was_added(rt: HostRuntime) {
     let mut files = SureFiles::new(rt.alloc());
-    files.add("a", b"text")?;
-    for (name, limit, wanted) in SURE {
-        let load = files.load(rt.alloc(), name, limit);
-        let is_wanted = comes_to(load, wanted);
-        assert!(rt; is_wanted && files.faults() == 0, "{name} within {limit}");
+    assert!(rt; files.add("a", b"text").is_ok());
+    for (number, (name, limit, wanted)) in SURE.iter().enumerate() {
+        let load = files.load(rt.alloc(), *name, *limit);
+        let is_right = comes_to(&load, *wanted) && files.faults() == 0;
+        expect(&rt, number, is_right);
     }
-    Ok(())
 }
 
-fn write_files(rt: &HostRuntime) -> Result<(), Fail> {
+fn write_long(rt: &HostRuntime) -> io::Result<()> {
     let long = vec![in rt.alloc(); 9u8; 10000]?;
-    fs::create_dir_all(rt, "df_front_tests")?;
-    fs::write(rt, "df_front_tests/text", b"seven b".as_slice())?;
-    fs::write(rt, "df_front_tests/long", long)?;
-    Ok(())
+    fs::write(rt, "df_front_tests/long", long)
+}
+
+fn write_files(rt: &HostRuntime) -> bool {
+    fs::create_dir_all(rt, "df_front_tests").is_ok()
+        && fs::write(rt, "df_front_tests/text", b"seven b".as_slice()).is_ok()
+        && write_long(rt).is_ok()
 }
 
 /// Names and limits, what their loads come to, and whether a fault is counted.
@@ -124,26 +152,24 @@ const WRITTEN: [(&str, u64, Loaded, bool); 5] = [
     ("df_front_tests", 100, Loaded::Failed, true),
 ];
 
-/// Whether each load comes to what it should.
+/// Whether each load comes to what it should, and a fault is counted where it fails.
 fn reads_files(rt: &HostRuntime) -> bool {
-    let alloc = rt.alloc();
-    let mut files = HostFiles::new(alloc, rt);
-    for (name, limit, wanted, fails) in WRITTEN {
+    let mut files = HostFiles::new(rt.alloc(), rt);
+    let mut are_read = true;
+    for (name, limit, wanted, fails) in &WRITTEN {
         let before = files.faults();
-        let load = files.load(alloc, name, limit);
-        if !comes_to(load, wanted) || (files.faults() > before) != fails {
-            return false;
-        }
+        let load = files.load(rt.alloc(), *name, *limit);
+        let is_counted = (files.faults() > before) == *fails;
+        are_read = are_read && is_counted && comes_to(&load, *wanted);
     }
-    true
+    are_read
 }
 
 #[test]
-fn files_of_the_system_are_read(rt: HostRuntime) -> Result<(), Fail> {
-    write_files(&rt)?;
+fn files_of_the_system_are_read(rt: HostRuntime) {
+    assert!(rt; write_files(&rt));
     assert!(rt; reads_files(&rt));
-    fs::remove_dir_all(&rt, "df_front_tests")?;
-    Ok(())
+    assert!(rt; fs::remove_dir_all(&rt, "df_front_tests").is_ok());
 }
 
 fn comes_through(put: Result<(), SinkFault>, fails: bool) -> bool {
@@ -154,37 +180,40 @@ fn comes_through(put: Result<(), SinkFault>, fails: bool) -> bool {
     }
 }
 
-/// A sink of which the second call fails past two bytes, and the third before any.
-fn planned_sink(alloc: Global) -> Result<MemSink, Memory> {
-    let mut sink = MemSink::new(alloc);
-    sink.fail_at(1, 2)?;
-    sink.fail_at(2, 0)?;
-    Ok(sink)
+/// Lets the second call of a sink fail past two bytes, and the third before any.
+fn plan_sink(sink: &mut MemSink) -> bool {
+    sink.fail_at(1, 2).is_ok() && sink.fail_at(2, 0).is_ok()
 }
 
+/// What is put on it, and whether that fails.
+const PLANNED_PUTS: [(&str, bool); 4] = [
+    ("one ", false),
+    ("two ", true),
+    ("three ", true),
+    (" four", false),
+];
+
 #[test]
-fn sinks_in_memory_keep_what_they_take(rt: HostRuntime) -> Result<(), Fail> {
-    let mut sink = planned_sink(rt.alloc())?;
-    for (text, fails) in [
-        ("one ", false),
-        ("two ", true),
-        ("three ", true),
-        (" four", false),
-    ] {
+fn sinks_in_memory_keep_what_they_take(rt: HostRuntime) {
+    let mut sink = MemSink::new(rt.alloc());
+    assert!(rt; plan_sink(&mut sink));
+    for (number, (text, fails)) in PLANNED_PUTS.iter().enumerate() {
         let put = sink.put(text.as_bytes());
-        assert!(rt; comes_through(put, fails), "{text}");
+        expect(&rt, number, comes_through(put, *fails));
     }
     assert!(rt; sink.taken() == b"one tw four".as_slice() && sink.faults() == 2);
-    Ok(())
+}
+
+/// Whether two texts are put on a sink.
+fn puts_both<S: Sink>(sink: &mut S, first: &str, second: &str) -> bool {
+    sink.put(first.as_bytes()).is_ok() && sink.put(second.as_bytes()).is_ok()
 }
 
 #[test]
-fn a_sure_sink_keeps_what_it_takes(rt: HostRuntime) -> Result<(), Fail> {
+fn a_sure_sink_keeps_what_it_takes(rt: HostRuntime) {
     let mut sink = SureSink::new(rt.alloc());
-    sink.put(b"one ")?;
-    sink.put(b"two")?;
+    assert!(rt; puts_both(&mut sink, "one ", "two"));
     assert!(rt; sink.taken() == b"one two".as_slice() && sink.faults() == 0);
-    Ok(())
 }
 
 /// Takes at most two bytes a call, up to a number of calls. Then it fails, or takes none.
@@ -215,38 +244,39 @@ impl Write for Slow {
 }
 
 #[test]
-fn a_sink_over_a_writer_writes(rt: HostRuntime) -> Result<(), Fail> {
+fn a_sink_over_a_writer_writes(rt: HostRuntime) {
     let mut sink = HostSink::new(Vec::new(rt.alloc()));
-    sink.put(b"pie")?;
-    sink.put(b"ce")?;
-    assert_eq!(rt; sink.writer().as_slice(), b"piece".as_slice());
-    Ok(())
+    assert!(rt; puts_both(&mut sink, "pie", "ce"));
+    assert!(rt; sink.writer().as_slice() == b"piece".as_slice());
 }
 
 /// What is put on a slow writer, whether that fails, and how many faults there are then.
 const PUTS: [(&str, bool, u64); 3] = [("", false, 0), ("abc", false, 0), ("defg", true, 1)];
 
-/// Whether a writer of three calls takes what they allow, and the fault behind them is counted.
+/// Whether a sink over a writer of three calls takes what they allow, and counts the fault behind them.
+fn counts_faults<S: Sink>(sink: &mut S) -> bool {
+    for (text, fails, faults) in &PUTS {
+        let put = sink.put(text.as_bytes());
+        if !comes_through(put, *fails) || sink.faults() != *faults {
+            return false;
+        }
+    }
+    true
+}
+
 fn counts_what_fails(alloc: Global, fails: bool) -> bool {
     let mut sink = HostSink::new(Slow {
         taken: Vec::new(alloc),
         calls: 3,
         fails,
     });
-    for (text, is_past, faults) in PUTS {
-        let put = sink.put(text.as_bytes());
-        if !comes_through(put, is_past) || sink.faults() != faults {
-            return false;
-        }
-    }
-    sink.writer().taken.as_slice() == b"abcde".as_slice()
+    counts_faults(&mut sink) && sink.writer().taken.as_slice() == b"abcde".as_slice()
 }
 
 #[test]
 fn a_sink_over_a_writer_counts_what_fails(rt: HostRuntime) {
-    for fails in [false, true] {
-        assert!(rt; counts_what_fails(rt.alloc(), fails), "{fails}");
-    }
+    assert!(rt; counts_what_fails(rt.alloc(), false));
+    assert!(rt; counts_what_fails(rt.alloc(), true));
 }
 
 fn stopped(memory: Memory) -> Result<(), Stop> {
@@ -254,23 +284,25 @@ fn stopped(memory: Memory) -> Result<(), Stop> {
     Ok(())
 }
 
+/// Endings and their numbers.
+const ENDINGS: [(Status, u8); 11] = [
+    (Status::Done, 0),
+    (Status::Unproved, 1),
+    (Status::Usage, 2),
+    (Status::Refused, 3),
+    (Status::Unread, 4),
+    (Status::Unwritten, 5),
+    (Status::Memory, 6),
+    (Status::FuelSpent, 7),
+    (Status::NotCompilable, 8),
+    (Status::NoMain, 9),
+    (Status::BadLog, 10),
+];
+
 #[test]
 fn each_ending_has_its_status(rt: HostRuntime) {
     assert!(rt; matches!(stopped(Memory), Err(Stop::Memory)));
-    let endings = [
-        (Status::Done, 0),
-        (Status::Unproved, 1),
-        (Status::Usage, 2),
-        (Status::Refused, 3),
-        (Status::Unread, 4),
-        (Status::Unwritten, 5),
-        (Status::Memory, 6),
-        (Status::FuelSpent, 7),
-        (Status::NotCompilable, 8),
-        (Status::NoMain, 9),
-        (Status::BadLog, 10),
-    ];
-    for (status, code) in endings {
-        assert_eq!(rt; status.code(), code);
+    for (number, (status, code)) in ENDINGS.iter().enumerate() {
+        expect(&rt, number, status.code() == *code);
     }
 }

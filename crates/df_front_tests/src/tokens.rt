@@ -1,10 +1,9 @@
 //! Tokens of texts: their kinds, texts, values and positions, and how many there may be.
 
-use crate::building::{refusal_of, repeated, tokens_of};
+use crate::building::{put, put_between, tokens_of};
+use crate::expecting::expect;
 use df_base::{Code, Detail, Global, Names, Stop};
 use df_tok::{Kind, Token, tokens};
-use std::alloc::AllocError;
-use std::test::Fail;
 
 /// A letter for what a token is.
 fn letter(kind: Kind) -> u8 {
@@ -20,29 +19,27 @@ fn letter(kind: Kind) -> u8 {
     }
 }
 
-/// Adds a token's letter and text, and a blank.
-fn spell(out: &mut Vec<u8>, token: &Token) -> Result<(), AllocError> {
-    out.push(letter(token.kind))?;
-    out.extend_from_slice(token.text)?;
-    out.push(b' ')?;
-    Ok(())
-}
-
-/// Each token's letter and text, and a blank.
-fn spelled(alloc: Global, source: &str) -> Result<Vec<u8>, Fail> {
-    let tokens = tokens_of(alloc, source.as_bytes())?;
-    let mut out = Vec::new(alloc);
-    for token in &tokens.all {
-        spell(&mut out, token)?;
+/// Adds each token's letter and text, and a blank.
+fn spell(out: &mut Vec<u8>, tokens: &[Token]) {
+    for token in tokens {
+        put(out, &[letter(token.kind)]);
+        put(out, token.text);
+        put(out, b" ");
     }
-    Ok(out)
 }
 
-/// How many tokens a source has.
-fn count(alloc: Global, source: &[u8]) -> Result<usize, Stop> {
-    let mut names = Names::new(alloc)?;
-    let tokens = tokens(alloc, source, &mut names)?;
-    Ok(tokens.all.len())
+fn are_spelled(alloc: Global, tokens: &[Token], wanted: &str) -> bool {
+    let mut out = Vec::new(alloc);
+    spell(&mut out, tokens);
+    out.as_slice() == wanted.as_bytes()
+}
+
+/// Whether a source has tokens of these letters and texts.
+fn is_spelled(alloc: Global, source: &str, wanted: &str) -> bool {
+    match tokens_of(alloc, source.as_bytes()) {
+        Some(tokens) => are_spelled(alloc, &tokens.all, wanted),
+        None => false,
+    }
 }
 
 /// Texts, and each token's letter and text.
@@ -68,53 +65,46 @@ const DIVIDED: [(&str, &str); 12] = [
 ];
 
 #[test]
-fn texts_divide_into_tokens(rt: HostRuntime) -> Result<(), Fail> {
-    for (source, want) in DIVIDED {
-        let out = spelled(rt.alloc(), source)?;
-        assert_eq!(rt; out.as_slice(), want.as_bytes(), "at {source}");
+fn texts_divide_into_tokens(rt: HostRuntime) {
+    for (number, (source, wanted)) in DIVIDED.iter().enumerate() {
+        expect(&rt, number, is_spelled(rt.alloc(), *source, *wanted));
     }
-    Ok(())
 }
 
-/// Adds a number by its value, a character by its code and a name by its number.
-fn show_value(shown: &mut String, kind: Kind) -> Result<(), Fail> {
-    match kind {
-        Kind::Number(n) => write!(shown, "{n}")?,
-        Kind::Character(c) => write!(shown, "{c}")?,
-        Kind::Name(name) => write!(shown, "{name:?}")?,
-        _ => {}
+/// A text whose numbers, characters and names have values.
+const VALUED: &str = "0x7fffffffffffffffffffffffffffffff 1_0\n\t'\\t' b a b c";
+
+/// The values of its tokens, their lines and their columns.
+const VALUES: [(Kind, u32, u32); 7] = [
+    (Kind::Number(170141183460469231731687303715884105727), 1, 1),
+    (Kind::Number(10), 1, 36),
+    (Kind::Character(9), 2, 2),
+    (Kind::Name(1), 2, 7),
+    (Kind::Name(0), 2, 9),
+    (Kind::Name(1), 2, 11),
+    (Kind::Name(2), 2, 13),
+];
+
+/// Whether these are the values and positions of the tokens.
+fn are_valued(tokens: &[Token], values: &[(Kind, u32, u32)]) -> bool {
+    for (token, (kind, line, col)) in tokens.iter().zip(values) {
+        if token.kind != *kind || token.pos.line != *line || token.pos.col != *col {
+            return false;
+        }
     }
-    Ok(())
+    tokens.len() == values.len()
 }
 
-/// Adds a token's value, its line and its column.
-fn show_token(shown: &mut String, token: &Token) -> Result<(), Fail> {
-    show_value(shown, token.kind)?;
-    let line = token.pos.line;
-    let col = token.pos.col;
-    write!(shown, "@{line}:{col} ")?;
-    Ok(())
-}
-
-/// Each token's value, line and column.
-fn placed(alloc: Global, source: &str) -> Result<String, Fail> {
-    let tokens = tokens_of(alloc, source.as_bytes())?;
-    let mut shown = String::new(alloc);
-    for token in &tokens.all {
-        show_token(&mut shown, token)?;
+fn has_values(alloc: Global, source: &str) -> bool {
+    match tokens_of(alloc, source.as_bytes()) {
+        Some(tokens) => are_valued(&tokens.all, &VALUES),
+        None => false,
     }
-    Ok(shown)
 }
 
 #[test]
-fn tokens_have_values_and_positions(rt: HostRuntime) -> Result<(), Fail> {
-    let source = "0x7fffffffffffffffffffffffffffffff 1_0\n\t'\\t' b a b c";
-    let shown = placed(rt.alloc(), source)?;
-    assert_eq!(rt;
-        shown.as_str(),
-        "170141183460469231731687303715884105727@1:1 10@1:36 9@2:2 1@2:7 0@2:9 1@2:11 2@2:13 "
-    );
-    Ok(())
+fn tokens_have_values_and_positions(rt: HostRuntime) {
+    assert!(rt; has_values(rt.alloc(), VALUED));
 }
 
 /// A text, another so often and a third, and the count of the refusal: none where it is divided.
@@ -125,25 +115,46 @@ const LIMITS: [(&str, &str, usize, &str, Option<u64>); 4] = [
     ("//", "xxxxxxxxxxxxxx", 299_593, "x", Some(4_194_305)),
 ];
 
-/// The limit that a source is past.
-fn limit(alloc: Global, source: &[u8]) -> Result<Option<u64>, Fail> {
-    match count(alloc, source) {
-        Ok(_) => Ok(None),
-        Err(stop) => {
-            let refusal = refusal_of(stop)?;
-            match refusal.detail {
-                Detail::Count(count) if refusal.code == Code::Limit => Ok(Some(count)),
-                _ => Err(Fail::new("another refusal")),
-            }
-        }
+/// The limit that a refusal tells.
+fn limit_of(stop: &Stop) -> Option<u64> {
+    match stop {
+        Stop::Refused(refusal) => match refusal.detail {
+            Detail::Count(count) if refusal.code == Code::Limit => Some(count),
+            _ => None,
+        },
+        Stop::Memory => None,
     }
 }
 
-#[test]
-fn bytes_and_tokens_have_limits(rt: HostRuntime) -> Result<(), Fail> {
-    for (first, part, times, last, past) in LIMITS {
-        let source = repeated(rt.alloc(), first, part, times, last)?;
-        assert_eq!(rt; limit(rt.alloc(), &source)?, past, "{times} of {part}");
+/// Whether a source is past this limit, or divided where there is none.
+fn is_past(alloc: Global, source: &[u8], limit: Option<u64>) -> bool {
+    match Names::new(alloc) {
+        Ok(mut names) => match tokens(alloc, source, &mut names) {
+            Ok(_) => limit.is_none(),
+            Err(stop) => limit.is_some() && limit_of(&stop) == limit,
+        },
+        Err(_) => false,
     }
-    Ok(())
+}
+
+/// Whether a part so often between others is past this limit, or divided where there is none.
+fn is_long_past(
+    alloc: Global,
+    around: (&str, &str),
+    part: &str,
+    count: usize,
+    limit: Option<u64>,
+) -> bool {
+    let (first, last) = around;
+    let mut source = Vec::new(alloc);
+    put_between(&mut source, first, part, count, last) && is_past(alloc, &source, limit)
+}
+
+#[test]
+fn bytes_and_tokens_have_limits(rt: HostRuntime) {
+    for (number, (first, part, times, last, past)) in LIMITS.iter().enumerate() {
+        let around = (*first, *last);
+        let is_right = is_long_past(rt.alloc(), around, *part, *times, *past);
+        expect(&rt, number, is_right);
+    }
 }

@@ -1,11 +1,11 @@
 //! Verdicts of linear arithmetic on rows, and sums of rows by factors at the ends of 128 bits.
 
+use crate::expecting::expect;
 use df_cases::{Sparse, Sum, combinations, row, rows};
 use df_form::Combination;
 use df_level::Row;
 use df_lin::{Chain, Point, RowFault, Verdict, refute};
 use std::alloc::Global;
-use std::test::Fail;
 
 const MAX: i128 = i128::MAX;
 
@@ -44,7 +44,7 @@ const SUMS: [(i128, i128, i128, i128, Option<i128>); 8] = [
 ];
 
 /// The number as a coefficient, and as the constant.
-fn twice(alloc: Global, number: i128) -> Result<Row, Fail> {
+fn twice(alloc: Global, number: i128) -> Option<Row> {
     if number == 0 {
         row(alloc, (&[], 0))
     } else {
@@ -52,12 +52,21 @@ fn twice(alloc: Global, number: i128) -> Result<Row, Fail> {
     }
 }
 
+fn is_twice(alloc: Global, found: &Row, number: i128) -> bool {
+    match twice(alloc, number) {
+        Some(wanted) => *found == wanted,
+        None => false,
+    }
+}
+
 /// Whether a sum is the one of this number.
-fn is_sum(alloc: Global, sum: Result<Row, RowFault>, number: Option<i128>) -> Result<bool, Fail> {
-    match (sum, number) {
-        (Ok(sum), Some(number)) => Ok(sum == twice(alloc, number)?),
-        (Err(fault), None) => Ok(fault == RowFault::Wide),
-        _ => Ok(false),
+fn is_sum(alloc: Global, sum: &Result<Row, RowFault>, number: Option<i128>) -> bool {
+    match sum {
+        Ok(sum) => match number {
+            Some(number) => is_twice(alloc, sum, number),
+            None => false,
+        },
+        Err(fault) => number.is_none() && matches!(fault, RowFault::Wide),
     }
 }
 
@@ -65,48 +74,38 @@ fn is_sum(alloc: Global, sum: Result<Row, RowFault>, number: Option<i128>) -> Re
 type Weighted = (i128, i128);
 
 /// Whether two numbers by their factors have this sum.
-fn has_sum(
-    alloc: Global,
-    first: Weighted,
-    second: Weighted,
-    sum: Option<i128>,
-) -> Result<bool, Fail> {
+fn has_sum(alloc: Global, first: Weighted, second: Weighted, sum: Option<i128>) -> Option<bool> {
     let one = twice(alloc, first.0)?;
     let other = twice(alloc, second.0)?;
     let found = one.combine(alloc, first.1, &other, second.1);
-    is_sum(alloc, found, sum)
+    Some(is_sum(alloc, &found, sum))
 }
 
 #[test]
-fn adds_products_at_the_ends(rt: HostRuntime) -> Result<(), Fail> {
-    let alloc = rt.alloc();
-    for (at, (number, factor, product)) in PRODUCTS.iter().enumerate() {
-        let given = (*number, *factor);
-        assert!(rt; has_sum(alloc, given, (0, MAX), *product)?, "at {at}");
-        assert!(rt;
-            has_sum(alloc, (0, MIN), given, *product)?,
-            "turned, at {at}"
-        );
+fn adds_products_at_the_ends(rt: HostRuntime) {
+    for (number, (first, factor, product)) in PRODUCTS.iter().enumerate() {
+        let given = (*first, *factor);
+        let found = has_sum(rt.alloc(), given, (0, MAX), *product);
+        let turned = has_sum(rt.alloc(), (0, MIN), given, *product);
+        expect(&rt, number, found == Some(true) && turned == Some(true));
     }
-    Ok(())
 }
 
 #[test]
-fn adds_sums_of_products_at_the_ends(rt: HostRuntime) -> Result<(), Fail> {
-    let alloc = rt.alloc();
-    for (at, (first, factor, second, other_factor, sum)) in SUMS.iter().enumerate() {
+fn adds_sums_of_products_at_the_ends(rt: HostRuntime) {
+    for (number, (first, factor, second, other_factor, sum)) in SUMS.iter().enumerate() {
         let one = (*first, *factor);
         let other = (*second, *other_factor);
-        assert!(rt; has_sum(alloc, one, other, *sum)?, "at {at}");
-        assert!(rt; has_sum(alloc, other, one, *sum)?, "turned, at {at}");
+        let found = has_sum(rt.alloc(), one, other, *sum);
+        let turned = has_sum(rt.alloc(), other, one, *sum);
+        expect(&rt, number, found == Some(true) && turned == Some(true));
     }
-    Ok(())
 }
 
 /// The verdict on rows.
-fn verdict(alloc: Global, given: &[Sparse]) -> Result<Verdict, Fail> {
+fn verdict(alloc: Global, given: &[Sparse]) -> Option<Verdict> {
     let rows = rows(alloc, given)?;
-    Ok(refute(alloc, &rows)?)
+    refute(alloc, &rows).ok()
 }
 
 /// Rows that refute themselves, and by which multipliers.
@@ -142,7 +141,7 @@ const REFUTED: [(&[Sparse], &[Sum]); 3] = [
     ),
 ];
 
-fn are_equal(found: &[Combination], wanted: &[Combination]) -> bool {
+pub(crate) fn are_equal(found: &[Combination], wanted: &[Combination]) -> bool {
     if found.len() != wanted.len() {
         return false;
     }
@@ -154,21 +153,26 @@ fn are_equal(found: &[Combination], wanted: &[Combination]) -> bool {
     true
 }
 
-fn is_refuted(alloc: Global, given: &[Sparse], wanted: &[Combination]) -> Result<bool, Fail> {
-    match verdict(alloc, given)? {
-        Verdict::Refuted(found) => Ok(are_equal(&found.combinations, wanted)),
-        _ => Ok(false),
+fn is_refuted(alloc: Global, given: &[Sparse], wanted: &[Combination]) -> bool {
+    match &verdict(alloc, given) {
+        Some(Verdict::Refuted(found)) => are_equal(&found.combinations, wanted),
+        _ => false,
+    }
+}
+
+/// Whether rows refute themselves by these multipliers.
+fn are_refuted(alloc: Global, given: &[Sparse], wanted: &[Sum]) -> bool {
+    match combinations(alloc, wanted) {
+        Some(wanted) => is_refuted(alloc, given, &wanted),
+        None => false,
     }
 }
 
 #[test]
-fn tells_of_rows_that_refute_themselves(rt: HostRuntime) -> Result<(), Fail> {
-    let alloc = rt.alloc();
-    for (at, (given, wanted)) in REFUTED.iter().enumerate() {
-        let wanted = combinations(alloc, *wanted)?;
-        assert!(rt; is_refuted(alloc, *given, &wanted)?, "at {at}");
+fn tells_of_rows_that_refute_themselves(rt: HostRuntime) {
+    for (number, (given, wanted)) in REFUTED.iter().enumerate() {
+        expect(&rt, number, are_refuted(rt.alloc(), *given, *wanted));
     }
-    Ok(())
 }
 
 /// Nodes with their numbers.
@@ -218,19 +222,18 @@ fn has_its_numbers(point: &Point) -> bool {
     true
 }
 
-fn has_point(alloc: Global, given: &[Sparse], wanted: Numbers) -> Result<bool, Fail> {
-    match verdict(alloc, given)? {
-        Verdict::Point(point) => Ok(has_numbers(&point, wanted) && has_its_numbers(&point)),
-        _ => Ok(false),
+fn has_point(alloc: Global, given: &[Sparse], wanted: Numbers) -> bool {
+    match &verdict(alloc, given) {
+        Some(Verdict::Point(point)) => has_numbers(point, wanted) && has_its_numbers(point),
+        _ => false,
     }
 }
 
 #[test]
-fn tells_of_points(rt: HostRuntime) -> Result<(), Fail> {
-    for (at, (given, wanted)) in POINTS.iter().enumerate() {
-        assert!(rt; has_point(rt.alloc(), *given, *wanted)?, "at {at}");
+fn tells_of_points(rt: HostRuntime) {
+    for (number, (given, wanted)) in POINTS.iter().enumerate() {
+        expect(&rt, number, has_point(rt.alloc(), *given, *wanted));
     }
-    Ok(())
 }
 
 /// Rows by which a node lies strictly between the bound and the next number, and the numbers of the later
@@ -276,28 +279,21 @@ const GAPS: [(&[Sparse], usize, i128, Numbers); 3] = [
 ];
 
 /// Whether rows have a gap at this node above this number, beside these numbers.
-fn has_gap(
-    alloc: Global,
-    given: &[Sparse],
-    wanted: usize,
-    least: i128,
-    numbers: Numbers,
-) -> Result<bool, Fail> {
-    match verdict(alloc, given)? {
-        Verdict::Between { node, bound, point } => {
-            Ok(node == wanted && bound == least && has_numbers(&point, numbers))
+fn has_gap(alloc: Global, given: &[Sparse], wanted: usize, least: i128, numbers: Numbers) -> bool {
+    match &verdict(alloc, given) {
+        Some(Verdict::Between { node, bound, point }) => {
+            *node == wanted && *bound == least && has_numbers(point, numbers)
         }
-        _ => Ok(false),
+        _ => false,
     }
 }
 
 #[test]
-fn tells_of_gaps_between_numbers(rt: HostRuntime) -> Result<(), Fail> {
-    for (at, (given, wanted, least, numbers)) in GAPS.iter().enumerate() {
-        let found = has_gap(rt.alloc(), *given, *wanted, *least, *numbers)?;
-        assert!(rt; found, "at {at}");
+fn tells_of_gaps_between_numbers(rt: HostRuntime) {
+    for (number, (given, wanted, least, numbers)) in GAPS.iter().enumerate() {
+        let found = has_gap(rt.alloc(), *given, *wanted, *least, *numbers);
+        expect(&rt, number, found);
     }
-    Ok(())
 }
 
 /// Rows on the way to whose levels a number is past 128 bits: a divisor, or a number of a sum.
@@ -322,39 +318,80 @@ const WIDE_BOUNDS: [(&[Sparse], usize, Numbers); 2] = [
     ),
 ];
 
-fn has_wide_level(alloc: Global, given: &[Sparse]) -> Result<bool, Fail> {
-    let verdict = verdict(alloc, given)?;
-    Ok(matches!(verdict, Verdict::Wide(Chain::Elimination)))
+fn has_wide_level(alloc: Global, given: &[Sparse]) -> bool {
+    matches!(
+        &verdict(alloc, given),
+        Some(Verdict::Wide(Chain::Elimination))
+    )
 }
 
 #[test]
-fn tells_of_levels_past_128_bits(rt: HostRuntime) -> Result<(), Fail> {
-    for (at, given) in WIDE.iter().enumerate() {
-        assert!(rt; has_wide_level(rt.alloc(), *given)?, "at {at}");
+fn tells_of_levels_past_128_bits(rt: HostRuntime) {
+    for (number, given) in WIDE.iter().enumerate() {
+        expect(&rt, number, has_wide_level(rt.alloc(), *given));
     }
-    Ok(())
 }
 
 /// Whether this node has a bound that is too wide, beside these numbers.
-fn has_wide_bound(
-    alloc: Global,
-    given: &[Sparse],
-    wanted: usize,
-    numbers: Numbers,
-) -> Result<bool, Fail> {
-    match verdict(alloc, given)? {
-        Verdict::Wide(Chain::Substitution { node, point }) => {
-            Ok(node == wanted && has_numbers(&point, numbers))
+fn has_wide_bound(alloc: Global, given: &[Sparse], wanted: usize, numbers: Numbers) -> bool {
+    match &verdict(alloc, given) {
+        Some(Verdict::Wide(Chain::Substitution { node, point })) => {
+            *node == wanted && has_numbers(point, numbers)
         }
-        _ => Ok(false),
+        _ => false,
     }
 }
 
 #[test]
-fn tells_of_bounds_past_128_bits(rt: HostRuntime) -> Result<(), Fail> {
-    for (at, (given, wanted, numbers)) in WIDE_BOUNDS.iter().enumerate() {
-        let found = has_wide_bound(rt.alloc(), *given, *wanted, *numbers)?;
-        assert!(rt; found, "at {at}");
+fn tells_of_bounds_past_128_bits(rt: HostRuntime) {
+    for (number, (given, wanted, numbers)) in WIDE_BOUNDS.iter().enumerate() {
+        let found = has_wide_bound(rt.alloc(), *given, *wanted, *numbers);
+        expect(&rt, number, found);
     }
-    Ok(())
+}
+
+/// How many rows bound the number from below,
+const LOWER_COUNT: u16 = 225;
+
+/// and how many from above.
+const UPPER_COUNT: u16 = 223;
+
+/// Adds a row of one number.
+fn add_bound(alloc: Global, given: &mut Vec<Row>, coefficient: i128, constant: i128) -> bool {
+    match row(alloc, (&[(0, coefficient)], constant)) {
+        Some(row) => given.push(row).is_ok(),
+        None => false,
+    }
+}
+
+/// Adds rows of one number, so many, whose constants are so far apart.
+fn add_bounds(
+    alloc: Global,
+    given: &mut Vec<Row>,
+    count: u16,
+    coefficient: i128,
+    distance: i128,
+) -> bool {
+    for number in 0..count {
+        let constant = i128::from(number).saturating_mul(distance);
+        if !add_bound(alloc, given, coefficient, constant) {
+            return false;
+        }
+    }
+    true
+}
+
+/// Whether there are too many rows on the way to a verdict: more than 50,000.
+fn are_many(alloc: Global, given: &[Row]) -> bool {
+    matches!(&refute(alloc, given), Ok(Verdict::Many(50_000)))
+}
+
+/// Each of the 225 rows 0 <= x + i and each of the 223 rows 0 <= 1000 * j - x give the row 0 <= i + 1000 * j. No two
+/// of these 50,175 rows are equal, and none is false.
+#[test]
+fn tells_of_too_many_rows(rt: HostRuntime) {
+    let mut given = Vec::new(rt.alloc());
+    assert!(rt; add_bounds(rt.alloc(), &mut given, LOWER_COUNT, 1, 1));
+    assert!(rt; add_bounds(rt.alloc(), &mut given, UPPER_COUNT, -1, 1000));
+    assert!(rt; are_many(rt.alloc(), &given));
 }

@@ -41,16 +41,22 @@ fn read_given(word: &str) -> Result<Given> {
     })
 }
 
+/// Adds the values that words give.
+fn push_given(given: &mut Vec<Given>, words: &str) -> Result<()> {
+    for word in words.split(' ') {
+        if !word.is_empty() {
+            given.push(read_given(word)?)?;
+        }
+    }
+    Ok(())
+}
+
 impl Assignment {
     /// The values that words give.
     pub fn read(alloc: Global, words: &str) -> Result<Assignment> {
-        let mut all = Vec::new(alloc);
-        for word in words.split(' ') {
-            if !word.is_empty() {
-                all.push(read_given(word)?)?;
-            }
-        }
-        Ok(Assignment { given: all })
+        let mut given = Vec::new(alloc);
+        push_given(&mut given, words)?;
+        Ok(Assignment { given })
     }
 
     fn find(&self, free: usize) -> Option<Given> {

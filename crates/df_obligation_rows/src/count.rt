@@ -1,9 +1,8 @@
 //! How many obligations a source has.
 
-use crate::made::{Made, obligations_of_source};
+use crate::made::{Made, made_of};
 use anyhow::{Result, bail};
 use df_nowed::Obligations;
-use std::fs;
 
 /// How many obligations there are, and how many formulas their methods know.
 #[derive(Clone, Copy, Default)]
@@ -21,17 +20,17 @@ fn sizes_of(obligations: &Obligations) -> Sizes {
     sizes
 }
 
-/// Prints how many obligations the source of this path has, and how many hypotheses.
-pub fn print_counts(rt: &HostRuntime, name: &str) -> Result<()> {
-    let alloc = rt.alloc();
-    let path = format!(in alloc; "{name}.dfy")?;
-    let source = fs::read(rt, path.as_str())?;
-    match obligations_of_source(alloc, path.as_str(), source.as_slice())? {
-        Made::Owed { obligations, .. } => {
-            let Sizes { obligations, known } = sizes_of(&obligations);
-            println!(rt; "{name}: {obligations} obligations, {known} hypotheses")?;
-            Ok(())
-        }
+/// How many obligations the source of this path has, and how many hypotheses.
+fn sizes_of_source(rt: &HostRuntime, name: &str) -> Result<Sizes> {
+    match made_of(rt, name)? {
+        Made::Owed { obligations, .. } => Ok(sizes_of(&obligations)),
         Made::Refused(_) => bail!("the source is refused"),
     }
+}
+
+/// Prints how many obligations the source of this path has, and how many hypotheses.
+pub fn print_counts(rt: &HostRuntime, name: &str) -> Result<()> {
+    let Sizes { obligations, known } = sizes_of_source(rt, name)?;
+    println!(rt; "{name}: {obligations} obligations, {known} hypotheses")?;
+    Ok(())
 }

@@ -163,6 +163,34 @@ fn node_value(
     }
 }
 
+/// The value of the node of this number, if it has one.
+fn value_at(
+    program: &Program,
+    assignment: &Assignment,
+    values: &[Option<Value>],
+    nodes: &Nodes,
+    number: usize,
+) -> Option<Value> {
+    match nodes.get(number) {
+        Some(node) => node_value(program, assignment, values, node),
+        None => None,
+    }
+}
+
+/// Adds the value of each node that has one.
+fn push_values(
+    values: &mut Vec<Option<Value>>,
+    program: &Program,
+    assignment: &Assignment,
+    nodes: &Nodes,
+) -> Result<(), AllocError> {
+    for number in 0..nodes.len() {
+        let value = value_at(program, assignment, values.as_slice(), nodes, number);
+        values.push(value)?;
+    }
+    Ok(())
+}
+
 /// The value of each node that has one, by its number.
 pub fn values(
     alloc: Global,
@@ -171,12 +199,6 @@ pub fn values(
     nodes: &Nodes,
 ) -> Result<Vec<Option<Value>>, AllocError> {
     let mut values = Vec::new(alloc);
-    for number in 0..nodes.len() {
-        let value = match nodes.get(number) {
-            Some(node) => node_value(program, assignment, &values, node),
-            None => None,
-        };
-        values.push(value)?;
-    }
+    push_values(&mut values, program, assignment, nodes)?;
     Ok(values)
 }

@@ -25,13 +25,20 @@ pub fn are_named(obligations: &Obligations) -> bool {
 }
 
 /// Adds the line with the name of a method.
-pub fn push_name(
+fn push_name(
     text: &mut String,
     program: &Program,
     method: &MethodObligations,
 ) -> Result<(), AllocError> {
     text.push_str(name_of(program, method.declaration))?;
     text.push_str(":\n")
+}
+
+/// Adds the line of an obligation.
+fn push_place(alloc: Global, text: &mut String, obligation: &Obligation) -> Result<(), AllocError> {
+    let place = place(alloc, obligation)?;
+    text.push_str(place.as_str())?;
+    text.push_str("\n")
 }
 
 /// Adds a line for each obligation of a method.
@@ -41,9 +48,36 @@ fn push_places(
     method: &MethodObligations,
 ) -> Result<(), AllocError> {
     for obligation in &method.obligations {
-        let place = place(alloc, obligation)?;
-        text.push_str(place.as_str())?;
-        text.push_str("\n")?;
+        push_place(alloc, text, obligation)?;
+    }
+    Ok(())
+}
+
+/// Adds the name of a method, where it stands in front of its lines.
+pub fn push_name_of_some(
+    text: &mut String,
+    program: &Program,
+    method: &MethodObligations,
+    are_named: bool,
+) -> Result<(), AllocError> {
+    if are_named && !method.obligations.is_empty() {
+        push_name(text, program, method)
+    } else {
+        Ok(())
+    }
+}
+
+/// Adds a line for each obligation of each method.
+fn push_listing(
+    alloc: Global,
+    text: &mut String,
+    program: &Program,
+    obligations: &Obligations,
+) -> Result<(), AllocError> {
+    let are_named = are_named(obligations);
+    for method in &obligations.methods {
+        push_name_of_some(text, program, method, are_named)?;
+        push_places(alloc, text, method)?;
     }
     Ok(())
 }
@@ -55,12 +89,6 @@ pub fn listing(
     obligations: &Obligations,
 ) -> Result<String, AllocError> {
     let mut text = String::new(alloc);
-    let are_named = are_named(obligations);
-    for method in &obligations.methods {
-        if are_named && !method.obligations.is_empty() {
-            push_name(&mut text, program, method)?;
-        }
-        push_places(alloc, &mut text, method)?;
-    }
+    push_listing(alloc, &mut text, program, obligations)?;
     Ok(text)
 }

@@ -1,5 +1,6 @@
 //! What the front and the obligations make of a source.
 
+use anyhow::Result;
 use df_base::{Memory, Names, Stop};
 use df_groups::groups;
 use df_lang::{Decl, DeclId, Program};
@@ -7,6 +8,7 @@ use df_nfront::{read, refusal_line};
 use df_nghost::Checked;
 use df_nowed::{Obligations, obligations};
 use std::alloc::{AllocError, Global};
+use std::fs;
 
 /// What comes of a source.
 #[derive(Drop)]
@@ -23,9 +25,14 @@ fn of_memory(_memory: Memory) -> AllocError {
     AllocError
 }
 
+/// What is owed of a program.
+fn obligations_of(alloc: Global, program: &Program) -> Result<Obligations, AllocError> {
+    let groups = groups(alloc, program).map_err(of_memory)?;
+    obligations(alloc, program, &groups)
+}
+
 fn owed(alloc: Global, checked: Checked) -> Result<Made, AllocError> {
-    let groups = groups(alloc, &checked.program).map_err(of_memory)?;
-    let obligations = obligations(alloc, &checked.program, &groups)?;
+    let obligations = obligations_of(alloc, &checked.program)?;
     Ok(Made::Owed {
         checked,
         obligations,
@@ -33,7 +40,7 @@ fn owed(alloc: Global, checked: Checked) -> Result<Made, AllocError> {
 }
 
 /// The obligations of a source in a file of this name, or the line for which the front refuses it.
-pub fn obligations_of_source(alloc: Global, file: &str, source: &[u8]) -> Result<Made, AllocError> {
+fn obligations_of_source(alloc: Global, file: &str, source: &[u8]) -> Result<Made, AllocError> {
     let mut names = Names::new(alloc).map_err(of_memory)?;
     match read(alloc, source, &mut names) {
         Ok(checked) => owed(alloc, checked),
@@ -43,6 +50,18 @@ pub fn obligations_of_source(alloc: Global, file: &str, source: &[u8]) -> Result
         }
         Err(Stop::Memory) => Err(AllocError),
     }
+}
+
+/// What comes of the source in this file.
+fn made_of_file(rt: &HostRuntime, file: &str) -> Result<Made> {
+    let source = fs::read(rt, file)?;
+    Ok(obligations_of_source(rt.alloc(), file, source.as_slice())?)
+}
+
+/// What comes of the source of this path, which is without its ending.
+pub fn made_of(rt: &HostRuntime, name: &str) -> Result<Made> {
+    let file = format!(in rt.alloc(); "{name}.dfy")?;
+    made_of_file(rt, file.as_str())
 }
 
 /// The name of a declaration.

@@ -47,13 +47,25 @@ fn word(rt: &HostRuntime, place: usize) -> io::Result<String> {
     }
 }
 
-/// Plays the rows of a folder.
-fn play_all(rt: &HostRuntime, folder: &str) -> Result<()> {
-    let mut tally = Tally::default();
-    for name in &sources(rt, folder)? {
+/// Plays the rows of these paths.
+fn play_each(rt: &HostRuntime, names: &[String], tally: &mut Tally) -> Result<()> {
+    for name in names {
         let name = name.as_str();
         tally.add(play(rt, name).context(format_args!("{name}"))?);
     }
+    Ok(())
+}
+
+/// Plays the rows of a folder.
+fn play_all(rt: &HostRuntime, folder: &str) -> Result<()> {
+    let mut tally = Tally::default();
+    let names = sources(rt, folder)?;
+    play_each(rt, &names, &mut tally)?;
+    tell(rt, tally)
+}
+
+/// Tells how many rows there were, and fails where one differs.
+fn tell(rt: &HostRuntime, tally: Tally) -> Result<()> {
     let Tally { rows, differ } = tally;
     println!(rt; "{rows} rows, {differ} differ")?;
     ensure!(differ == 0, "what is printed above differs");
@@ -69,15 +81,16 @@ fn count_all(rt: &HostRuntime, folder: &str) -> Result<()> {
     Ok(())
 }
 
+/// Runs what the first word says.
+fn run(rt: &HostRuntime, first: &str) -> Result<()> {
+    match first.as_bytes() {
+        b"count" => count_all(rt, word(rt, 2)?.as_str()),
+        b"sequents" => print_sequents(rt, word(rt, 2)?.as_str()),
+        _ => play_all(rt, first),
+    }
+}
+
 fn main(rt: HostRuntime) -> Result<()> {
     let first = word(&rt, 1)?;
-    if first.as_str() == "count" {
-        let folder = word(&rt, 2)?;
-        count_all(&rt, folder.as_str())
-    } else if first.as_str() == "sequents" {
-        let name = word(&rt, 2)?;
-        print_sequents(&rt, name.as_str())
-    } else {
-        play_all(&rt, first.as_str())
-    }
+    run(&rt, first.as_str())
 }

@@ -1,10 +1,17 @@
 //! The sequents of the obligations of a program, in words.
 
-use crate::listing::{are_named, place, push_name};
+use crate::listing::{are_named, place, push_name_of_some};
 use crate::term::{text_of, texts};
 use df_lang::Program;
 use df_nowed::{MethodObligations, Obligation, Obligations};
 use std::alloc::{AllocError, Global};
+
+/// Adds the line of a formula that is known.
+fn push_hypothesis(text: &mut String, formula: &str) -> Result<(), AllocError> {
+    text.push_str("have ")?;
+    text.push_str(formula)?;
+    text.push_str("\n")
+}
 
 /// Adds a line for each formula that is known from one place on, up to another.
 fn push_known(
@@ -16,12 +23,19 @@ fn push_known(
 ) -> Result<(), AllocError> {
     for place in from..to {
         if let Some(formula) = method.known.as_slice().get(place) {
-            text.push_str("have ")?;
-            text.push_str(text_of(texts, *formula))?;
-            text.push_str("\n")?;
+            push_hypothesis(text, text_of(texts, *formula))?;
         }
     }
     Ok(())
+}
+
+/// Adds the line of a goal at a place.
+fn push_formula(text: &mut String, place: &str, formula: &str) -> Result<(), AllocError> {
+    text.push_str("show ")?;
+    text.push_str(place)?;
+    text.push_str(": ")?;
+    text.push_str(formula)?;
+    text.push_str("\n")
 }
 
 /// Adds the line of a goal.
@@ -32,26 +46,48 @@ fn push_goal(
     obligation: &Obligation,
 ) -> Result<(), AllocError> {
     let place = place(alloc, obligation)?;
-    text.push_str("show ")?;
-    text.push_str(place.as_str())?;
-    text.push_str(": ")?;
-    text.push_str(text_of(texts, obligation.goal))?;
-    text.push_str("\n")
+    push_formula(text, place.as_str(), text_of(texts, obligation.goal))
 }
 
-/// Adds the sequents of a method. The hypotheses of an obligation are all that stand before its goal.
-fn push_sequents(
+/// Adds the sequents of a method whose nodes have these texts. The hypotheses of an obligation are all that stand
+/// before its goal.
+fn push_with_texts(
+    alloc: Global,
+    text: &mut String,
+    texts: &[String],
+    method: &MethodObligations,
+) -> Result<(), AllocError> {
+    let mut known = 0;
+    for obligation in &method.obligations {
+        push_known(text, texts, method, known, obligation.hypothesis_count)?;
+        push_goal(alloc, text, texts, obligation)?;
+        known = obligation.hypothesis_count;
+    }
+    Ok(())
+}
+
+/// Adds the sequents of a method.
+fn push_method(
     alloc: Global,
     text: &mut String,
     program: &Program,
     method: &MethodObligations,
 ) -> Result<(), AllocError> {
     let texts = texts(alloc, program, &method.nodes)?;
-    let mut known = 0;
-    for obligation in &method.obligations {
-        push_known(text, &texts, method, known, obligation.hypothesis_count)?;
-        push_goal(alloc, text, &texts, obligation)?;
-        known = obligation.hypothesis_count;
+    push_with_texts(alloc, text, &texts, method)
+}
+
+/// Adds a line for each hypothesis and each goal of the obligations of a program.
+pub fn push_sequents(
+    alloc: Global,
+    text: &mut String,
+    program: &Program,
+    obligations: &Obligations,
+) -> Result<(), AllocError> {
+    let are_named = are_named(obligations);
+    for method in &obligations.methods {
+        push_name_of_some(text, program, method, are_named)?;
+        push_method(alloc, text, program, method)?;
     }
     Ok(())
 }
@@ -63,12 +99,6 @@ pub fn sequents(
     obligations: &Obligations,
 ) -> Result<String, AllocError> {
     let mut text = String::new(alloc);
-    let are_named = are_named(obligations);
-    for method in &obligations.methods {
-        if are_named && !method.obligations.is_empty() {
-            push_name(&mut text, program, method)?;
-        }
-        push_sequents(alloc, &mut text, program, method)?;
-    }
+    push_sequents(alloc, &mut text, program, obligations)?;
     Ok(text)
 }

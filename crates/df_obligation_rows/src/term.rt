@@ -78,6 +78,17 @@ fn push_parts(text: &mut String, texts: &[String], parts: &[Term]) -> Result<(),
     Ok(())
 }
 
+/// Adds the parts of a node whose parts have these texts.
+fn push_in_parentheses(
+    text: &mut String,
+    texts: &[String],
+    parts: &[Term],
+) -> Result<(), AllocError> {
+    text.push_str("(")?;
+    push_parts(text, texts, parts)?;
+    text.push_str(")")
+}
+
 /// The text of a node whose parts have these texts.
 fn node_text(
     alloc: Global,
@@ -87,9 +98,7 @@ fn node_text(
 ) -> Result<String, AllocError> {
     let mut text = word(alloc, program, node.op)?;
     if !is_alone(node.op) {
-        text.push_str("(")?;
-        push_parts(&mut text, texts, &node.parts)?;
-        text.push_str(")")?;
+        push_in_parentheses(&mut text, texts, &node.parts)?;
     }
     Ok(text)
 }
@@ -102,14 +111,34 @@ pub fn text_of(texts: &[String], term: Term) -> &str {
     }
 }
 
+/// Adds the text of a node.
+fn push_node(
+    alloc: Global,
+    texts: &mut Vec<String>,
+    program: &Program,
+    node: &Node,
+) -> Result<(), AllocError> {
+    let text = node_text(alloc, program, texts.as_slice(), node)?;
+    Ok(texts.push(text)?)
+}
+
+fn push_nodes(
+    alloc: Global,
+    texts: &mut Vec<String>,
+    program: &Program,
+    nodes: &Nodes,
+) -> Result<(), AllocError> {
+    for number in 0..nodes.len() {
+        if let Some(node) = nodes.get(number) {
+            push_node(alloc, texts, program, node)?;
+        }
+    }
+    Ok(())
+}
+
 /// The text of each node, by its number.
 pub fn texts(alloc: Global, program: &Program, nodes: &Nodes) -> Result<Vec<String>, AllocError> {
     let mut texts = Vec::new(alloc);
-    for number in 0..nodes.len() {
-        if let Some(node) = nodes.get(number) {
-            let text = node_text(alloc, program, &texts, node)?;
-            texts.push(text)?;
-        }
-    }
+    push_nodes(alloc, &mut texts, program, nodes)?;
     Ok(texts)
 }

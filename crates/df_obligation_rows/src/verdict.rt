@@ -17,22 +17,36 @@ fn is_truth(values: &[Option<Value>], formula: Formula, truth: bool) -> bool {
     }
 }
 
+/// Whether all hypotheses of an obligation are true among the values, and its goal false.
+fn is_refuted_by(
+    values: &[Option<Value>],
+    method: &MethodObligations,
+    obligation: &Obligation,
+) -> bool {
+    for formula in method
+        .known
+        .as_slice()
+        .iter()
+        .take(obligation.hypothesis_count)
+    {
+        if !is_truth(values, *formula, true) {
+            return false;
+        }
+    }
+    is_truth(values, obligation.goal, false)
+}
+
 /// Whether the values of free terms make all hypotheses of an obligation true and its goal false.
 fn is_refuted(
     alloc: Global,
     program: &Program,
     method: &MethodObligations,
     obligation: &Obligation,
-    assignment: &Assignment,
+    given: &str,
 ) -> Result<bool> {
-    let values = values(alloc, program, assignment, &method.nodes)?;
-    let known = method.known.as_slice();
-    for formula in known.iter().take(obligation.hypothesis_count) {
-        if !is_truth(&values, *formula, true) {
-            return Ok(false);
-        }
-    }
-    Ok(is_truth(&values, obligation.goal, false))
+    let assignment = Assignment::read(alloc, given)?;
+    let values = values(alloc, program, &assignment, &method.nodes)?;
+    Ok(is_refuted_by(&values, method, obligation))
 }
 
 /// Whether the words behind an obligation are a verdict on it: that it is valid, which is taken as it stands, or
@@ -48,12 +62,19 @@ fn is_verdict(
         return Ok(true);
     }
     match words.strip_prefix(" invalid") {
-        Some(given) => {
-            let assignment = Assignment::read(alloc, given)?;
-            is_refuted(alloc, program, method, obligation, &assignment)
-        }
+        Some(given) => is_refuted(alloc, program, method, obligation, given),
         None => Ok(false),
     }
+}
+
+/// Adds the lines with verdicts.
+fn push_lines<'a>(lines: &mut Vec<&'a str>, text: &'a str) -> Result<(), AllocError> {
+    for line in text.lines() {
+        if !line.is_empty() && !line.starts_with('#') && !line.ends_with(':') {
+            lines.push(line)?;
+        }
+    }
+    Ok(())
 }
 
 /// The lines with verdicts, and how many of them were taken.
@@ -66,11 +87,7 @@ struct Lines<'a> {
 impl<'a> Lines<'a> {
     fn read(alloc: Global, text: &'a str) -> Result<Lines<'a>, AllocError> {
         let mut lines = Vec::new(alloc);
-        for line in text.lines() {
-            if !line.is_empty() && !line.starts_with('#') && !line.ends_with(':') {
-                lines.push(line)?;
-            }
-        }
+        push_lines(&mut lines, text)?;
         Ok(Lines { lines, taken: 0 })
     }
 
@@ -90,6 +107,37 @@ impl<'a> Lines<'a> {
     }
 }
 
+/// Whether the line has this place, and a verdict on the obligation there.
+fn has_verdict(
+    alloc: Global,
+    program: &Program,
+    method: &MethodObligations,
+    obligation: &Obligation,
+    line: &str,
+    place: &str,
+) -> Result<bool> {
+    match line.strip_prefix(place) {
+        Some(words) => is_verdict(alloc, program, method, obligation, words),
+        None => Ok(false),
+    }
+}
+
+/// Whether the line has a verdict on the obligation at this place. A line that has none is printed.
+fn is_judged_at(
+    rt: &HostRuntime,
+    program: &Program,
+    method: &MethodObligations,
+    obligation: &Obligation,
+    line: &str,
+    place: &str,
+) -> Result<bool> {
+    if has_verdict(rt.alloc(), program, method, obligation, line, place)? {
+        return Ok(true);
+    }
+    println!(rt; "{place}: {line:?} is no verdict")?;
+    Ok(false)
+}
+
 /// Whether the line has the place of an obligation and a verdict on it. A line that has none is printed.
 fn is_judged(
     rt: &HostRuntime,
@@ -98,17 +146,8 @@ fn is_judged(
     obligation: &Obligation,
     line: &str,
 ) -> Result<bool> {
-    let alloc = rt.alloc();
-    let place = place(alloc, obligation)?;
-    let place = place.as_str();
-    let is_judged = match line.strip_prefix(place) {
-        Some(words) => is_verdict(alloc, program, method, obligation, words)?,
-        None => false,
-    };
-    if !is_judged {
-        println!(rt; "{place}: {line:?} is no verdict")?;
-    }
-    Ok(is_judged)
+    let place = place(rt.alloc(), obligation)?;
+    is_judged_at(rt, program, method, obligation, line, place.as_str())
 }
 
 /// Whether the next lines have a verdict on each obligation of a method.
@@ -127,6 +166,21 @@ fn are_judged(
     Ok(are_judged)
 }
 
+/// Whether the lines have a verdict on each obligation of a program, in order.
+fn have_all(
+    rt: &HostRuntime,
+    program: &Program,
+    obligations: &Obligations,
+    lines: &mut Lines,
+) -> Result<bool> {
+    let mut have = true;
+    for method in &obligations.methods {
+        let are_judged = are_judged(rt, program, method, lines)?;
+        have = have && are_judged;
+    }
+    Ok(have)
+}
+
 /// Whether the text has a verdict on each obligation of a program, in order, and none else.
 pub fn have_verdicts(
     rt: &HostRuntime,
@@ -135,10 +189,6 @@ pub fn have_verdicts(
     text: &str,
 ) -> Result<bool> {
     let mut lines = Lines::read(rt.alloc(), text)?;
-    let mut have = true;
-    for method in &obligations.methods {
-        let are_judged = are_judged(rt, program, method, &mut lines)?;
-        have = have && are_judged;
-    }
+    let have = have_all(rt, program, obligations, &mut lines)?;
     Ok(have && lines.are_taken())
 }

@@ -6,6 +6,7 @@ ghost use Rattle.df_level.specs.Levels.{rows_of};
 ghost use Rattle.df_back.specs.Ranges.{AreInside};
 ghost use Rattle.df_row.specs.RowView.{IsWithin};
 
+use crate::expecting::expect;
 use df_back::{Back, back};
 use df_cases::{Sparse, Sum, combinations, row, rows};
 use df_elim::{Elimination, eliminate};
@@ -13,8 +14,7 @@ use df_form::Combination;
 use df_level::Row;
 use df_lin::{Verdict, refute};
 use df_refutation::{needed, refuting};
-use std::alloc::Global;
-use std::test::Fail;
+use std::alloc::{AllocError, Global};
 
 const MAX: i128 = i128::MAX;
 
@@ -51,26 +51,35 @@ const REFUTED: [(&[Sparse], usize, usize); 6] = [
     ),
 ];
 
-/// After how many levels the rows are refuted, and by how many combinations, if they are.
-fn refutation(alloc: Global, given: &[Row]) -> Result<Option<(usize, usize)>, Fail> {
+/// Whether the rows are refuted after so many levels, by so many combinations.
+fn are_refuted(
+    alloc: Global,
+    given: &[Row],
+    level_count: usize,
+    count: usize,
+) -> Result<bool, AllocError> {
     let Elimination::Refuted(levels) = eliminate(alloc, given)? else {
-        return Ok(None);
+        return Ok(false);
     };
     match refuting(alloc, given, &levels)? {
-        Some(combinations) => Ok(Some((levels.len(), combinations.len()))),
-        None => Ok(None),
+        Some(combinations) => Ok(levels.len() == level_count && combinations.len() == count),
+        None => Ok(false),
+    }
+}
+
+fn is_refuted(alloc: Global, given: &[Sparse], level_count: usize, count: usize) -> bool {
+    match rows(alloc, given) {
+        Some(given) => matches!(are_refuted(alloc, &given, level_count, count), Ok(true)),
+        None => false,
     }
 }
 
 #[test]
-fn refutes_rows(rt: HostRuntime) -> Result<(), Fail> {
-    let alloc = rt.alloc();
+fn refutes_rows(rt: HostRuntime) {
     for (number, (given, levels, combinations)) in REFUTED.iter().enumerate() {
-        let given = rows(alloc, *given)?;
-        let found = refutation(alloc, &given)?;
-        assert_eq!(rt; found, Some((*levels, *combinations)), "at {number}");
+        let is_right = is_refuted(rt.alloc(), *given, *levels, *combinations);
+        expect(&rt, number, is_right);
     }
-    Ok(())
 }
 
 /// Combinations of two rows. The last one, of the rows 3 and 1, does not need those that give the rows 2
@@ -96,19 +105,24 @@ fn are_equal(found: &[Combination], wanted: &[Combination]) -> bool {
     true
 }
 
-/// Whether these are the combinations, in this order.
-fn are_combinations(alloc: Global, found: &[Combination], wanted: &[Sum]) -> Result<bool, Fail> {
+/// Whether these are the combinations that are needed, in this order.
+fn are_needed(alloc: Global, all: &[Combination], wanted: &[Combination]) -> bool {
+    match needed(alloc, 2, all) {
+        Ok(found) => are_equal(&found, wanted),
+        Err(_) => false,
+    }
+}
+
+/// Whether just these are needed of all.
+fn needs(alloc: Global, all: &[Sum], wanted: &[Sum]) -> Option<bool> {
+    let all = combinations(alloc, all)?;
     let wanted = combinations(alloc, wanted)?;
-    Ok(are_equal(found, &wanted))
+    Some(are_needed(alloc, &all, &wanted))
 }
 
 #[test]
-fn drops_what_is_not_needed(rt: HostRuntime) -> Result<(), Fail> {
-    let alloc = rt.alloc();
-    let all = combinations(alloc, &ALL)?;
-    let found = needed(alloc, 2, &all)?;
-    assert!(rt; are_combinations(alloc, &found, &NEEDED)?);
-    Ok(())
+fn drops_what_is_not_needed(rt: HostRuntime) {
+    assert!(rt; needs(rt.alloc(), &ALL, &NEEDED) == Some(true));
 }
 
 /// Rows that are not refuted, their variables, and the last level.
@@ -127,31 +141,28 @@ const OPEN: [(&[Sparse], &[usize], &[Sparse]); 5] = [
 ];
 
 /// Whether the rows have these variables, and are these rows without them.
-fn are_left(
-    alloc: Global,
-    given: &[Row],
-    variables: &[usize],
-    wanted: &[Row],
-) -> Result<bool, Fail> {
-    let Elimination::Open(levels) = eliminate(alloc, given)? else {
-        return Ok(false);
-    };
-    let last = levels.others.last().unwrap_or(&levels.first);
-    Ok(levels.variables.as_slice() == variables && last.rows() == wanted)
+fn are_left(alloc: Global, given: &[Row], variables: &[usize], wanted: &[Row]) -> bool {
+    match eliminate(alloc, given) {
+        Ok(Elimination::Open(levels)) => {
+            let last = levels.others.last().unwrap_or(&levels.first);
+            levels.variables.as_slice() == variables && last.rows() == wanted
+        }
+        Ok(_) | Err(_) => false,
+    }
+}
+
+fn leave(alloc: Global, given: &[Sparse], variables: &[usize], wanted: &[Sparse]) -> Option<bool> {
+    let given = rows(alloc, given)?;
+    let wanted = rows(alloc, wanted)?;
+    Some(are_left(alloc, &given, variables, &wanted))
 }
 
 #[test]
-fn eliminates_variables(rt: HostRuntime) -> Result<(), Fail> {
-    let alloc = rt.alloc();
+fn eliminates_variables(rt: HostRuntime) {
     for (number, (given, variables, wanted)) in OPEN.iter().enumerate() {
-        let given = rows(alloc, *given)?;
-        let wanted = rows(alloc, *wanted)?;
-        assert!(rt;
-            are_left(alloc, &given, *variables, &wanted)?,
-            "at {number}"
-        );
+        let found = leave(rt.alloc(), *given, *variables, *wanted);
+        expect(&rt, number, found == Some(true));
     }
-    Ok(())
 }
 
 /// Rows on whose way a number is past 128 bits: a divisor, or a sum.
@@ -160,95 +171,107 @@ const WIDE: [&[Sparse]; 2] = [
     &[(&[(0, MAX), (1, 1)], 0), (&[(0, 1 - MAX), (1, 1)], 0)],
 ];
 
-fn is_wide(alloc: Global, given: &[Row]) -> Result<bool, Fail> {
-    Ok(matches!(eliminate(alloc, given)?, Elimination::Wide))
+/// What an elimination came to, in a word.
+fn word(elimination: &Elimination) -> &'static str {
+    match elimination {
+        Elimination::Refuted(_) => "refuted",
+        Elimination::Open(_) => "open",
+        Elimination::Wide => "wide",
+        Elimination::Many(50_000) => "50,000 rows",
+        Elimination::Many(_) => "many",
+    }
+}
+
+/// What the elimination comes to, in a word.
+fn end(alloc: Global, given: &[Row]) -> &'static str {
+    match eliminate(alloc, given) {
+        Ok(elimination) => word(&elimination),
+        Err(_) => "no memory",
+    }
+}
+
+fn sparse_end(alloc: Global, given: &[Sparse]) -> &'static str {
+    match rows(alloc, given) {
+        Some(given) => end(alloc, &given),
+        None => "no rows",
+    }
 }
 
 #[test]
-fn tells_of_wide_rows(rt: HostRuntime) -> Result<(), Fail> {
-    let alloc = rt.alloc();
+fn tells_of_wide_rows(rt: HostRuntime) {
     for (number, given) in WIDE.iter().enumerate() {
-        let given = rows(alloc, *given)?;
-        assert!(rt; is_wide(alloc, &given)?, "at {number}");
+        expect(&rt, number, sparse_end(rt.alloc(), *given) == "wide");
     }
-    Ok(())
 }
 
 /// Adds a row.
-fn push(alloc: Global, rows: &mut Vec<Row>, sparse: Sparse) -> Result<(), Fail> {
-    let row = row(alloc, sparse)?;
-    Ok(rows.push(row)?)
+fn push(alloc: Global, rows: &mut Vec<Row>, sparse: Sparse) -> bool {
+    match row(alloc, sparse) {
+        Some(row) => rows.push(row).is_ok(),
+        None => false,
+    }
 }
 
 /// Adds rows that bound the node 0 from below.
-fn push_lower(alloc: Global, rows: &mut Vec<Row>) -> Result<(), Fail> {
+fn push_lower(alloc: Global, rows: &mut Vec<Row>) -> bool {
     for number in 0..224_u16 {
-        push(alloc, rows, (&[(0, 1)], i128::from(number)))?;
+        if !push(alloc, rows, (&[(0, 1)], i128::from(number))) {
+            return false;
+        }
     }
-    Ok(())
+    true
 }
 
 /// Adds rows that bound the node 0 from above. No two sums of one of these and a lower one are equal.
-fn push_upper(alloc: Global, rows: &mut Vec<Row>) -> Result<(), Fail> {
+fn push_upper(alloc: Global, rows: &mut Vec<Row>) -> bool {
     for number in 0..223_u16 {
-        push(alloc, rows, (&[(0, -1)], i128::from(number) * 1000))?;
+        if !push(alloc, rows, (&[(0, -1)], i128::from(number) * 1000)) {
+            return false;
+        }
     }
-    Ok(())
+    true
 }
 
 /// Adds so many rows without nodes, which equal no such sum.
-fn push_others(alloc: Global, rows: &mut Vec<Row>, count: u16) -> Result<(), Fail> {
+fn push_others(alloc: Global, rows: &mut Vec<Row>, count: u16) -> bool {
     for number in 0..count {
-        push(alloc, rows, (&[], i128::from(number) + 1_000_000))?;
+        if !push(alloc, rows, (&[], i128::from(number) + 1_000_000)) {
+            return false;
+        }
     }
-    Ok(())
+    true
 }
 
-/// Rows that bound a node from below and above, where no two sums are equal, and others without it.
-fn bounds(alloc: Global, others: u16) -> Result<Vec<Row>, Fail> {
-    let mut rows = Vec::new(alloc);
-    push_lower(alloc, &mut rows)?;
-    push_upper(alloc, &mut rows)?;
-    push_others(alloc, &mut rows, others)?;
-    Ok(rows)
+/// Adds rows that bound a node from below and above, where no two sums are equal, and others without it.
+fn push_bounds(alloc: Global, rows: &mut Vec<Row>, others: u16) -> bool {
+    push_lower(alloc, rows) && push_upper(alloc, rows) && push_others(alloc, rows, others)
 }
 
-fn is_open(alloc: Global, given: &[Row]) -> Result<bool, Fail> {
-    Ok(matches!(eliminate(alloc, given)?, Elimination::Open(_)))
-}
-
-fn has_point(alloc: Global, given: &[Row]) -> Result<bool, Fail> {
-    Ok(matches!(refute(alloc, given)?, Verdict::Point(_)))
+fn has_point(alloc: Global, given: &[Row]) -> bool {
+    matches!(refute(alloc, given), Ok(Verdict::Point(_)))
 }
 
 /// 224 * 223 sums, and 47 rows.
 #[test]
-fn takes_almost_too_many_rows(rt: HostRuntime) -> Result<(), Fail> {
-    let alloc = rt.alloc();
-    let given = bounds(alloc, 47)?;
-    assert!(rt; is_open(alloc, &given)?);
-    assert!(rt; has_point(alloc, &given)?);
-    Ok(())
-}
-
-/// Whether elimination gives up at 50,000 rows.
-fn is_many(alloc: Global, given: &[Row]) -> Result<bool, Fail> {
-    Ok(matches!(eliminate(alloc, given)?, Elimination::Many(50_000)))
+fn takes_almost_too_many_rows(rt: HostRuntime) {
+    let mut given = Vec::new(rt.alloc());
+    assert!(rt; push_bounds(rt.alloc(), &mut given, 47));
+    assert!(rt; end(rt.alloc(), &given) == "open");
+    assert!(rt; has_point(rt.alloc(), &given));
 }
 
 /// Whether there is no verdict, since elimination gives up at 50,000 rows.
-fn has_no_verdict(alloc: Global, given: &[Row]) -> Result<bool, Fail> {
-    Ok(matches!(refute(alloc, given)?, Verdict::Many(50_000)))
+fn has_no_verdict(alloc: Global, given: &[Row]) -> bool {
+    matches!(refute(alloc, given), Ok(Verdict::Many(50_000)))
 }
 
 /// 224 * 223 sums, and 48 rows.
 #[test]
-fn tells_of_many_rows(rt: HostRuntime) -> Result<(), Fail> {
-    let alloc = rt.alloc();
-    let given = bounds(alloc, 48)?;
-    assert!(rt; is_many(alloc, &given)?);
-    assert!(rt; has_no_verdict(alloc, &given)?);
-    Ok(())
+fn tells_of_many_rows(rt: HostRuntime) {
+    let mut given = Vec::new(rt.alloc());
+    assert!(rt; push_bounds(rt.alloc(), &mut given, 48));
+    assert!(rt; end(rt.alloc(), &given) == "50,000 rows");
+    assert!(rt; has_no_verdict(rt.alloc(), &given));
 }
 
 /// Whether only nodes below the count have a coefficient in the row.
@@ -274,21 +297,25 @@ fn are_inside(rows: &[Row], count: usize) -> bool
     true
 }
 
-/// Numbers for the first two nodes.
-fn solution(alloc: Global, given: &[Row]) -> Result<Back, Fail> {
+/// Numbers for the first two nodes, where the rows are not refuted and have no others.
+fn solution(alloc: Global, given: &[Row]) -> Result<Option<Back>, AllocError> {
     let Elimination::Open(levels) = eliminate(alloc, given)? else {
-        return Err(Fail::new("the rows are refuted"));
+        return Ok(None);
     };
     if !are_inside(levels.first.rows(), 2) {
-        return Err(Fail::new("there are other nodes"));
+        return Ok(None);
     }
-    Ok(back(alloc, 2, &levels.first, &levels.variables, &levels.others)?)
+    let back = back(alloc, 2, &levels.first, &levels.variables, &levels.others)?;
+    Ok(Some(back))
 }
 
 /// Numbers for x and y.
-fn solved(alloc: Global, given: &[Sparse]) -> Result<Back, Fail> {
+fn solved(alloc: Global, given: &[Sparse]) -> Option<Back> {
     let given = rows(alloc, given)?;
-    solution(alloc, &given)
+    match solution(alloc, &given) {
+        Ok(back) => back,
+        Err(_) => None,
+    }
 }
 
 /// Rows of x and y, and the numbers nearest 0.
@@ -305,15 +332,22 @@ const POINTS: [(&[Sparse], [i128; 2]); 2] = [
     ),
 ];
 
-#[test]
-fn finds_numbers_nearest_zero(rt: HostRuntime) -> Result<(), Fail> {
-    for (number, (given, wanted)) in POINTS.iter().enumerate() {
-        let Back::Point(numbers) = solved(rt.alloc(), *given)? else {
-            return Err(Fail::new("there are no numbers"));
-        };
-        assert!(rt; numbers.as_slice() == wanted.as_slice(), "at {number}");
+fn has_numbers(alloc: Global, given: &[Sparse], wanted: &[i128]) -> bool {
+    match solved(alloc, given) {
+        Some(Back::Point(numbers)) => numbers.as_slice() == wanted,
+        Some(_) | None => false,
     }
-    Ok(())
+}
+
+#[test]
+fn finds_numbers_nearest_zero(rt: HostRuntime) {
+    for (number, (given, wanted)) in POINTS.iter().enumerate() {
+        expect(
+            &rt,
+            number,
+            has_numbers(rt.alloc(), *given, wanted.as_slice()),
+        );
+    }
 }
 
 /// Rows by which x lies strictly between the number and the next one.
@@ -340,15 +374,18 @@ const GAPS: [(&[Sparse], i128); 2] = [
     ),
 ];
 
-#[test]
-fn tells_of_gaps(rt: HostRuntime) -> Result<(), Fail> {
-    for (number, (given, wanted)) in GAPS.iter().enumerate() {
-        let Back::Between { node, bound } = solved(rt.alloc(), *given)? else {
-            return Err(Fail::new("there is no gap"));
-        };
-        assert!(rt; node == 0 && bound == *wanted, "at {number}");
+fn has_gap(alloc: Global, given: &[Sparse], wanted: i128) -> bool {
+    match solved(alloc, given) {
+        Some(Back::Between { node, bound }) => node == 0 && bound == wanted,
+        Some(_) | None => false,
     }
-    Ok(())
+}
+
+#[test]
+fn tells_of_gaps(rt: HostRuntime) {
+    for (number, (given, wanted)) in GAPS.iter().enumerate() {
+        expect(&rt, number, has_gap(rt.alloc(), *given, *wanted));
+    }
 }
 
 /// Rows by which a number on the way back is past 128 bits.
@@ -359,12 +396,13 @@ const WIDE_BACK: [&[Sparse]; 2] = [
     &[(&[(0, 1), (1, -2)], 0), (&[(1, 1)], -MAX)],
 ];
 
+fn is_wide(alloc: Global, given: &[Sparse]) -> bool {
+    matches!(solved(alloc, given), Some(Back::Wide))
+}
+
 #[test]
-fn tells_of_wide_numbers(rt: HostRuntime) -> Result<(), Fail> {
-    for given in WIDE_BACK {
-        let Back::Wide = solved(rt.alloc(), given)? else {
-            return Err(Fail::new("no number is too wide"));
-        };
+fn tells_of_wide_numbers(rt: HostRuntime) {
+    for (number, given) in WIDE_BACK.iter().enumerate() {
+        expect(&rt, number, is_wide(rt.alloc(), *given));
     }
-    Ok(())
 }

@@ -1,11 +1,12 @@
 //! The kernel: which logs it accepts, and where it refuses the others.
 
+use crate::expecting::expect;
 use df_axiom::instance;
 use df_cases::{
-    BYTE, CHAR, I8, INT, Line, NAT, P, Plain, Q, Signed, Terms, UNDECLARED, X, Y, Z, literals,
-    nodes, program, sequent, step, steps,
+    BYTE, CHAR, I8, INT, Line, NAT, P, Plain, Q, Signed, Terms, UNDECLARED, X, Y, Z, nodes,
+    program, sequent, step, steps,
 };
-use df_form::{Lit, Op, Sequent, Step, World};
+use df_form::{Lit, Nodes, Op, Sequent, Step, World};
 use df_kern::{Checker, KernFault, check};
 use df_lang::Program;
 use df_rules::connective;
@@ -542,17 +543,6 @@ const SHEETS: [Sheet; 13] = [
     LETTER,
 ];
 
-/// What the kernel says against the log of the first lines and the last ones.
-fn refusal(
-    alloc: Global,
-    sequent: &Sequent,
-    first: &[Line],
-    last: &[Line],
-) -> Result<Option<KernFault>, Fail> {
-    let log = steps(alloc, first, last)?;
-    Ok(check(alloc, sequent, &log).err())
-}
-
 /// The refusal at this step and row.
 fn refused_at(place: Option<(u64, u8)>) -> Option<KernFault> {
     match place {
@@ -561,75 +551,109 @@ fn refused_at(place: Option<(u64, u8)>) -> Option<KernFault> {
     }
 }
 
-/// Each log of the sheet is accepted, or refused at its place.
-fn checks_each(
-    rt: &impl Abort,
+/// Whether the log of the first lines and the last ones is accepted, or refused at this place.
+fn is_refused_at(
     alloc: Global,
-    program: &Program,
-    sheet: &Sheet,
-) -> Result<(), Fail> {
-    let (hypotheses, goal, first, cases) = *sheet;
-    let sequent = sequent(alloc, program, hypotheses, goal)?;
-    for (number, (last, refused)) in cases.iter().enumerate() {
-        let found = refusal(alloc, &sequent, first, *last)?;
-        assert_eq!(rt; found, refused_at(*refused), "at {number}");
+    sequent: &Sequent,
+    first: &[Line],
+    last: &[Line],
+    place: Option<(u64, u8)>,
+) -> bool {
+    match steps(alloc, first, last) {
+        Some(log) => check(alloc, sequent, &log).err() == refused_at(place),
+        None => false,
     }
-    Ok(())
+}
+
+/// Each log is accepted, or refused at its place.
+fn checks_each(rt: &impl Abort, alloc: Global, sequent: &Sequent, first: &[Line], cases: &[Case]) {
+    for (number, (last, place)) in cases.iter().enumerate() {
+        expect(
+            rt,
+            number,
+            is_refused_at(alloc, sequent, first, *last, *place),
+        );
+    }
+}
+
+/// Each log of the sheet is accepted, or refused at its place. Whether it has a sequent.
+fn checks_sheet(rt: &impl Abort, alloc: Global, program: &Program, sheet: Sheet) -> bool {
+    let (hypotheses, goal, first, cases) = sheet;
+    match sequent(alloc, program, hypotheses, goal) {
+        Some(sequent) => {
+            checks_each(rt, alloc, &sequent, first, cases);
+            true
+        }
+        None => false,
+    }
 }
 
 #[test]
 fn accepts_logs_or_tells_where_they_are_refused(rt: HostRuntime) -> Result<(), Fail> {
-    let alloc = rt.alloc();
-    let program = program(alloc)?;
-    for sheet in SHEETS.iter() {
-        checks_each(&rt, alloc, &program, sheet)?;
+    let program = program(rt.alloc())?;
+    for (number, sheet) in SHEETS.iter().enumerate() {
+        expect(&rt, number, checks_sheet(&rt, rt.alloc(), &program, *sheet));
     }
     Ok(())
 }
 
 /// Whether these are the literals, in this order.
-fn are_literals(alloc: Global, found: &[Lit], wanted: &[Signed]) -> Result<bool, Fail> {
-    let wanted = literals(alloc, wanted)?;
-    Ok(found == wanted.as_slice())
+fn are_literals(literals: &[Lit], signed: &[Signed]) -> bool {
+    for (literal, wanted) in literals.iter().zip(signed) {
+        if literal.positive != wanted.0 || literal.node != wanted.1 {
+            return false;
+        }
+    }
+    literals.len() == signed.len()
 }
 
 /// Whether the checker takes the line.
-fn takes(alloc: Global, checker: &mut Checker, line: Line) -> Result<bool, Fail> {
-    let step = step(alloc, line)?;
-    Ok(checker.take(&step).is_ok())
+fn takes(alloc: Global, checker: &mut Checker, line: Line) -> bool {
+    match step(alloc, line) {
+        Some(step) => checker.take(&step).is_ok(),
+        None => false,
+    }
 }
 
 /// Whether the last clause is of these literals.
-fn ends_with(alloc: Global, checker: &Checker, wanted: &[Signed]) -> Result<bool, Fail> {
+fn ends_with(checker: &Checker, wanted: &[Signed]) -> bool {
     match checker.clauses.last() {
-        Some(clause) => are_literals(alloc, clause.as_slice(), wanted),
-        None => Ok(false),
+        Some(clause) => are_literals(clause.as_slice(), wanted),
+        None => false,
     }
 }
 
-/// Whether the checker takes the line, and its clause is this one.
-fn adds(alloc: Global, checker: &mut Checker, line: Line, added: &[Signed]) -> Result<bool, Fail> {
-    if !takes(alloc, checker, line)? {
-        return Ok(false);
+/// Each line adds its clause.
+fn adds_each(rt: &impl Abort, alloc: Global, checker: &mut Checker) {
+    for (number, (line, added)) in ADDED.iter().enumerate() {
+        let is_right = takes(alloc, checker, *line) && ends_with(checker, *added);
+        expect(rt, number, is_right);
     }
-    ends_with(alloc, checker, added)
 }
 
 /// Each line adds its clause. This is how many nodes there are then.
-fn adds_each(rt: &impl Abort, alloc: Global, sequent: &Sequent) -> Result<usize, Fail> {
-    let mut checker = Checker::new(alloc, sequent)?;
-    for (number, (line, added)) in ADDED.iter().enumerate() {
-        assert!(rt; adds(alloc, &mut checker, *line, *added)?, "at {number}");
+fn count_added(rt: &impl Abort, alloc: Global, sequent: &Sequent) -> Option<usize> {
+    match Checker::new(alloc, sequent) {
+        Ok(mut checker) => {
+            adds_each(rt, alloc, &mut checker);
+            Some(checker.nodes.len())
+        }
+        Err(_) => None,
     }
-    Ok(checker.nodes.len())
+}
+
+/// Whether so many nodes are there where each line has added its clause.
+fn adds_up_to(rt: &impl Abort, alloc: Global, program: &Program, count: usize) -> bool {
+    match sequent(alloc, program, &[], &EACH) {
+        Some(sequent) => count_added(rt, alloc, &sequent) == Some(count),
+        None => false,
+    }
 }
 
 #[test]
 fn adds_clauses(rt: HostRuntime) -> Result<(), Fail> {
-    let alloc = rt.alloc();
-    let program = program(alloc)?;
-    let sequent = sequent(alloc, &program, &[], &EACH)?;
-    assert_eq!(rt; adds_each(&rt, alloc, &sequent)?, 26);
+    let program = program(rt.alloc())?;
+    assert!(rt; adds_up_to(&rt, rt.alloc(), &program, 26));
     Ok(())
 }
 
@@ -646,57 +670,91 @@ fn takes_all(checker: &mut Checker, steps: &[Step]) -> bool {
     true
 }
 
-/// What the kernel says where the log ends after ten thousand times these lines.
-fn end_of_repeated(
-    rt: &impl Abort,
-    alloc: Global,
-    sequent: &Sequent,
-) -> Result<Option<KernFault>, Fail> {
-    let steps = steps(alloc, &REPEATED, &[])?;
-    let mut checker = Checker::new(alloc, sequent)?;
+/// Whether the checker takes these steps ten thousand times.
+fn takes_often(checker: &mut Checker, steps: &[Step]) -> bool {
     for _ in 0..10_000 {
-        assert!(rt; takes_all(&mut checker, &steps));
+        if !takes_all(checker, steps) {
+            return false;
+        }
     }
-    Ok(checker.finish().err())
+    true
+}
+
+/// Whether the log is refused at this place where it ends after ten thousand times these steps.
+fn ends_at(alloc: Global, sequent: &Sequent, steps: &[Step], place: Option<(u64, u8)>) -> bool {
+    match Checker::new(alloc, sequent) {
+        Ok(mut checker) => {
+            takes_often(&mut checker, steps) && checker.finish().err() == refused_at(place)
+        }
+        Err(_) => false,
+    }
+}
+
+fn repeated_ends_at(alloc: Global, sequent: &Sequent, place: Option<(u64, u8)>) -> bool {
+    match steps(alloc, &REPEATED, &[]) {
+        Some(steps) => ends_at(alloc, sequent, &steps, place),
+        None => false,
+    }
+}
+
+/// Whether the repeated lines are taken, and the log is refused at its end.
+fn are_repeated_taken(alloc: Global, program: &Program) -> bool {
+    match sequent(alloc, program, MODUS_PONENS, &[(Q, 0)]) {
+        Some(sequent) => repeated_ends_at(alloc, &sequent, Some((20_001, 0))),
+        None => false,
+    }
 }
 
 #[test]
 fn takes_twenty_thousand_lines(rt: HostRuntime) -> Result<(), Fail> {
-    let alloc = rt.alloc();
-    let program = program(alloc)?;
-    let sequent = sequent(alloc, &program, MODUS_PONENS, &[(Q, 0)])?;
-    let found = end_of_repeated(&rt, alloc, &sequent)?;
-    assert_eq!(rt; found, refused_at(Some((20_001, 0))));
+    let program = program(rt.alloc())?;
+    assert!(rt; are_repeated_taken(rt.alloc(), &program));
     Ok(())
 }
 
 /// x, that it is i8, and the negation of this. -128 becomes 3, -128 <= x 4, 127 5, and x <= 127 6.
 const NO_I8: [Plain; 3] = [(X, &[]), (I8, &[0]), (Op::Not, &[1])];
 
+fn no_i8(alloc: Global) -> Result<Nodes, &'static str> {
+    nodes(alloc, &NO_I8)
+}
+
 /// Whether the last clause of what i8 means, for node 1, is of these literals, and four nodes are made for it.
-fn is_type_clause(alloc: Global, world: World, wanted: &[Signed]) -> Result<bool, Fail> {
-    let mut nodes = nodes(alloc, &NO_I8)?;
-    let clause = instance(alloc, world, &mut nodes, 74, 2, &[1])?;
-    let is_wanted = are_literals(alloc, clause.as_slice(), wanted)?;
-    Ok(is_wanted && nodes.len() == 7)
+fn is_type_clause(world: World, alloc: Global, nodes: &mut Nodes, wanted: &[Signed]) -> bool {
+    match instance(alloc, world, nodes, 74, 2, &[1]) {
+        Ok(clause) => are_literals(clause.as_slice(), wanted) && nodes.len() == 7,
+        Err(_) => false,
+    }
+}
+
+/// Whether the type's clause is of these literals.
+fn has_type_clause(alloc: Global, program: &Program, wanted: &[Signed]) -> bool {
+    match no_i8(alloc) {
+        Ok(mut nodes) => is_type_clause(World { program }, alloc, &mut nodes, wanted),
+        Err(_) => false,
+    }
 }
 
 #[test]
 fn gives_clauses_of_types(rt: HostRuntime) -> Result<(), Fail> {
-    let alloc = rt.alloc();
-    let program = program(alloc)?;
-    let world = World { program: &program };
+    let program = program(rt.alloc())?;
     let wanted = [(true, 1), (false, 4), (false, 6)];
-    assert!(rt; is_type_clause(alloc, world, &wanted)?);
+    assert!(rt; has_type_clause(rt.alloc(), &program, &wanted));
     Ok(())
+}
+
+/// Whether the second clause of node 2 is of these literals.
+fn is_connective_clause(alloc: Global, nodes: &mut Nodes, wanted: &[Signed]) -> bool {
+    match connective(alloc, nodes, 2, 1) {
+        Ok(clause) => are_literals(clause.as_slice(), wanted),
+        Err(_) => false,
+    }
 }
 
 #[test]
 fn gives_clauses_of_connectives(rt: HostRuntime) -> Result<(), Fail> {
-    let alloc = rt.alloc();
-    let mut nodes = nodes(alloc, &NO_I8)?;
-    let clause = connective(alloc, &mut nodes, 2, 1)?;
+    let mut nodes = no_i8(rt.alloc())?;
     let wanted = [(true, 2), (true, 1)];
-    assert!(rt; are_literals(alloc, clause.as_slice(), &wanted)?);
+    assert!(rt; is_connective_clause(rt.alloc(), &mut nodes, &wanted));
     Ok(())
 }

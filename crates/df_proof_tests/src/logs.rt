@@ -3,18 +3,22 @@
 use df_cases::{Line, P, Signed, Sum, Terms, X, combinations, literals, program, sequent, steps};
 use df_form::{Lit, Node, Op, Sequent};
 use df_kern::check;
+use df_lang::Program;
 use df_logbuild::{Derivation, logs_end_with_empty_clauses};
 use df_trail::{Retreat, Trail};
 use std::alloc::Global;
-use std::process::Abort;
 use std::test::Fail;
 
 /// A log of these lines, each of which adds a clause.
-fn begun(alloc: Global, sequent: &Sequent, lines: &[Line]) -> Result<Derivation, Fail> {
-    let nodes = sequent.nodes.copy(alloc)?;
+fn begun(alloc: Global, sequent: &Sequent, lines: &[Line]) -> Option<Derivation> {
     let lines = steps(alloc, lines, &[])?;
-    let count = lines.len();
-    Ok(Derivation::new(nodes, lines, count))
+    match sequent.nodes.copy(alloc) {
+        Ok(nodes) => {
+            let count = lines.len();
+            Some(Derivation::new(nodes, lines, count))
+        }
+        Err(_) => None,
+    }
 }
 
 /// The number of the clause that follows through clauses by propagation.
@@ -23,9 +27,11 @@ fn propagate(
     derivation: &mut Derivation,
     numbers: &[usize],
     conclusion: Vec<Lit>,
-) -> Result<usize, Fail> {
-    let numbers = Vec::from_slice(alloc, numbers)?;
-    Ok(derivation.propagate(numbers, conclusion)?)
+) -> Option<usize> {
+    match Vec::from_slice(alloc, numbers) {
+        Ok(numbers) => derivation.propagate(numbers, conclusion).ok(),
+        Err(_) => None,
+    }
 }
 
 /// x <= 3, where x is node 0, and this one 2.
@@ -41,48 +47,58 @@ const CONCLUSION: [Signed; 2] = [(false, 2), (true, 4)];
 const SUMS: [Sum; 1] = [(1, &[(1, 0), (1, 1)])];
 
 /// The number of the clause that the sum refutes.
-fn refute(alloc: Global, derivation: &mut Derivation) -> Result<usize, Fail> {
+fn refute(alloc: Global, derivation: &mut Derivation) -> Option<usize> {
     let conclusion = literals(alloc, &CONCLUSION)?;
     let combinations = combinations(alloc, &SUMS)?;
-    Ok(derivation.refute(conclusion, combinations)?)
+    derivation.refute(conclusion, combinations).ok()
 }
 
 /// The number of the node of 7.
-fn make_seven(rt: &impl Abort, alloc: Global, derivation: &mut Derivation) -> Result<usize, Fail> {
+fn make_seven(alloc: Global, derivation: &mut Derivation) -> Option<usize> {
     let seven = Node {
         op: Op::Number(7),
         parts: Vec::new(alloc),
     };
-    assert!(rt; derivation.nodes.admits(&seven));
-    Ok(derivation.make(alloc, seven)?)
+    if !derivation.nodes.admits(&seven) {
+        return None;
+    }
+    derivation.make(alloc, seven).ok()
 }
 
-/// Adds lines to the hypothesis and the negated goal, up to the empty clause.
-fn build(rt: &impl Abort, alloc: Global, derivation: &mut Derivation) -> Result<(), Fail> {
-    assert_eq!(rt; refute(alloc, derivation)?, 2);
-    // a node that is there is not made again
-    for _ in 0..2 {
-        assert_eq!(rt; make_seven(rt, alloc, derivation)?, 5);
-    }
-    let clause = propagate(alloc, derivation, &[0, 1, 2], Vec::new(alloc))?;
-    assert_eq!(rt; clause, 3);
-    Ok(())
+/// Adds lines to the hypothesis and the negated goal, up to the empty clause: whether the lines and the nodes have
+/// their numbers, where a node that is there is not made again.
+fn build(alloc: Global, derivation: &mut Derivation) -> bool {
+    refute(alloc, derivation) == Some(2)
+        && make_seven(alloc, derivation) == Some(5)
+        && make_seven(alloc, derivation) == Some(5)
+        && propagate(alloc, derivation, &[0, 1, 2], Vec::new(alloc)) == Some(3)
 }
 
 /// Whether the log that is built has five lines, and is accepted.
-fn is_built(rt: &impl Abort, alloc: Global, sequent: &Sequent) -> Result<bool, Fail> {
-    let mut derivation = begun(alloc, sequent, &[Line::H(0), Line::G])?;
-    build(rt, alloc, &mut derivation)?;
-    Ok(derivation.lines.len() == 5 && check(alloc, sequent, &derivation.lines).is_ok())
+fn is_built(alloc: Global, sequent: &Sequent) -> bool {
+    match begun(alloc, sequent, &[Line::H(0), Line::G]) {
+        Some(mut derivation) => {
+            build(alloc, &mut derivation)
+                && derivation.lines.len() == 5
+                && check(alloc, sequent, &derivation.lines).is_ok()
+        }
+        None => false,
+    }
+}
+
+/// Whether the log for the goal is built, and accepted.
+fn builds(alloc: Global, program: &Program) -> bool {
+    match sequent(alloc, program, &[HYPOTHESIS], GOAL) {
+        Some(sequent) => is_built(alloc, &sequent),
+        None => false,
+    }
 }
 
 #[test]
 fn builds_a_log_that_is_accepted(rt: HostRuntime) -> Result<(), Fail> {
-    let alloc = rt.alloc();
     logs_end_with_empty_clauses();
-    let program = program(alloc)?;
-    let sequent = sequent(alloc, &program, &[HYPOTHESIS], GOAL)?;
-    assert!(rt; is_built(&rt, alloc, &sequent)?);
+    let program = program(rt.alloc())?;
+    assert!(rt; builds(rt.alloc(), &program));
     Ok(())
 }
 
@@ -96,14 +112,13 @@ const LINES: [Line; 5] = [
     Line::X(1, 1),
 ];
 
-/// The branch of p alone.
-fn decided(alloc: Global) -> Result<Trail, Fail> {
-    let mut trail = Trail::new(alloc);
-    trail.decide(Lit {
+/// Decides p.
+fn decide(trail: &mut Trail) -> bool {
+    let literal = Lit {
         positive: true,
         node: 0,
-    })?;
-    Ok(trail)
+    };
+    trail.decide(literal).is_ok()
 }
 
 /// Closes the branch by propagation through clauses.
@@ -112,50 +127,63 @@ fn close(
     derivation: &mut Derivation,
     trail: &mut Trail,
     numbers: &[usize],
-) -> Result<Retreat, Fail> {
-    let conclusion = trail.negations(alloc)?;
-    let closed = propagate(alloc, derivation, numbers, conclusion)?;
-    Ok(trail.retreat(alloc, derivation, closed)?)
+) -> Option<Retreat> {
+    match trail.negations(alloc) {
+        Ok(conclusion) => {
+            let closed = propagate(alloc, derivation, numbers, conclusion)?;
+            trail.retreat(alloc, derivation, closed).ok()
+        }
+        Err(_) => None,
+    }
 }
 
-/// Whether the branch is of these literals.
-fn is_branch(alloc: Global, trail: &Trail, wanted: &[Signed]) -> Result<bool, Fail> {
-    let branch = trail.branch(alloc)?;
-    let wanted = literals(alloc, wanted)?;
-    Ok(branch.as_slice() == wanted.as_slice())
+/// Whether the branch is of the negation of p alone.
+fn is_turned(alloc: Global, trail: &Trail) -> bool {
+    let turned = Lit {
+        positive: false,
+        node: 0,
+    };
+    match trail.branch(alloc) {
+        Ok(branch) => branch.as_slice() == [turned].as_slice(),
+        Err(_) => false,
+    }
 }
 
-/// Closes the branch of p, and then the one of its negation.
-fn close_both(
-    rt: &impl Abort,
-    alloc: Global,
-    derivation: &mut Derivation,
-    trail: &mut Trail,
-) -> Result<(), Fail> {
-    // p makes the goal true
-    let retreat = close(alloc, derivation, trail, &[0, 1])?;
-    assert_eq!(rt; retreat, Retreat::Turned);
-    assert!(rt; is_branch(alloc, trail, &[(false, 0)])?);
-    // and so does its negation
-    let retreat = close(alloc, derivation, trail, &[0, 2, 4])?;
-    assert_eq!(rt; retreat, Retreat::Ended);
-    Ok(())
+/// Closes the branch of p, which makes the goal true, and then the one of its negation, which does so too.
+fn close_both(alloc: Global, derivation: &mut Derivation, trail: &mut Trail) -> bool {
+    close(alloc, derivation, trail, &[0, 1]) == Some(Retreat::Turned)
+        && is_turned(alloc, trail)
+        && close(alloc, derivation, trail, &[0, 2, 4]) == Some(Retreat::Ended)
+}
+
+/// Whether both branches are closed.
+fn closes(alloc: Global, derivation: &mut Derivation) -> bool {
+    let mut trail = Trail::new(alloc);
+    decide(&mut trail) && close_both(alloc, derivation, &mut trail)
 }
 
 /// Whether the log of the two branches is accepted.
-fn is_closed(rt: &impl Abort, alloc: Global, sequent: &Sequent) -> Result<bool, Fail> {
-    let mut derivation = begun(alloc, sequent, &LINES)?;
-    let mut trail = decided(alloc)?;
-    close_both(rt, alloc, &mut derivation, &mut trail)?;
-    Ok(check(alloc, sequent, &derivation.lines).is_ok())
+fn is_closed(alloc: Global, sequent: &Sequent) -> bool {
+    match begun(alloc, sequent, &LINES) {
+        Some(mut derivation) => {
+            closes(alloc, &mut derivation) && check(alloc, sequent, &derivation.lines).is_ok()
+        }
+        None => false,
+    }
+}
+
+/// Whether the log for `p || !p` is accepted.
+fn closes_both(alloc: Global, program: &Program) -> bool {
+    let goal = [(P, 0), (P, 0), (Op::Not, 1), (Op::Or, 2)];
+    match sequent(alloc, program, &[], &goal) {
+        Some(sequent) => is_closed(alloc, &sequent),
+        None => false,
+    }
 }
 
 #[test]
 fn closes_both_sides_of_a_decision(rt: HostRuntime) -> Result<(), Fail> {
-    let alloc = rt.alloc();
-    let program = program(alloc)?;
-    let goal = [(P, 0), (P, 0), (Op::Not, 1), (Op::Or, 2)];
-    let sequent = sequent(alloc, &program, &[], &goal)?;
-    assert!(rt; is_closed(&rt, alloc, &sequent)?);
+    let program = program(rt.alloc())?;
+    assert!(rt; closes_both(rt.alloc(), &program));
     Ok(())
 }

@@ -1,7 +1,8 @@
 //! The kernel's linear arithmetic: rows of literals, and combinations that refute them.
 
+use crate::expecting::expect;
 use df_cases::{P, Plain, Signed, Sum, X, combinations, literals, nodes};
-use df_form::{Lit, Nodes, Op};
+use df_form::{Nodes, Op};
 use df_row::{Row, RowFault, is_linear, rows_of_literals};
 use std::alloc::Global;
 use std::test::Fail;
@@ -112,20 +113,23 @@ const COMBINATIONS: [(&[Signed], &[Sum], bool); 23] = [
     ),
 ];
 
+fn all_nodes(alloc: Global) -> Result<Nodes, &'static str> {
+    nodes(alloc, &NODES)
+}
+
 /// Whether the combinations refute the negation of the clause.
-fn refute(alloc: Global, nodes: &Nodes, clause: &[Signed], sums: &[Sum]) -> Result<bool, Fail> {
+fn refute(alloc: Global, nodes: &Nodes, clause: &[Signed], sums: &[Sum]) -> Option<bool> {
     let literals = literals(alloc, clause)?;
     let combinations = combinations(alloc, sums)?;
-    Ok(is_linear(alloc, nodes, &literals, &combinations)?)
+    is_linear(alloc, nodes, &literals, &combinations).ok()
 }
 
 #[test]
 fn refutes_by_combinations(rt: HostRuntime) -> Result<(), Fail> {
-    let alloc = rt.alloc();
-    let nodes = nodes(alloc, &NODES)?;
+    let nodes = all_nodes(rt.alloc())?;
     for (number, (clause, sums, wanted)) in COMBINATIONS.iter().enumerate() {
-        let found = refute(alloc, &nodes, *clause, *sums)?;
-        assert_eq!(rt; found, *wanted, "at {number}");
+        let found = refute(rt.alloc(), &nodes, *clause, *sums);
+        expect(&rt, number, found == Some(*wanted));
     }
     Ok(())
 }
@@ -148,28 +152,34 @@ fn are_rows(rows: &[Row], wanted: &[(Option<i128>, i128)]) -> bool {
     true
 }
 
+fn are_all_rows(rows: &[Row], wanted: Option<&[(Option<i128>, i128)]>) -> bool {
+    match wanted {
+        Some(wanted) => are_rows(rows, wanted),
+        None => false,
+    }
+}
+
 /// Whether the literals have these rows, or a number of one is past 128 bits where there are none.
 fn have_rows(
     alloc: Global,
     nodes: &Nodes,
-    literals: &[Lit],
+    signed: &[Signed],
     wanted: Option<&[(Option<i128>, i128)]>,
 ) -> bool {
-    match (rows_of_literals(alloc, nodes, literals), wanted) {
-        (Ok(rows), Some(wanted)) => are_rows(&rows, wanted),
-        (Err(fault), None) => matches!(fault, RowFault::Refused),
-        _ => false,
+    let Some(literals) = literals(alloc, signed) else {
+        return false;
+    };
+    match rows_of_literals(alloc, nodes, &literals) {
+        Ok(rows) => are_all_rows(&rows, wanted),
+        Err(fault) => wanted.is_none() && matches!(fault, RowFault::Refused),
     }
 }
 
 #[test]
 fn finds_rows_of_literals(rt: HostRuntime) -> Result<(), Fail> {
-    let alloc = rt.alloc();
-    let nodes = nodes(alloc, &NODES)?;
+    let nodes = all_nodes(rt.alloc())?;
     for (number, (signed, wanted)) in ROWS.iter().enumerate() {
-        let literals = literals(alloc, *signed)?;
-        let is_right = have_rows(alloc, &nodes, &literals, *wanted);
-        assert!(rt; is_right, "at {number}");
+        expect(&rt, number, have_rows(rt.alloc(), &nodes, *signed, *wanted));
     }
     Ok(())
 }

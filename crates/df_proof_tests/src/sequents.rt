@@ -1,9 +1,9 @@
 //! Sequents that are drafted.
 
 use df_cases::{Plain, Terms, X, program, sequent};
-use df_form::{Node, Nodes, Op, Sequent};
+use df_form::{Nodes, Op, Sequent};
+use df_lang::Program;
 use std::alloc::Global;
-use std::process::Abort;
 use std::test::Fail;
 
 /// x <= 3
@@ -30,20 +30,22 @@ const NODES: [Plain; 7] = [
 ];
 
 /// Whether the node of this number is this one.
-fn is_node(alloc: Global, nodes: &Nodes, number: usize, plain: &Plain) -> Result<bool, Fail> {
-    let (op, parts) = *plain;
-    let parts = Vec::from_slice(alloc, parts)?;
-    let node = Node { op, parts };
-    Ok(nodes.get(number) == Some(&node))
+fn is_node(nodes: &Nodes, number: usize, plain: Plain) -> bool {
+    let (op, parts) = plain;
+    match nodes.get(number) {
+        Some(node) => node.op == op && node.parts.as_slice() == parts,
+        None => false,
+    }
 }
 
-/// Each node stands at its number.
-fn checks_nodes(rt: &impl Abort, alloc: Global, nodes: &Nodes) -> Result<(), Fail> {
-    assert_eq!(rt; nodes.len(), NODES.len());
-    for (number, plain) in NODES.iter().enumerate() {
-        assert!(rt; is_node(alloc, nodes, number, plain)?, "at {number}");
+/// Whether each node stands at its number.
+fn are_nodes(nodes: &Nodes, wanted: &[Plain]) -> bool {
+    for (number, plain) in wanted.iter().enumerate() {
+        if !is_node(nodes, number, *plain) {
+            return false;
+        }
     }
-    Ok(())
+    nodes.len() == wanted.len()
 }
 
 /// Whether the node 2 is the one hypothesis, and the node 6 the goal.
@@ -51,12 +53,17 @@ fn has_formulas(sequent: &Sequent) -> bool {
     sequent.hypotheses.as_slice() == [2].as_slice() && sequent.goal == 6
 }
 
+/// Whether the sequent has these nodes and formulas.
+fn is_numbered(alloc: Global, program: &Program) -> bool {
+    match sequent(alloc, program, &[HYPOTHESIS], GOAL) {
+        Some(sequent) => are_nodes(&sequent.nodes, &NODES) && has_formulas(&sequent),
+        None => false,
+    }
+}
+
 #[test]
 fn numbers_nodes_in_postorder_of_first_occurrence(rt: HostRuntime) -> Result<(), Fail> {
-    let alloc = rt.alloc();
-    let program = program(alloc)?;
-    let sequent = sequent(alloc, &program, &[HYPOTHESIS], GOAL)?;
-    checks_nodes(&rt, alloc, &sequent.nodes)?;
-    assert!(rt; has_formulas(&sequent));
+    let program = program(rt.alloc())?;
+    assert!(rt; is_numbered(rt.alloc(), &program));
     Ok(())
 }

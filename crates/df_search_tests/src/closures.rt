@@ -1,11 +1,11 @@
 //! Closures by hand.
 
+use crate::expecting::expect;
 use crate::grounds::are_literals;
 use df_cases::{Signed, literals};
 use df_clause::GroundClause;
 use df_closure::{Closure, close};
 use std::alloc::Global;
-use std::test::Fail;
 
 /// The equality that a clause is bound to, and its literals.
 const CLAUSES: [(Option<usize>, &[Signed]); 7] = [
@@ -49,15 +49,32 @@ const REFUTED: [(&[Signed], &[usize]); 3] = [
     (&[(false, 2)], &[0, 1]),
 ];
 
-fn clauses(alloc: Global) -> Result<Vec<GroundClause>, Fail> {
-    let mut clauses = Vec::new(alloc);
-    for (bound, signed) in CLAUSES.iter() {
-        clauses.push(GroundClause {
-            literals: literals(alloc, *signed)?,
-            bound: *bound,
-        })?;
+fn push_clause(
+    alloc: Global,
+    clauses: &mut Vec<GroundClause>,
+    bound: Option<usize>,
+    signed: &[Signed],
+) -> bool {
+    match literals(alloc, signed) {
+        Some(literals) => clauses.push(GroundClause { literals, bound }).is_ok(),
+        None => false,
     }
-    Ok(clauses)
+}
+
+/// Adds the clauses.
+fn push_clauses(alloc: Global, clauses: &mut Vec<GroundClause>) -> bool {
+    for (bound, signed) in &CLAUSES {
+        if !push_clause(alloc, clauses, *bound, *signed) {
+            return false;
+        }
+    }
+    true
+}
+
+/// The closure of a list beside the clauses.
+fn closure(alloc: Global, clauses: &[GroundClause], list: &[Signed]) -> Option<Closure> {
+    let list = literals(alloc, list)?;
+    close(alloc, clauses, &list).ok()
 }
 
 /// Whether just these literals are learned beside a list, by these clauses.
@@ -67,53 +84,42 @@ fn teaches(
     list: &[Signed],
     wanted: &[Signed],
     by: &[usize],
-) -> Result<bool, Fail> {
-    let list = literals(alloc, list)?;
-    let closure = close(alloc, clauses, &list)?;
-    Ok(match &closure {
-        Closure::Closed {
-            learned,
-            reasons,
-            ..
-        } => { are_literals(learned, wanted) && reasons.as_slice() == by }
-        Closure::Refuted(_) => false,
-    })
+) -> bool {
+    match &closure(alloc, clauses, list) {
+        Some(
+            Closure::Closed {
+                learned,
+                reasons,
+                ..
+            },
+        ) => are_literals(learned, wanted) && reasons.as_slice() == by,
+        Some(Closure::Refuted(_)) | None => false,
+    }
 }
 
 #[test]
-fn closes_lists(rt: HostRuntime) -> Result<(), Fail> {
-    let alloc = rt.alloc();
-    let clauses = clauses(alloc)?;
+fn closes_lists(rt: HostRuntime) {
+    let mut clauses = Vec::new(rt.alloc());
+    assert!(rt; push_clauses(rt.alloc(), &mut clauses));
     for (number, (list, wanted, by)) in CLOSED.iter().enumerate() {
-        assert!(rt;
-            teaches(alloc, &clauses, *list, *wanted, *by)?,
-            "at {number}"
-        );
+        let is_right = teaches(rt.alloc(), &clauses, *list, *wanted, *by);
+        expect(&rt, number, is_right);
     }
-    Ok(())
 }
 
 /// Whether a clause is false beside a list, which these clauses show.
-fn refutes(
-    alloc: Global,
-    clauses: &[GroundClause],
-    list: &[Signed],
-    by: &[usize],
-) -> Result<bool, Fail> {
-    let list = literals(alloc, list)?;
-    let closure = close(alloc, clauses, &list)?;
-    Ok(match &closure {
-        Closure::Refuted(numbers) => numbers.as_slice() == by,
-        Closure::Closed { .. } => false,
-    })
+fn refutes(alloc: Global, clauses: &[GroundClause], list: &[Signed], by: &[usize]) -> bool {
+    match &closure(alloc, clauses, list) {
+        Some(Closure::Refuted(numbers)) => numbers.as_slice() == by,
+        Some(Closure::Closed { .. }) | None => false,
+    }
 }
 
 #[test]
-fn finds_false_clauses(rt: HostRuntime) -> Result<(), Fail> {
-    let alloc = rt.alloc();
-    let clauses = clauses(alloc)?;
+fn finds_false_clauses(rt: HostRuntime) {
+    let mut clauses = Vec::new(rt.alloc());
+    assert!(rt; push_clauses(rt.alloc(), &mut clauses));
     for (number, (list, by)) in REFUTED.iter().enumerate() {
-        assert!(rt; refutes(alloc, &clauses, *list, *by)?, "at {number}");
+        expect(&rt, number, refutes(rt.alloc(), &clauses, *list, *by));
     }
-    Ok(())
 }

@@ -4,13 +4,12 @@ use df_axiom::Written;
 use df_form::Sequent;
 use df_kern::check;
 use df_search::{Budget, Found, search};
-use df_table::is_model;
+use df_table::{Table, is_model};
 use df_trig::instances;
 use std::alloc::Global;
-use std::test::Fail;
 
 /// How a search ends.
-#[derive(Clone, Copy, Debug, PartialEq, Eq)]
+#[derive(Clone, Copy, PartialEq, Eq)]
 pub(crate) enum Ending {
     Proved,
     Modelled,
@@ -25,22 +24,27 @@ pub(crate) fn search_to(
     sequent: &Sequent,
     steps: u64,
     rounds: u32,
-) -> Result<Found, Fail> {
+) -> Option<Found> {
     if steps == 0 {
-        return Err(Fail::new("no steps"));
+        return None;
     }
-    Ok(search(alloc, sequent, Budget { steps, rounds })?)
+    search(alloc, sequent, Budget { steps, rounds }).ok()
+}
+
+/// Whether a table is a model of the sequent's ground set after so many rounds.
+fn models(alloc: Global, sequent: &Sequent, table: &Table, rounds: u32) -> bool {
+    match instances(alloc, sequent, &Written {}, rounds) {
+        Ok(set) => is_model(&set, table),
+        Err(_) => false,
+    }
 }
 
 /// Whether the kernel takes the log, or the table is a model.
-fn is_sound(alloc: Global, sequent: &Sequent, found: &Found, rounds: u32) -> Result<bool, Fail> {
+fn is_sound(alloc: Global, sequent: &Sequent, found: &Found, rounds: u32) -> bool {
     match found {
-        Found::Proved { log, .. } => Ok(check(alloc, sequent, log).is_ok()),
-        Found::Modelled(table) => {
-            let set = instances(alloc, sequent, &Written {}, rounds).map_err(|_| "refused")?;
-            Ok(is_model(&set, table))
-        }
-        Found::Spent(_) | Found::Wide { .. } | Found::Many(_) => Ok(true),
+        Found::Proved { log, .. } => check(alloc, sequent, log).is_ok(),
+        Found::Modelled(table) => models(alloc, sequent, table, rounds),
+        Found::Spent(_) | Found::Wide { .. } | Found::Many(_) => true,
     }
 }
 
@@ -54,17 +58,16 @@ fn name(found: &Found) -> Ending {
     }
 }
 
-/// How a search ends, where the kernel takes its log, and its table is a model.
-pub(crate) fn ending_of(
+/// Whether a search ends so, where the kernel takes its log, and its table is a model.
+pub(crate) fn ends(
     alloc: Global,
     sequent: &Sequent,
     steps: u64,
     rounds: u32,
-) -> Result<Ending, Fail> {
-    let found = search_to(alloc, sequent, steps, rounds)?;
-    if is_sound(alloc, sequent, &found, rounds)? {
-        Ok(name(&found))
-    } else {
-        Err(Fail::new("what is found is not what it says"))
+    wanted: Ending,
+) -> bool {
+    match search_to(alloc, sequent, steps, rounds) {
+        Some(found) => name(&found) == wanted && is_sound(alloc, sequent, &found, rounds),
+        None => false,
     }
 }

@@ -1,8 +1,8 @@
 //! Searches that end without a model: with a proof of few branches, as many closed branches as there may be, a
 //! number past 128 bits, or too many instances or rows.
 
-use crate::endings::{Ending, ending_of, search_to};
-use df_cases::{Terms, X, Y, Z, assume, conclude, program, sequent};
+use crate::endings::{Ending, ends, search_to};
+use df_cases::{Terms, X, Y, Z, assume, assume_all, conclude, program, sequent};
 use df_form::{Draft, Free, Op, Sequent, Sort, World};
 use df_lang::Program;
 use df_search::{Found, What};
@@ -44,36 +44,40 @@ const CLAUSES: [Terms; 4] = [
 /// How many clauses speak of atoms of their own.
 const PAIRS: usize = 6;
 
-fn assume_all(draft: &mut Draft, hypotheses: &[Terms]) -> Result<(), Fail> {
-    for hypothesis in hypotheses {
-        assume(draft, *hypothesis)?;
-    }
-    Ok(())
-}
-
-/// The clauses of a and b, and as many of two atoms each of their own, with another atom as goal.
-pub(crate) fn beside_pairs<'a>(alloc: Global, program: &'a Program) -> Result<Sequent<'a>, Fail> {
-    let mut draft = Draft::new(alloc, World { program });
-    assume_all(&mut draft, &CLAUSES)?;
+/// That one of the two atoms of each pair is true.
+fn assume_pairs(draft: &mut Draft) -> bool {
     for pair in 0..PAIRS {
         let first = atom(20 + pair);
         let second = atom(40 + pair);
-        assume(&mut draft, &[(first, 0), (second, 0), (Op::Or, 2)])?;
+        if !assume(draft, &[(first, 0), (second, 0), (Op::Or, 2)]) {
+            return false;
+        }
     }
-    conclude(alloc, &mut draft, &[(OTHER, 0)])
+    true
 }
 
-/// How the search in 16 steps without rounds of instances ends.
-fn pairs_end(alloc: Global, program: &Program) -> Result<Ending, Fail> {
-    let sequent = beside_pairs(alloc, program)?;
-    ending_of(alloc, &sequent, 16, 0)
+/// The clauses of a and b, and as many of two atoms each of their own, with another atom as goal.
+pub(crate) fn beside_pairs<'a>(alloc: Global, program: &'a Program) -> Option<Sequent<'a>> {
+    let mut draft = Draft::new(alloc, World { program });
+    if assume_all(&mut draft, &CLAUSES) && assume_pairs(&mut draft) {
+        conclude(alloc, &mut draft, &[(OTHER, 0)])
+    } else {
+        None
+    }
+}
+
+/// Whether the search in 16 steps without rounds of instances ends with a proof.
+fn are_pairs_proved(alloc: Global, program: &Program) -> bool {
+    match beside_pairs(alloc, program) {
+        Some(sequent) => ends(alloc, &sequent, 16, 0, Ending::Proved),
+        None => false,
+    }
 }
 
 #[test]
 fn proves_beside_other_clauses(rt: HostRuntime) -> Result<(), Fail> {
-    let alloc = rt.alloc();
-    let program = program(alloc)?;
-    assert_eq!(rt; pairs_end(alloc, &program)?, Ending::Proved);
+    let program = program(rt.alloc())?;
+    assert!(rt; are_pairs_proved(rt.alloc(), &program));
     Ok(())
 }
 
@@ -121,20 +125,19 @@ fn stop_of(found: &Found) -> Stop {
     }
 }
 
-fn stop_within(alloc: Global, sequent: &Sequent, steps: u64, rounds: u32) -> Result<Stop, Fail> {
-    let found = search_to(alloc, sequent, steps, rounds)?;
-    Ok(stop_of(&found))
+fn stop_within(alloc: Global, sequent: &Sequent, steps: u64, rounds: u32) -> Option<Stop> {
+    match search_to(alloc, sequent, steps, rounds) {
+        Some(found) => Some(stop_of(&found)),
+        None => None,
+    }
 }
 
 /// Why the search stops under these hypotheses, with another atom as goal.
-fn stop_under(
-    alloc: Global,
-    program: &Program,
-    hypotheses: &[Terms],
-    steps: u64,
-) -> Result<Stop, Fail> {
-    let sequent = sequent(alloc, program, hypotheses, &[(OTHER, 0)])?;
-    stop_within(alloc, &sequent, steps, 0)
+fn stop_under(alloc: Global, program: &Program, hypotheses: &[Terms], steps: u64) -> Option<Stop> {
+    match sequent(alloc, program, hypotheses, &[(OTHER, 0)]) {
+        Some(sequent) => stop_within(alloc, &sequent, steps, 0),
+        None => None,
+    }
 }
 
 /// x and the greatest number are at most -2 together, which no number of 128 bits shows.
@@ -161,38 +164,39 @@ const GUARDED: [Terms; 3] = [
     ],
 ];
 
+fn stop_of_guarded(alloc: Global, program: &Program, steps: u64) -> Option<Stop> {
+    stop_under(alloc, program, &GUARDED, steps)
+}
+
 /// The first branch is closed, and that is all it may close.
 #[test]
 fn tells_of_closed_branches(rt: HostRuntime) -> Result<(), Fail> {
-    let alloc = rt.alloc();
-    let program = program(alloc)?;
-    let stop = stop_under(alloc, &program, &GUARDED, 1)?;
-    assert!(rt; matches!(stop, Stop::Spent(1)));
+    let program = program(rt.alloc())?;
+    let stop = stop_of_guarded(rt.alloc(), &program, 1);
+    assert!(rt; matches!(stop, Some(Stop::Spent(1))));
     Ok(())
 }
 
 /// With another one it comes to the number.
 #[test]
 fn tells_of_wide_numbers_past_a_closed_branch(rt: HostRuntime) -> Result<(), Fail> {
-    let alloc = rt.alloc();
-    let program = program(alloc)?;
-    let stop = stop_under(alloc, &program, &GUARDED, 2)?;
-    assert!(rt; matches!(stop, Stop::Wide { closed: 1, .. }));
+    let program = program(rt.alloc())?;
+    let stop = stop_of_guarded(rt.alloc(), &program, 2);
+    assert!(rt; matches!(stop, Some(Stop::Wide { closed: 1, .. })));
     Ok(())
 }
 
 #[test]
 fn tells_of_wide_numbers(rt: HostRuntime) -> Result<(), Fail> {
-    let alloc = rt.alloc();
-    let program = program(alloc)?;
-    let stop = stop_under(alloc, &program, &[PAST], 1)?;
+    let program = program(rt.alloc())?;
+    let stop = stop_under(rt.alloc(), &program, &[PAST], 1);
     assert!(rt;
         matches!(
             stop,
-            Stop::Wide {
+            Some(Stop::Wide {
                 closed: 0,
                 branch: 0
-            }
+            })
         )
     );
     Ok(())
@@ -201,9 +205,7 @@ fn tells_of_wide_numbers(rt: HostRuntime) -> Result<(), Fail> {
 /// How many products have z as their second factor: each two of them are compared.
 const PRODUCT_COUNT: u16 = 450;
 
-/// Products that are compared with z.
-pub(crate) fn compared<'a>(alloc: Global, program: &'a Program) -> Result<Sequent<'a>, Fail> {
-    let mut draft = Draft::new(alloc, World { program });
+fn assume_compared(draft: &mut Draft) -> bool {
     for factor in 0..PRODUCT_COUNT {
         let terms = [
             (Op::Number(i128::from(factor)), 0),
@@ -212,31 +214,43 @@ pub(crate) fn compared<'a>(alloc: Global, program: &'a Program) -> Result<Sequen
             (Z, 0),
             (Op::AtMost, 2),
         ];
-        assume(&mut draft, &terms)?;
+        if !assume(draft, &terms) {
+            return false;
+        }
     }
-    conclude(alloc, &mut draft, &[(OTHER, 0)])
+    true
 }
 
-fn stop_of_compared(alloc: Global, program: &Program, rounds: u32) -> Result<Stop, Fail> {
-    let sequent = compared(alloc, program)?;
-    stop_within(alloc, &sequent, 1, rounds)
+/// Products that are compared with z.
+pub(crate) fn compared<'a>(alloc: Global, program: &'a Program) -> Option<Sequent<'a>> {
+    let mut draft = Draft::new(alloc, World { program });
+    if assume_compared(&mut draft) {
+        conclude(alloc, &mut draft, &[(OTHER, 0)])
+    } else {
+        None
+    }
+}
+
+fn stop_of_compared(alloc: Global, program: &Program, rounds: u32) -> Option<Stop> {
+    match compared(alloc, program) {
+        Some(sequent) => stop_within(alloc, &sequent, 1, rounds),
+        None => None,
+    }
 }
 
 #[test]
 fn models_products_without_rounds(rt: HostRuntime) -> Result<(), Fail> {
-    let alloc = rt.alloc();
-    let program = program(alloc)?;
-    let stop = stop_of_compared(alloc, &program, 0)?;
-    assert!(rt; matches!(stop, Stop::Modelled));
+    let program = program(rt.alloc())?;
+    let stop = stop_of_compared(rt.alloc(), &program, 0);
+    assert!(rt; matches!(stop, Some(Stop::Modelled)));
     Ok(())
 }
 
 #[test]
 fn tells_of_too_many_instances(rt: HostRuntime) -> Result<(), Fail> {
-    let alloc = rt.alloc();
-    let program = program(alloc)?;
-    let stop = stop_of_compared(alloc, &program, 1)?;
-    assert!(rt; matches!(stop, Stop::Instances(200_000)));
+    let program = program(rt.alloc())?;
+    let stop = stop_of_compared(rt.alloc(), &program, 1);
+    assert!(rt; matches!(stop, Some(Stop::Instances(200_000))));
     Ok(())
 }
 
@@ -259,7 +273,7 @@ const LOWER_COUNT: u16 = 225;
 const UPPER_COUNT: u16 = 223;
 
 /// z + i is at least 0 for so many numbers i.
-fn bound_below(draft: &mut Draft) -> Result<(), Fail> {
+fn bound_below(draft: &mut Draft) -> bool {
     for number in 0..LOWER_COUNT {
         let more = Op::Number(i128::from(number));
         let terms = [
@@ -269,32 +283,39 @@ fn bound_below(draft: &mut Draft) -> Result<(), Fail> {
             (Op::Plus, 2),
             (Op::AtMost, 2),
         ];
-        assume(draft, &terms)?;
+        if !assume(draft, &terms) {
+            return false;
+        }
     }
-    Ok(())
+    true
 }
 
 /// z is at most so many multiples of 1,000.
-fn bound_above(draft: &mut Draft) -> Result<(), Fail> {
+fn bound_above(draft: &mut Draft) -> bool {
     for number in 0..UPPER_COUNT {
         let bound = Op::Number(i128::from(number) * 1000);
-        assume(draft, &[(Z, 0), (bound, 0), (Op::AtMost, 2)])?;
+        if !assume(draft, &[(Z, 0), (bound, 0), (Op::AtMost, 2)]) {
+            return false;
+        }
     }
-    Ok(())
+    true
 }
 
 /// z is bounded so, and x is past all numbers of 128 bits, so no table is found.
-fn bounded<'a>(alloc: Global, program: &'a Program) -> Result<Sequent<'a>, Fail> {
+fn bounded<'a>(alloc: Global, program: &'a Program) -> Option<Sequent<'a>> {
     let mut draft = Draft::new(alloc, World { program });
-    bound_below(&mut draft)?;
-    bound_above(&mut draft)?;
-    assume_all(&mut draft, &BEYOND)?;
-    conclude(alloc, &mut draft, &[(OTHER, 0)])
+    if bound_below(&mut draft) && bound_above(&mut draft) && assume_all(&mut draft, &BEYOND) {
+        conclude(alloc, &mut draft, &[(OTHER, 0)])
+    } else {
+        None
+    }
 }
 
-fn stop_of_bounded(alloc: Global, program: &Program) -> Result<Stop, Fail> {
-    let sequent = bounded(alloc, program)?;
-    stop_within(alloc, &sequent, 1, 0)
+fn stop_of_bounded(alloc: Global, program: &Program) -> Option<Stop> {
+    match bounded(alloc, program) {
+        Some(sequent) => stop_within(alloc, &sequent, 1, 0),
+        None => None,
+    }
 }
 
 /// z comes first among the nodes, so it is eliminated first: each of the 225 rows 0 <= z + i and each of the 223 rows
@@ -302,17 +323,16 @@ fn stop_of_bounded(alloc: Global, program: &Program) -> Result<Stop, Fail> {
 /// rows of x and y stay. So the level comes to its limit at the empty branch.
 #[test]
 fn tells_of_too_many_rows(rt: HostRuntime) -> Result<(), Fail> {
-    let alloc = rt.alloc();
-    let program = program(alloc)?;
-    let stop = stop_of_bounded(alloc, &program)?;
+    let program = program(rt.alloc())?;
+    let stop = stop_of_bounded(rt.alloc(), &program);
     assert!(rt;
         matches!(
             stop,
-            Stop::Rows {
+            Some(Stop::Rows {
                 count: 50_000,
                 closed: 0,
                 branch: 0
-            }
+            })
         )
     );
     Ok(())

@@ -1,12 +1,13 @@
 //! Ground sets that are listed by hand.
 
+use crate::expecting::expect;
 use df_axiom::Written;
 use df_cases::{
     BYTE, CHAR, I8, INT, NAT, P, Q, Signed, Terms, UNDECLARED, X, Y, assume, conclude, program,
     sequent,
 };
 use df_clause::{Ground, GroundClause, clauses};
-use df_form::{Draft, Lit, Nodes, Op, Sequent, World};
+use df_form::{Draft, Lit, Nodes, Op, Sequent, Step, World};
 use df_kern::Checker;
 use df_lang::Program;
 use df_trig::instances;
@@ -170,9 +171,12 @@ const SHEETS: [Sheet; 7] = [
 
 /// Whether these are the literals, in this order.
 pub(crate) fn are_literals(literals: &[Lit], signed: &[Signed]) -> bool {
+    for (literal, wanted) in literals.iter().zip(signed) {
+        if literal.positive != wanted.0 || literal.node != wanted.1 {
+            return false;
+        }
+    }
     literals.len() == signed.len()
-        && signed.iter().zip(literals.iter()).all(|(signed, literal)| signed.0 == literal.positive
-            && signed.1 == literal.node)
 }
 
 fn is_listed(clause: &GroundClause, listed: Listed) -> bool {
@@ -190,13 +194,26 @@ fn are_listed(clauses: &[GroundClause], listed: &[Listed]) -> bool {
     clauses.len() == listed.len()
 }
 
+fn is_number(nodes: &Nodes, node: usize, value: i128) -> bool {
+    match nodes.get(node) {
+        Some(made) => made.op == Op::Number(value),
+        None => false,
+    }
+}
+
 /// Whether these nodes are these numbers.
 fn are_numbers(nodes: &Nodes, numbers: &[(usize, i128)]) -> bool {
     for (node, value) in numbers {
-        let Some(made) = nodes.get(*node) else {
+        if !is_number(nodes, *node, *value) {
             return false;
-        };
-        if made.op != Op::Number(*value) {
+        }
+    }
+    true
+}
+
+fn takes_all(checker: &mut Checker, lines: &[Step]) -> bool {
+    for line in lines {
+        if checker.take(line).is_err() {
             return false;
         }
     }
@@ -204,64 +221,90 @@ fn are_numbers(nodes: &Nodes, numbers: &[(usize, i128)]) -> bool {
 }
 
 /// Whether a ground set has a line for each clause, and the kernel takes these and makes its nodes.
-pub(crate) fn has_lines(alloc: Global, sequent: &Sequent, set: &Ground) -> Result<bool, Fail> {
-    let mut checker = Checker::new(alloc, sequent)?;
-    for line in &set.lines {
-        if checker.take(line).is_err() {
-            return Ok(false);
+pub(crate) fn has_lines(alloc: Global, sequent: &Sequent, set: &Ground) -> bool {
+    match Checker::new(alloc, sequent) {
+        Ok(mut checker) => {
+            takes_all(&mut checker, set.lines.as_slice())
+                && set.lines.len() == set.clauses.len()
+                && checker.nodes.len() == set.nodes.len()
         }
+        Err(_) => false,
     }
-    Ok(set.lines.len() == set.clauses.len() && checker.nodes.len() == set.nodes.len())
 }
 
-fn is_as_listed(alloc: Global, sequent: &Sequent, sheet: Sheet) -> Result<bool, Fail> {
+fn is_set_listed(set: &Ground, sheet: Sheet) -> bool {
     let (_, _, clauses, made, numbers) = sheet;
-    let set = instances(alloc, sequent, &Written {}, 1).map_err(|_| "refused")?;
-    let has_clauses = are_listed(set.clauses.as_slice(), clauses);
-    let has_numbers = set.nodes.len() == made && are_numbers(&set.nodes, numbers);
-    let has_lines = has_lines(alloc, sequent, &set)?;
-    Ok(has_clauses && has_numbers && has_lines)
+    are_listed(set.clauses.as_slice(), clauses)
+        && set.nodes.len() == made
+        && are_numbers(&set.nodes, numbers)
+}
+
+fn is_as_listed(alloc: Global, sequent: &Sequent, sheet: Sheet) -> bool {
+    match instances(alloc, sequent, &Written {}, 1) {
+        Ok(set) => is_set_listed(&set, sheet) && has_lines(alloc, sequent, &set),
+        Err(_) => false,
+    }
 }
 
 /// Whether the ground set of a sheet's sequent is as it says.
-fn is_met(alloc: Global, program: &Program, sheet: Sheet) -> Result<bool, Fail> {
+fn is_met(alloc: Global, program: &Program, sheet: Sheet) -> bool {
     let (hypotheses, goal, ..) = sheet;
-    let sequent = sequent(alloc, program, hypotheses, goal)?;
-    is_as_listed(alloc, &sequent, sheet)
+    match sequent(alloc, program, hypotheses, goal) {
+        Some(sequent) => is_as_listed(alloc, &sequent, sheet),
+        None => false,
+    }
 }
 
 #[test]
 fn lists_clauses(rt: HostRuntime) -> Result<(), Fail> {
-    let alloc = rt.alloc();
-    let program = program(alloc)?;
+    let program = program(rt.alloc())?;
     for (number, sheet) in SHEETS.iter().enumerate() {
-        assert!(rt; is_met(alloc, &program, *sheet)?, "at {number}");
+        expect(&rt, number, is_met(rt.alloc(), &program, *sheet));
     }
     Ok(())
 }
 
-/// The hypothesis p so many times, and the goal q.
-fn repeated<'a>(alloc: Global, program: &'a Program, count: usize) -> Result<Sequent<'a>, Fail> {
-    let mut draft = Draft::new(alloc, World { program });
+/// Puts the hypothesis p so many times.
+fn assume_repeated(draft: &mut Draft, count: usize) -> bool {
     for _ in 0..count {
-        assume(&mut draft, &[(P, 0)])?;
+        if !assume(draft, &[(P, 0)]) {
+            return false;
+        }
     }
-    conclude(alloc, &mut draft, &[(Q, 0)])
+    true
 }
 
-/// How many clauses there are for it.
-fn clause_count(alloc: Global, program: &Program, count: usize) -> Result<usize, Fail> {
-    let sequent = repeated(alloc, program, count)?;
-    let set = clauses(alloc, &sequent)?;
-    Ok(set.clauses.len())
+/// The hypothesis p so many times, and the goal q.
+fn repeated<'a>(alloc: Global, program: &'a Program, count: usize) -> Option<Sequent<'a>> {
+    let mut draft = Draft::new(alloc, World { program });
+    if assume_repeated(&mut draft, count) {
+        conclude(alloc, &mut draft, &[(Q, 0)])
+    } else {
+        None
+    }
+}
+
+/// How many clauses there are for a sequent.
+fn clause_count(alloc: Global, sequent: &Sequent) -> Option<usize> {
+    match clauses(alloc, sequent) {
+        Ok(set) => Some(set.clauses.len()),
+        Err(_) => None,
+    }
+}
+
+/// Whether there are two clauses for it.
+fn are_two(alloc: Global, program: &Program, count: usize) -> bool {
+    match repeated(alloc, program, count) {
+        Some(sequent) => clause_count(alloc, &sequent) == Some(2),
+        None => false,
+    }
 }
 
 #[test]
 fn counts_equal_clauses_once(rt: HostRuntime) -> Result<(), Fail> {
-    let alloc = rt.alloc();
-    let program = program(alloc)?;
+    let program = program(rt.alloc())?;
     for count in [1, 1_000] {
-        assert_eq!(rt; clause_count(alloc, &program, count)?, 2, "at {count}");
+        expect(&rt, count, are_two(rt.alloc(), &program, count));
     }
     Ok(())
 }

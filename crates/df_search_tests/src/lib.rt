@@ -13,6 +13,8 @@ mod endings;
 #[cfg(test)]
 mod evidence;
 #[cfg(test)]
+mod expecting;
+#[cfg(test)]
 mod grounds;
 #[cfg(test)]
 mod operations;

@@ -1,6 +1,7 @@
 //! Searches for proofs of sequents with products, quotients, remainders and characters.
 
-use crate::endings::{Ending, ending_of};
+use crate::endings::{Ending, ends};
+use crate::expecting::expect;
 use df_cases::{P, Terms, X, Y, Z, program, sequent};
 use df_form::Op;
 use df_lang::Program;
@@ -10,7 +11,7 @@ use std::test::Fail;
 /// A sequent's hypotheses and goal, how many rounds of instances there may be, and how the search ends.
 type Case<'a> = (&'a [Terms<'a>], Terms<'a>, u32, Ending);
 
-const CASES: [Case; 14] = [
+const CASES: [Case; 18] = [
     // x = y, so z / x = z / y
     (
         &[&[(X, 0), (Y, 0), (Op::Equal, 2)]],
@@ -171,6 +172,107 @@ const CASES: [Case; 14] = [
         2,
         Ending::Proved,
     ),
+    // a step of the greatest common divisor: 0 <= y and not y = 0, so x mod y < y
+    (
+        &[
+            &[(Op::Number(0), 0), (Y, 0), (Op::AtMost, 2)],
+            &[(Y, 0), (Op::Number(0), 0), (Op::Equal, 2), (Op::Not, 1)],
+        ],
+        &[
+            (X, 0),
+            (Y, 0),
+            (Op::Mod, 2),
+            (Op::Number(1), 0),
+            (Op::Plus, 2),
+            (Y, 0),
+            (Op::AtMost, 2),
+        ],
+        1,
+        Ending::Proved,
+    ),
+    // a step of a square root: y = (x + 1) * (x + 1), so y + (2 * (x + 1) + 1) = (x + 2) * (x + 2)
+    (
+        &[&[
+            (Y, 0),
+            (X, 0),
+            (Op::Number(1), 0),
+            (Op::Plus, 2),
+            (X, 0),
+            (Op::Number(1), 0),
+            (Op::Plus, 2),
+            (Op::Times, 2),
+            (Op::Equal, 2),
+        ]],
+        &[
+            (Y, 0),
+            (Op::Number(2), 0),
+            (X, 0),
+            (Op::Number(1), 0),
+            (Op::Plus, 2),
+            (Op::Times, 2),
+            (Op::Number(1), 0),
+            (Op::Plus, 2),
+            (Op::Plus, 2),
+            (X, 0),
+            (Op::Number(2), 0),
+            (Op::Plus, 2),
+            (X, 0),
+            (Op::Number(2), 0),
+            (Op::Plus, 2),
+            (Op::Times, 2),
+            (Op::Equal, 2),
+        ],
+        4,
+        Ending::Proved,
+    ),
+    // a fourth power by two squares: (x * x) * (x * x) = x * (x * (x * x))
+    (
+        &[],
+        &[
+            (X, 0),
+            (X, 0),
+            (Op::Times, 2),
+            (X, 0),
+            (X, 0),
+            (Op::Times, 2),
+            (Op::Times, 2),
+            (X, 0),
+            (X, 0),
+            (X, 0),
+            (X, 0),
+            (Op::Times, 2),
+            (Op::Times, 2),
+            (Op::Times, 2),
+            (Op::Equal, 2),
+        ],
+        4,
+        Ending::Proved,
+    ),
+    // a step of a sum of digits: (x + y) mod 9 = (x + (y mod 10 + y div 10)) mod 9
+    (
+        &[],
+        &[
+            (X, 0),
+            (Y, 0),
+            (Op::Plus, 2),
+            (Op::Number(9), 0),
+            (Op::Mod, 2),
+            (X, 0),
+            (Y, 0),
+            (Op::Number(10), 0),
+            (Op::Mod, 2),
+            (Y, 0),
+            (Op::Number(10), 0),
+            (Op::Div, 2),
+            (Op::Plus, 2),
+            (Op::Plus, 2),
+            (Op::Number(9), 0),
+            (Op::Mod, 2),
+            (Op::Equal, 2),
+        ],
+        4,
+        Ending::Proved,
+    ),
     // code(chr(x)) is not always x
     (
         &[],
@@ -204,25 +306,27 @@ const TURNED: Terms = &[
     (Op::Equal, 2),
 ];
 
-/// How the search of a thousand steps ends.
-fn end(
+/// Whether the search of a thousand steps ends so.
+fn ends_so(
     alloc: Global,
     program: &Program,
     hypotheses: &[Terms],
     goal: Terms,
     rounds: u32,
-) -> Result<Ending, Fail> {
-    let sequent = sequent(alloc, program, hypotheses, goal)?;
-    ending_of(alloc, &sequent, 1000, rounds)
+    wanted: Ending,
+) -> bool {
+    match sequent(alloc, program, hypotheses, goal) {
+        Some(sequent) => ends(alloc, &sequent, 1000, rounds, wanted),
+        None => false,
+    }
 }
 
 #[test]
 fn searches_with_operations(rt: HostRuntime) -> Result<(), Fail> {
-    let alloc = rt.alloc();
-    let program = program(alloc)?;
+    let program = program(rt.alloc())?;
     for (case, (hypotheses, goal, rounds, wanted)) in CASES.iter().enumerate() {
-        let answer = end(alloc, &program, *hypotheses, *goal, *rounds)?;
-        assert_eq!(rt; answer, *wanted, "at {case}");
+        let is_right = ends_so(rt.alloc(), &program, *hypotheses, *goal, *rounds, *wanted);
+        expect(&rt, case, is_right);
     }
     Ok(())
 }

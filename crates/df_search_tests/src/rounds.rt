@@ -1,6 +1,7 @@
 //! Rounds of instances by hand.
 
 use crate::evidence::compared;
+use crate::expecting::expect;
 use crate::grounds::has_lines;
 use df_axiom::{AxiomFault, Schemas, Written, instance};
 use df_cases::{BYTE, I8, Terms, X, Y, Z, program, sequent};
@@ -59,34 +60,38 @@ const CASES: [Case; 7] = [
     (&[], PRODUCTS, 1, 15, 9),
 ];
 
-/// How many clauses there are after so many rounds, and how many are bound to no equality.
-fn counts(alloc: Global, sequent: &Sequent, rounds: u32) -> Result<(usize, usize), Fail> {
-    let set = instances(alloc, sequent, &Written {}, rounds).map_err(|_| "refused")?;
-    if !has_lines(alloc, sequent, &set)? {
-        return Err(Fail::new("the lines are others"));
+/// Whether there are so many clauses after so many rounds, and so many of them are bound to no equality.
+fn has_counts(
+    alloc: Global,
+    sequent: &Sequent,
+    rounds: u32,
+    count: usize,
+    instance_count: usize,
+) -> bool {
+    match instances(alloc, sequent, &Written {}, rounds) {
+        Ok(set) => {
+            has_lines(alloc, sequent, &set)
+                && set.clauses.len() == count
+                && set.clauses.instance_count() == instance_count
+        }
+        Err(_) => false,
     }
-    Ok((set.clauses.len(), set.clauses.instance_count()))
 }
 
-/// The same for these hypotheses and this goal.
-fn case_counts(
-    alloc: Global,
-    program: &Program,
-    hypotheses: &[Terms],
-    goal: Terms,
-    rounds: u32,
-) -> Result<(usize, usize), Fail> {
-    let sequent = sequent(alloc, program, hypotheses, goal)?;
-    counts(alloc, &sequent, rounds)
+/// Whether a case is as it says.
+fn is_counted(alloc: Global, program: &Program, case: Case) -> bool {
+    let (hypotheses, goal, rounds, count, instance_count) = case;
+    match sequent(alloc, program, hypotheses, goal) {
+        Some(sequent) => has_counts(alloc, &sequent, rounds, count, instance_count),
+        None => false,
+    }
 }
 
 #[test]
 fn adds_each_match_once(rt: HostRuntime) -> Result<(), Fail> {
-    let alloc = rt.alloc();
-    let program = program(alloc)?;
-    for (case, (hypotheses, goal, rounds, count, instance_count)) in CASES.iter().enumerate() {
-        let counts = case_counts(alloc, &program, *hypotheses, *goal, *rounds)?;
-        assert_eq!(rt; counts, (*count, *instance_count), "at {case}");
+    let program = program(rt.alloc())?;
+    for (number, case) in CASES.iter().enumerate() {
+        expect(&rt, number, is_counted(rt.alloc(), &program, *case));
     }
     Ok(())
 }
@@ -113,32 +118,38 @@ impl Schemas for Refused {
 }
 
 /// How many clauses there are after a round that is refused memory.
-fn kept_count(alloc: Global, sequent: &Sequent, set: &mut Ground) -> Result<usize, Fail> {
+fn kept_count(alloc: Global, sequent: &Sequent, set: &mut Ground) -> Option<usize> {
     let answer = round(alloc, set, sequent, &Refused {});
-    if !matches!(answer, Err(TrigFault::Memory)) {
-        return Err(Fail::new("memory is not refused"));
+    if matches!(answer, Err(TrigFault::Memory)) && has_lines(alloc, sequent, set) {
+        Some(set.clauses.len())
+    } else {
+        None
     }
-    if !has_lines(alloc, sequent, set)? {
-        return Err(Fail::new("the lines are others"));
-    }
-    Ok(set.clauses.len())
 }
 
-/// How many clauses there are before such a round, and after it.
-fn kept_counts(alloc: Global, program: &Program) -> Result<(usize, usize), Fail> {
-    let sequent = sequent(alloc, program, &[], PARTS)?;
-    let mut set = clauses(alloc, &sequent)?;
-    let before = set.clauses.len();
-    let after = kept_count(alloc, &sequent, &mut set)?;
-    Ok((before, after))
+/// Whether there are so many clauses before such a round, and so many after it.
+fn keeps(alloc: Global, sequent: &Sequent, before: usize, after: usize) -> bool {
+    match clauses(alloc, sequent) {
+        Ok(mut set) => {
+            set.clauses.len() == before && kept_count(alloc, sequent, &mut set) == Some(after)
+        }
+        Err(_) => false,
+    }
+}
+
+/// Whether so many clauses of quotient and remainder are kept.
+fn keeps_parts(alloc: Global, program: &Program, before: usize, after: usize) -> bool {
+    match sequent(alloc, program, &[], PARTS) {
+        Some(sequent) => keeps(alloc, &sequent, before, after),
+        None => false,
+    }
 }
 
 #[test]
 fn keeps_what_came_before_a_refusal(rt: HostRuntime) -> Result<(), Fail> {
-    let alloc = rt.alloc();
-    let program = program(alloc)?;
+    let program = program(rt.alloc())?;
     // the clause on both, and the first on the remainder
-    assert_eq!(rt; kept_counts(alloc, &program)?, (4, 6));
+    assert!(rt; keeps_parts(rt.alloc(), &program, 4, 6));
     Ok(())
 }
 
@@ -149,19 +160,26 @@ fn reaches_limit(alloc: Global, sequent: &Sequent, set: &mut Ground) -> bool {
 }
 
 /// Whether a first round comes to the limit, and a second one, where there are too many to begin with.
-fn stays_at_limit(alloc: Global, program: &Program) -> Result<bool, Fail> {
-    let sequent = compared(alloc, program)?;
-    let mut set = clauses(alloc, &sequent)?;
-    if !reaches_limit(alloc, &sequent, &mut set) {
-        return Ok(false);
+fn stays_at_limit(alloc: Global, sequent: &Sequent) -> bool {
+    match clauses(alloc, sequent) {
+        Ok(mut set) => {
+            reaches_limit(alloc, sequent, &mut set) && reaches_limit(alloc, sequent, &mut set)
+        }
+        Err(_) => false,
     }
-    Ok(reaches_limit(alloc, &sequent, &mut set))
+}
+
+/// Whether the rounds of products that are compared stay at the limit.
+fn compared_stays_at_limit(alloc: Global, program: &Program) -> bool {
+    match compared(alloc, program) {
+        Some(sequent) => stays_at_limit(alloc, &sequent),
+        None => false,
+    }
 }
 
 #[test]
 fn ends_at_the_limit(rt: HostRuntime) -> Result<(), Fail> {
-    let alloc = rt.alloc();
-    let program = program(alloc)?;
-    assert!(rt; stays_at_limit(alloc, &program)?);
+    let program = program(rt.alloc())?;
+    assert!(rt; compared_stays_at_limit(rt.alloc(), &program));
     Ok(())
 }

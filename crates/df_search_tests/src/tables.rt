@@ -1,5 +1,6 @@
 //! Tables by hand: those that are models of ground sets and those that are not, and those of assignments.
 
+use crate::expecting::expect;
 use df_cases::{
     CHAR, I8, INT, NAT, P, Plain, Q, Terms, UNDECLARED, X, Y, Z, nodes, program, sequent,
 };
@@ -97,36 +98,44 @@ const SHEETS: [Sheet; 3] = [
 ];
 
 /// Whether a table of these numbers is a model of the ground set.
-fn is_modelled_by(alloc: Global, set: &Ground, numbers: &[i128]) -> Result<bool, Fail> {
-    let table = Table::new(Vec::from_slice(alloc, numbers)?);
-    Ok(is_model(set, &table))
+fn is_modelled_by(alloc: Global, set: &Ground, numbers: &[i128]) -> Option<bool> {
+    match Vec::from_slice(alloc, numbers) {
+        Ok(numbers) => Some(is_model(set, &Table::new(numbers))),
+        Err(_) => None,
+    }
 }
 
-/// Whether each table is a model of the sequent's ground set.
-fn are_models(
-    rt: &impl Abort,
-    alloc: Global,
-    sequent: &Sequent,
-    tables: &[(&[i128], bool)],
-) -> Result<(), Fail> {
-    let set = clauses(alloc, sequent)?;
-    for (number, (numbers, expected)) in tables.iter().enumerate() {
-        assert_eq!(rt;
-            is_modelled_by(alloc, &set, *numbers)?,
-            *expected,
-            "at {number}"
-        );
+/// Whether each table is a model of the ground set or not, as it says.
+fn tells_of_each(alloc: Global, set: &Ground, tables: &[(&[i128], bool)]) -> bool {
+    for (numbers, expected) in tables {
+        if is_modelled_by(alloc, set, *numbers) != Some(*expected) {
+            return false;
+        }
     }
-    Ok(())
+    true
+}
+
+fn tells_of_set(alloc: Global, sequent: &Sequent, tables: &[(&[i128], bool)]) -> bool {
+    match clauses(alloc, sequent) {
+        Ok(set) => tells_of_each(alloc, &set, tables),
+        Err(_) => false,
+    }
+}
+
+/// Whether each table of a sheet is a model of its sequent's ground set or not, as it says.
+fn tells_of_sheet(alloc: Global, program: &Program, sheet: Sheet) -> bool {
+    let (hypotheses, goal, tables) = sheet;
+    match sequent(alloc, program, hypotheses, goal) {
+        Some(sequent) => tells_of_set(alloc, &sequent, tables),
+        None => false,
+    }
 }
 
 #[test]
 fn tells_models(rt: HostRuntime) -> Result<(), Fail> {
-    let alloc = rt.alloc();
-    let program = program(alloc)?;
-    for (hypotheses, goal, tables) in SHEETS.iter() {
-        let sequent = sequent(alloc, &program, *hypotheses, *goal)?;
-        are_models(&rt, alloc, &sequent, *tables)?;
+    let program = program(rt.alloc())?;
+    for (number, sheet) in SHEETS.iter().enumerate() {
+        expect(&rt, number, tells_of_sheet(rt.alloc(), &program, *sheet));
     }
     Ok(())
 }
@@ -182,47 +191,73 @@ const TABLE: [(Plain, i128); 41] = [
     ((CHAR, &[34]), 1),
 ];
 
-/// The nodes of the table.
-fn tabulated(alloc: Global) -> Result<Nodes, Fail> {
-    let mut plain = Vec::new(alloc);
-    for (node, _) in TABLE.iter() {
-        plain.push(*node)?;
+/// A node and its number.
+type Numbered = (Plain<'static>, i128);
+
+/// Adds what nodes are made of.
+fn push_plain(plain: &mut Vec<Plain<'static>>, rows: &[Numbered]) -> bool {
+    for (node, _) in rows {
+        if plain.push(*node).is_err() {
+            return false;
+        }
     }
-    nodes(alloc, &plain)
+    true
 }
 
-/// That node 2 is true.
-fn second_is_true(alloc: Global) -> Result<Known, Fail> {
+fn tabulated(alloc: Global, rows: &[Numbered]) -> Option<Nodes> {
+    let mut plain = Vec::new(alloc);
+    if push_plain(&mut plain, rows) {
+        nodes(alloc, &plain).ok()
+    } else {
+        None
+    }
+}
+
+/// The table of nodes where node 2 is true.
+fn table_of(alloc: Global, program: &Program, nodes: &Nodes) -> Option<Table> {
     let mut known = Known::new(alloc);
-    known.insert(Lit {
+    let second = Lit {
         positive: true,
         node: 2,
-    })?;
-    Ok(known)
-}
-
-fn table_of(alloc: Global, program: &Program, nodes: &Nodes) -> Result<Table, Fail> {
-    let known = second_is_true(alloc)?;
-    match valuation(alloc, World { program }, nodes, &[5, -3], &known)? {
-        Valuation::Table(table) => Ok(table),
-        Valuation::Wide => Err(Fail::new("wide")),
+    };
+    if known.insert(second).is_err() {
+        return None;
+    }
+    match valuation(alloc, World { program }, nodes, &[5, -3], &known) {
+        Ok(Valuation::Table(table)) => Some(table),
+        Ok(Valuation::Wide) | Err(_) => None,
     }
 }
 
 /// The numbers of these nodes.
-fn made_table(alloc: Global) -> Result<Table, Fail> {
-    let program = program(alloc)?;
-    let nodes = tabulated(alloc)?;
-    table_of(alloc, &program, &nodes)
+fn made_table(alloc: Global, program: &Program, rows: &[Numbered]) -> Option<Table> {
+    match tabulated(alloc, rows) {
+        Some(nodes) => table_of(alloc, program, &nodes),
+        None => None,
+    }
+}
+
+fn has_numbers(rt: &impl Abort, table: &Table, rows: &[Numbered]) {
+    for (node, (_, wanted)) in rows.iter().enumerate() {
+        expect(rt, node, table.number(node) == *wanted);
+    }
+}
+
+/// Each node has its number. Whether there are just so many.
+fn tabulates(rt: &impl Abort, alloc: Global, program: &Program, rows: &[Numbered]) -> bool {
+    match made_table(alloc, program, rows) {
+        Some(table) => {
+            has_numbers(rt, &table, rows);
+            table.len() == rows.len()
+        }
+        None => false,
+    }
 }
 
 #[test]
 fn tabulates_each_operation(rt: HostRuntime) -> Result<(), Fail> {
-    let table = made_table(rt.alloc())?;
-    assert_eq!(rt; table.len(), TABLE.len());
-    for (node, (_, wanted)) in TABLE.iter().enumerate() {
-        assert_eq!(rt; table.number(node), *wanted, "at {node}");
-    }
+    let program = program(rt.alloc())?;
+    assert!(rt; tabulates(&rt, rt.alloc(), &program, &TABLE));
     Ok(())
 }
 
@@ -240,27 +275,29 @@ const WIDE: [(Op, [i128; 2], bool); 10] = [
     (Op::Mod, [i128::MIN, -1], false),
 ];
 
+/// Whether the nodes of the operation on the numbers have no numbers, since one is past 128 bits.
+fn are_wide(alloc: Global, program: &Program, nodes: &Nodes, numbers: &[i128]) -> Option<bool> {
+    let known = Known::new(alloc);
+    match valuation(alloc, World { program }, nodes, numbers, &known) {
+        Ok(valuation) => Some(matches!(valuation, Valuation::Wide)),
+        Err(_) => None,
+    }
+}
+
 /// Whether the result of the operation on the numbers is past 128 bits.
-fn is_wide(
-    alloc: Global,
-    program: &Program,
-    op: Op,
-    numbers: &[i128],
-    known: &Known,
-) -> Result<bool, Fail> {
-    let nodes = nodes(alloc, &[(X, &[]), (Y, &[]), (op, &[0, 1])])?;
-    let valuation = valuation(alloc, World { program }, &nodes, numbers, known)?;
-    Ok(matches!(valuation, Valuation::Wide))
+fn is_wide(alloc: Global, program: &Program, op: Op, numbers: &[i128]) -> Option<bool> {
+    match nodes(alloc, &[(X, &[]), (Y, &[]), (op, &[0, 1])]) {
+        Ok(nodes) => are_wide(alloc, program, &nodes, numbers),
+        Err(_) => None,
+    }
 }
 
 #[test]
 fn tells_of_wide_numbers(rt: HostRuntime) -> Result<(), Fail> {
-    let alloc = rt.alloc();
-    let program = program(alloc)?;
-    let known = Known::new(alloc);
+    let program = program(rt.alloc())?;
     for (case, (op, numbers, wide)) in WIDE.iter().enumerate() {
-        let answer = is_wide(alloc, &program, *op, numbers, &known)?;
-        assert_eq!(rt; answer, *wide, "at {case}");
+        let found = is_wide(rt.alloc(), &program, *op, numbers);
+        expect(&rt, case, found == Some(*wide));
     }
     Ok(())
 }

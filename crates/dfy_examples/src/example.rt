@@ -3,7 +3,7 @@
 use std::alloc::Global;
 
 /// A call of a device that fails; calls are counted from 0.
-#[derive(Clone, Copy, Debug)]
+#[derive(Clone, Copy)]
 pub enum Failing {
     Load(u64),
     /// The write takes so many bytes before it fails.

@@ -6,23 +6,33 @@ pub const NUMBER: u8 = 1;
 /// What is behind a decimal number, where a text begins with one.
 fn behind_number(text: &[u8]) -> &[u8] {
     let digits = text.strip_prefix(b"-").unwrap_or(text);
-    match digits.iter().position(|byte| !byte.is_ascii_digit()) {
-        Some(end) => digits.get(end..).unwrap_or(&[]),
-        None => &[],
+    for (end, byte) in digits.iter().enumerate() {
+        if !byte.is_ascii_digit() {
+            return digits.get(end..).unwrap_or(&[]);
+        }
+    }
+    &[]
+}
+
+/// What is behind a byte of a wanted text, where a text fits it.
+fn behind(wanted: u8, text: &[u8]) -> Option<&[u8]> {
+    if wanted == NUMBER {
+        return Some(behind_number(text));
+    }
+    match text {
+        [first, rest @ ..] if *first == wanted => Some(rest),
+        _ => None,
     }
 }
 
 /// Whether a text is what is wanted.
 pub fn fits(wanted: &[u8], text: &[u8]) -> bool {
-    let mut rest = Some(text);
-    for (index, piece) in wanted.split(|byte| *byte == NUMBER).enumerate() {
-        rest = rest
-            .map(|text| if index == 0 {
-                text
-            } else {
-                behind_number(text)
-            })
-            .and_then(|text| text.strip_prefix(piece));
+    let mut rest = text;
+    for byte in wanted {
+        match behind(*byte, rest) {
+            Some(more) => rest = more,
+            None => return false,
+        }
     }
-    rest == Some(&[])
+    rest.is_empty()
 }

@@ -1,55 +1,76 @@
 //! The folder of the examples.
 
-use std::rt::Files;
+use std::alloc::{AllocError, Global};
 use std::{fs, io};
 
 const SOURCE: &str = ".dfy";
 
 const EXPECTED: &str = ".expected";
 
+/// Adds a path.
+fn push_path(alloc: Global, paths: &mut Vec<String>, path: &str) -> Result<(), AllocError> {
+    let path = String::from_str(alloc, path)?;
+    Ok(paths.push(path)?)
+}
+
 /// Adds the paths of what is in a folder.
-fn add_paths<R: Files + AllocGlobal + Clone + Drop>(
-    rt: &R,
-    folder: &str,
-    paths: &mut Vec<String>,
-) -> io::Result<()> {
+fn push_paths(rt: &HostRuntime, paths: &mut Vec<String>, folder: &str) -> io::Result<()> {
     for entry in fs::read_dir(rt, folder)? {
-        paths.push(String::from_str(rt.alloc(), entry?.path().as_str())?)?;
+        push_path(rt.alloc(), paths, entry?.path().as_str())?;
     }
     Ok(())
 }
 
-/// The paths of what is in a folder and in the folders in it.
-fn all_paths<R: Files + AllocGlobal + Clone + Drop>(
-    rt: &R,
-    folder: &str,
-) -> io::Result<Vec<String>> {
-    let mut here = Vec::new(rt.alloc());
-    add_paths(rt, folder, &mut here)?;
-    let mut all = Vec::new(rt.alloc());
-    for path in here {
-        if fs::metadata(rt, path.as_str())?.is_dir() {
-            add_paths(rt, path.as_str(), &mut all)?;
-        } else {
-            all.push(path)?;
-        }
+/// Adds a path, or those of what is in its folder.
+fn push_below(rt: &HostRuntime, paths: &mut Vec<String>, path: &str) -> io::Result<()> {
+    if fs::metadata(rt, path)?.is_dir() {
+        push_paths(rt, paths, path)
+    } else {
+        Ok(push_path(rt.alloc(), paths, path)?)
     }
-    Ok(all)
 }
 
-/// The paths of the examples of a folder, in order, each without its ending.
-pub fn examples<R: Files + AllocGlobal + Clone + Drop>(
-    rt: &R,
-    folder: &str,
-) -> io::Result<Vec<String>> {
-    let mut names = Vec::new(rt.alloc());
-    for path in &all_paths(rt, folder)? {
-        let text = path.as_str();
-        if let Some(name) = text.strip_suffix(SOURCE).or(text.strip_suffix(EXPECTED)) {
-            names.push(String::from_str(rt.alloc(), name)?)?;
-        }
+fn push_all_below(rt: &HostRuntime, paths: &mut Vec<String>, here: &[String]) -> io::Result<()> {
+    for path in here {
+        push_below(rt, paths, path.as_str())?;
     }
+    Ok(())
+}
+
+/// Adds the paths of what is in a folder and in the folders in it.
+fn push_all_paths(rt: &HostRuntime, paths: &mut Vec<String>, folder: &str) -> io::Result<()> {
+    let mut here = Vec::new(rt.alloc());
+    push_paths(rt, &mut here, folder)?;
+    push_all_below(rt, paths, &here)
+}
+
+/// Adds the path of a file of an example without its ending. Other paths are left out.
+fn push_name(alloc: Global, names: &mut Vec<String>, path: &str) -> Result<(), AllocError> {
+    match path.strip_suffix(SOURCE).or(path.strip_suffix(EXPECTED)) {
+        Some(name) => push_path(alloc, names, name),
+        None => Ok(()),
+    }
+}
+
+fn push_names(alloc: Global, names: &mut Vec<String>, paths: &[String]) -> Result<(), AllocError> {
+    for path in paths {
+        push_name(alloc, names, path.as_str())?;
+    }
+    Ok(())
+}
+
+/// The examples of these paths, in order, each once.
+fn names_of(alloc: Global, paths: &[String]) -> Result<Vec<String>, AllocError> {
+    let mut names = Vec::new(alloc);
+    push_names(alloc, &mut names, paths)?;
     names.sort()?;
     names.dedup();
     Ok(names)
+}
+
+/// The paths of the examples of a folder, in order, each without its ending.
+pub fn examples(rt: &HostRuntime, folder: &str) -> io::Result<Vec<String>> {
+    let mut paths = Vec::new(rt.alloc());
+    push_all_paths(rt, &mut paths, folder)?;
+    Ok(names_of(rt.alloc(), &paths)?)
 }

@@ -9,7 +9,7 @@ use std::alloc::{AllocError, Global};
 use std::mem;
 
 /// How many tries there were, and how many of them differ from what is written.
-#[derive(Clone, Copy, Debug, Default)]
+#[derive(Clone, Copy, Default)]
 pub struct Count {
     pub tries: u64,
     pub differ: u64,
@@ -26,6 +26,7 @@ impl Count {
 }
 
 /// What a try reads and writes.
+#[derive(Drop)]
 struct Devices {
     files: MemFiles,
     out: MemSink,
@@ -36,31 +37,75 @@ fn of_memory(_memory: Memory) -> AllocError {
     AllocError
 }
 
-/// The name of an example's source, without its folders.
-fn source_name(alloc: Global, name: &str) -> Result<String, AllocError> {
-    format!(in alloc;
-        "{}.dfy",
-        name.rsplit_once('/').map_or(name, |(_, last)| last)
-    )
+/// A path without its folders.
+fn without_folders(name: &str) -> &str {
+    match name.rsplit_once('/') {
+        Some((_, last)) => last,
+        None => name,
+    }
 }
 
-/// The files of an example, without those that are made.
-fn all_files(
+/// Adds an example's source, whose name is without its folders.
+fn add_source(
     alloc: Global,
+    files: &mut MemFiles,
+    name: &str,
+    source: &[u8],
+) -> Result<(), AllocError> {
+    let short = without_folders(name);
+    let file = format!(in alloc; "{short}.dfy")?;
+    files.add(file.as_str(), source).map_err(of_memory)
+}
+
+/// Adds the files of an example, without those that are made.
+fn add_files(
+    alloc: Global,
+    files: &mut MemFiles,
     name: &str,
     source: &[u8],
     example: &Example,
-) -> Result<MemFiles, AllocError> {
-    let mut files = MemFiles::new(alloc);
-    files
-        .add(source_name(alloc, name)?.as_str(), source)
-        .map_err(of_memory)?;
+) -> Result<(), AllocError> {
+    add_source(alloc, files, name, source)?;
     for file in &example.files {
         files
             .add(file.name.as_str(), file.text.as_slice())
             .map_err(of_memory)?;
     }
-    Ok(files)
+    Ok(())
+}
+
+/// What a command puts on standard output.
+fn out_of(alloc: Global, words: &[String], files: &mut MemFiles) -> Result<Vec<u8>, AllocError> {
+    let mut out = MemSink::new(alloc);
+    let mut err = MemSink::new(alloc);
+    top(alloc, words, files, &mut out, &mut err);
+    Vec::from_slice(alloc, out.taken())
+}
+
+/// What a command puts on standard output over the files of an example.
+fn made_text(
+    alloc: Global,
+    name: &str,
+    source: &[u8],
+    example: &Example,
+    words: &[String],
+) -> Result<Vec<u8>, AllocError> {
+    let mut files = MemFiles::new(alloc);
+    add_files(alloc, &mut files, name, source, example)?;
+    out_of(alloc, words, &mut files)
+}
+
+/// Makes a file that a command puts on standard output.
+fn make_file(
+    alloc: Global,
+    name: &str,
+    source: &[u8],
+    example: &mut Example,
+    made: Made,
+) -> Result<(), AllocError> {
+    let Made { name: file, words } = made;
+    let text = made_text(alloc, name, source, example, &words)?;
+    Ok(example.files.push(File { name: file, text })?)
 }
 
 /// Makes the files that commands put on standard output.
@@ -70,41 +115,68 @@ pub fn make_files(
     source: &[u8],
     example: &mut Example,
 ) -> Result<(), AllocError> {
-    for Made { name: file, words } in mem::replace(&mut example.made, Vec::new(alloc)) {
-        let mut files = all_files(alloc, name, source, example)?;
-        let mut out = MemSink::new(alloc);
-        let mut err = MemSink::new(alloc);
-        top(alloc, &words, &mut files, &mut out, &mut err);
-        let mut text = Vec::new(alloc);
-        text.extend_from_slice(out.taken())?;
-        example.files.push(File { name: file, text })?;
+    for made in mem::replace(&mut example.made, Vec::new(alloc)) {
+        make_file(alloc, name, source, example, made)?;
     }
     Ok(())
 }
 
-fn devices_over(
-    alloc: Global,
-    files: MemFiles,
-    failing: &[Failing],
-) -> Result<Devices, AllocError> {
-    let mut files = files;
-    let mut out = MemSink::new(alloc);
-    let mut err = MemSink::new(alloc);
-    for one in failing {
-        match *one {
-            Failing::Load(call) => files.fail_at(call),
-            Failing::Out(call, takes) => out.fail_at(call, takes),
-            Failing::Err(call, takes) => err.fail_at(call, takes),
-        }
-        .map_err(of_memory)?;
+/// Lets a call of a device fail.
+fn let_fail(devices: &mut Devices, failing: Failing) -> Result<(), Memory> {
+    match failing {
+        Failing::Load(call) => devices.files.fail_at(call),
+        Failing::Out(call, takes) => devices.out.fail_at(call, takes),
+        Failing::Err(call, takes) => devices.err.fail_at(call, takes),
     }
-    Ok(Devices { files, out, err })
+}
+
+fn let_all_fail(devices: &mut Devices, failing: &[Failing]) -> Result<(), AllocError> {
+    for one in failing {
+        let_fail(devices, *one).map_err(of_memory)?;
+    }
+    Ok(())
 }
 
 /// A text that a stream took, as it is told; of a long one the first bytes.
 fn told(bytes: &[u8]) -> &str {
     let bytes = bytes.get(..300).unwrap_or(bytes);
     str::from_utf8(bytes).unwrap_or("bytes that are no text")
+}
+
+/// Tells what came of a try.
+fn tell(
+    rt: &(impl Print + AllocGlobal),
+    name: &str,
+    line: usize,
+    devices: &Devices,
+    status: u8,
+) -> Result<()> {
+    let (on_out, on_err) = (told(devices.out.taken()), told(devices.err.taken()));
+    println!(rt; "{name}, line {line}: status {status}, out {on_out:?}, err {on_err:?}")?;
+    Ok(())
+}
+
+/// Whether what came of a try is what is written.
+fn is_as_written(devices: &Devices, tried: &Try, status: u8) -> bool {
+    status == tried.status
+        && fits(&tried.out, devices.out.taken())
+        && fits(&tried.err, devices.err.taken())
+}
+
+/// Plays a try over devices, and tells where it differs.
+fn play_over(
+    rt: &(impl Print + AllocGlobal),
+    name: &str,
+    devices: &mut Devices,
+    tried: &Try,
+) -> Result<bool> {
+    let Devices { files, out, err } = devices;
+    let status = top(rt.alloc(), &tried.words, files, out, err).code();
+    if is_as_written(devices, tried, status) {
+        return Ok(true);
+    }
+    tell(rt, name, tried.line, devices, status)?;
+    Ok(false)
 }
 
 /// Plays a try of the example of this name, and tells where it differs.
@@ -116,21 +188,12 @@ pub fn play(
     tried: &Try,
 ) -> Result<bool> {
     let alloc = rt.alloc();
-    let Devices {
-        mut files,
-        mut out,
-        mut err,
-    } = devices_over(
-        alloc,
-        all_files(alloc, name, source, example)?,
-        &tried.failing,
-    )?;
-    let status = top(alloc, &tried.words, &mut files, &mut out, &mut err).code();
-    if status == tried.status && fits(&tried.out, out.taken()) && fits(&tried.err, err.taken()) {
-        return Ok(true);
-    }
-    let line = tried.line;
-    let (on_out, on_err) = (told(out.taken()), told(err.taken()));
-    println!(rt; "{name}, line {line}: status {status}, out {on_out:?}, err {on_err:?}")?;
-    Ok(false)
+    let mut devices = Devices {
+        files: MemFiles::new(alloc),
+        out: MemSink::new(alloc),
+        err: MemSink::new(alloc),
+    };
+    add_files(alloc, &mut devices.files, name, source, example)?;
+    let_all_fail(&mut devices, &tried.failing)?;
+    play_over(rt, name, &mut devices, tried)
 }

@@ -29,12 +29,28 @@ fn split(line: &str) -> Result<Line<'_>> {
     }
 }
 
+/// A word with its escapes.
+fn word(alloc: Global, text: &str) -> Result<String> {
+    let bytes = unescaped(alloc, text)?;
+    Ok(String::from_utf8(bytes)?)
+}
+
+fn push_word(alloc: Global, words: &mut Vec<String>, text: &str) -> Result<()> {
+    let word = word(alloc, text)?;
+    Ok(words.push(word)?)
+}
+
+fn push_words(alloc: Global, words: &mut Vec<String>, line: &str) -> Result<()> {
+    for text in line.split(' ').skip(1) {
+        push_word(alloc, words, text)?;
+    }
+    Ok(())
+}
+
 /// The words of a command, each of which stands behind a blank.
 fn words(alloc: Global, line: &str) -> Result<Vec<String>> {
     let mut words = Vec::new(alloc);
-    for word in line.split(' ').skip(1) {
-        words.push(String::from_utf8(unescaped(alloc, word)?)?)?;
-    }
+    push_words(alloc, &mut words, line)?;
     Ok(words)
 }
 
@@ -50,21 +66,41 @@ fn failing(text: &str) -> Result<Failing> {
     }
 }
 
-/// Takes a line that says more of a try.
-fn take_more(alloc: Global, tried: &mut Try, line: &Line) -> Result<()> {
-    match line.word.as_bytes() {
-        b"status" => tried.status = line.text.parse::<u8>()?,
-        b"out" => push_times(&mut tried.out, &unescaped(alloc, line.text)?, line.times)?,
-        b"err" => push_times(&mut tried.err, &unescaped(alloc, line.text)?, line.times)?,
-        b"fail" => tried.failing.push(failing(line.text)?)?,
-        _ => bail!("a line begins with source, file, made, try, status, out, err or fail"),
-    }
+/// Adds the text of a line so many times as it says.
+fn push_line(alloc: Global, bytes: &mut Vec<u8>, text: &str, times: u64) -> Result<()> {
+    let more = unescaped(alloc, text)?;
+    Ok(push_times(bytes, &more, times)?)
+}
+
+fn take_status(tried: &mut Try, text: &str) -> Result<()> {
+    tried.status = text.parse::<u8>()?;
     Ok(())
 }
 
+fn take_failing(tried: &mut Try, text: &str) -> Result<()> {
+    let failing = failing(text)?;
+    Ok(tried.failing.push(failing)?)
+}
+
+/// Takes a line that says more of a try.
+fn take_more(alloc: Global, tried: &mut Try, line: &Line) -> Result<()> {
+    match line.word.as_bytes() {
+        b"status" => take_status(tried, line.text),
+        b"out" => push_line(alloc, &mut tried.out, line.text, line.times),
+        b"err" => push_line(alloc, &mut tried.err, line.text, line.times),
+        b"fail" => take_failing(tried, line.text),
+        _ => bail!("a line begins with source, file, made, try, status, out, err or fail"),
+    }
+}
+
 fn take_source(alloc: Global, example: &mut Example, line: &Line) -> Result<()> {
-    let source = example.source.get_or_insert_with(|| Vec::new(alloc));
-    push_times(source, &unescaped(alloc, line.text)?, line.times)
+    if example.source.is_none() {
+        example.source = Some(Vec::new(alloc));
+    }
+    match &mut example.source {
+        Some(source) => push_line(alloc, source, line.text, line.times),
+        None => Ok(()),
+    }
 }
 
 /// A name, and what stands behind it.
@@ -72,52 +108,92 @@ fn named(text: &str) -> (&str, &str) {
     text.split_once(' ').unwrap_or((text, ""))
 }
 
-/// Takes a line that says more of a file.
-fn take_file(alloc: Global, example: &mut Example, line: &Line) -> Result<()> {
-    let (name, text) = named(line.text);
-    let more = unescaped(alloc, text)?;
-    if !example.files.iter().any(|file| file.name.as_str() == name) {
-        example.files.push(File {
-            name: String::from_str(alloc, name)?,
-            text: Vec::new(alloc),
-        })?;
-    }
-    for file in example.files.iter_mut() {
+fn has_file(files: &[File], name: &str) -> bool {
+    for file in files {
         if file.name.as_str() == name {
-            push_times(&mut file.text, &more, line.times)?;
+            return true;
+        }
+    }
+    false
+}
+
+/// Adds an empty file.
+fn push_file(alloc: Global, files: &mut Vec<File>, name: &str) -> Result<()> {
+    let name = String::from_str(alloc, name)?;
+    let text = Vec::new(alloc);
+    Ok(files.push(File { name, text })?)
+}
+
+/// Adds a text to the file of this name.
+fn push_to_file(
+    alloc: Global,
+    files: &mut Vec<File>,
+    name: &str,
+    text: &str,
+    times: u64,
+) -> Result<()> {
+    for file in files.iter_mut() {
+        if file.name.as_str() == name {
+            push_line(alloc, &mut file.text, text, times)?;
         }
     }
     Ok(())
 }
 
-fn take_made(alloc: Global, example: &mut Example, line: &Line) -> Result<()> {
-    let (name, _) = named(line.text);
-    let name = String::from_str(alloc, name)?;
-    let words = words(alloc, line.text)?;
-    example.made.push(Made { name, words })?;
-    Ok(())
+/// Takes a line that says more of a file.
+fn take_file(alloc: Global, example: &mut Example, line: &Line) -> Result<()> {
+    let (name, text) = named(line.text);
+    if !has_file(&example.files, name) {
+        push_file(alloc, &mut example.files, name)?;
+    }
+    push_to_file(alloc, &mut example.files, name, text, line.times)
 }
 
-fn take(alloc: Global, example: &mut Example, number: usize, text: &str) -> Result<()> {
-    if text.is_empty() || text.starts_with('#') {
-        return Ok(());
+/// What a line says of a file that is made.
+fn made_file(alloc: Global, text: &str) -> Result<Made> {
+    let (name, _) = named(text);
+    let words = words(alloc, text)?;
+    let name = String::from_str(alloc, name)?;
+    Ok(Made { name, words })
+}
+
+fn take_made(alloc: Global, example: &mut Example, line: &Line) -> Result<()> {
+    let made = made_file(alloc, line.text)?;
+    Ok(example.made.push(made)?)
+}
+
+fn take_try(alloc: Global, example: &mut Example, number: usize, text: &str) -> Result<()> {
+    let words = words(alloc, text)?;
+    Ok(example.tries.push(Try::new(alloc, number, words))?)
+}
+
+fn take_last(alloc: Global, example: &mut Example, line: &Line) -> Result<()> {
+    match example.tries.last_mut() {
+        Some(tried) => take_more(alloc, tried, line),
+        None => bail!("no try stands before this line"),
     }
+}
+
+/// Takes a line that is neither empty nor begins with `#`.
+fn take(alloc: Global, example: &mut Example, number: usize, text: &str) -> Result<()> {
     let line = split(text)?;
     match line.word.as_bytes() {
         b"source" => take_source(alloc, example, &line),
         b"file" => take_file(alloc, example, &line),
         b"made" => take_made(alloc, example, &line),
-        b"try" => {
-            example
-                .tries
-                .push(Try::new(alloc, number, words(alloc, text)?))?;
-            Ok(())
-        }
-        _ => match example.tries.last_mut() {
-            Some(tried) => take_more(alloc, tried, &line),
-            None => bail!("no try stands before this line"),
-        },
+        b"try" => take_try(alloc, example, number, text),
+        _ => take_last(alloc, example, &line),
     }
+}
+
+fn take_all(alloc: Global, example: &mut Example, text: &str) -> Result<()> {
+    for (index, line) in text.lines().enumerate() {
+        let number = index.saturating_add(1);
+        if !line.is_empty() && !line.starts_with('#') {
+            take(alloc, example, number, line).context(format_args!("line {number}"))?;
+        }
+    }
+    Ok(())
 }
 
 /// What an `.expected` file says.
@@ -128,9 +204,6 @@ pub fn read(alloc: Global, text: &str) -> Result<Example> {
         made: Vec::new(alloc),
         tries: Vec::new(alloc),
     };
-    for (index, line) in text.lines().enumerate() {
-        let number = index.saturating_add(1);
-        take(alloc, &mut example, number, line).context(format_args!("line {number}"))?;
-    }
+    take_all(alloc, &mut example, text)?;
     Ok(example)
 }
