@@ -44,7 +44,7 @@ pub enum Code {
 }
 
 /// What a refusal tells beside its code and place.
-#[derive(Clone, Copy, Debug, PartialEq, Eq)]
+#[derive(Clone, Copy, PartialEq, Eq)]
 pub enum Detail {
     Nothing,
     Word(Name),
@@ -54,7 +54,7 @@ pub enum Detail {
 }
 
 /// A source is refused: why, and where.
-#[derive(Clone, Copy, Debug, PartialEq, Eq)]
+#[derive(Clone, Copy, PartialEq, Eq)]
 pub struct Refusal {
     pub code: Code,
     pub pos: Pos,
@@ -62,7 +62,7 @@ pub struct Refusal {
 }
 
 /// Why a call of the front has no result.
-#[derive(Clone, Copy, Debug, PartialEq, Eq)]
+#[derive(Clone, Copy, PartialEq, Eq)]
 pub enum Stop {
     Refused(Refusal),
     Memory,

@@ -3,7 +3,7 @@
 use df_form::{Formula, Lit};
 
 /// A clause of a ground set.
-#[derive(Debug, Drop, PartialEq, Eq, Hash)]
+#[derive(Drop, PartialEq, Eq, Hash)]
 pub struct GroundClause {
     pub literals: Vec<Lit>,
     /// The equality to which it is bound: it counts only where literals hold this node or its negation.

@@ -13,7 +13,7 @@ use df_rules::Known;
 use std::alloc::{AllocError, Global};
 
 /// What a clause says beside the known literals.
-#[derive(Clone, Copy, Debug, PartialEq, Eq)]
+#[derive(Clone, Copy, PartialEq, Eq)]
 enum Teaching {
     Nothing,
     /// Its one literal that is not false, which was not known.
@@ -23,7 +23,7 @@ enum Teaching {
 }
 
 /// What one way through the clauses gave.
-#[derive(Clone, Copy, Debug, PartialEq, Eq)]
+#[derive(Clone, Copy, PartialEq, Eq)]
 pub(crate) enum Round {
     /// No clause teaches anything new.
     Settled,

@@ -6,7 +6,7 @@ ghost use Rattle.df_form.specs.Clause.{negation as negation_of};
 use crate::node::{Formula, Node, Term};
 
 /// A literal: a formula by the number of its node, or its negation.
-#[derive(Clone, Copy, Debug, PartialEq, Eq, Hash)]
+#[derive(Clone, Copy, PartialEq, Eq, Hash)]
 pub struct Lit {
     pub positive: bool,
     pub node: Formula,
@@ -25,28 +25,28 @@ impl Lit {
 }
 
 /// A row taken some times.
-#[derive(Clone, Copy, Debug, PartialEq, Eq)]
+#[derive(Clone, Copy, PartialEq, Eq)]
 pub struct Multiple {
     pub factor: i128,
     pub row: usize,
 }
 
 /// A sum of rows, divided.
-#[derive(Debug, Drop)]
+#[derive(Drop)]
 pub struct Combination {
     pub divisor: i128,
     pub members: Vec<Multiple>,
 }
 
 /// Two terms by the numbers of their nodes, as of an equality.
-#[derive(Clone, Copy, Debug, PartialEq, Eq)]
+#[derive(Clone, Copy, PartialEq, Eq)]
 pub struct Pair {
     pub left: Term,
     pub right: Term,
 }
 
 /// A line of a log.
-#[derive(Debug, Drop)]
+#[derive(Drop)]
 pub enum Step {
     /// `h I`: the hypothesis of this number, from 0.
     Hypothesis(usize),

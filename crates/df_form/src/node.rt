@@ -9,7 +9,7 @@ pub type Term = usize;
 pub type Formula = usize;
 
 /// The kind of value that a node has. A formula is a node whose value is a truth.
-#[derive(Clone, Copy, Debug, PartialEq, Eq, Hash)]
+#[derive(Clone, Copy, PartialEq, Eq, Hash)]
 pub enum Sort {
     Number,
     Truth,
@@ -18,14 +18,14 @@ pub enum Sort {
 }
 
 /// A term that an assignment gives a value of its sort.
-#[derive(Clone, Copy, Debug, PartialEq, Eq, Hash)]
+#[derive(Clone, Copy, PartialEq, Eq, Hash)]
 pub struct Free {
     pub number: usize,
     pub sort: Sort,
 }
 
 /// What a node does with the values of its parts.
-#[derive(Clone, Copy, Debug, PartialEq, Eq, Hash)]
+#[derive(Clone, Copy, PartialEq, Eq, Hash)]
 pub enum Op {
     /// A whole number.
     Number(i128),
@@ -58,7 +58,7 @@ pub enum Op {
 }
 
 /// A term or a formula: an operation, and the numbers of its parts in their order.
-#[derive(Debug, Drop, PartialEq, Eq, Hash)]
+#[derive(Drop, PartialEq, Eq, Hash)]
 pub struct Node {
     pub op: Op,
     pub parts: Vec<Term>,

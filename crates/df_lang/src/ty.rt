@@ -4,7 +4,7 @@
 pub type DeclId = usize;
 
 /// The type of a place or an expression.
-#[derive(Clone, Copy, Debug, PartialEq, Eq, Hash)]
+#[derive(Clone, Copy, PartialEq, Eq, Hash)]
 pub enum Ty {
     /// The newtype of this declaration.
     Newtype(DeclId),

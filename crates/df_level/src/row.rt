@@ -13,7 +13,7 @@ use crate::fault::RowFault;
 use std::alloc::{AllocError, Global};
 
 /// A row: 0 is at most the sum of the coefficients times their nodes, and the constant.
-#[derive(Debug, Drop, PartialEq, Eq, Hash)]
+#[derive(Drop, PartialEq, Eq, Hash)]
 pub struct Row {
     /// Each node that has a coefficient, in order of nodes.
     coefficients: Vec<(usize, i128)>,

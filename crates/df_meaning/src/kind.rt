@@ -1,5 +1,5 @@
 /// What an obligation demands, and what a run that breaks it did wrong.
-#[derive(Clone, Copy, Debug, PartialEq, Eq)]
+#[derive(Clone, Copy, PartialEq, Eq)]
 pub enum Kind {
     Assert,
     Requires,

@@ -5,7 +5,7 @@ use clap::error::ErrorKind;
 use std::alloc::AllocError;
 
 /// How much a search for a proof may do.
-#[derive(Clone, Copy, Debug, PartialEq, Eq)]
+#[derive(Clone, Copy, PartialEq, Eq)]
 pub struct Budget {
     /// How many branches may be closed: 1 to 10000000.
     pub steps: u64,
@@ -14,7 +14,7 @@ pub struct Budget {
 }
 
 /// What the words ask for.
-#[derive(Debug, Drop)]
+#[derive(Drop)]
 pub enum Command {
     /// Proves the obligations of the file, and reports.
     Verify {
@@ -54,7 +54,7 @@ pub enum Command {
 }
 
 /// Why there is no command.
-#[derive(Clone, Copy, Debug, PartialEq, Eq)]
+#[derive(Clone, Copy, PartialEq, Eq)]
 pub enum LineFault {
     /// The words are those of no command.
     Usage,

@@ -18,7 +18,7 @@ use std::alloc::AllocError;
 use std::marker::Model;
 
 /// What declares a local: parameters keep their values.
-#[derive(Clone, Copy, Debug, PartialEq, Eq)]
+#[derive(Clone, Copy, PartialEq, Eq)]
 pub enum Role {
     Parameter,
     Result,
@@ -26,7 +26,7 @@ pub enum Role {
 }
 
 /// A local: its name, and its own number in its method.
-#[derive(Clone, Copy, Debug, PartialEq, Eq)]
+#[derive(Clone, Copy, PartialEq, Eq)]
 pub struct Local {
     pub name: Name,
     pub number: usize,

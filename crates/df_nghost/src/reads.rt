@@ -16,7 +16,7 @@ use df_base::{Name, Pos};
 use df_lang::{Addend, Clause, Expr, Factor, Link, Measure, Member, Operand, Param, Source};
 
 /// A local that must have a value, and where.
-#[derive(Clone, Copy, Debug, PartialEq, Eq)]
+#[derive(Clone, Copy, PartialEq, Eq)]
 pub(crate) struct Use {
     pub(crate) local: usize,
     pub(crate) name: Name,

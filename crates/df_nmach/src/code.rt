@@ -6,7 +6,7 @@ ghost use Rattle.df_nmach.specs.Name.{is_name};
 use crate::instruction::Instruction;
 
 /// How a value is printed.
-#[derive(Clone, Copy, Debug, PartialEq, Eq)]
+#[derive(Clone, Copy, PartialEq, Eq)]
 pub enum Shape {
     /// A number, in decimal.
     Number,
@@ -19,7 +19,7 @@ pub enum Shape {
 }
 
 /// A method, constructor or bound function.
-#[derive(Debug, Drop)]
+#[derive(Drop)]
 pub struct Method {
     /// Its qualified name: identifiers parted by dots.
     pub name: String,
@@ -34,7 +34,7 @@ pub struct Method {
 }
 
 /// A compiled program. Methods and shapes are known by their numbers, counted from 0.
-#[derive(Debug, Drop)]
+#[derive(Drop)]
 pub struct Code {
     pub methods: Vec<Method>,
     pub shapes: Vec<Shape>,

@@ -1,14 +1,14 @@
 //! Instructions.
 
 /// The whole numbers from `low` to `high`, both inside.
-#[derive(Clone, Copy, Debug, PartialEq, Eq)]
+#[derive(Clone, Copy, PartialEq, Eq)]
 pub struct Range {
     pub low: i128,
     pub high: i128,
 }
 
 /// What is done with the operand on top.
-#[derive(Clone, Copy, Debug, PartialEq, Eq)]
+#[derive(Clone, Copy, PartialEq, Eq)]
 pub enum UnaryOperator {
     /// The number with its sign turned, which has to lie in the range.
     Negate(Range),
@@ -23,7 +23,7 @@ pub enum UnaryOperator {
 }
 
 /// What is done with the two operands on top: the one on top is the right one.
-#[derive(Clone, Copy, Debug, PartialEq, Eq)]
+#[derive(Clone, Copy, PartialEq, Eq)]
 pub enum BinaryOperator {
     /// The sum of two numbers, which has to lie in the range.
     Add(Range),
@@ -46,7 +46,7 @@ pub enum BinaryOperator {
 }
 
 /// One step of a method.
-#[derive(Clone, Copy, Debug, PartialEq, Eq)]
+#[derive(Clone, Copy, PartialEq, Eq)]
 pub enum Instruction {
     /// Pushes a number.
     Number(i128),

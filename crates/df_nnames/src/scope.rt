@@ -11,7 +11,7 @@ use std::alloc::AllocError;
 use std::marker::Model;
 
 /// A local, and the one of the same name that it hides.
-#[derive(Clone, Copy, Debug, PartialEq, Eq)]
+#[derive(Clone, Copy, PartialEq, Eq)]
 pub(crate) struct Local {
     name: Name,
     hidden: Option<usize>,
@@ -42,7 +42,7 @@ impl Model for Scope {
 }
 
 /// What `leave` needs of the scope before.
-#[derive(Clone, Copy, Debug, PartialEq, Eq)]
+#[derive(Clone, Copy, PartialEq, Eq)]
 pub struct Mark {
     pub outer: usize,
 }

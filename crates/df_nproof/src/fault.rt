@@ -4,7 +4,7 @@ use df_base::Memory;
 use std::alloc::AllocError;
 
 /// Why a log is not one of a program.
-#[derive(Clone, Copy, Debug, PartialEq, Eq)]
+#[derive(Clone, Copy, PartialEq, Eq)]
 pub enum CheckFault {
     /// The bytes are the text of no logs. The first line, from 1, with which they begin none, or one past the last.
     NotALog(u64),

@@ -11,7 +11,7 @@ use df_base::{Code, Detail, Pos, Refusal, Stop};
 use std::alloc::{AllocError, AllocFailed};
 
 /// The rules of typing that an expression can break.
-#[derive(Clone, Copy, Debug, PartialEq, Eq)]
+#[derive(Clone, Copy, PartialEq, Eq)]
 pub(crate) enum Rule {
     /// What is given to a place fits or narrows to its type.
     Given,
@@ -54,7 +54,7 @@ impl Rule {
 
 /// A rule that is broken, where it is told, and whether the node that breaks it is as long as the
 /// whole expression.
-#[derive(Clone, Copy, Debug, PartialEq, Eq)]
+#[derive(Clone, Copy, PartialEq, Eq)]
 pub(crate) struct Broken {
     pub(crate) rule: Rule,
     pub(crate) pos: Pos,
@@ -62,7 +62,7 @@ pub(crate) struct Broken {
 }
 
 /// Why an expression is not typed.
-#[derive(Clone, Copy, Debug, PartialEq, Eq)]
+#[derive(Clone, Copy, PartialEq, Eq)]
 pub(crate) enum Halt {
     Broken(Broken),
     Memory,

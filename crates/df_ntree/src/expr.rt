@@ -7,7 +7,7 @@ use crate::tree::{Ident, Literal};
 use df_base::Pos;
 
 /// What a sign between two operands means.
-#[derive(Clone, Copy, Debug, PartialEq, Eq)]
+#[derive(Clone, Copy, PartialEq, Eq)]
 pub enum BinaryOperator {
     /// `<==>`
     Iff,
@@ -44,7 +44,7 @@ pub enum BinaryOperator {
 }
 
 /// Operators that may stand side by side without parentheses.
-#[derive(Clone, Copy, Debug, PartialEq, Eq)]
+#[derive(Clone, Copy, PartialEq, Eq)]
 pub enum Group {
     /// `<==>`
     Equivalence,
@@ -65,7 +65,7 @@ pub enum Group {
 }
 
 /// How tightly an expression holds together, the loosest level first.
-#[derive(Clone, Copy, Debug, PartialEq, Eq)]
+#[derive(Clone, Copy, PartialEq, Eq)]
 pub enum Level {
     /// `<==>`
     Equivalence,
@@ -147,7 +147,7 @@ impl Level {
 }
 
 /// What a sign before an operand means.
-#[derive(Clone, Copy, Debug, PartialEq, Eq)]
+#[derive(Clone, Copy, PartialEq, Eq)]
 pub enum UnaryOperator {
     /// `-`
     Negate,
@@ -157,7 +157,7 @@ pub enum UnaryOperator {
 
 /// An expression.
 #[cycle(expr)]
-#[derive(Debug, Drop)]
+#[derive(Drop)]
 pub enum Expr {
     /// A number; a minus right before it belongs to it.
     Number(Literal),
@@ -208,7 +208,7 @@ pub enum Expr {
 
 /// A binary operator at `pos`, and the operand after it.
 #[cycle(expr)]
-#[derive(Debug, Drop)]
+#[derive(Drop)]
 pub struct Operation {
     pub operator: BinaryOperator,
     pub pos: Pos,
@@ -216,7 +216,7 @@ pub struct Operation {
 }
 
 /// A type that is a word of the language.
-#[derive(Clone, Copy, Debug, PartialEq, Eq)]
+#[derive(Clone, Copy, PartialEq, Eq)]
 pub enum BasicType {
     Int,
     Nat,
@@ -225,7 +225,7 @@ pub enum BasicType {
 }
 
 /// A type as it is written.
-#[derive(Clone, Copy, Debug, PartialEq, Eq)]
+#[derive(Clone, Copy, PartialEq, Eq)]
 pub enum TreeType {
     /// A word at `pos`.
     Basic { basic: BasicType, pos: Pos },

@@ -5,20 +5,20 @@ use crate::tree::Ident;
 use df_base::Pos;
 
 /// A source file: its declarations in order.
-#[derive(Debug, Drop)]
+#[derive(Drop)]
 pub struct File {
     pub declarations: Vec<Declaration>,
 }
 
 /// What a file declares.
-#[derive(Debug, Drop)]
+#[derive(Drop)]
 pub enum Declaration {
     Newtype(NewtypeDeclaration),
     Method(MethodDeclaration),
 }
 
 /// `newtype name = variable | predicate`, with or without `: int` and `witness`.
-#[derive(Debug, Drop)]
+#[derive(Drop)]
 pub struct NewtypeDeclaration {
     pub name: Ident,
     pub variable: Ident,
@@ -29,7 +29,7 @@ pub struct NewtypeDeclaration {
 }
 
 /// `method name(parameters) returns (results)`, its contract and its body.
-#[derive(Debug, Drop)]
+#[derive(Drop)]
 pub struct MethodDeclaration {
     pub name: Ident,
     pub parameters: Vec<Parameter>,
@@ -40,14 +40,14 @@ pub struct MethodDeclaration {
 }
 
 /// `name: ty`, a parameter or a result.
-#[derive(Clone, Copy, Debug, PartialEq, Eq)]
+#[derive(Clone, Copy, PartialEq, Eq)]
 pub struct Parameter {
     pub name: Ident,
     pub ty: TreeType,
 }
 
 /// What the condition of a clause says.
-#[derive(Clone, Copy, Debug, PartialEq, Eq)]
+#[derive(Clone, Copy, PartialEq, Eq)]
 pub enum ConditionKind {
     /// `requires`: what callers owe.
     Requires,
@@ -59,7 +59,7 @@ pub enum ConditionKind {
 
 /// A clause of a contract or of a loop, its word at `pos`. Methods and loops may be written with
 /// any clauses; which ones they may have is a rule of typing.
-#[derive(Debug, Drop)]
+#[derive(Drop)]
 pub enum Clause {
     Condition {
         kind: ConditionKind,
@@ -74,7 +74,7 @@ pub enum Clause {
 }
 
 /// A local variable as it is declared, with its type or without.
-#[derive(Clone, Copy, Debug, PartialEq, Eq)]
+#[derive(Clone, Copy, PartialEq, Eq)]
 pub struct Local {
     pub name: Ident,
     pub ty: Option<TreeType>,
@@ -82,7 +82,7 @@ pub struct Local {
 
 /// `{ statements }`; `pos` is where it opens.
 #[cycle(statement)]
-#[derive(Debug, Drop)]
+#[derive(Drop)]
 pub struct Block {
     pub pos: Pos,
     pub statements: Vec<Statement>,
@@ -90,7 +90,7 @@ pub struct Block {
 
 /// `if guard body`, the word `if` at `pos`.
 #[cycle(statement)]
-#[derive(Debug, Drop)]
+#[derive(Drop)]
 pub struct Branch {
     pub pos: Pos,
     pub guard: Expr,
@@ -99,7 +99,7 @@ pub struct Branch {
 
 /// A statement. Where it begins with a word, that stands at `pos`.
 #[cycle(statement)]
-#[derive(Debug, Drop)]
+#[derive(Drop)]
 pub enum Statement {
     Block(Block),
     /// `var locals := values;`, or without `:=` where there are no values. There is at least one
@@ -151,7 +151,7 @@ pub enum Statement {
 }
 
 /// What is printed.
-#[derive(Debug, Drop)]
+#[derive(Drop)]
 pub enum PrintOperand {
     /// A string literal, as its characters.
     Text(Vec<u8>),

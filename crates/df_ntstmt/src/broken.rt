@@ -11,7 +11,7 @@ use df_base::{Code, Detail, Pos, Refusal, Stop};
 use df_ntree::Ident;
 
 /// The rules of typing that stand beside those of expressions.
-#[derive(Clone, Copy, Debug, PartialEq, Eq)]
+#[derive(Clone, Copy, PartialEq, Eq)]
 pub(crate) enum Rule {
     /// What is given to a place fits or narrows to its type.
     Given,

@@ -24,7 +24,7 @@ use df_ntree::{Clause, ConditionKind, Expr, PrintOperand};
 use std::alloc::AllocError;
 
 /// What a clause belongs to.
-#[derive(Clone, Copy, Debug, PartialEq, Eq)]
+#[derive(Clone, Copy, PartialEq, Eq)]
 pub(crate) enum Owner {
     Method,
     Loop,

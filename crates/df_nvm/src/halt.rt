@@ -7,7 +7,7 @@ use df_base::SinkFault;
 use std::alloc::{AllocError, AllocFailed};
 
 /// What an instruction did.
-#[derive(Clone, Copy, Debug, PartialEq, Eq)]
+#[derive(Clone, Copy, PartialEq, Eq)]
 pub(crate) enum Turn {
     /// The frame stands at its next instruction.
     On,
@@ -16,7 +16,7 @@ pub(crate) enum Turn {
 }
 
 /// Why an instruction did nothing.
-#[derive(Clone, Copy, Debug, PartialEq, Eq)]
+#[derive(Clone, Copy, PartialEq, Eq)]
 pub(crate) enum Halt {
     /// A demand is broken.
     Broken,

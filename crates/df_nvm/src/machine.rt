@@ -24,7 +24,7 @@ use std::alloc::{AllocError, Global};
 const LONGEST: usize = 9223372036854775807;
 
 /// A method that waits for the results of another.
-#[derive(Clone, Copy, Debug, PartialEq, Eq)]
+#[derive(Clone, Copy, PartialEq, Eq)]
 pub(crate) struct Waiting {
     /// The number of the method.
     pub method: usize,

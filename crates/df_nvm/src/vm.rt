@@ -19,7 +19,7 @@ use df_nmach::{Code, Heap, Value};
 use std::alloc::{AllocError, Global};
 
 /// What a step came to.
-#[derive(Clone, Copy, Debug, PartialEq, Eq)]
+#[derive(Clone, Copy, PartialEq, Eq)]
 pub enum Stepped {
     /// The machine stands after the step, and its text is put.
     On,
@@ -48,7 +48,7 @@ pub enum Ran {
 }
 
 /// What a step came to, with the number of results at the end.
-#[derive(Clone, Copy, Debug, PartialEq, Eq)]
+#[derive(Clone, Copy, PartialEq, Eq)]
 enum Advanced {
     On,
     Ended(usize),

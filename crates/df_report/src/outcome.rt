@@ -6,7 +6,7 @@ ghost use Rattle.df_report.specs.Report.{word_of};
 use df_base::Pos;
 
 /// Why the search for a proof stopped.
-#[derive(Clone, Copy, Debug, PartialEq, Eq)]
+#[derive(Clone, Copy, PartialEq, Eq)]
 pub enum Evidence {
     /// A table of numbers makes the hypotheses true and the goal false.
     Model,
@@ -33,14 +33,14 @@ impl Evidence {
 }
 
 /// A parameter of a declaration, and its number in a table.
-#[derive(Debug, Drop)]
+#[derive(Drop)]
 pub struct Parameter {
     pub name: String,
     pub value: i128,
 }
 
 /// An obligation without a proof.
-#[derive(Debug, Drop)]
+#[derive(Drop)]
 pub struct Failure {
     /// The place that demands it.
     pub pos: Pos,
@@ -52,7 +52,7 @@ pub struct Failure {
 }
 
 /// A declaration: it is verified where it has no failures.
-#[derive(Debug, Drop)]
+#[derive(Drop)]
 pub struct Outcome {
     /// Its qualified name.
     pub name: String,

@@ -6,7 +6,7 @@ ghost use Rattle.df_table.specs.TableModel.{number_at, is_true};
 use std::marker::Model;
 
 /// A whole number for each node. Contracts see the list of them.
-#[derive(Debug, Drop)]
+#[derive(Drop)]
 pub struct Table {
     numbers: Vec<i128>,
 }

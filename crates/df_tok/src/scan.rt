@@ -10,7 +10,7 @@ use crate::run::{identifier_len, line_len};
 use crate::sign::{Sign, sign_at};
 
 /// The form of a lexeme.
-#[derive(Clone, Copy, Debug, PartialEq, Eq)]
+#[derive(Clone, Copy, PartialEq, Eq)]
 pub enum Form {
     Identifier,
     Number,
@@ -20,7 +20,7 @@ pub enum Form {
 }
 
 /// What stands at the front, and how many bytes it has.
-#[derive(Clone, Copy, Debug, PartialEq, Eq)]
+#[derive(Clone, Copy, PartialEq, Eq)]
 pub enum Front {
     /// A blank or a comment.
     Skipped(usize),

@@ -8,7 +8,7 @@ ghost use Rattle.df_tok.specs.Scanning as scanning;
 use crate::byte::continues_identifier;
 
 /// A sign of the language.
-#[derive(Clone, Copy, Debug, PartialEq, Eq)]
+#[derive(Clone, Copy, PartialEq, Eq)]
 pub enum Sign {
     /// `<==>`
     Iff,

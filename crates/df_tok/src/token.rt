@@ -3,7 +3,7 @@ use crate::word::Word;
 use df_base::{Name, Pos};
 
 /// What a token is.
-#[derive(Clone, Copy, Debug, PartialEq, Eq)]
+#[derive(Clone, Copy, PartialEq, Eq)]
 pub enum Kind {
     Name(Name),
     /// A word of Dafny that is outside the language.
@@ -21,7 +21,7 @@ pub enum Kind {
 }
 
 /// A token: what it is, its bytes in the source, and where they begin.
-#[derive(Clone, Copy, Debug)]
+#[derive(Clone, Copy)]
 pub struct Token<'a> {
     pub kind: Kind,
     pub text: &'a [u8],

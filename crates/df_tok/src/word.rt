@@ -12,7 +12,7 @@ ghost use Rattle.df_tok.specs.Scanning as scanning;
 use crate::byte::is_digit;
 
 /// A word of the language, which no name may be.
-#[derive(Clone, Copy, Debug, PartialEq, Eq)]
+#[derive(Clone, Copy, PartialEq, Eq)]
 pub enum Word {
     Array,
     ArrayOrNull,

@@ -21,7 +21,7 @@ pub enum Retreat {
 }
 
 /// Decisions in the order in which they were made.
-#[derive(Debug, Drop)]
+#[derive(Drop)]
 pub struct Trail {
     pub decisions: Vec<Decision>,
 }
