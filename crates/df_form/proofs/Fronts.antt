@@ -1,20 +1,17 @@
 -- Nodes that lie behind those of a front: where they stand, one more of them, fewer.
-use Rattle.std.proofs.Common.{◌≡◌, ⊎_elim, Bor, subst, ℕ, zero, suc, ◌+◌, ◌-◌, ◌<◌, ◌≤◌, true, cond, List, [], ◌∷◌, ◌++◌, map, take, length, slice_get, get_or, IfSome, Option, None, Some, refl, sym, ap, ◌∙◌, true≢false, arith, length-append, append-nil, append_assoc}
+use Rattle.std.proofs.Common.{◌≡◌, ⊎_elim, Bor, subst, ℕ, zero, suc, ◌+◌, ◌-◌, ◌<◌, ◌≤◌, true, List, [], ◌∷◌, ◌++◌, map, take, length, slice_get, get_or, IfSome, Option, None, Some, refl, sym, ap, ◌∙◌, true≢false, arith, length-append, append-nil, append_assoc}
 use Rattle.std.specs.Prelude.{position}
-use Rattle.std.specs.List.{list_any, IsDistinct as apart}
 use Rattle.std.specs.Option.{option_copied, option_map}
 use Rattle.std.proofs.lemmas.Bool.{cases_lt}
-use Rattle.std.proofs.lemmas.List.{length-map}
 use Rattle.std.proofs.lemmas.List.Quantifiers.{position-Some}
 use Rattle.std.proofs.lemmas.Option.{slice_get-map, slice_get-get_or, get_or_from_slice_get}
 use Rattle.std.proofs.Math.Seq.{take-append_seam}
-use Rattle.df_lemmas.proofs.Lists.{get_last}
 use Rattle.df_form.specs.Sorting.{IsTable, is_well_sorted}
 use Rattle.df_form.specs.declared.node.Node as declared
 use Rattle.df_form.specs.Node.{Node, node_of, number_of}
-use Rattle.df_form.specs.Made.{made}
-use Rattle.df_form.proofs.Keys.{eq, equal, equal_back, keyed, distinct-keys, whole-keys}
-use Rattle.df_form.proofs.Tables.{IsDistinct, number_of_some, number_of_none, number_of_at, number_of_new, not_found, made_old, made_new, table_next, get-take}
+use Rattle.df_form.specs.Made.{Made, made}
+use Rattle.df_form.proofs.Keys.{eq, equal, equal_back, keyed}
+use Rattle.df_form.proofs.Tables.{number_of_some, number_of_none, number_of_at, not_found, made_old, made_new, table_next, get-take}
 
 -- lookups before the end of a front and past it
 pub get_ahead : {A : Type 0} (xs ys : List A) (n : ℕ) → n < length xs → slice_get (xs ++ ys) n ≡ slice_get xs n
@@ -29,18 +26,18 @@ get_behind (x ∷ xs) ys n = ap (slice_get (x ∷ (xs ++ ys))) (let e : suc (len
 pub get_past : {A : Type 0} (xs ys : List A) (n : ℕ) → length xs ≤ n → slice_get (xs ++ ys) n ≡ slice_get ys (n - length xs)
 get_past xs ys n past = ap (slice_get (xs ++ ys)) (let e : n ≡ length xs + (n - length xs) = omega (arith, past) in e) ∙ get_behind xs ys (n - length xs)
 
-get_taken : {A : Type 0} (k : ℕ) (xs : List A) (n : ℕ) → n < k → slice_get (take k xs) n ≡ slice_get xs n
+pub get_taken : {A : Type 0} (k : ℕ) (xs : List A) (n : ℕ) → n < k → slice_get (take k xs) n ≡ slice_get xs n
 get_taken zero xs n less = absurd (omega (arith, less))
 get_taken (suc k) [] n less = refl
 get_taken (suc k) (x ∷ xs) zero less = refl
 get_taken (suc k) (x ∷ xs) (suc n) less = get_taken k xs n (omega (arith, less))
 
-map_take : {A B : Type 0} (f : A → B) (k : ℕ) (xs : List A) → map f (take k xs) ≡ take k (map f xs)
+pub map_take : {A B : Type 0} (f : A → B) (k : ℕ) (xs : List A) → map f (take k xs) ≡ take k (map f xs)
 map_take f zero xs = refl
 map_take f (suc k) [] = refl
 map_take f (suc k) (x ∷ xs) = ap (λ ys. f x ∷ ys) (map_take f k xs)
 
-take_both : {A : Type 0} (xs ys : List A) (n : ℕ) → take n (xs ++ ys) ≡ take n xs ++ take (n - length xs) ys
+pub take_both : {A : Type 0} (xs ys : List A) (n : ℕ) → take n (xs ++ ys) ≡ take n xs ++ take (n - length xs) ys
 take_both [] ys zero = refl
 take_both [] ys (suc n) = ap (λ k. take k ys) (let e : suc n ≡ suc n - 0 = omega arith in e)
 take_both (x ∷ xs) ys zero = ap (λ k. take k ys) (let e : 0 ≡ 0 - suc (length xs) = omega arith in e)
@@ -76,65 +73,44 @@ pub sorted-read : (nodes : List Node) (n : ℕ) (r : Option (Bor declared.Node))
 sorted-read nodes n None table at = tt
 sorted-read nodes n (Some node) table at = table.sorted n (node_of node.now) (sym at)
 
--- one more key behind a front that does not have it
-module _ (front : List Node) (keys after : List declared.Node) (node : declared.Node) where
-  abbrev whole : List Node
-  whole = front ++ map node_of keys
-
-  -- a node that is in neither part is not in the whole
-  new-whole : ((k : ℕ) → slice_get front k ≡ Some (node_of node) → ⊥) → number_of (map node_of keys) (node_of node) ≡ None → number_of whole (node_of node) ≡ None
-  new-whole ahead behind = by (number_of whole (node_of node)) refl
-    where
-      by : (r : Option ℕ) → number_of whole (node_of node) ≡ r → number_of whole (node_of node) ≡ None
-      by None e = e
-      by (Some m) e = absurd (⊎_elim early late (cases_lt m (length front)))
-        where
-          at : slice_get whole m ≡ Some (node_of node)
-          at = number_of_some whole (node_of node) m e
-
-          early : m < length front → ⊥
-          early less = ahead m (sym (get_ahead front (map node_of keys) m less) ∙ at)
-
-          late : length front ≤ m → ⊥
-          late past = number_of_none (map node_of keys) (node_of node) (m - length front) behind (sym (get_past front (map node_of keys) m past) ∙ at)
-
-  -- what `made` gives, and the nodes stay a table
-  abbrev pub MadeBehind : ℕ → Type 0
-  MadeBehind n = (made whole (node_of node) ≡ record { nodes = front ++ map node_of after; number = length front + n }) × IsTable (front ++ map node_of after)
-
-  pub made-behind : (n : ℕ) → ((k : ℕ) → slice_get front k ≡ Some (node_of node) → ⊥) → apart eq after → after ≡ cond (list_any (eq node) keys) keys (keys ++ node ∷ []) → slice_get (map node_of after) n ≡ Some (node_of node) → IsTable whole → is_well_sorted whole (node_of node) ≡ true → MadeBehind n
-  made-behind n ahead d is at table sorted = ⊎_elim old new (whole-keys keys after node is)
-    where
-      old : map node_of after ≡ map node_of keys → MadeBehind n
-      old same =
-          let here : whole ≡ front ++ map node_of after = ap (λ l. front ++ l) (sym same) in
-          let there : slice_get whole (length front + n) ≡ Some (node_of node) = get_behind front (map node_of keys) n ∙ ap (λ l. slice_get l n) (sym same) ∙ at in
-          let found = made_old whole (node_of node) (length front + n) (number_of_at whole (node_of node) (length front + n) table.distinct there) in
-          (found ∙ (λ i. record { nodes = here i; number = length front + n }), subst IsTable here table)
-
-      new : map node_of after ≡ map node_of keys ++ node_of node ∷ [] → MadeBehind n
-      new more =
-          let apart_here : IsDistinct (map node_of keys ++ node_of node ∷ []) = subst IsDistinct more (distinct-keys after d) in
-          let none = new-whole ahead (number_of_new (map node_of keys) (node_of node) apart_here) in
-          let here : whole ++ node_of node ∷ [] ≡ front ++ map node_of after = append_assoc front (map node_of keys) (node_of node ∷ []) ∙ ap (λ l. front ++ l) (sym more) in
-          let stands : slice_get (map node_of keys ++ node_of node ∷ []) n ≡ Some (node_of node) = ap (λ l. slice_get l n) (sym more) ∙ at in
-          let last : n ≡ length (map node_of keys) = apart_here n (length (map node_of keys)) (node_of node) stands (get_last (map node_of keys) (node_of node)) in
-          let number : length whole ≡ length front + n = length-append front (map node_of keys) ∙ ap (λ k. length front + k) (sym last) in
-          (made_new whole (node_of node) none ∙ (λ i. record { nodes = here i; number = number i }), subst IsTable here (table_next whole (node_of node) table sorted none))
-
--- at most one more
-pub longer-behind : (front : List Node) (keys after : List declared.Node) (node : declared.Node) → after ≡ cond (list_any (eq node) keys) keys (keys ++ node ∷ []) → length (front ++ map node_of after) ≤ suc (length front + length keys)
-longer-behind front keys after node is = ⊎_elim old new (whole-keys keys after node is)
+-- a node that is in neither part is not in the whole
+new-whole : (front own : List Node) (node : Node) → ((k : ℕ) → slice_get front k ≡ Some node → ⊥) → number_of own node ≡ None → number_of (front ++ own) node ≡ None
+new-whole front own node ahead behind = by (number_of (front ++ own) node) refl
   where
-    old : map node_of after ≡ map node_of keys → length (front ++ map node_of after) ≤ suc (length front + length keys)
-    old same = omega (arith, length-append front (map node_of after), ap length same, length-map keys node_of)
+    by : (r : Option ℕ) → number_of (front ++ own) node ≡ r → number_of (front ++ own) node ≡ None
+    by None e = e
+    by (Some m) e = absurd (⊎_elim early late (cases_lt m (length front)))
+      where
+        at : slice_get (front ++ own) m ≡ Some node
+        at = number_of_some (front ++ own) node m e
 
-    new : map node_of after ≡ map node_of keys ++ node_of node ∷ [] → length (front ++ map node_of after) ≤ suc (length front + length keys)
-    new more = omega (arith, length-append front (map node_of after), ap length more, length-append (map node_of keys) (node_of node ∷ []), length-map keys node_of)
+        early : m < length front → ⊥
+        early less = ahead m (sym (get_ahead front own m less) ∙ at)
 
--- fewer
-pub cut-both : (front : List Node) (keys : List declared.Node) (len count : ℕ) → count ≡ length front → take len front ++ map node_of (take (len - count) keys) ≡ take len (front ++ map node_of keys)
-cut-both front keys len count is = ap (λ l. take len front ++ l) (map_take node_of (len - count) keys) ∙ ap (λ k. take len front ++ take (len - k) (map node_of keys)) is ∙ sym (take_both front (map node_of keys) len)
+        late : length front ≤ m → ⊥
+        late past = number_of_none own node (m - length front) behind (sym (get_past front own m past) ∙ at)
+
+-- what `made` gives behind a front that does not have the node
+abbrev pub MadeBehind : List Node → List Node → List Node → Node → ℕ → Type 0
+MadeBehind front own after node n = (made (front ++ own) node ≡ record { nodes = front ++ after; number = length front + n }) × IsTable (front ++ after) × (length (front ++ after) ≤ suc (length front + length own))
+
+pub made-behind : (front own after : List Node) (node : Node) (n : ℕ) → ((k : ℕ) → slice_get front k ≡ Some node → ⊥) → IsTable (front ++ own) → is_well_sorted (front ++ own) node ≡ true → made own node ≡ record { nodes = after; number = n } → MadeBehind front own after node n
+made-behind front own after node n ahead table sorted is = by (number_of own node) refl
+  where
+    by : (r : Option ℕ) → number_of own node ≡ r → MadeBehind front own after node n
+    by (Some m) e =
+        let same : ◌≡◌ {A = Made} (record { nodes = own; number = m }) (record { nodes = after; number = n }) = sym (made_old own node m e) ∙ is in
+        let there : slice_get (front ++ own) (length front + m) ≡ Some node = get_behind front own m ∙ number_of_some own node m e in
+        let found = made_old (front ++ own) node (length front + m) (number_of_at (front ++ own) node (length front + m) table.distinct there) in
+        let here : front ++ own ≡ front ++ after = ap (λ (x : Made). front ++ x.nodes) same in
+        (found ∙ (λ i. record { nodes = here i; number = length front + (same i).number }), subst IsTable here table, omega (arith, length-append front own, ap length here))
+    by None e =
+        let same : ◌≡◌ {A = Made} (record { nodes = own ++ node ∷ []; number = length own }) (record { nodes = after; number = n }) = sym (made_new own node e) ∙ is in
+        let whole = front ++ own in
+        let none = new-whole front own node ahead e in
+        let here : whole ++ node ∷ [] ≡ front ++ after = append_assoc front own (node ∷ []) ∙ ap (λ (x : Made). front ++ x.nodes) same in
+        let number : length whole ≡ length front + n = length-append front own ∙ ap (λ (x : Made). length front + x.number) same in
+        (made_new whole node none ∙ (λ i. record { nodes = here i; number = number i }), subst IsTable here (table_next whole node table sorted none), omega (arith, ap length here, length-append whole (node ∷ []), length-append front own))
 
 -- a copy begins with the whole front
 pub copied-front : (nodes front own copy none : List Node) → copy ≡ front → none ≡ [] → front ++ own ≡ nodes → copy ++ none ≡ take (length (copy ++ none)) nodes

@@ -1,7 +1,6 @@
 -- The keys of a set of nodes, as nodes.
-use Rattle.std.proofs.Common.{◌≡◌, ◌⊎◌, inl, inr, ℕ, ◌<◌, Bool, true, false, cond, List, [], ◌∷◌, ◌++◌, map, slice_get, Option, None, Some, refl, sym, ap, ◌∙◌, true≢false, rules, arith}
-use Rattle.std.specs.List.{list_any, IsDistinct as apart}
-use Rattle.std.proofs.lemmas.List.{map-append}
+use Rattle.std.proofs.Common.{◌≡◌, ℕ, ◌<◌, Bool, true, false, List, map, slice_get, Option, None, Some, refl, sym, ap, ◌∙◌, true≢false, rules, arith}
+use Rattle.std.specs.List.{IsDistinct as apart}
 use Rattle.std.proofs.lemmas.Map.Keys.{apart_from_distinct}
 use Rattle.std.proofs.lemmas.Option.{slice_get-map, slice_get_within, get_or_from_slice_get, same_Some, none-some}
 use Rattle.std.specs.Option.{option_map}
@@ -45,11 +44,3 @@ distinct-keys keys d m n node at_m at_n =
     let before : m < n → ⊥ = not_before keys d m n one.0 other.0 one.1 other.1 same in
     let after : n < m → ⊥ = not_before keys d n m other.0 one.0 other.1 one.1 (sym same) in
     grind arith
-
--- the nodes, once a key is among the keys
-pub whole-keys : (keys after : List declared.Node) (node : declared.Node) → after ≡ cond (list_any (eq node) keys) keys (keys ++ node ∷ []) → (map node_of after ≡ map node_of keys) ⊎ (map node_of after ≡ map node_of keys ++ node_of node ∷ [])
-whole-keys keys after node is = by (list_any (eq node) keys) refl
-  where
-    by : (v : Bool) → list_any (eq node) keys ≡ v → (map node_of after ≡ map node_of keys) ⊎ (map node_of after ≡ map node_of keys ++ node_of node ∷ [])
-    by true v = inl (ap (map node_of) (is ∙ ap (λ t. cond t keys (keys ++ node ∷ [])) v))
-    by false v = inr (ap (map node_of) (is ∙ ap (λ t. cond t keys (keys ++ node ∷ [])) v) ∙ map-append node_of keys (node ∷ []))

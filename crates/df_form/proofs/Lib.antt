@@ -2,6 +2,8 @@ pub mod Same
 pub mod Tables
 pub mod Keys
 pub mod Fronts
+pub mod Offsets
+pub mod Inserting
 pub mod Walks
 pub mod Drafts
 pub mod Examples

@@ -4,6 +4,7 @@ pub mod WorldView
 pub mod Types
 pub mod Node
 pub mod Made
+pub mod Offset
 pub mod Sorting
 pub mod Truth
 pub mod Sequent

@@ -1,13 +1,15 @@
 //! Nodes in the order of their numbers, equal ones once.
 
-ghost use Rattle.std.specs.Prelude.{◌≡◌, ◌<◌, ◌≤◌, ◌^◌, IfOk, IfSome, OnErr, slice_get, length, take, [], true, List};
-ghost use Rattle.std.specs.Option.{option_map};
-ghost use Rattle.df_form.specs.Node.{node_of};
+ghost use Rattle.std.specs.Prelude.{◌≡◌, ◌<◌, ◌≤◌, ◌^◌, ◌++◌, ◌∷◌, IfOk, IfSome, OnOk, OnErr, if◌then◌else◌, map, slice_get, length, take, [], true, List};
+ghost use Rattle.std.specs.Option.{option_map, is_some};
+ghost use Rattle.df_form.specs.Node.{node_of, number_of};
 ghost use Rattle.df_form.specs.Made.{made};
+ghost use Rattle.df_form.specs.Offset.{offsets};
 ghost use Rattle.df_form.specs.Sorting.{IsTable, is_well_sorted};
 
 use crate::front::Front;
-use crate::node::Node;
+use crate::node::{Node, Term};
+use crate::offset::{Offset, read};
 use indexmap::IndexSet;
 use std::alloc::{AllocError, Global};
 use std::marker::Model;
@@ -21,28 +23,53 @@ const LIMIT: usize = 0x7fff_ffff_ffff_ffff;
 pub struct Nodes {
     front: Front,
     own: IndexSet<Node>,
+    /// What its own nodes are.
+    offsets: Vec<Offset>,
 }
 
 impl Model for Nodes {
-    ghost use Rattle.std.specs.Prelude.{List, ◌++◌, ◌<◌, ◌^◌, map, length};
+    ghost use Rattle.std.specs.Prelude.{List, ◌≡◌, ◌++◌, ◌<◌, ◌^◌, map, length};
     ghost use Rattle.df_form.specs.Node as pure;
     ghost use Rattle.df_form.specs.Sorting as sorting;
+    ghost use Rattle.df_form.specs.Offset as offset;
 
     ghost Value = { List pure.Node };
 
     ghost view = { λ s. s.front ++ map pure.node_of s.own.keys };
 
-    ghost invariant = { λ s. sorting.IsTable (s.front ++ map pure.node_of s.own.keys) × (length (s.front ++ map pure.node_of s.own.keys) < 2 ^ 63) };
+    ghost invariant = { λ s. sorting.IsTable (s.front ++ map pure.node_of s.own.keys) × (length (s.front ++ map pure.node_of s.own.keys) < 2 ^ 63) × (offset.offsets (s.front ++ map pure.node_of s.own.keys) ≡ offset.offsets s.front ++ s.offsets.items) };
+}
+
+/// Adds a node with what it is, where it is new. Its number among these.
+fn insert(
+    nodes: &mut IndexSet<Node>,
+    offsets: &mut Vec<Offset>,
+    node: Node,
+    offset: Offset,
+) -> Result<usize, AllocError>
+    ensures made { IfOk result (λ number. made (map node_of nodes.old.keys) (node_of node) ≡ record { nodes = map node_of nodes.new.keys; number = number }) }
+    ensures offsets { OnOk result (offsets.new.items ≡ if is_some (number_of (map node_of nodes.old.keys) (node_of node)) then offsets.old.items else (offsets.old.items ++ offset ∷ [])) }
+    ensures err { OnErr result ((nodes.new.keys ≡ nodes.old.keys) × (offsets.new.items ≡ offsets.old.items)) }
+{
+    // With this room the push cannot fail.
+    offsets.reserve(1)?;
+    let (number, is_new) = nodes.insert_full(node)?;
+    if is_new {
+        offsets.push(offset)?;
+    }
+    Ok(number)
 }
 
 impl Nodes {
     /// No nodes.
+    #[tactic(auto, using(crate::proofs::Offsets::none_behind))]
     pub fn new(alloc: Global) -> Nodes
         ensures { result ≡ [] }
     {
         Nodes {
             front: Front::none(),
             own: IndexSet::new(alloc),
+            offsets: Vec::new(alloc),
         }
     }
 
@@ -68,6 +95,18 @@ impl Nodes {
         }
     }
 
+    /// What the node of a number is, if there is one.
+    pub(crate) fn known_offset(&self, number: Term) -> Option<Offset>
+        ensures { result ≡ slice_get (offsets self.now) number }
+    {
+        let count = self.front.len();
+        if number < count {
+            self.front.offset(number)
+        } else {
+            read(&self.offsets, number - count)
+        }
+    }
+
     /// The number of a node, which is added last where it is new.
     pub fn add(&mut self, node: Node) -> Result<usize, AllocError>
         requires { is_well_sorted self.old (node_of node) ≡ true }
@@ -82,7 +121,8 @@ impl Nodes {
         if count + self.own.len() >= LIMIT {
             return Err(AllocError);
         }
-        let (number, _) = self.own.insert_full(node)?;
+        let offset = self.next_offset(&node);
+        let number = insert(&mut self.own, &mut self.offsets, node, offset)?;
         Ok(count + number)
     }
 
@@ -93,6 +133,7 @@ impl Nodes {
         let mut copy = Nodes {
             front: self.front.copy()?,
             own: IndexSet::with_capacity(alloc, self.own.len())?,
+            offsets: Vec::with_capacity(alloc, self.own.len())?,
         };
         while let Some(node) = self.get(copy.len()) {
             let parts = Vec::from_slice(alloc, node.parts.as_slice())?;
@@ -102,16 +143,18 @@ impl Nodes {
     }
 
     /// The same nodes, from now on in a place that copies share.
+    #[tactic(auto, using(crate::proofs::Offsets::none_behind, crate::proofs::Offsets::no_front))]
     pub fn shared(self, alloc: Global) -> Result<Nodes, AllocError>
         ensures { IfOk result (λ shared. shared ≡ self) }
     {
         if self.front.len() > 0 {
             return Ok(self);
         }
-        let Nodes { own, .. } = self;
+        let Nodes { own, offsets, .. } = self;
         Ok(Nodes {
-            front: Front::of(alloc, own)?,
+            front: Front::of(alloc, own, offsets)?,
             own: IndexSet::new(alloc),
+            offsets: Vec::new(alloc),
         })
     }
 
@@ -121,6 +164,8 @@ impl Nodes {
     {
         let count = self.front.len();
         self.front.cut(len);
-        self.own.truncate(len.saturating_sub(count));
+        let left = len.saturating_sub(count);
+        self.own.truncate(left);
+        self.offsets.truncate(left);
     }
 }

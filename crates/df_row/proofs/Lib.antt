@@ -1,4 +1,5 @@
 pub mod Rows
+pub mod Offsets
 pub mod RowEntries
 pub mod RowFold
 pub mod RowSums

@@ -68,7 +68,7 @@ without_zero row n e = with_same row n (pos 0) (sym e)
 more_zero : (row : Row) (n : ℕ) → with_more n (pos 0) row ≡ row
 more_zero row n = with_same row n (row.coefficient n +ℤ pos 0) (+ℤ_idr (row.coefficient n))
 
-constant_zero : (row : Row) → with_constant (pos 0) row ≡ row
+pub constant_zero : (row : Row) → with_constant (pos 0) row ≡ row
 constant_zero row = λ i. record { coefficient = row.coefficient; constant = +ℤ_idr row.constant i }
 
 term_zero : (term : Term) (row : Row) → with_term term (pos 0) row row ≡ row

@@ -6,6 +6,7 @@ use Rattle.std.specs.BTreeMap.{is_at}
 use Rattle.std.specs.Map.{lookup}
 use Rattle.df_form.specs.declared.node.Op.{Op}
 use Rattle.df_form.specs.declared.node.Op.TheVariants as ops
+use Rattle.df_form.specs.declared.offset.Offset.{Offset}
 use Rattle.df_form.specs.Node.{Node}
 use Rattle.df_row.specs.declared.row.Row as declared
 use Rattle.df_row.specs.declared.expansion.Term.{Term}
@@ -84,3 +85,11 @@ with_term (terms.Literal k) c unchanged row = with_constant (c *ℤ k) row
 with_term (terms.Sum a b) c unchanged row = with_more b c (with_more a c row)
 with_term (terms.Multiple k b) c unchanged row = with_more b (c *ℤ k) row
 with_term terms.Atom c unchanged row = unchanged
+
+-- the row with so many times a base, and with so many times a base and a number
+abbrev pub with_base : Option ℕ → ℤ → Row → Row
+with_base None c row = row
+with_base (Some base) c row = with_more base c row
+
+abbrev pub with_offset : Offset → ℤ → Row → Row
+with_offset offset c row = with_constant (c *ℤ offset.constant) (with_base offset.base c row)

@@ -3,11 +3,11 @@
 ghost use Rattle.std.specs.Prelude.{◌≡◌, ◌+ℤ◌, ℕ, slice_get, length, IfOk};
 ghost use Rattle.df_integer.specs.Integer.{value};
 ghost use Rattle.df_row.specs.Row.{without, with_more, with_constant, constant_row, literal_number, expanded_at, expanded_below, expanded_difference, narrow_row};
-ghost use Rattle.df_row.specs.RowView.{row_of, Finds, IsWithin, IsLastBelow, term_of};
+ghost use Rattle.df_row.specs.RowView.{row_of, Finds, IsWithin, IsLastBelow, term_of, with_base, with_offset};
 ghost use Rattle.df_row.specs.ExpansionView.{expansion_of};
 
-use crate::row::{Row, RowFault};
-use df_form::{Nodes, Op};
+use crate::row::{Row, RowFault, are_table};
+use df_form::{Nodes, Offset, Op};
 use df_integer::Integer;
 use std::alloc::{AllocError, Global};
 use std::collections::BTreeMap;
@@ -104,6 +104,31 @@ impl Expansion {
         Ok(())
     }
 
+    /// So many times the base more, if there is one.
+    fn add_base(
+        &mut self,
+        alloc: Global,
+        base: Option<usize>,
+        more: &Integer,
+    ) -> Result<(), AllocError>
+        ensures { IfOk result (λ _. expansion_of self.new ≡ with_base base (value more.now) (expansion_of self.old)) }
+    {
+        match base {
+            Some(node) => self.add(alloc, node, more),
+            None => Ok(()),
+        }
+    }
+
+    /// So many times the node more, by its base and its constant.
+    fn add_offset(&mut self, alloc: Global, offset: Offset, times: i128) -> Result<(), AllocError>
+        ensures { IfOk result (λ _. expansion_of self.new ≡ with_offset offset times (expansion_of self.old)) }
+    {
+        let times = Integer::of(times);
+        self.add_base(alloc, offset.base, &times)?;
+        let more = times.product(alloc, offset.constant)?;
+        self.add_constant(alloc, &more)
+    }
+
     /// Puts what a node stands for in its place.
     fn expand_at(&mut self, alloc: Global, nodes: &Nodes, node: usize) -> Result<(), AllocError>
         ensures { IfOk result (λ _. expansion_of self.new ≡ expanded_at nodes.now node (slice_get nodes.now node) (expansion_of self.old)) }
@@ -149,7 +174,7 @@ impl Expansion {
         Ok(())
     }
 
-    /// b - a + k.
+    /// b - a + k. It begins with the bases of the two, so a long chain of additions is one step.
     pub(crate) fn difference(
         alloc: Global,
         nodes: &Nodes,
@@ -159,9 +184,10 @@ impl Expansion {
     ) -> Result<Expansion, AllocError>
         ensures { IfOk result (λ sum. expansion_of sum ≡ expanded_difference nodes.now (length nodes.now) a b k) }
     {
+        are_table(nodes);
         let mut sum = Expansion::of_constant(alloc, k);
-        sum.add(alloc, b, &Integer::of(1))?;
-        sum.add(alloc, a, &Integer::of(-1))?;
+        sum.add_offset(alloc, nodes.offset(b), 1)?;
+        sum.add_offset(alloc, nodes.offset(a), -1)?;
         sum.expand(alloc, nodes)?;
         Ok(sum)
     }

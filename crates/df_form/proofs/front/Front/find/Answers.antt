@@ -10,20 +10,20 @@ shown nodes_in count place here searched now is all view = ap (take count) all �
 
 pub returns-in-Some-get_index_of-clause-found : goal.returns-in-Some-get_index_of-clause-found
 returns-in-Some-get_index_of-clause-found c =
-    let keys = c.deref.result.now.keys in
+    let keys = c.deref.result.now.nodes.keys in
     let number = c.in-Some-get_index_of.number in
-    let here = shown (λ set. map node_of set.value.keys) c.self.inside.count c.self.inside.shared c.in-Some.shared (map node_of keys) c.args.self.now c.in-Some.is (ap (λ set. map node_of set.keys) c.deref.ensures) c.self.view_is in
+    let here = shown (λ table. map node_of table.value.nodes.keys) c.self.inside.count c.self.inside.shared c.in-Some.shared (map node_of keys) c.args.self.now c.in-Some.is (ap (λ table. map node_of table.nodes.keys) c.deref.ensures) c.self.view_is in
     let found = found-front c.self.inside.count keys c.args.node.now number (sym c.in-Some-get_index_of.ensures.index) c.if-number-self.true in
     ap (λ nodes. slice_get nodes number) (sym here) ∙ found
 
 pub returns-in_default-clause-new : goal.returns-in_default-clause-new
 returns-in_default-clause-new c n at =
-    let keys = c.deref.result.now.keys in
-    let here = shown (λ set. map node_of set.value.keys) c.self.inside.count c.self.inside.shared c.in-Some.shared (map node_of keys) c.args.self.now c.in-Some.is (ap (λ set. map node_of set.keys) c.deref.ensures) c.self.view_is in
+    let keys = c.deref.result.now.nodes.keys in
+    let here = shown (λ table. map node_of table.value.nodes.keys) c.self.inside.count c.self.inside.shared c.in-Some.shared (map node_of keys) c.args.self.now c.in-Some.is (ap (λ table. map node_of table.nodes.keys) c.deref.ensures) c.self.view_is in
     past-front c.self.inside.count keys c.args.node.now c.in-Some-get_index_of.number (sym c.in-Some-get_index_of.ensures.index) c.if-number-self.false n (ap (λ nodes. slice_get nodes n) here ∙ at)
 
 pub returns-in_default-2-clause-new : goal.returns-in_default-2-clause-new
 returns-in_default-2-clause-new c n at =
-    let keys = c.deref.result.now.keys in
-    let here = shown (λ set. map node_of set.value.keys) c.self.inside.count c.self.inside.shared c.in-Some.shared (map node_of keys) c.args.self.now c.in-Some.is (ap (λ set. map node_of set.keys) c.deref.ensures) c.self.view_is in
+    let keys = c.deref.result.now.nodes.keys in
+    let here = shown (λ table. map node_of table.value.nodes.keys) c.self.inside.count c.self.inside.shared c.in-Some.shared (map node_of keys) c.args.self.now c.in-Some.is (ap (λ table. map node_of table.nodes.keys) c.deref.ensures) c.self.view_is in
     not-front c.self.inside.count keys c.args.node.now (sym c.in_default.ensures.index) n (ap (λ nodes. slice_get nodes n) here ∙ at)

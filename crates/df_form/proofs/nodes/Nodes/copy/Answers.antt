@@ -4,9 +4,10 @@ use Rattle.df_form.specs.Sorting.{IsTable}
 use Rattle.df_form.specs.Made.{made}
 use Rattle.df_form.proofs.Tables.{copied-next, copied-whole, table-take}
 use Rattle.df_form.proofs.Fronts.{copied-front}
+use Rattle.df_form.proofs.Offsets.{none_behind}
 use Rattle.df_form.proofs.nodes.Nodes.copy.Goals as goal
 
-begun : (c : goal.In_ok-with_capacity) → c.in_ok-copy.field-0 ++ map node_of c.in_ok-with_capacity.field-0.keys ≡ take (length (c.in_ok-copy.field-0 ++ map node_of c.in_ok-with_capacity.field-0.keys)) c.args.self.now
+begun : (c : goal.In_ok-with_capacity-2) → c.in_ok-copy.field-0 ++ map node_of c.in_ok-with_capacity.field-0.keys ≡ take (length (c.in_ok-copy.field-0 ++ map node_of c.in_ok-with_capacity.field-0.keys)) c.args.self.now
 begun c = copied-front c.args.self.now c.self.inside.front (map node_of c.self.inside.own.keys) c.in_ok-copy.field-0 (map node_of c.in_ok-with_capacity.field-0.keys) c.in_ok-copy.ensures (ap (map node_of) c.in_ok-with_capacity.ensures.empty) c.self.view_is
 
 pub invariant_of-copy : goal.invariant_of-copy
@@ -15,7 +16,7 @@ invariant_of-copy c =
     let count = length (c.in_ok-copy.field-0 ++ map node_of c.in_ok-with_capacity.field-0.keys) in
     let table = table-take nodes count (subst IsTable c.self.view_is c.self.invariant.0) in
     let small = subst (λ nodes. length nodes < 2 ^ 63) c.self.view_is c.self.invariant.1 in
-    (subst IsTable (sym (begun c)) table, omega (arith, ap length (begun c), length-take count nodes, small))
+    (subst IsTable (sym (begun c)) table, omega (arith, ap length (begun c), length-take count nodes, small), none_behind c.in_ok-copy.field-0 (map node_of c.in_ok-with_capacity.field-0.keys) c.in_ok-with_capacity-2.field-0.items (ap (map node_of) c.in_ok-with_capacity.ensures.empty) c.in_ok-with_capacity-2.ensures.items)
 
 pub loop-node-init : goal.loop-node-init
 loop-node-init c = record {
