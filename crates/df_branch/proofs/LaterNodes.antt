@@ -7,7 +7,7 @@ use Rattle.df_form.specs.Clause.{negation, are_literals}
 use Rattle.df_form.proofs.Values.{Grows, grown_get}
 use Rattle.df_clause.proofs.Running.{grown_from}
 use Rattle.df_clause.proofs.Literals.{literals_grown}
-use Rattle.df_cong.specs.Equal.{IsContradicted}
+use Rattle.df_classes.specs.Equal.{IsContradicted}
 use Rattle.df_cong.proofs.Growing.{contradicted_more_nodes}
 use Rattle.df_cong.proofs.LaterNodes.{later_nodes_add_none}
 use Rattle.df_closure.specs.Closure.{GroundClause, after}

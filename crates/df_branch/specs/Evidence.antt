@@ -17,7 +17,7 @@ use Rattle.df_closure.specs.Closure.{GroundClause, after, IsClosed, IsRefuted}
 use Rattle.df_closure.specs.Filled.{IsOpenClause, IsFilled}
 use Rattle.df_level.specs.Elimination.{AreRefuted, IsElimination}
 use Rattle.df_rules.specs.Connective.{Added, connective_line}
-use Rattle.df_cong.specs.Equal.{IsContradicted}
+use Rattle.df_classes.specs.Equal.{IsContradicted}
 use Rattle.df_branch.specs.Splits.{IsSplit}
 use Rattle.df_branch.specs.TermPair.{IsTermEquality}
 

@@ -14,7 +14,7 @@ use Rattle.df_clause.specs.declared.ground.Ground.{Ground}
 use Rattle.df_clause.specs.GroundView.{IsGround, state_of}
 use Rattle.df_table.specs.TableModel.{IsTableModel}
 use Rattle.df_cong.specs.declared.answer.Reason.{Reason}
-use Rattle.df_cong.specs.Equal.{IsContradicted}
+use Rattle.df_classes.specs.Equal.{IsContradicted}
 use Rattle.df_cong.specs.Theory.{IsReason}
 use Rattle.df_closure.specs.Closure.{GroundClause, after, IsClosed, IsRefuted}
 use Rattle.df_closure.specs.Filled.{IsFilled}

@@ -1,10 +1,11 @@
 //! The propositional half of the engine: clauses with what derives each, the literals that they watch,
-//! the trail, the order of decisions, and what the analysis of a conflict meets. Nothing is proved of it
-//! but that it is safe and ends.
+//! the trail, the order of decisions, what the analysis of a conflict meets, and which instances of schemas
+//! were asked for. Nothing is proved of it but that it is safe and ends.
 #![tactic(auto)]
 
 mod analysis;
 mod book;
+mod instances;
 mod literal;
 mod order;
 mod trail;
@@ -12,6 +13,7 @@ mod watching;
 
 pub use analysis::Analysis;
 pub use book::{Book, Clause, Instance, Origin};
+pub use instances::{Asked, Instances};
 pub use literal::Literal;
 pub use order::Order;
 pub use trail::{Assignment, GROUND, Reason, Trail};

@@ -7,14 +7,14 @@ use Rattle.df_form.specs.Sorting.{is_formula}
 use Rattle.df_form.specs.Clause.{negation, are_literals}
 use Rattle.df_rules.specs.Congruence.{IsCongruence}
 use Rattle.df_cong.specs.declared.answer.Reason.{Reason}
-use Rattle.df_cong.specs.declared.holding.Holding.{Holding}
-use Rattle.df_cong.specs.Equal.{IsContradicted}
+use Rattle.df_classes.specs.declared.holding.Holding.{Holding}
+use Rattle.df_classes.specs.Equal.{IsContradicted}
 use Rattle.df_cong.specs.Theory.{IsReason}
-use Rattle.df_cong.specs.HoldingView.{IsHolding}
-use Rattle.df_cong.specs.PartitionView.{state_of}
-use Rattle.df_cong.specs.mirror.State.{label_of}
-use Rattle.df_cong.specs.mirror.Clash.{clash, AreNumbers}
-use Rattle.df_cong.proofs.Clashes.{line_there, quiet}
+use Rattle.df_classes.specs.HoldingView.{IsHolding}
+use Rattle.df_classes.specs.PartitionView.{state_of}
+use Rattle.df_classes.specs.mirror.State.{label_of}
+use Rattle.df_classes.specs.mirror.Clash.{clash, AreNumbers}
+use Rattle.df_classes.proofs.Clashes.{line_there, quiet}
 
 module _ (nodes : List Node) (numbers : List ℕ) (h : Holding) (is : IsHolding nodes h.held.items h.levels.items h.partition) where
   pub is_reason : are_literals nodes h.held.items ≡ true → true ≡ clash nodes (label_of (state_of h.partition)) numbers h.held.items → (reason : Reason) → reason.literals.items ≡ h.held.items → reason.pairs.items ≡ h.partition.pairs.items → IsReason nodes h.held.items reason

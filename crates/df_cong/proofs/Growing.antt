@@ -14,10 +14,10 @@ use Rattle.df_form.proofs.Values.{Grows, grown_get}
 use Rattle.df_row.specs.Row.{number_of_op}
 use Rattle.df_rules.specs.Congruence.{sides_of, equality, negative_equality, negative_equalities}
 use Rattle.df_cong.specs.declared.answer.Reason.{Reason}
-use Rattle.df_cong.specs.Equal.{AreEqual, AreAllEqual, named, itself, turned, through, applied, none, both, IsContradicted, equals, opposites, numbers}
+use Rattle.df_classes.specs.Equal.{AreEqual, AreAllEqual, named, itself, turned, through, applied, none, both, IsContradicted, equals, opposites, numbers}
 use Rattle.df_cong.specs.Theory.{IsReason}
 use Rattle.df_cong.specs.Laws.{ContradictionsStay}
-use Rattle.df_cong.proofs.Pairs.{AllAmong}
+use Rattle.df_classes.proofs.Pairs.{AllAmong}
 use Rattle.df_cong.proofs.Lines.{lines_are_contradictions}
 
 -- ---- lists

@@ -19,12 +19,12 @@ use Rattle.df_form.specs.Sorting.{IsTable, is_formula, sort_at}
 use Rattle.df_form.proofs.Values.{Grows, parts_below}
 use Rattle.df_row.specs.Row.{number_of_op, literal_number}
 use Rattle.df_rules.specs.Congruence.{sides_of, equality, negative_equality, negative_equalities}
-use Rattle.df_cong.specs.Equal.{AreEqual, turned, IsContradicted, equals, opposites, numbers}
+use Rattle.df_classes.specs.Equal.{AreEqual, turned, IsContradicted, equals, opposites, numbers}
 use Rattle.df_cong.specs.Laws.{LaterNodesAddNone}
-use Rattle.df_cong.proofs.Clashes.{negations_are}
+use Rattle.df_classes.proofs.Clashes.{negations_are}
 use Rattle.df_cong.proofs.Growing.{there_filtered, begins_grows}
 use Rattle.df_cong.proofs.OneLater.{PartsAre, IsLike, Meets, same, old, left, right, old_of, meets}
-use Rattle.df_cong.proofs.Parts.{all_at}
+use Rattle.df_classes.proofs.Parts.{all_at}
 
 -- the sides of an equality are its parts
 sides_are : (op : Op) (parts : List ℕ) (pair : Pair) → sides_of op parts ≡ Some pair → Contains parts pair.left × Contains parts pair.right

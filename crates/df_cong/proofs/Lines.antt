@@ -6,9 +6,9 @@ use Rattle.df_form.specs.Clause.{Clause, are_literals}
 use Rattle.df_rules.specs.Classes.{InOneClass}
 use Rattle.df_rules.specs.Congruence.{negative_equalities, Closes, IsCongruence}
 use Rattle.df_rules.specs.Congruence as kern
-use Rattle.df_cong.specs.Equal.{IsContradicted, equals, opposites, numbers}
+use Rattle.df_classes.specs.Equal.{IsContradicted, equals, opposites, numbers}
 use Rattle.df_cong.specs.Laws.{HasLine, LinesAreContradictions}
-use Rattle.df_cong.proofs.Pairs.{HasPairs, pairs_of, AllEqual, class_equal, pairs_equal}
+use Rattle.df_classes.proofs.Pairs.{HasPairs, pairs_of, AllEqual, class_equal, pairs_equal}
 
 module _ (nodes : List Node) (clause : Clause) (literals : are_literals nodes clause ≡ true) where
   line_by : (a b : ℕ) → HasPairs nodes (negative_equalities nodes clause) a b

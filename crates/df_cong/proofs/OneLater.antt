@@ -5,7 +5,7 @@ use Rattle.std.proofs.lemmas.Option.{slice_get_within}
 use Rattle.df_lemmas.proofs.Lists.{get_pushed}
 use Rattle.df_form.specs.declared.log.Pair.{Pair}
 use Rattle.df_form.specs.Node.{Node}
-use Rattle.df_cong.specs.Equal.{AreEqual, AreAllEqual, named, itself, turned, through, applied, none, both}
+use Rattle.df_classes.specs.Equal.{AreEqual, AreAllEqual, named, itself, turned, through, applied, none, both}
 
 -- ---- parts that are equal
 

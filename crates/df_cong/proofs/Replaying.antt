@@ -14,19 +14,19 @@ use Rattle.df_rules.specs.Classes.{InOneClass, named, itself, turned, through}
 use Rattle.df_rules.specs.Congruence.{IsCongruence}
 use Rattle.df_rules.specs.CongruenceLine.{is_congruent}
 use Rattle.df_rules.proofs.OneClass.{wider}
-use Rattle.df_cong.specs.HoldingView.{held_equalities, equality_held}
-use Rattle.df_cong.specs.mirror.State.{State, label_of, alone}
-use Rattle.df_cong.specs.mirror.Partition.{IsPartition}
-use Rattle.df_cong.specs.mirror.Closure.{CanJoin, Joins}
-use Rattle.df_cong.specs.mirror.Clash.{clash}
+use Rattle.df_classes.specs.HoldingView.{held_equalities, equality_held}
+use Rattle.df_classes.specs.mirror.State.{State, label_of, alone}
+use Rattle.df_classes.specs.mirror.Partition.{IsPartition}
+use Rattle.df_classes.specs.mirror.Closure.{CanJoin, Joins}
+use Rattle.df_classes.specs.mirror.Clash.{clash}
 use Rattle.df_cong.specs.mirror.Replay.{AreFrom, AreTogether, CanUnite, Unites, UnitesAlike}
-use Rattle.df_cong.proofs.Pairs.{AllAmong, congruents_join}
-use Rattle.df_cong.proofs.Alike.{alike_tested}
-use Rattle.df_cong.proofs.StillClosed.{congruent_alike, equal_joined, linked}
-use Rattle.df_cong.proofs.Starting.{own_label}
-use Rattle.df_cong.proofs.Levels.{equalities_pushed}
-use Rattle.df_cong.proofs.Parts.{all_at}
-use Rattle.df_cong.proofs.Clashes.{negations_are, clash_closes}
+use Rattle.df_classes.proofs.Pairs.{AllAmong, congruents_join}
+use Rattle.df_classes.proofs.Alike.{alike_tested}
+use Rattle.df_classes.proofs.StillClosed.{congruent_alike, equal_joined, linked}
+use Rattle.df_classes.proofs.Starting.{own_label}
+use Rattle.df_classes.proofs.Levels.{equalities_pushed}
+use Rattle.df_classes.proofs.Parts.{all_at}
+use Rattle.df_classes.proofs.Clashes.{negations_are, clash_closes}
 
 -- ---- literals that are among others
 

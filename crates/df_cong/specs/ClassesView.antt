@@ -3,12 +3,12 @@ use Rattle.std.specs.Prelude.{◌≡◌, ℕ, true, List}
 use Rattle.df_form.specs.declared.log.Lit.{Lit}
 use Rattle.df_form.specs.Node.{Node}
 use Rattle.df_form.specs.Clause.{are_literals}
-use Rattle.df_cong.specs.declared.holding.Holding.{Holding}
-use Rattle.df_cong.specs.declared.signs.Signs.{Signs}
-use Rattle.df_cong.specs.HoldingView.{IsHolding}
-use Rattle.df_cong.specs.SignsView.{IsCovered}
-use Rattle.df_cong.specs.mirror.Closure.{AreUsers}
-use Rattle.df_cong.specs.mirror.Clash.{AreNumbers}
+use Rattle.df_classes.specs.declared.holding.Holding.{Holding}
+use Rattle.df_classes.specs.declared.signs.Signs.{Signs}
+use Rattle.df_classes.specs.HoldingView.{IsHolding}
+use Rattle.df_classes.specs.SignsView.{IsCovered}
+use Rattle.df_classes.specs.mirror.Closure.{AreUsers}
+use Rattle.df_classes.specs.mirror.Clash.{AreNumbers}
 
 -- the nodes, and the literals that are held
 pub record Held : Type 0 where

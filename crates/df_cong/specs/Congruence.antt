@@ -5,9 +5,9 @@ use Rattle.df_form.specs.Node.{Node}
 use Rattle.df_form.specs.Clause.{negation}
 use Rattle.df_cong.specs.declared.answer.Congruence.{Congruence}
 use Rattle.df_cong.specs.declared.answer.Congruence.TheVariants as told
-use Rattle.df_cong.specs.Equal.{IsContradicted}
-use Rattle.df_cong.specs.Labels.{AreLabels}
-use Rattle.df_cong.specs.HoldingView.{held_equalities}
+use Rattle.df_classes.specs.Equal.{IsContradicted}
+use Rattle.df_classes.specs.Labels.{AreLabels}
+use Rattle.df_classes.specs.HoldingView.{held_equalities}
 use Rattle.df_cong.specs.Theory.{IsReason}
 
 -- what is no node has a label of its own

@@ -1,10 +1,5 @@
-pub mod Equal
-pub mod Labels
 pub mod Laws
 pub mod Theory
-pub mod PartitionView
-pub mod HoldingView
-pub mod SignsView
 pub mod ClassesView
 pub mod Congruence
 pub mod mirror

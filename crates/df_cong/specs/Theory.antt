@@ -7,7 +7,7 @@ use Rattle.df_rules.specs.Congruence.{IsCongruence}
 use Rattle.df_cong.specs.declared.answer.Reason.{Reason}
 use Rattle.df_cong.specs.declared.answer.Answer.{Answer}
 use Rattle.df_cong.specs.declared.answer.Answer.TheVariants as answers
-use Rattle.df_cong.specs.Equal.{IsContradicted}
+use Rattle.df_classes.specs.Equal.{IsContradicted}
 
 -- A line of congruence has just the negations of some held literals in its clause.
 pub record IsReason (nodes : List Node) (held : List Lit) (reason : Reason) : Type 0 where

@@ -1,8 +1,1 @@
-pub mod State
-pub mod Partition
-pub mod Closure
-pub mod Steps
-pub mod Clash
-pub mod Users
 pub mod Replay
-pub mod Signs

@@ -6,30 +6,15 @@ ghost use Rattle.std.specs.List.{list_any};
 ghost use Rattle.std.specs.Ordering.{nat_cmp};
 ghost use Rattle.std.specs.BTreeSet.{contains};
 ghost use Rattle.std.specs.BTreeMap.{get};
-ghost use Rattle.df_rules.specs.Congruence.{equality};
-ghost use Rattle.df_rules.specs.CongruenceLine.{is_paired, has_positive, has_opposites as has_opposites_in, number_at, number_in, are_different, has_two_numbers as has_two_numbers_in};
-ghost use Rattle.df_cong.specs.mirror.State.{label_of};
-ghost use Rattle.df_cong.specs.mirror.Clash.{is_denied as is_denied_in, has_denied as has_denied_in, clash, AreNumbers};
-ghost use Rattle.df_cong.specs.PartitionView.{state_of};
+ghost use Rattle.df_rules.specs.CongruenceLine.{has_positive, has_opposites as has_opposites_in, number_at, number_in, are_different, has_two_numbers as has_two_numbers_in};
+ghost use Rattle.df_classes.specs.mirror.State.{label_of};
+ghost use Rattle.df_classes.specs.mirror.Clash.{has_denied as has_denied_in, clash, AreNumbers};
+ghost use Rattle.df_classes.specs.PartitionView.{state_of};
 
-use crate::holding::sides;
-use crate::partition::Partition;
-use df_form::{Lit, Nodes, Op};
+use df_classes::{Partition, is_denied, number};
+use df_form::{Lit, Nodes};
 use std::alloc::{AllocError, Global};
 use std::collections::{BTreeMap, BTreeSet};
-
-/// Whether a literal denies an equality whose sides have one label.
-pub(crate) fn is_denied(nodes: &Nodes, partition: &Partition, literal: Lit) -> bool
-    ensures { result ≡ is_denied_in nodes.now (label_of (state_of partition.now)) literal }
-{
-    if literal.positive {
-        return false;
-    }
-    match sides(nodes, literal.node) {
-        Some(pair) => partition.label(pair.left) == partition.label(pair.right),
-        None => false,
-    }
-}
 
 /// Whether one of some literals does.
 fn has_denied(nodes: &Nodes, partition: &Partition, literals: &[Lit]) -> bool
@@ -91,16 +76,6 @@ fn has_opposites(alloc: Global, partition: &Partition, literals: &[Lit]) -> Resu
 {
     let positives = positives(alloc, partition, literals)?;
     Ok(has_opposite(partition, &positives, literals))
-}
-
-/// The number that a node is.
-pub(crate) fn number(nodes: &Nodes, node: usize) -> Option<i128>
-    ensures { result ≡ number_at nodes.now node }
-{
-    match nodes.get(node)?.op {
-        Op::Number(k) => Some(k),
-        _ => None,
-    }
 }
 
 /// All nodes that are numbers.

@@ -1,26 +1,22 @@
 //! Classes of equal nodes, for the literals that are held.
 
-ghost use Rattle.std.specs.Prelude.{◌≡◌, ◌≤◌, ◌∷◌, ◌++◌, [], true, length, map, take, IfOk, OnOk, OnErr};
-ghost use Rattle.df_form.specs.Clause.{negation, are_literals};
+ghost use Rattle.std.specs.Prelude.{◌≡◌, ◌≤◌, ◌∷◌, ◌++◌, [], true, length, take, IfOk, OnOk, OnErr};
+ghost use Rattle.df_form.specs.Clause.{are_literals};
 ghost use Rattle.df_form.specs.Sorting.{is_formula};
-ghost use Rattle.df_cong.specs.Equal.{IsContradicted};
 ghost use Rattle.df_cong.specs.Theory.{IsAnswer};
-ghost use Rattle.df_cong.specs.HoldingView.{IsHolding};
+ghost use Rattle.df_classes.specs.HoldingView.{IsHolding};
 ghost use Rattle.df_cong.specs.ClassesView.{Held, IsClasses};
-ghost use Rattle.df_cong.specs.SignsView.{Came, IsCovered};
-ghost use Rattle.df_cong.specs.mirror.Clash.{clash, AreNumbers};
-ghost use Rattle.df_cong.specs.mirror.Closure.{AreUsers};
-ghost use Rattle.df_cong.specs.mirror.State.{label_of};
-ghost use Rattle.df_cong.specs.PartitionView.{state_of};
+ghost use Rattle.df_classes.specs.SignsView.{Came, IsCovered};
+ghost use Rattle.df_classes.specs.mirror.Clash.{clash, AreNumbers};
+ghost use Rattle.df_classes.specs.mirror.Closure.{AreUsers};
+ghost use Rattle.df_classes.specs.mirror.State.{label_of};
+ghost use Rattle.df_classes.specs.PartitionView.{state_of};
 
 use crate::answer::{Answer, Mark};
 use crate::clash::{do_clash, numbers};
-use crate::holding::Holding;
-use crate::lists::Lists;
 use crate::reason::{short_reason, whole_reason};
-use crate::signs::Signs;
 use crate::theory::Theory;
-use crate::users::users_of;
+use df_classes::{Holding, Lists, Signs, first_signs, is_surely_quiet, users_of};
 use df_form::{Lit, Nodes};
 use std::alloc::{AllocError, Global};
 use std::marker::Model;
@@ -83,58 +79,6 @@ pub(crate) fn answer_for(
     }
 }
 
-/// Whether held literals surely do not clash, where the last of so many came when there were so many changes,
-/// and all before it are covered. It goes over what changed since then.
-fn takes_last(
-    nodes: &Nodes,
-    users: &Lists,
-    holding: &Holding,
-    signs: &mut Signs,
-    from: usize,
-    literal: Lit,
-    held: usize,
-) -> Result<bool, AllocError>
-    requires holding { IsHolding nodes.now holding.now.held.items holding.now.levels.items holding.now.partition }
-    requires users { AreUsers nodes.now users.now }
-    requires literals { are_literals nodes.now holding.now.held.items ≡ true }
-    requires came { Came holding.now literal from }
-    requires covered { IsCovered nodes.now holding.now signs.old }
-    requires all { signs.old.covered ≡ held }
-    requires count { held ≡ length holding.now.held.items }
-    ensures quiet { IfOk result (λ yes. yes ≡ true → IsContradicted nodes.now (map negation holding.now.held.items) → ⊥) }
-    ensures covered { IsCovered nodes.now holding.now signs.new }
-{
-    if !signs.take_in(nodes, users, &holding.partition, from, literal, held)? {
-        return Ok(false);
-    }
-    signs.covered = holding.held.len() + 1;
-    Ok(true)
-}
-
-/// Whether held literals surely do not clash, where the last of them came when there were so many changes.
-fn is_surely_quiet(
-    nodes: &Nodes,
-    users: &Lists,
-    holding: &Holding,
-    signs: &mut Signs,
-    from: usize,
-    literal: Lit,
-) -> Result<bool, AllocError>
-    requires holding { IsHolding nodes.now holding.now.held.items holding.now.levels.items holding.now.partition }
-    requires users { AreUsers nodes.now users.now }
-    requires literals { are_literals nodes.now holding.now.held.items ≡ true }
-    requires came { Came holding.now literal from }
-    requires covered { IsCovered nodes.now holding.now signs.old }
-    ensures quiet { IfOk result (λ yes. yes ≡ true → IsContradicted nodes.now (map negation holding.now.held.items) → ⊥) }
-    ensures covered { IsCovered nodes.now holding.now signs.new }
-{
-    let held = holding.held.len();
-    if signs.covered == held {
-        return takes_last(nodes, users, holding, signs, from, literal, held);
-    }
-    Ok(false)
-}
-
 /// What held literals come to, where the last of them came when there were so many changes.
 fn answer_after(
     alloc: Global,
@@ -194,26 +138,6 @@ fn assert_on(
             Err(error)
         }
     }
-}
-
-/// What is known of the classes of no literals.
-fn first_signs(
-    alloc: Global,
-    nodes: &Nodes,
-    numbers: &[usize],
-    holding: &Holding,
-) -> Result<Signs, AllocError>
-    requires holding { IsHolding nodes.now holding.now.held.items holding.now.levels.items holding.now.partition }
-    requires held { holding.now.held.items ≡ [] }
-    requires numbers { AreNumbers nodes.now numbers.now }
-    ensures { IfOk result (λ signs. IsCovered nodes.now holding.now signs) }
-{
-    let mut signs = Signs::none(alloc, nodes.len())?;
-    if !signs.put_numbers(nodes, &holding.partition, numbers)? {
-        return Ok(signs);
-    }
-    signs.covered = 1;
-    Ok(signs)
 }
 
 impl Classes {

@@ -1,8 +1,6 @@
 //! Where held literals clash by the labels of their nodes.
 
-use crate::clash::{is_denied, number};
-use crate::holding::sides;
-use crate::partition::Partition;
+use df_classes::{Partition, is_denied, number, sides};
 use df_form::{Lit, Nodes, Pair};
 use std::alloc::{AllocError, Global};
 use std::collections::BTreeMap;

@@ -3,13 +3,12 @@
 ghost use Rattle.std.specs.Prelude.{◌≡◌, true, IfOk};
 ghost use Rattle.df_form.specs.Clause.{are_literals};
 ghost use Rattle.df_cong.specs.Congruence.{TellsCongruence};
-ghost use Rattle.df_cong.specs.HoldingView.{IsHolding};
+ghost use Rattle.df_classes.specs.HoldingView.{IsHolding};
 
 use crate::answer::{Answer, Congruence};
 use crate::clash::numbers;
 use crate::classes::answer_for;
-use crate::holding::Holding;
-use crate::users::users_of;
+use df_classes::{Holding, users_of};
 use df_form::{Lit, Nodes};
 use std::alloc::{AllocError, Global};
 

@@ -6,7 +6,7 @@ ghost use Rattle.df_cong.specs.mirror.Replay.{AreFrom};
 use crate::answer::Reason;
 use crate::collision::Collision;
 use crate::forest::{Cause, Forest, Merge, merges_of};
-use crate::holding::Holding;
+use df_classes::Holding;
 use df_form::{Lit, Nodes, Pair};
 use std::alloc::{AllocError, Global};
 

@@ -1,7 +1,6 @@
 //! The merges that led to classes, as trees of nodes.
 
-use crate::holding::{Holding, Level, sides};
-use crate::lists::Lists;
+use df_classes::{Holding, Level, Lists, sides};
 use df_form::{Lit, Nodes, Pair};
 use std::alloc::{AllocError, Global};
 

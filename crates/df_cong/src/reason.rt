@@ -7,8 +7,8 @@ ghost use Rattle.df_cong.specs.Theory.{IsReason};
 use crate::answer::Reason;
 use crate::collision::{Collision, find_collision};
 use crate::explaining::explanation;
-use crate::holding::Holding;
 use crate::replay::is_line;
+use df_classes::Holding;
 use df_form::Nodes;
 use std::alloc::{AllocError, Global};
 

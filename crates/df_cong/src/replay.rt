@@ -3,16 +3,13 @@
 ghost use Rattle.std.specs.Prelude.{◌≡◌, ◌∷◌, [], true, length, map, IfOk, OnOk};
 ghost use Rattle.df_form.specs.Clause.{negation, are_literals};
 ghost use Rattle.df_rules.specs.Congruence.{IsCongruence};
-ghost use Rattle.df_cong.specs.HoldingView.{held_equalities, equality_held};
-ghost use Rattle.df_cong.specs.PartitionView.{state_of};
-ghost use Rattle.df_cong.specs.mirror.Partition.{IsPartition};
+ghost use Rattle.df_classes.specs.HoldingView.{held_equalities, equality_held};
+ghost use Rattle.df_classes.specs.PartitionView.{state_of};
+ghost use Rattle.df_classes.specs.mirror.Partition.{IsPartition};
 ghost use Rattle.df_cong.specs.mirror.Replay.{CanUnite, Unites, UnitesAlike};
 
 use crate::clash::do_clash;
-use crate::closing::{are_alike, join};
-use crate::holding::sides;
-use crate::lists::Lists;
-use crate::partition::Partition;
+use df_classes::{Lists, Partition, are_alike, join, sides};
 use df_form::{Lit, Nodes, Pair};
 use std::alloc::{AllocError, Global};
 

@@ -7,16 +7,19 @@ use df_simplex::{Derivation, Need};
 use df_theory::{Explained, Facts};
 use std::alloc::AllocError;
 
-impl<'a> State<'a> {
-    fn facts(&self) -> Facts<'_> {
-        Facts {
-            alloc: self.alloc,
-            variables: &self.variables,
-            theory: &self.theory,
-            trail: &self.solver.trail,
-        }
+/// What is true, as explanations see it.
+fn facts_of<'a>(state: &'a State<'a>) -> Facts<'a> {
+    Facts {
+        alloc: state.alloc,
+        terms: &state.terms,
+        variables: &state.variables,
+        theory: &state.theory,
+        trail: &state.solver.trail,
+        book: &state.solver.book,
     }
+}
 
+impl<'a> State<'a> {
     /// Adds a clause that arithmetic shows. Its number.
     fn add_explained(&mut self, explained: Option<Explained>) -> Result<Option<usize>, AllocError> {
         match explained {
@@ -50,7 +53,7 @@ impl<'a> State<'a> {
         &mut self,
         derivations: &[Derivation],
     ) -> Result<Option<usize>, AllocError> {
-        let explained = self.facts().conflict(derivations)?;
+        let explained = facts_of(&*self).conflict(derivations)?;
         self.add_explained(explained)
     }
 
@@ -61,7 +64,7 @@ impl<'a> State<'a> {
         number: usize,
         place: usize,
     ) -> Result<Option<usize>, AllocError> {
-        let explained = self.facts().implication(literal, number, place)?;
+        let explained = facts_of(&*self).implication(literal, number, place)?;
         self.add_explained(explained)
     }
 

@@ -1,6 +1,5 @@
 //! Instances of schemas come into the book: their patterns and clauses are templates.
 
-use crate::instances::Asked;
 use crate::state::State;
 use df_axiom::{
     CODE_OF_CHARACTER, FACTOR_GOES_IN, FACTORS_CHANGE, FACTORS_JOIN, LITERAL_COMES_FIRST, Need,
@@ -8,7 +7,7 @@ use df_axiom::{
     REMAINDER_BELOW_OPPOSITE, SchemaRow, Source, Template, Test, begins_with, rows,
     schema_template,
 };
-use df_clauses::{Instance, Literal, Origin};
+use df_clauses::{Asked, Instance, Literal, Origin};
 use df_form::Op;
 use df_theory::{Made, Shape};
 use std::alloc::AllocError;

@@ -7,7 +7,6 @@ mod analyzing;
 mod classing;
 mod defining;
 mod explaining;
-mod instances;
 mod instantiating;
 mod kept;
 mod normalizing;
@@ -16,6 +15,5 @@ mod state;
 mod units;
 
 pub use analyzing::Lesson;
-pub use instances::Instances;
 pub use kept::Kept;
 pub use state::State;

@@ -1,8 +1,7 @@
 //! The state of the engine, its variables and its clauses.
 
-use crate::instances::Instances;
 use crate::kept::Kept;
-use df_clauses::{GROUND, Literal, Origin, Reason, Solver};
+use df_clauses::{GROUND, Instances, Literal, Origin, Reason, Solver};
 use df_egraph::Graph;
 use df_form::Sequent;
 use df_simplex::{Cause, Check, Need, Side};

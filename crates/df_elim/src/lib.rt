@@ -1,4 +1,4 @@
-//! Elimination of variables from rows of linear arithmetic, level after level.
+//! Fourier-Motzkin elimination of all variables from rows of linear arithmetic, level after level.
 #![tactic(auto)]
 
 mod elimination;

@@ -42,7 +42,7 @@ impl Made {
 }
 
 /// What the node of a number is, where clauses could make one like it.
-pub fn made_like(nodes: &Nodes, number: usize) -> Option<Made> {
+pub(crate) fn made_like(nodes: &Nodes, number: usize) -> Option<Made> {
     let node = nodes.get(number)?;
     match (node.op, node.parts.as_slice()) {
         (Op::Number(number), _) => Some(Made::Number(number)),

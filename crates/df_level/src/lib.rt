@@ -1,4 +1,4 @@
-//! The search's linear arithmetic: sparse rows, and variables eliminated from them.
+//! The search's linear arithmetic: sparse rows, and one level of Fourier-Motzkin elimination.
 #![tactic(auto)]
 
 mod division;

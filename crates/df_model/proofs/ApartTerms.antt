@@ -18,7 +18,7 @@ use Rattle.df_form.proofs.Drafts.{sort_here}
 use Rattle.df_form.proofs.Same.{same_sort_equal}
 use Rattle.df_form.proofs.Values.{Grows, grown_get, AreSorted, parts_below, parts_taken}
 use Rattle.df_cong.specs.Congruence.{label_at}
-use Rattle.df_cong.specs.Labels.{HaveOneLabel}
+use Rattle.df_classes.specs.Labels.{HaveOneLabel}
 use Rattle.df_table.specs.TableModel.{number_at}
 use Rattle.df_model.specs.TableNumbers.{number_of_truth, Basis, basis_of, first_factor, number_by}
 use Rattle.df_model.specs.Tabulation.{IsWholeTable}

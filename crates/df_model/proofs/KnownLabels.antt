@@ -11,7 +11,7 @@ use Rattle.df_form.specs.Clause.{yes, same_literal, negation, is_among}
 use Rattle.df_meaning.specs.Value.{same_truth}
 use Rattle.df_rules.specs.Congruence.{equality, negative_equality}
 use Rattle.df_rules.proofs.SoundClauses.{same_literal_is}
-use Rattle.df_cong.specs.HoldingView.{held_equalities}
+use Rattle.df_classes.specs.HoldingView.{held_equalities}
 use Rattle.df_model.specs.TableNumbers.{has_true}
 
 first_there : {A : Type 0} (x : A) (xs : List A) → Contains (x ∷ xs) x

@@ -23,7 +23,7 @@ use Rattle.df_meaning.specs.Value.{same_truth}
 use Rattle.df_row.specs.Value.{rows_hold}
 use Rattle.df_rules.specs.Congruence.{equality, sides_of}
 use Rattle.df_cong.specs.Congruence.{label_at}
-use Rattle.df_cong.specs.Equal.{opposites, equals}
+use Rattle.df_classes.specs.Equal.{opposites, equals}
 use Rattle.df_closure.specs.Full.{is_primitive, ArePrimitivesTrue}
 use Rattle.df_closure.specs.Comparisons.{AreComparisonsTrue}
 use Rattle.df_closure.proofs.Atoms.{two_below}

@@ -12,7 +12,7 @@ use Rattle.df_form.specs.Sorting.{sort_at}
 use Rattle.df_form.specs.Clause.{yes, no, is_among}
 use Rattle.df_form.proofs.Values.{Grows, grown_get, grown_length, grown_sort, AreSorted}
 use Rattle.df_cong.specs.Congruence.{label_at}
-use Rattle.df_cong.specs.Labels.{HaveOneLabel}
+use Rattle.df_classes.specs.Labels.{HaveOneLabel}
 use Rattle.df_closure.specs.Comparisons.{equal}
 use Rattle.df_table.specs.TableModel.{number_at, is_true}
 use Rattle.df_table.specs.Disagreement.{Disagree}

@@ -7,7 +7,7 @@ use Rattle.std.proofs.lemmas.List.{length-map}
 use Rattle.std.proofs.lemmas.Option.{same_Some, none-some}
 use Rattle.df_form.specs.declared.log.Pair.{Pair}
 use Rattle.df_form.specs.Node.{Node}
-use Rattle.df_cong.specs.Labels.{HaveOneLabel}
+use Rattle.df_classes.specs.Labels.{HaveOneLabel}
 use Rattle.df_table.specs.TableModel.{number_at}
 use Rattle.df_table.specs.Disagreement.{Disagree}
 use Rattle.df_model.specs.Tabulation.{IsApart, of_parts, of_terms, unlike}

@@ -7,7 +7,7 @@ use Rattle.df_form.specs.Node.{Node}
 use Rattle.df_row.specs.Row.{fits}
 use Rattle.df_table.specs.TableModel.{number_at, Agree}
 use Rattle.df_table.specs.Disagreement.{Disagree}
-use Rattle.df_cong.specs.Labels.{HaveOneLabel}
+use Rattle.df_classes.specs.Labels.{HaveOneLabel}
 use Rattle.df_model.specs.TableNumbers.{Basis, is_summed, first_factor, number_in}
 use Rattle.df_model.specs.declared.tabulation.Tabulation.{Tabulation}
 use Rattle.df_model.specs.declared.tabulation.Tabulation.TheVariants as answers

@@ -19,7 +19,7 @@ use Rattle.df_logbuild.specs.Runs.{Runs}
 use Rattle.df_trail.specs.Trail.{branch_of}
 use Rattle.df_clause.specs.Among.{Among}
 use Rattle.df_cong.specs.declared.answer.Reason.{Reason}
-use Rattle.df_cong.specs.Equal.{IsContradicted}
+use Rattle.df_classes.specs.Equal.{IsContradicted}
 use Rattle.df_cong.proofs.Growing.{reason_contradicts}
 use Rattle.df_branch.specs.Evidence.{IsOfEquality, IsShut, by_congruence, by_rows, IsBranch}
 use Rattle.df_branch.specs.Place.{IsPlace}

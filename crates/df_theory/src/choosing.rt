@@ -1,11 +1,12 @@
 //! Which bounds and which literals an explanation takes: of those that suffice the ones of the lowest
 //! level, and of these the weakest.
 
-use crate::explanation::Used;
+use crate::explanation::{Row, Used};
 use crate::forms::Meaning;
 use crate::theory::Theory;
 use crate::variables::Variables;
-use df_clauses::{Literal, Trail};
+use df_clauses::{Book, Literal, Origin, Reason, Trail};
+use df_index::{Shape, Terms};
 use df_simplex::{Cause, Side};
 use std::alloc::Global;
 
@@ -13,9 +14,11 @@ use std::alloc::Global;
 #[derive(Clone, Copy)]
 pub struct Facts<'a> {
     pub alloc: Global,
+    pub terms: &'a Terms<'a>,
     pub variables: &'a Variables,
     pub theory: &'a Theory,
     pub trail: &'a Trail,
+    pub book: &'a Book,
 }
 
 /// A true literal that gives a bound.
@@ -77,14 +80,52 @@ impl<'a> Facts<'a> {
             variable,
             positive: assignment.positive,
         };
+        let used = Used {
+            literal,
+            row: Row::Only,
+            divisor: atom.divisor,
+        };
         Some(Giver {
-            used: Used {
-                literal,
-                divisor: atom.divisor,
-            },
+            used,
             constant,
             level: assignment.level,
         })
+    }
+
+    /// The row of an equality in place of that of a comparison, where the lowest level has this by that.
+    pub(crate) fn by_equality(&self, used: Used) -> Used {
+        self.row_of_equality(used).unwrap_or(used)
+    }
+
+    fn row_of_equality(&self, used: Used) -> Option<Used> {
+        let assignment = self.trail.assignment(used.literal.variable)?;
+        let Reason::Clause(number) = assignment.reason else {
+            return None;
+        };
+        let Origin::Connective { node, clause } = &self.book.clause(number)?.origin else {
+            return None;
+        };
+        let literal = Literal {
+            variable: self.variables.of_node(*node)?,
+            positive: true,
+        };
+        if assignment.level > 0 || !self.is_true_equality(*node, literal) {
+            return None;
+        }
+        Some(Used {
+            literal,
+            row: if *clause == 0 { Row::Up } else { Row::Down },
+            divisor: used.divisor,
+        })
+    }
+
+    /// Whether the literal is that of an equality, which the lowest level has.
+    fn is_true_equality(&self, node: usize, literal: Literal) -> bool {
+        let is_equality = matches!(self.terms.shape(node), Shape::Equal(..));
+        match self.trail.assignment(literal.variable) {
+            Some(assignment) => is_equality && assignment.positive && assignment.level == 0,
+            None => false,
+        }
     }
 
     /// What gives a bound that suffices.

@@ -2,7 +2,7 @@
 //! taken in place of the tightest ones: they are older, or those of other atoms.
 
 use crate::choosing::{Choice, Facts, Giver, Limits};
-use crate::explanation::{Explained, Explanation, Member, Source, Used};
+use crate::explanation::{Explained, Explanation, Member, Row, Source, Used};
 use crate::forms::Meaning;
 use df_clauses::Literal;
 use df_simplex::{Bound, Cause, Derivation, Need};
@@ -117,7 +117,7 @@ impl<'a> Facts<'a> {
         };
         let (source, constant) = match choice {
             Choice::Literal(giver) => (
-                Source::Literal(explanation.literal(giver.used)?),
+                Source::Literal(explanation.literal(self.by_equality(giver.used))?),
                 giver.constant,
             ),
             Choice::Bound(number) => {
@@ -273,6 +273,7 @@ impl<'a> Facts<'a> {
         let also = Giver {
             used: Used {
                 literal: literal.negation(),
+                row: Row::Only,
                 divisor: atom.divisor,
             },
             constant,

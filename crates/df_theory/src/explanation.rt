@@ -9,7 +9,7 @@ use std::collections::BTreeMap;
 /// What a row of an explanation is that of.
 #[derive(Clone, Copy)]
 pub(crate) enum Source {
-    /// The literal at this place.
+    /// The used row at this place.
     Literal(usize),
     /// The bound of this number.
     Bound(usize),
@@ -36,11 +36,45 @@ struct Derived {
     part: Part,
 }
 
-/// A true literal, and the divisor of its row.
+/// Which row of a literal is used: a comparison has one, and an equality has one for each way of `<=`.
+#[derive(Clone, Copy, PartialEq, Eq)]
+pub(crate) enum Row {
+    Only,
+    Up,
+    Down,
+}
+
+impl Row {
+    /// How many rows the literal has.
+    fn count(self) -> usize {
+        match self {
+            Row::Only => 1,
+            Row::Up | Row::Down => 2,
+        }
+    }
+
+    /// Its place among these.
+    fn place(self) -> usize {
+        match self {
+            Row::Only | Row::Up => 0,
+            Row::Down => 1,
+        }
+    }
+}
+
+/// A row of a true literal, and by how much it is divided.
 #[derive(Clone, Copy)]
 pub(crate) struct Used {
     pub literal: Literal,
+    pub row: Row,
     pub divisor: i128,
+}
+
+/// The number of a used row, and by how much it is divided.
+#[derive(Clone, Copy)]
+struct UsedRow {
+    row: usize,
+    divisor: i128,
 }
 
 /// A clause that arithmetic shows, and how.
@@ -54,9 +88,14 @@ pub struct Explained {
 #[derive(Drop)]
 pub(crate) struct Explanation {
     alloc: Global,
-    used: Vec<Used>,
-    /// Where they stand, by the codes of their literals.
+    used: Vec<UsedRow>,
+    /// Where they stand, by their rows' numbers.
     places: BTreeMap<usize, usize>,
+    literals: Vec<Literal>,
+    /// By the codes of the literals, the numbers of their first rows.
+    first_rows: BTreeMap<usize, usize>,
+    /// How many rows the literals have.
+    rows: usize,
     /// Bounds that are still to be derived, by their numbers, with constants that suffice.
     pub wanted: BTreeMap<usize, i128>,
     /// The derived ones, the latest first.
@@ -71,20 +110,40 @@ impl Explanation {
             alloc,
             used: Vec::new(alloc),
             places: BTreeMap::new(alloc),
+            literals: Vec::new(alloc),
+            first_rows: BTreeMap::new(alloc),
+            rows: 0,
             wanted: BTreeMap::new(alloc),
             derived: Vec::new(alloc),
             parts: Vec::new(alloc),
         }
     }
 
-    /// The place of a literal.
+    /// The number of a literal's first row.
+    fn first_row(&mut self, used: Used) -> Result<usize, AllocError> {
+        let code = used.literal.code();
+        if let Some(row) = self.first_rows.get(&code) {
+            return Ok(*row);
+        }
+        let row = self.rows;
+        self.rows = row.saturating_add(used.row.count());
+        self.first_rows.insert(code, row)?;
+        self.literals.push(used.literal.negation())?;
+        Ok(row)
+    }
+
+    /// The place of a used row.
     pub fn literal(&mut self, used: Used) -> Result<usize, AllocError> {
-        if let Some(place) = self.places.get(&used.literal.code()) {
+        let row = self.first_row(used)?.saturating_add(used.row.place());
+        if let Some(place) = self.places.get(&row) {
             return Ok(*place);
         }
         let place = self.used.len();
-        self.used.push(used)?;
-        self.places.insert(used.literal.code(), place)?;
+        self.used.push(UsedRow {
+            row,
+            divisor: used.divisor,
+        })?;
+        self.places.insert(row, place)?;
         Ok(place)
     }
 
@@ -117,21 +176,18 @@ impl Explanation {
     }
 
     /// The clause, and the combinations that show it.
-    pub fn finish(&self) -> Result<Explained, AllocError> {
-        let mut literals = Vec::with_capacity(self.alloc, self.used.len())?;
-        for used in self.used.iter() {
-            literals.push(used.literal.negation())?;
-        }
+    pub fn finish(self) -> Result<Explained, AllocError> {
+        let combinations = self.combinations()?;
         Ok(Explained {
-            literals,
-            combinations: self.combinations()?,
+            literals: self.literals,
+            combinations,
         })
     }
 
     fn combinations(&self) -> Result<Vec<Combination>, AllocError> {
-        let mut numbering = Numbering::new(self.alloc, self.used.len());
-        for (place, used) in self.used.iter().enumerate() {
-            numbering.add_literal(place, used.divisor)?;
+        let mut numbering = Numbering::new(self.alloc, self.rows);
+        for used in self.used.iter() {
+            numbering.add_literal(*used)?;
         }
         for derived in self.derived.iter().rev() {
             numbering.add(&derived.part)?;
@@ -176,10 +232,10 @@ impl Numbering {
         self.rows.saturating_add(self.combinations.len())
     }
 
-    /// The row of the next literal, divided.
-    fn add_literal(&mut self, place: usize, divisor: i128) -> Result<(), AllocError> {
-        if divisor == 1 {
-            self.of_literal.push(place)?;
+    /// The next used row, divided.
+    fn add_literal(&mut self, used: UsedRow) -> Result<(), AllocError> {
+        if used.divisor == 1 {
+            self.of_literal.push(used.row)?;
             return Ok(());
         }
         let row = self.next();
@@ -187,10 +243,13 @@ impl Numbering {
         let members = vec![in self.alloc;
             Multiple {
                 factor: 1,
-                row: place
+                row: used.row
             },
         ]?;
-        self.combinations.push(Combination { divisor, members })?;
+        self.combinations.push(Combination {
+            divisor: used.divisor,
+            members,
+        })?;
         Ok(())
     }
 

@@ -1,7 +1,7 @@
 //! Linear forms: what nodes are as sums of multiples of columns. A column is a number that is no sum
 //! and no multiple, or a sum of such numbers whose coefficients have no common divisor.
 
-use crate::terms::{Shape, Terms};
+use df_index::{Shape, Terms};
 use df_simplex::{Entry, Linear, Side, combine, content, divided, weighted};
 use indexmap::IndexSet;
 use std::alloc::{AllocError, Global};

@@ -8,16 +8,12 @@ mod dividing;
 mod explaining;
 mod explanation;
 mod forms;
-mod made_nodes;
-mod terms;
 mod theory;
 mod variables;
 
 pub use choosing::Facts;
-pub use df_index::{Index, Made};
+pub use df_index::{Ends, Index, Made, MadeNodes, Shape, Terms};
 pub use explanation::Explained;
 pub use forms::{Atom, Column, Forms, Meaning};
-pub use made_nodes::MadeNodes;
-pub use terms::{Ends, Shape, Terms};
 pub use theory::Theory;
 pub use variables::Variables;

@@ -1,7 +1,7 @@
 //! Linear arithmetic over whole numbers: the columns, their bounds, the rows and the tableau.
 
 use crate::forms::{Atom, Forms, Meaning};
-use crate::terms::Terms;
+use df_index::Terms;
 use df_simplex::{Bounds, Entry, Fraction, Rows, Side, Tableau};
 use std::alloc::{AllocError, Global};
 

@@ -6,7 +6,7 @@ use Rattle.std.proofs.lemmas.Bool.{eqb-true, eqb-false}
 use Rattle.std.proofs.lemmas.List.{get_or-set_same, get_or-set_other, length-set, length-replicate}
 use Rattle.std.proofs.lemmas.List.Elements.{filter-append}
 use Rattle.df_form.specs.Node.{Node}
-use Rattle.df_cong.specs.mirror.State.{list_at, pushed}
+use Rattle.df_classes.specs.mirror.State.{list_at, pushed}
 use Rattle.df_clause.proofs.Listing.{numbers_more}
 use Rattle.df_trig.specs.Endings.{last_of, last_part, is_part, ends_in, ending_in, AreEndings}
 

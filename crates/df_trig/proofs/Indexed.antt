@@ -14,7 +14,7 @@ use Rattle.df_form.specs.Sequent.{Sequent}
 use Rattle.df_form.proofs.Values.{Grows, AreSorted, parts_below, grown_get}
 use Rattle.df_axiom.specs.Line.{first_op}
 use Rattle.df_axiom.specs.Schemas.{template}
-use Rattle.df_cong.specs.mirror.State.{list_at}
+use Rattle.df_classes.specs.mirror.State.{list_at}
 use Rattle.df_clause.specs.Among.{Among}
 use Rattle.df_clause.specs.GroundSet.{GroundSet, with_line, with_lines}
 use Rattle.df_clause.proofs.Running.{grown_from}

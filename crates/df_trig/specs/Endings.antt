@@ -3,7 +3,7 @@ use Rattle.std.specs.Prelude.{◌≡◌, ℕ, ◌==◌, ◌<◌, ◌≤◌, Bool
 use Rattle.std.specs.Option.{option_and_then, option_map_or}
 use Rattle.std.specs.List.{range_with_len}
 use Rattle.df_form.specs.Node.{Node}
-use Rattle.df_cong.specs.mirror.State.{list_at}
+use Rattle.df_classes.specs.mirror.State.{list_at}
 
 abbrev pub last_of : List ℕ → Option ℕ
 last_of [] = None

@@ -3,7 +3,7 @@
 ghost use Rattle.std.specs.Prelude.{◌≡◌, ◌+◌, length, IfOk, OnOk};
 ghost use Rattle.df_trig.specs.Endings.{last_part, AreEndings};
 
-use df_cong::Lists;
+use df_classes::Lists;
 use df_form::{Nodes, Term};
 use std::alloc::{AllocError, Global};
 

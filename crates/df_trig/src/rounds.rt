@@ -24,8 +24,8 @@ use crate::endings::{endings, last_part};
 use crate::fault::TrigFault;
 use crate::pattern::{Named, Pattern, named_terms, patterns};
 use df_axiom::{AxiomFault, Schemas};
+use df_classes::Lists;
 use df_clause::{Ground, clauses};
-use df_cong::Lists;
 use df_form::{Lit, Nodes, Op, Sequent, Step, Term, World};
 use std::alloc::{AllocError, Global};
 

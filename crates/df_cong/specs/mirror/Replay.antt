@@ -5,8 +5,8 @@ use Rattle.df_form.specs.declared.log.Pair.{Pair}
 use Rattle.df_form.specs.Node.{Node}
 use Rattle.df_rules.specs.Classes.{InOneClass}
 use Rattle.df_rules.specs.Congruence.{AreCongruent}
-use Rattle.df_cong.specs.mirror.State.{State, label_of}
-use Rattle.df_cong.specs.mirror.Partition.{IsPartition}
+use Rattle.df_classes.specs.mirror.State.{State, label_of}
+use Rattle.df_classes.specs.mirror.Partition.{IsPartition}
 
 -- all of the second literals are among the first
 abbrev pub AreFrom : List Lit → List Lit → Type 0

@@ -4,8 +4,8 @@ use Rattle.std.specs.Ordering.{nat_cmp}
 use Rattle.std.specs.BTreeMap.{get}
 use Rattle.df_rules.specs.CongruenceLine.{number_at, number_in}
 use Rattle.df_rules.proofs.Scans.{left_here, option_moved}
-use Rattle.df_cong.specs.mirror.State.{label_of}
-use Rattle.df_cong.specs.PartitionView.{state_of}
+use Rattle.df_classes.specs.mirror.State.{label_of}
+use Rattle.df_classes.specs.PartitionView.{state_of}
 use Rattle.df_cong.proofs.clash.by_label.Goals as goal
 
 pub loop-node-preserved : goal.loop-node-preserved

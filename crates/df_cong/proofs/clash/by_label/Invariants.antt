@@ -3,8 +3,8 @@ use Rattle.std.specs.Option.{option_or}
 use Rattle.std.specs.Ordering.{nat_cmp}
 use Rattle.std.specs.BTreeMap.{get}
 use Rattle.df_rules.specs.CongruenceLine.{number_in}
-use Rattle.df_cong.specs.mirror.State.{label_of}
-use Rattle.df_cong.specs.PartitionView.{state_of}
+use Rattle.df_classes.specs.mirror.State.{label_of}
+use Rattle.df_classes.specs.PartitionView.{state_of}
 use Rattle.df_cong.proofs.clash.by_label.Given as goal
 
 abbrev pub invariant-loop-node : goal.invariant-loop-node

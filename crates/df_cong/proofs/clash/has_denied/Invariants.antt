@@ -1,7 +1,7 @@
 use Rattle.std.proofs.Common.{◌≡◌, drop}
-use Rattle.df_cong.specs.mirror.State.{label_of}
-use Rattle.df_cong.specs.mirror.Clash.{has_denied}
-use Rattle.df_cong.specs.PartitionView.{state_of}
+use Rattle.df_classes.specs.mirror.State.{label_of}
+use Rattle.df_classes.specs.mirror.Clash.{has_denied}
+use Rattle.df_classes.specs.PartitionView.{state_of}
 use Rattle.df_cong.proofs.clash.has_denied.Given as goal
 
 abbrev pub invariant-loop-literal : goal.invariant-loop-literal

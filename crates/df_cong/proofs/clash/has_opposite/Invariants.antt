@@ -3,8 +3,8 @@ use Rattle.std.specs.List.{list_any}
 use Rattle.std.specs.Ordering.{nat_cmp}
 use Rattle.std.specs.BTreeSet.{contains}
 use Rattle.df_form.specs.declared.log.Lit.{Lit}
-use Rattle.df_cong.specs.mirror.State.{label_of}
-use Rattle.df_cong.specs.PartitionView.{state_of}
+use Rattle.df_classes.specs.mirror.State.{label_of}
+use Rattle.df_classes.specs.PartitionView.{state_of}
 use Rattle.df_cong.proofs.clash.has_opposite.Given as goal
 
 abbrev pub invariant-loop-literal : goal.invariant-loop-literal

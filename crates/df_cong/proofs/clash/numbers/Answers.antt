@@ -1,5 +1,5 @@
 use Rattle.std.proofs.Common.{ℕ, List, sym, subst, arith}
-use Rattle.df_cong.proofs.NumberNodes.{AreNumbersBelow, no_numbers, all_numbers}
+use Rattle.df_classes.proofs.NumberNodes.{AreNumbersBelow, no_numbers, all_numbers}
 use Rattle.df_cong.proofs.clash.numbers.Goals as goal
 
 pub loop-node-init : goal.loop-node-init

@@ -1,4 +1,4 @@
-use Rattle.df_cong.proofs.NumberNodes.{AreNumbersBelow}
+use Rattle.df_classes.proofs.NumberNodes.{AreNumbersBelow}
 use Rattle.df_cong.proofs.clash.numbers.Given as goal
 
 abbrev pub invariant-loop-node : goal.invariant-loop-node

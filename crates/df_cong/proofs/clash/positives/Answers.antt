@@ -4,8 +4,8 @@ use Rattle.std.specs.BTreeSet.{contains}
 use Rattle.df_form.specs.declared.log.Lit.{Lit}
 use Rattle.df_form.specs.Clause.{no}
 use Rattle.df_rules.proofs.Scans.{any_added}
-use Rattle.df_cong.specs.mirror.State.{label_of}
-use Rattle.df_cong.specs.PartitionView.{state_of}
+use Rattle.df_classes.specs.mirror.State.{label_of}
+use Rattle.df_classes.specs.PartitionView.{state_of}
 use Rattle.df_cong.proofs.clash.positives.Goals as goal
 
 pub loop-literal-preserved : goal.loop-literal-preserved

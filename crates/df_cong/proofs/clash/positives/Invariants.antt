@@ -2,8 +2,8 @@ use Rattle.std.proofs.Common.{◌≡◌, ℕ, ◌||◌, drop}
 use Rattle.std.specs.Ordering.{nat_cmp}
 use Rattle.std.specs.BTreeSet.{contains}
 use Rattle.df_rules.specs.CongruenceLine.{has_positive}
-use Rattle.df_cong.specs.mirror.State.{label_of}
-use Rattle.df_cong.specs.PartitionView.{state_of}
+use Rattle.df_classes.specs.mirror.State.{label_of}
+use Rattle.df_classes.specs.PartitionView.{state_of}
 use Rattle.df_cong.proofs.clash.positives.Given as goal
 
 abbrev pub invariant-loop-literal : goal.invariant-loop-literal

@@ -1,7 +1,7 @@
 use Rattle.std.proofs.Common.{sym, ap, ◌∙◌}
-use Rattle.df_cong.specs.mirror.Clash.{clash}
-use Rattle.df_cong.specs.mirror.State.{label_of}
-use Rattle.df_cong.specs.PartitionView.{state_of}
+use Rattle.df_classes.specs.mirror.Clash.{clash}
+use Rattle.df_classes.specs.mirror.State.{label_of}
+use Rattle.df_classes.specs.PartitionView.{state_of}
 use Rattle.df_cong.proofs.Answering.{is_quiet}
 use Rattle.df_cong.proofs.classes.answer_for.Goals as goal
 

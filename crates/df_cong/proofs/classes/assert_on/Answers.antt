@@ -1,9 +1,9 @@
 use Rattle.std.proofs.Common.{ap, ◌∙◌, arith}
 use Rattle.df_form.specs.Clause.{are_literals}
 use Rattle.df_cong.proofs.Answering.{literals_more}
-use Rattle.df_cong.proofs.Holds.{cut_holds, cut_last}
-use Rattle.df_cong.proofs.Covered.{covered_grown, covered_returned, covered_cut}
-use Rattle.df_cong.proofs.Taking.{came_of}
+use Rattle.df_classes.proofs.Holds.{cut_holds, cut_last}
+use Rattle.df_classes.proofs.Covered.{covered_grown, covered_returned, covered_cut}
+use Rattle.df_classes.proofs.Taking.{came_of}
 use Rattle.df_cong.proofs.classes.assert_on.Goals as goal
 
 pub returns-in_err-hold-clause-covered : goal.returns-in_err-hold-clause-covered

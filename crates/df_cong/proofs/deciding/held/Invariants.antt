@@ -1,5 +1,5 @@
 use Rattle.std.proofs.Common.{◌≡◌, take}
-use Rattle.df_cong.specs.HoldingView.{IsHolding}
+use Rattle.df_classes.specs.HoldingView.{IsHolding}
 use Rattle.df_cong.proofs.deciding.held.Given as goal
 
 abbrev pub invariant-loop-literal : goal.invariant-loop-literal

@@ -1,7 +1,7 @@
 use Rattle.std.proofs.Common.{sym, ◌∙◌, true≢false}
 use Rattle.df_rules.proofs.Results.{if_ok}
-use Rattle.df_cong.specs.PartitionView.{state_of}
-use Rattle.df_cong.proofs.Holds.{ready_alone}
+use Rattle.df_classes.specs.PartitionView.{state_of}
+use Rattle.df_classes.proofs.Holds.{ready_alone}
 use Rattle.df_cong.proofs.Replaying.{line_replayed}
 use Rattle.df_cong.proofs.replay.is_line.Goals as goal
 

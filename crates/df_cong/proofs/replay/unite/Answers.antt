@@ -1,6 +1,6 @@
 use Rattle.std.proofs.Common.{sym, ◌∙◌}
 use Rattle.df_rules.proofs.Results.{on_ok}
-use Rattle.df_cong.specs.PartitionView.{state_of}
+use Rattle.df_classes.specs.PartitionView.{state_of}
 use Rattle.df_cong.proofs.Replaying.{unites_already, can_join_united, unites_joined}
 use Rattle.df_cong.proofs.replay.unite.Goals as goal
 

@@ -1,5 +1,5 @@
 use Rattle.std.proofs.Common.{sym, ◌∙◌, true≢false}
-use Rattle.df_cong.specs.PartitionView.{state_of}
+use Rattle.df_classes.specs.PartitionView.{state_of}
 use Rattle.df_cong.proofs.Replaying.{can_unite_alike, alike_one}
 use Rattle.df_cong.proofs.replay.unite_alike.Goals as goal
 

@@ -1,6 +1,6 @@
 use Rattle.std.proofs.Common.{get_or, refl, sym, arith, true≢false}
 use Rattle.df_form.specs.declared.log.Pair.{Pair}
-use Rattle.df_cong.specs.PartitionView.{state_of}
+use Rattle.df_classes.specs.PartitionView.{state_of}
 use Rattle.df_cong.proofs.Replaying.{alike_none, alike_on, alike_all}
 use Rattle.df_cong.proofs.replay.unite_all_alike.Goals as goal
 

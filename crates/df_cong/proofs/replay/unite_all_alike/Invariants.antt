@@ -1,5 +1,5 @@
 use Rattle.std.proofs.Common.{take}
-use Rattle.df_cong.specs.PartitionView.{state_of}
+use Rattle.df_classes.specs.PartitionView.{state_of}
 use Rattle.df_cong.specs.mirror.Replay.{UnitesAlike}
 use Rattle.df_cong.proofs.replay.unite_all_alike.Given as goal
 

@@ -1,6 +1,6 @@
 use Rattle.std.proofs.Common.{length, get_or, refl, arith}
 use Rattle.df_form.specs.Clause.{no}
-use Rattle.df_cong.specs.PartitionView.{state_of}
+use Rattle.df_classes.specs.PartitionView.{state_of}
 use Rattle.df_cong.proofs.Replaying.{unites_none, sides_on, sides_all}
 use Rattle.df_cong.proofs.replay.unite_all_sides.Goals as goal
 

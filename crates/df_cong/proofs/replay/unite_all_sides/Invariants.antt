@@ -1,6 +1,6 @@
 use Rattle.std.proofs.Common.{length, take}
-use Rattle.df_cong.specs.HoldingView.{held_equalities}
-use Rattle.df_cong.specs.PartitionView.{state_of}
+use Rattle.df_classes.specs.HoldingView.{held_equalities}
+use Rattle.df_classes.specs.PartitionView.{state_of}
 use Rattle.df_cong.specs.mirror.Replay.{Unites}
 use Rattle.df_cong.proofs.replay.unite_all_sides.Given as goal
 

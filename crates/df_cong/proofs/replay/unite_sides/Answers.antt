@@ -1,9 +1,9 @@
 use Rattle.std.proofs.Common.{length, sym, subst}
 use Rattle.std.proofs.lemmas.Bool.{not-true, not-false}
 use Rattle.df_rules.proofs.Results.{on_ok}
-use Rattle.df_cong.specs.PartitionView.{state_of}
+use Rattle.df_classes.specs.PartitionView.{state_of}
 use Rattle.df_cong.specs.mirror.Replay.{Unites}
-use Rattle.df_cong.proofs.Holds.{negative_none, positive_puts}
+use Rattle.df_classes.proofs.Holds.{negative_none, positive_puts}
 use Rattle.df_cong.proofs.Replaying.{can_unite, unites_nodes, unites_none}
 use Rattle.df_cong.proofs.replay.unite_sides.Goals as goal
 

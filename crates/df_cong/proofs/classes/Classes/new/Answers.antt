@@ -1,6 +1,6 @@
 use Rattle.std.proofs.Common.{ap, sym, subst}
 use Rattle.df_form.specs.Clause.{are_literals}
-use Rattle.df_cong.specs.mirror.Clash.{AreNumbers}
+use Rattle.df_classes.specs.mirror.Clash.{AreNumbers}
 use Rattle.df_cong.proofs.classes.Classes.new.Goals as goal
 
 pub first_signs-requires-clause-numbers : goal.first_signs-requires-clause-numbers

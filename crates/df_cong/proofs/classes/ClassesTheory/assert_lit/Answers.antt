@@ -2,7 +2,7 @@ use Rattle.std.proofs.Common.{◌≡◌, [], ◌∷◌, ◌++◌, OnOk, OnErr, I
 use Rattle.df_form.specs.Sorting.{is_formula}
 use Rattle.df_cong.specs.Theory.{IsAnswer}
 use Rattle.df_cong.specs.ClassesView.{Held}
-use Rattle.df_cong.specs.mirror.Clash.{AreNumbers}
+use Rattle.df_classes.specs.mirror.Clash.{AreNumbers}
 use Rattle.df_cong.proofs.Answering.{literals_after}
 use Rattle.df_cong.proofs.classes.ClassesTheory.assert_lit.Goals as goal
 

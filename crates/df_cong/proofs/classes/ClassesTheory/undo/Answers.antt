@@ -1,8 +1,8 @@
 use Rattle.std.proofs.Common.{ap, ◌∙◌}
 use Rattle.df_form.specs.Clause.{are_literals}
 use Rattle.df_cong.proofs.Answering.{literals_fewer}
-use Rattle.df_cong.proofs.Holds.{cut_holds}
-use Rattle.df_cong.proofs.Covered.{covered_cut}
+use Rattle.df_classes.proofs.Holds.{cut_holds}
+use Rattle.df_classes.proofs.Covered.{covered_cut}
 use Rattle.df_cong.proofs.classes.ClassesTheory.undo.Goals as goal
 
 pub invariant_of-self : goal.invariant_of-self

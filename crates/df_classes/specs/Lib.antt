@@ -1,0 +1,7 @@
+pub mod Equal
+pub mod Labels
+pub mod Laws
+pub mod PartitionView
+pub mod HoldingView
+pub mod SignsView
+pub mod mirror

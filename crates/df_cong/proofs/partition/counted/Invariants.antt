@@ -1,6 +1,0 @@
-use Rattle.std.proofs.Common.{◌≡◌}
-use Rattle.df_cong.specs.mirror.State.{counted_from}
-use Rattle.df_cong.proofs.partition.counted.Given as goal
-
-abbrev pub invariant-loop-number : goal.invariant-loop-number
-invariant-loop-number l = l.numbers.items ≡ counted_from 0 l.number

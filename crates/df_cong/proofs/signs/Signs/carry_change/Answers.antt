@@ -1,6 +1,0 @@
-use Rattle.df_cong.specs.SignsView.{tables_of}
-use Rattle.df_cong.proofs.Stamping.{tables_same}
-use Rattle.df_cong.proofs.signs.Signs.carry_change.Goals as goal
-
-pub returns-in-Entered-clause-keeps : goal.returns-in-Entered-clause-keeps
-returns-in-Entered-clause-keeps c = tables_same c.args.held (tables_of c.args.self.now)

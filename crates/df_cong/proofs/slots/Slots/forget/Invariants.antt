@@ -1,5 +1,0 @@
-use Rattle.df_cong.specs.mirror.Signs.{KeepsSlotsTo}
-use Rattle.df_cong.proofs.slots.Slots.forget.Given as goal
-
-abbrev pub invariant-loop-number : goal.invariant-loop-number
-invariant-loop-number l = KeepsSlotsTo l.held l.initial.self.slots.items l.self.slots.items

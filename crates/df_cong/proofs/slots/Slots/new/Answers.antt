@@ -1,6 +1,0 @@
-use Rattle.std.proofs.Common.{None, length, ap, ◌∙◌}
-use Rattle.std.proofs.lemmas.List.{length-replicate}
-use Rattle.df_cong.proofs.slots.Slots.new.Goals as goal
-
-pub returns : goal.returns
-returns c = ap length c.in_ok-no_slots.ensures ∙ length-replicate c.args.count None

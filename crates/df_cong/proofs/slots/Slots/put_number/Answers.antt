@@ -1,5 +1,0 @@
-use Rattle.df_cong.proofs.Stamping.{slots_same}
-use Rattle.df_cong.proofs.slots.Slots.put_number.Goals as goal
-
-pub returns-then-is_none-clause-keeps : goal.returns-then-is_none-clause-keeps
-returns-then-is_none-clause-keeps c = slots_same c.args.held c.args.self.now.slots.items

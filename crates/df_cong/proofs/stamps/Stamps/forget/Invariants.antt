@@ -1,5 +1,0 @@
-use Rattle.df_cong.specs.mirror.Signs.{KeepsStampsTo}
-use Rattle.df_cong.proofs.stamps.Stamps.forget.Given as goal
-
-abbrev pub invariant-loop-mark : goal.invariant-loop-mark
-invariant-loop-mark l = KeepsStampsTo l.held l.initial.self.since.items l.self.since.items

@@ -1,5 +1,0 @@
-use Rattle.df_cong.specs.mirror.Users.{AreUsersBelow}
-use Rattle.df_cong.proofs.users.users_of.Given as goal
-
-abbrev pub invariant-loop-number : goal.invariant-loop-number
-invariant-loop-number l = AreUsersBelow l.nodes l.users l.number
