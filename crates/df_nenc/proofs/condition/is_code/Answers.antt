@@ -29,3 +29,20 @@ returns-clause-stands c =
     let from = (stays c.at_most.new.nodes c.at_most-2.new.nodes _ c.in_ok-is_from_first.is_from_first (grows_then c.at_most.new.nodes c.literal-2.new.nodes c.at_most-2.new.nodes c.literal-2.ensures.grows c.at_most-2.ensures.grows) c.in_ok-is_from_first.ensures.stands).tree_is in
     let to = c.in_ok-is_to_last.ensures.stands.tree_is in
     two_as And c.both.result c.both.new.nodes _ _ _ _ (from ∙ (λ i. at_most (low i) (same i))) (to ∙ (λ i. at_most (later i) (high i))) c.both.ensures.stands
+
+-- ---- on every way out
+
+pub returns-in_err-first-clause-grows : goal.returns-in_err-first-clause-grows
+returns-in_err-first-clause-grows c = c.literal.ensures.grows
+
+pub returns-in_err-is_from_first-clause-grows : goal.returns-in_err-is_from_first-clause-grows
+returns-in_err-is_from_first-clause-grows c = grows_then _ _ _ c.literal.ensures.grows c.at_most.ensures.grows
+
+pub returns-in_err-last-clause-grows : goal.returns-in_err-last-clause-grows
+returns-in_err-last-clause-grows c = grows_then _ _ _ (grows_then _ _ _ c.literal.ensures.grows c.at_most.ensures.grows) c.literal-2.ensures.grows
+
+pub returns-in_err-is_to_last-clause-grows : goal.returns-in_err-is_to_last-clause-grows
+returns-in_err-is_to_last-clause-grows c = grows_then _ _ _ (grows_then _ _ _ (grows_then _ _ _ c.literal.ensures.grows c.at_most.ensures.grows) c.literal-2.ensures.grows) c.at_most-2.ensures.grows
+
+pub returns-clause-grows : goal.returns-clause-grows
+returns-clause-grows c = grows_then _ _ _ (grows_then _ _ _ (grows_then _ _ _ (grows_then _ _ _ c.literal.ensures.grows c.at_most.ensures.grows) c.literal-2.ensures.grows) c.at_most-2.ensures.grows) c.both.ensures.grows

@@ -1,6 +1,6 @@
 use Rattle.df_nenc.proofs.Words.{◌≡◌, ◌<◌, length, to_z, of_z, [], ◌∷◌, ◌++◌, get_or, refl, sym, ap, ◌∙◌, rules, subst, AllByRecursion, w128, to_z-of_z, slice_get_within, get_or_from_slice_get, the_lemmas, expr_of, As, Chain, Character, Convert, Iff, Implies, Junction, Local, Negate, Not, Number, Product, Sum, Truth, Numbers, Truths, sort_of_type, conjunction, literal, negation, negative, term, comparisons_of, conditions_of_addends, conditions_of_factors, conditions_of_implication, conditions_of_junction, conditions_of_links, conditions_of_members, equivalence_of, implication_of, in_range, joined, members_of, narrowing, number_in, product_of, sum_of, under, value_in, tree_at, path_in, IsTerm, IsOver, Gives, Encodes}
 use Rattle.df_nenc.specs.Views.{addends_in, factors_in, members_in, links_in}
-use Rattle.df_nenc.proofs.Lemmas.{grows_not, grows_then, term_stays, path_stays, gives_alone, gives_owing, if_ok, over_stays, local_term, negate_part, not_part, sum_first, sum_rest, product_first, product_rest, level_first, level_rest, chain_first, chain_rest, as_part, as_counts, convert_part, member_at}
+use Rattle.df_nenc.proofs.Lemmas.{grows_not, grows_then, term_stays, path_stays, gives_alone, gives_owing, if_ok, over_stays, local_term, negate_part, not_part, sum_first, sum_rest, product_first, product_rest, level_first, level_rest, chain_first, chain_rest, as_part, as_counts, convert_part, member_at, front_not, front_then}
 use Rattle.df_nenc.proofs.Cases.{over_seen, operand_term, then_encodes, over_encodes, local_encodes}
 use Rattle.df_nenc.proofs.Sums.{sum_starts, sum_operand, sum_steps, sum_stops, product_starts, product_operand, product_steps, product_stops}
 use Rattle.df_nenc.proofs.WalkingMembers.{guard_term, next_path, junction_starts, junction_steps, junction_stops, implication_starts, implication_steps, implication_stops, equivalence_starts, equivalence_steps, equivalence_stops}
@@ -367,3 +367,311 @@ chain-all_of-requires t c = subst (AllByRecursion (IsTerm Truths c.loop-link.nod
 pub chain-returns-clause-gives : goal.chain-returns-clause-gives
 chain-returns-clause-gives t c =
     if_ok c.all_of.result _ _ c.all_of.ensures.stands (λ n s. chain_stops c.deref-link-items.result.now c.loop-link.link-index c.deref.result.now c.loop-link-test.false c.loop-link.invariant c.deref.ensures.value c.all_of.ensures.grows s)
+
+-- ---- on every way out
+
+pub encode-returns-in_err-operand-in-Negate-clause-grows : goal.encode-returns-in_err-operand-in-Negate-clause-grows
+encode-returns-in_err-operand-in-Negate-clause-grows t c = c.encode.ensures.grows
+
+pub encode-returns-in_err-operand-in-Negate-clause-begins : goal.encode-returns-in_err-operand-in-Negate-clause-begins
+encode-returns-in_err-operand-in-Negate-clause-begins t c = c.encode.ensures.begins
+
+pub encode-returns-in_ok-operand-in-Negate-clause-grows : goal.encode-returns-in_ok-operand-in-Negate-clause-grows
+encode-returns-in_ok-operand-in-Negate-clause-grows t c = grows_then _ _ _ c.encode.ensures.grows c.negated.ensures.grows
+
+pub encode-returns-in_ok-operand-in-Negate-clause-begins : goal.encode-returns-in_ok-operand-in-Negate-clause-begins
+encode-returns-in_ok-operand-in-Negate-clause-begins t c = front_then c.args.out.now.items c.encode.new.out.items c.negated.new.out.items c.encode.ensures.begins c.negated.ensures.begins
+
+pub encode-returns-in_err-operand-in-Not-clause-grows : goal.encode-returns-in_err-operand-in-Not-clause-grows
+encode-returns-in_err-operand-in-Not-clause-grows t c = c.encode-in-Not.ensures.grows
+
+pub encode-returns-in_err-operand-in-Not-clause-begins : goal.encode-returns-in_err-operand-in-Not-clause-begins
+encode-returns-in_err-operand-in-Not-clause-begins t c = c.encode-in-Not.ensures.begins
+
+pub encode-returns-in_ok-operand-in-Not-clause-grows : goal.encode-returns-in_ok-operand-in-Not-clause-grows
+encode-returns-in_ok-operand-in-Not-clause-grows t c = grows_then _ _ _ c.encode-in-Not.ensures.grows c.negation.ensures.grows
+
+pub encode-returns-in_ok-operand-in-Not-clause-begins : goal.encode-returns-in_ok-operand-in-Not-clause-begins
+encode-returns-in_ok-operand-in-Not-clause-begins t c = c.encode-in-Not.ensures.begins
+
+pub encode-returns-in_err-first-in-Sum-clause-grows : goal.encode-returns-in_err-first-in-Sum-clause-grows
+encode-returns-in_err-first-in-Sum-clause-grows t c = c.encode-in-Sum.ensures.grows
+
+pub encode-returns-in_err-first-in-Sum-clause-begins : goal.encode-returns-in_err-first-in-Sum-clause-begins
+encode-returns-in_err-first-in-Sum-clause-begins t c = c.encode-in-Sum.ensures.begins
+
+pub encode-returns-in_ok-first-in-Sum-clause-grows : goal.encode-returns-in_ok-first-in-Sum-clause-grows
+encode-returns-in_ok-first-in-Sum-clause-grows t c = grows_then _ _ _ c.encode-in-Sum.ensures.grows c.sum.ensures.grows
+
+pub encode-returns-in_ok-first-in-Sum-clause-begins : goal.encode-returns-in_ok-first-in-Sum-clause-begins
+encode-returns-in_ok-first-in-Sum-clause-begins t c = front_then c.args.out.now.items c.encode-in-Sum.new.out.items c.sum.new.out.items c.encode-in-Sum.ensures.begins c.sum.ensures.begins
+
+pub encode-returns-in_err-first-in-Product-clause-grows : goal.encode-returns-in_err-first-in-Product-clause-grows
+encode-returns-in_err-first-in-Product-clause-grows t c = c.encode-in-Product.ensures.grows
+
+pub encode-returns-in_err-first-in-Product-clause-begins : goal.encode-returns-in_err-first-in-Product-clause-begins
+encode-returns-in_err-first-in-Product-clause-begins t c = c.encode-in-Product.ensures.begins
+
+pub encode-returns-in_ok-first-in-Product-clause-grows : goal.encode-returns-in_ok-first-in-Product-clause-grows
+encode-returns-in_ok-first-in-Product-clause-grows t c = grows_then _ _ _ c.encode-in-Product.ensures.grows c.product.ensures.grows
+
+pub encode-returns-in_ok-first-in-Product-clause-begins : goal.encode-returns-in_ok-first-in-Product-clause-begins
+encode-returns-in_ok-first-in-Product-clause-begins t c = front_then c.args.out.now.items c.encode-in-Product.new.out.items c.product.new.out.items c.encode-in-Product.ensures.begins c.product.ensures.begins
+
+pub encode-returns-in_err-first-in-Junction-clause-grows : goal.encode-returns-in_err-first-in-Junction-clause-grows
+encode-returns-in_err-first-in-Junction-clause-grows t c = c.encode-in-Junction.ensures.grows
+
+pub encode-returns-in_err-first-in-Junction-clause-begins : goal.encode-returns-in_err-first-in-Junction-clause-begins
+encode-returns-in_err-first-in-Junction-clause-begins t c = c.encode-in-Junction.ensures.begins
+
+pub encode-returns-in_ok-first-in-Junction-clause-grows : goal.encode-returns-in_ok-first-in-Junction-clause-grows
+encode-returns-in_ok-first-in-Junction-clause-grows t c = grows_then _ _ _ c.encode-in-Junction.ensures.grows c.junction_of.ensures.grows
+
+pub encode-returns-in_ok-first-in-Junction-clause-begins : goal.encode-returns-in_ok-first-in-Junction-clause-begins
+encode-returns-in_ok-first-in-Junction-clause-begins t c = front_then c.args.out.now.items c.encode-in-Junction.new.out.items c.junction_of.new.out.items c.encode-in-Junction.ensures.begins c.junction_of.ensures.begins
+
+pub encode-returns-in_err-first-in-Implies-clause-grows : goal.encode-returns-in_err-first-in-Implies-clause-grows
+encode-returns-in_err-first-in-Implies-clause-grows t c = c.encode-in-Implies.ensures.grows
+
+pub encode-returns-in_err-first-in-Implies-clause-begins : goal.encode-returns-in_err-first-in-Implies-clause-begins
+encode-returns-in_err-first-in-Implies-clause-begins t c = c.encode-in-Implies.ensures.begins
+
+pub encode-returns-in_ok-first-in-Implies-clause-grows : goal.encode-returns-in_ok-first-in-Implies-clause-grows
+encode-returns-in_ok-first-in-Implies-clause-grows t c = grows_then _ _ _ c.encode-in-Implies.ensures.grows c.implication.ensures.grows
+
+pub encode-returns-in_ok-first-in-Implies-clause-begins : goal.encode-returns-in_ok-first-in-Implies-clause-begins
+encode-returns-in_ok-first-in-Implies-clause-begins t c = front_then c.args.out.now.items c.encode-in-Implies.new.out.items c.implication.new.out.items c.encode-in-Implies.ensures.begins c.implication.ensures.begins
+
+pub encode-returns-in_err-first-in-Iff-clause-grows : goal.encode-returns-in_err-first-in-Iff-clause-grows
+encode-returns-in_err-first-in-Iff-clause-grows t c = c.encode-in-Iff.ensures.grows
+
+pub encode-returns-in_err-first-in-Iff-clause-begins : goal.encode-returns-in_err-first-in-Iff-clause-begins
+encode-returns-in_err-first-in-Iff-clause-begins t c = c.encode-in-Iff.ensures.begins
+
+pub encode-returns-in_ok-first-in-Iff-clause-grows : goal.encode-returns-in_ok-first-in-Iff-clause-grows
+encode-returns-in_ok-first-in-Iff-clause-grows t c = grows_then _ _ _ c.encode-in-Iff.ensures.grows c.equivalence.ensures.grows
+
+pub encode-returns-in_ok-first-in-Iff-clause-begins : goal.encode-returns-in_ok-first-in-Iff-clause-begins
+encode-returns-in_ok-first-in-Iff-clause-begins t c = front_then c.args.out.now.items c.encode-in-Iff.new.out.items c.equivalence.new.out.items c.encode-in-Iff.ensures.begins c.equivalence.ensures.begins
+
+pub encode-returns-in_err-first-in-Chain-clause-grows : goal.encode-returns-in_err-first-in-Chain-clause-grows
+encode-returns-in_err-first-in-Chain-clause-grows t c = c.encode-in-Chain.ensures.grows
+
+pub encode-returns-in_err-first-in-Chain-clause-begins : goal.encode-returns-in_err-first-in-Chain-clause-begins
+encode-returns-in_err-first-in-Chain-clause-begins t c = c.encode-in-Chain.ensures.begins
+
+pub encode-returns-in_ok-first-in-Chain-clause-grows : goal.encode-returns-in_ok-first-in-Chain-clause-grows
+encode-returns-in_ok-first-in-Chain-clause-grows t c = grows_then _ _ _ c.encode-in-Chain.ensures.grows c.chain.ensures.grows
+
+pub encode-returns-in_ok-first-in-Chain-clause-begins : goal.encode-returns-in_ok-first-in-Chain-clause-begins
+encode-returns-in_ok-first-in-Chain-clause-begins t c = front_then c.args.out.now.items c.encode-in-Chain.new.out.items c.chain.new.out.items c.encode-in-Chain.ensures.begins c.chain.ensures.begins
+
+pub encode-returns-in_err-operand-in-As-clause-grows : goal.encode-returns-in_err-operand-in-As-clause-grows
+encode-returns-in_err-operand-in-As-clause-grows t c = c.encode-in-As.ensures.grows
+
+pub encode-returns-in_err-operand-in-As-clause-begins : goal.encode-returns-in_err-operand-in-As-clause-begins
+encode-returns-in_err-operand-in-As-clause-begins t c = c.encode-in-As.ensures.begins
+
+pub encode-returns-in_ok-operand-in-As-clause-grows : goal.encode-returns-in_ok-operand-in-As-clause-grows
+encode-returns-in_ok-operand-in-As-clause-grows t c = grows_then _ _ _ c.encode-in-As.ensures.grows c.cast.ensures.grows
+
+pub encode-returns-in_ok-operand-in-As-clause-begins : goal.encode-returns-in_ok-operand-in-As-clause-begins
+encode-returns-in_ok-operand-in-As-clause-begins t c = front_then c.args.out.now.items c.encode-in-As.new.out.items c.cast.new.out.items c.encode-in-As.ensures.begins c.cast.ensures.begins
+
+pub encode-returns-in_err-operand-in-Convert-clause-grows : goal.encode-returns-in_err-operand-in-Convert-clause-grows
+encode-returns-in_err-operand-in-Convert-clause-grows t c = c.encode-in-Convert.ensures.grows
+
+pub encode-returns-in_err-operand-in-Convert-clause-begins : goal.encode-returns-in_err-operand-in-Convert-clause-begins
+encode-returns-in_err-operand-in-Convert-clause-begins t c = c.encode-in-Convert.ensures.begins
+
+pub encode-returns-in_err-owe_narrowing-in-Convert-clause-grows : goal.encode-returns-in_err-owe_narrowing-in-Convert-clause-grows
+encode-returns-in_err-owe_narrowing-in-Convert-clause-grows t c = grows_then _ _ _ c.encode-in-Convert.ensures.grows c.owe_narrowing.ensures.grows
+
+pub encode-returns-in_err-owe_narrowing-in-Convert-clause-begins : goal.encode-returns-in_err-owe_narrowing-in-Convert-clause-begins
+encode-returns-in_err-owe_narrowing-in-Convert-clause-begins t c = front_then c.args.out.now.items c.encode-in-Convert.new.out.items c.owe_narrowing.new.out.items c.encode-in-Convert.ensures.begins c.owe_narrowing.ensures.begins
+
+pub encode-returns-in_ok-owe_narrowing-in-Convert-clause-grows : goal.encode-returns-in_ok-owe_narrowing-in-Convert-clause-grows
+encode-returns-in_ok-owe_narrowing-in-Convert-clause-grows t c = grows_then _ _ _ c.encode-in-Convert.ensures.grows c.owe_narrowing.ensures.grows
+
+pub encode-returns-in_ok-owe_narrowing-in-Convert-clause-begins : goal.encode-returns-in_ok-owe_narrowing-in-Convert-clause-begins
+encode-returns-in_ok-owe_narrowing-in-Convert-clause-begins t c = front_then c.args.out.now.items c.encode-in-Convert.new.out.items c.owe_narrowing.new.out.items c.encode-in-Convert.ensures.begins c.owe_narrowing.ensures.begins
+
+pub encode-negated-requires-clause-path : goal.encode-negated-requires-clause-path
+encode-negated-requires-clause-path t c = path_stays _ _ c.args.path c.encode.ensures.grows c.requires.path
+
+pub encode-cast-requires-clause-path : goal.encode-cast-requires-clause-path
+encode-cast-requires-clause-path t c = path_stays _ _ c.args.path c.encode-in-As.ensures.grows c.requires.path
+
+pub encode-owe_narrowing-requires-clause-path : goal.encode-owe_narrowing-requires-clause-path
+encode-owe_narrowing-requires-clause-path t c = path_stays _ _ c.args.path c.encode-in-Convert.ensures.grows c.requires.path
+
+pub encode-returns-in-Number-clause-grows : goal.encode-returns-in-Number-clause-grows
+encode-returns-in-Number-clause-grows t c = c.number.ensures.grows
+
+pub encode-returns-in-Number-clause-begins : goal.encode-returns-in-Number-clause-begins
+encode-returns-in-Number-clause-begins t c = c.number.ensures.begins
+
+pub encode-returns-in-Truth-clause-grows : goal.encode-returns-in-Truth-clause-grows
+encode-returns-in-Truth-clause-grows t c = c.truth.ensures.grows
+
+pub encode-returns-in-Truth-clause-begins : goal.encode-returns-in-Truth-clause-begins
+encode-returns-in-Truth-clause-begins t c = front_not c.args.out.now.items
+
+pub encode-returns-in-Character-clause-grows : goal.encode-returns-in-Character-clause-grows
+encode-returns-in-Character-clause-grows t c = c.character.ensures.grows
+
+pub encode-returns-in-Character-clause-begins : goal.encode-returns-in-Character-clause-begins
+encode-returns-in-Character-clause-begins t c = front_not c.args.out.now.items
+
+pub encode-returns-in-Local-clause-grows : goal.encode-returns-in-Local-clause-grows
+encode-returns-in-Local-clause-grows t c = grows_not c.args.nodes.now
+
+pub encode-returns-in-Local-clause-begins : goal.encode-returns-in-Local-clause-begins
+encode-returns-in-Local-clause-begins t c = front_not c.args.out.now.items
+
+pub sum-returns-in_err-operand-clause-grows : goal.sum-returns-in_err-operand-clause-grows
+sum-returns-in_err-operand-clause-grows t c = grows_then _ _ _ c.loop-addend.invariant.grows c.encode.ensures.grows
+
+pub sum-returns-in_err-operand-clause-begins : goal.sum-returns-in_err-operand-clause-begins
+sum-returns-in_err-operand-clause-begins t c = front_then c.args.out.now.items c.loop-addend.out.items c.encode.new.out.items c.loop-addend.invariant.begins c.encode.ensures.begins
+
+pub sum-returns-in_err-total-clause-grows : goal.sum-returns-in_err-total-clause-grows
+sum-returns-in_err-total-clause-grows t c = grows_then _ _ _ (grows_then _ _ _ c.loop-addend.invariant.grows c.encode.ensures.grows) c.with_addend.ensures.grows
+
+pub sum-returns-in_err-total-clause-begins : goal.sum-returns-in_err-total-clause-begins
+sum-returns-in_err-total-clause-begins t c = front_then c.args.out.now.items c.encode.new.out.items c.with_addend.new.out.items (front_then c.args.out.now.items c.loop-addend.out.items c.encode.new.out.items c.loop-addend.invariant.begins c.encode.ensures.begins) c.with_addend.ensures.begins
+
+pub sum-returns-clause-grows : goal.sum-returns-clause-grows
+sum-returns-clause-grows t c = c.loop-addend.invariant.grows
+
+pub sum-returns-clause-begins : goal.sum-returns-clause-begins
+sum-returns-clause-begins t c = c.loop-addend.invariant.begins
+
+pub product-returns-in_err-operand-clause-grows : goal.product-returns-in_err-operand-clause-grows
+product-returns-in_err-operand-clause-grows t c = grows_then _ _ _ c.loop-factor.invariant.grows c.encode.ensures.grows
+
+pub product-returns-in_err-operand-clause-begins : goal.product-returns-in_err-operand-clause-begins
+product-returns-in_err-operand-clause-begins t c = front_then c.args.out.now.items c.loop-factor.out.items c.encode.new.out.items c.loop-factor.invariant.begins c.encode.ensures.begins
+
+pub product-returns-in_err-product-clause-grows : goal.product-returns-in_err-product-clause-grows
+product-returns-in_err-product-clause-grows t c = grows_then _ _ _ (grows_then _ _ _ c.loop-factor.invariant.grows c.encode.ensures.grows) c.with_factor.ensures.grows
+
+pub product-returns-in_err-product-clause-begins : goal.product-returns-in_err-product-clause-begins
+product-returns-in_err-product-clause-begins t c = front_then c.args.out.now.items c.encode.new.out.items c.with_factor.new.out.items (front_then c.args.out.now.items c.loop-factor.out.items c.encode.new.out.items c.loop-factor.invariant.begins c.encode.ensures.begins) c.with_factor.ensures.begins
+
+pub product-returns-clause-grows : goal.product-returns-clause-grows
+product-returns-clause-grows t c = c.loop-factor.invariant.grows
+
+pub product-returns-clause-begins : goal.product-returns-clause-begins
+product-returns-clause-begins t c = c.loop-factor.invariant.begins
+
+pub junction_of-returns-in_err-push-clause-grows : goal.junction_of-returns-in_err-push-clause-grows
+junction_of-returns-in_err-push-clause-grows t c = grows_not c.args.nodes.now
+
+pub junction_of-returns-in_err-push-clause-begins : goal.junction_of-returns-in_err-push-clause-begins
+junction_of-returns-in_err-push-clause-begins t c = front_not c.args.out.now.items
+
+pub junction_of-returns-in_err-guard-clause-grows : goal.junction_of-returns-in_err-guard-clause-grows
+junction_of-returns-in_err-guard-clause-grows t c = grows_then _ _ _ c.loop-member.invariant.grows c.goes_on.ensures.grows
+
+pub junction_of-returns-in_err-guard-clause-begins : goal.junction_of-returns-in_err-guard-clause-begins
+junction_of-returns-in_err-guard-clause-begins t c = c.loop-member.invariant.begins
+
+pub junction_of-returns-in_err-narrowed-clause-grows : goal.junction_of-returns-in_err-narrowed-clause-grows
+junction_of-returns-in_err-narrowed-clause-grows t c = grows_then _ _ _ (grows_then _ _ _ c.loop-member.invariant.grows c.goes_on.ensures.grows) c.narrowed_path.ensures.grows
+
+pub junction_of-returns-in_err-narrowed-clause-begins : goal.junction_of-returns-in_err-narrowed-clause-begins
+junction_of-returns-in_err-narrowed-clause-begins t c = c.loop-member.invariant.begins
+
+pub junction_of-returns-in_err-last-clause-grows : goal.junction_of-returns-in_err-last-clause-grows
+junction_of-returns-in_err-last-clause-grows t c = grows_then _ _ _ (grows_then _ _ _ (grows_then _ _ _ c.loop-member.invariant.grows c.goes_on.ensures.grows) c.narrowed_path.ensures.grows) c.encode.ensures.grows
+
+pub junction_of-returns-in_err-last-clause-begins : goal.junction_of-returns-in_err-last-clause-begins
+junction_of-returns-in_err-last-clause-begins t c = front_then c.args.out.now.items c.loop-member.out.items c.encode.new.out.items c.loop-member.invariant.begins c.encode.ensures.begins
+
+pub junction_of-returns-in_err-push-2-clause-grows : goal.junction_of-returns-in_err-push-2-clause-grows
+junction_of-returns-in_err-push-2-clause-grows t c = grows_then _ _ _ (grows_then _ _ _ (grows_then _ _ _ c.loop-member.invariant.grows c.goes_on.ensures.grows) c.narrowed_path.ensures.grows) c.encode.ensures.grows
+
+pub junction_of-returns-in_err-push-2-clause-begins : goal.junction_of-returns-in_err-push-2-clause-begins
+junction_of-returns-in_err-push-2-clause-begins t c = front_then c.args.out.now.items c.loop-member.out.items c.encode.new.out.items c.loop-member.invariant.begins c.encode.ensures.begins
+
+pub junction_of-returns-clause-grows : goal.junction_of-returns-clause-grows
+junction_of-returns-clause-grows t c = grows_then _ _ _ c.loop-member.invariant.grows c.joined.ensures.grows
+
+pub junction_of-returns-clause-begins : goal.junction_of-returns-clause-begins
+junction_of-returns-clause-begins t c = c.loop-member.invariant.begins
+
+pub junction_of-narrowed_path-requires-clause-path : goal.junction_of-narrowed_path-requires-clause-path
+junction_of-narrowed_path-requires-clause-path t c = path_stays _ _ c.loop-member.path c.goes_on.ensures.grows c.loop-member.invariant.path_is
+
+pub implication-returns-in_err-push-clause-grows : goal.implication-returns-in_err-push-clause-grows
+implication-returns-in_err-push-clause-grows t c = c.loop-member.invariant.grows
+
+pub implication-returns-in_err-push-clause-begins : goal.implication-returns-in_err-push-clause-begins
+implication-returns-in_err-push-clause-begins t c = c.loop-member.invariant.begins
+
+pub implication-returns-in_err-narrowed-clause-grows : goal.implication-returns-in_err-narrowed-clause-grows
+implication-returns-in_err-narrowed-clause-grows t c = grows_then _ _ _ c.loop-member.invariant.grows c.narrowed_path.ensures.grows
+
+pub implication-returns-in_err-narrowed-clause-begins : goal.implication-returns-in_err-narrowed-clause-begins
+implication-returns-in_err-narrowed-clause-begins t c = c.loop-member.invariant.begins
+
+pub implication-returns-in_err-last-clause-grows : goal.implication-returns-in_err-last-clause-grows
+implication-returns-in_err-last-clause-grows t c = grows_then _ _ _ (grows_then _ _ _ c.loop-member.invariant.grows c.narrowed_path.ensures.grows) c.encode.ensures.grows
+
+pub implication-returns-in_err-last-clause-begins : goal.implication-returns-in_err-last-clause-begins
+implication-returns-in_err-last-clause-begins t c = front_then c.args.out.now.items c.loop-member.out.items c.encode.new.out.items c.loop-member.invariant.begins c.encode.ensures.begins
+
+pub implication-returns-clause-grows : goal.implication-returns-clause-grows
+implication-returns-clause-grows t c = grows_then _ _ _ c.loop-member.invariant.grows c.implied.ensures.grows
+
+pub implication-returns-clause-begins : goal.implication-returns-clause-begins
+implication-returns-clause-begins t c = c.loop-member.invariant.begins
+
+pub equivalence-returns-in_err-operand-clause-grows : goal.equivalence-returns-in_err-operand-clause-grows
+equivalence-returns-in_err-operand-clause-grows t c = grows_then _ _ _ c.loop-member.invariant.grows c.encode.ensures.grows
+
+pub equivalence-returns-in_err-operand-clause-begins : goal.equivalence-returns-in_err-operand-clause-begins
+equivalence-returns-in_err-operand-clause-begins t c = front_then c.args.out.now.items c.loop-member.out.items c.encode.new.out.items c.loop-member.invariant.begins c.encode.ensures.begins
+
+pub equivalence-returns-in_err-formula-clause-grows : goal.equivalence-returns-in_err-formula-clause-grows
+equivalence-returns-in_err-formula-clause-grows t c = grows_then _ _ _ (grows_then _ _ _ c.loop-member.invariant.grows c.encode.ensures.grows) c.iff.ensures.grows
+
+pub equivalence-returns-in_err-formula-clause-begins : goal.equivalence-returns-in_err-formula-clause-begins
+equivalence-returns-in_err-formula-clause-begins t c = front_then c.args.out.now.items c.loop-member.out.items c.encode.new.out.items c.loop-member.invariant.begins c.encode.ensures.begins
+
+pub equivalence-returns-clause-grows : goal.equivalence-returns-clause-grows
+equivalence-returns-clause-grows t c = c.loop-member.invariant.grows
+
+pub equivalence-returns-clause-begins : goal.equivalence-returns-clause-begins
+equivalence-returns-clause-begins t c = c.loop-member.invariant.begins
+
+pub chain-returns-in_err-path-clause-grows : goal.chain-returns-in_err-path-clause-grows
+chain-returns-in_err-path-clause-grows t c = grows_then _ _ _ c.loop-link.invariant.grows c.further.ensures.grows
+
+pub chain-returns-in_err-path-clause-begins : goal.chain-returns-in_err-path-clause-begins
+chain-returns-in_err-path-clause-begins t c = c.loop-link.invariant.begins
+
+pub chain-returns-in_err-right-clause-grows : goal.chain-returns-in_err-right-clause-grows
+chain-returns-in_err-right-clause-grows t c = grows_then _ _ _ (grows_then _ _ _ c.loop-link.invariant.grows c.further.ensures.grows) c.encode.ensures.grows
+
+pub chain-returns-in_err-right-clause-begins : goal.chain-returns-in_err-right-clause-begins
+chain-returns-in_err-right-clause-begins t c = front_then c.args.out.now.items c.loop-link.out.items c.encode.new.out.items c.loop-link.invariant.begins c.encode.ensures.begins
+
+pub chain-returns-in_err-formula-clause-grows : goal.chain-returns-in_err-formula-clause-grows
+chain-returns-in_err-formula-clause-grows t c = grows_then _ _ _ (grows_then _ _ _ (grows_then _ _ _ c.loop-link.invariant.grows c.further.ensures.grows) c.encode.ensures.grows) c.compared.ensures.grows
+
+pub chain-returns-in_err-formula-clause-begins : goal.chain-returns-in_err-formula-clause-begins
+chain-returns-in_err-formula-clause-begins t c = front_then c.args.out.now.items c.loop-link.out.items c.encode.new.out.items c.loop-link.invariant.begins c.encode.ensures.begins
+
+pub chain-returns-in_err-push-clause-grows : goal.chain-returns-in_err-push-clause-grows
+chain-returns-in_err-push-clause-grows t c = grows_then _ _ _ (grows_then _ _ _ (grows_then _ _ _ c.loop-link.invariant.grows c.further.ensures.grows) c.encode.ensures.grows) c.compared.ensures.grows
+
+pub chain-returns-in_err-push-clause-begins : goal.chain-returns-in_err-push-clause-begins
+chain-returns-in_err-push-clause-begins t c = front_then c.args.out.now.items c.loop-link.out.items c.encode.new.out.items c.loop-link.invariant.begins c.encode.ensures.begins
+
+pub chain-returns-clause-grows : goal.chain-returns-clause-grows
+chain-returns-clause-grows t c = grows_then _ _ _ c.loop-link.invariant.grows c.all_of.ensures.grows
+
+pub chain-returns-clause-begins : goal.chain-returns-clause-begins
+chain-returns-clause-begins t c = c.loop-link.invariant.begins
