@@ -1,11 +1,9 @@
-//! Tests of sequents, the kernel, classes of equal nodes, eliminations and logs, as tables against their public calls. The crate
-//! holds nothing else.
+//! Tests of sequents, whole numbers, the kernel, classes of equal nodes, logs, and tables as counterexamples, as tables
+//! against their public calls. The crate holds nothing else.
 #![tactic(auto)]
 
 #[cfg(test)]
 mod congruences;
-#[cfg(test)]
-mod eliminations;
 #[cfg(test)]
 mod expecting;
 #[cfg(test)]
@@ -15,6 +13,6 @@ mod kernel;
 #[cfg(test)]
 mod logs;
 #[cfg(test)]
-mod rows;
-#[cfg(test)]
 mod sequents;
+#[cfg(test)]
+mod tables;

@@ -1,7 +1,7 @@
-//! Searches that end without a model: with a proof of few branches, as many closed branches as there may be, a
-//! number past 128 bits, or too many instances or rows.
+//! Searches that end without a model: with as many closed branches as there may be, a number past 128 bits, or too many
+//! instances or rows.
 
-use crate::endings::{Ending, ends, search_to};
+use crate::endings::search_to;
 use df_cases::{Terms, X, Y, Z, assume, assume_all, conclude, program, sequent};
 use df_form::{Draft, Free, Op, Sequent, Sort, World};
 use df_lang::Program;
@@ -24,62 +24,6 @@ const OTHER: Op = Op::Free(Free {
     number: 12,
     sort: Sort::Truth,
 });
-
-/// A further atom.
-fn atom(number: usize) -> Op {
-    Op::Free(Free {
-        number,
-        sort: Sort::Truth,
-    })
-}
-
-/// The four clauses of a and b with each sign.
-const CLAUSES: [Terms; 4] = [
-    &[(A, 0), (B, 0), (Op::Or, 2)],
-    &[(A, 0), (B, 0), (Op::Not, 1), (Op::Or, 2)],
-    &[(A, 0), (Op::Not, 1), (B, 0), (Op::Or, 2)],
-    &[(A, 0), (Op::Not, 1), (B, 0), (Op::Not, 1), (Op::Or, 2)],
-];
-
-/// How many clauses speak of atoms of their own.
-const PAIRS: usize = 6;
-
-/// That one of the two atoms of each pair is true.
-fn assume_pairs(draft: &mut Draft) -> bool {
-    for pair in 0..PAIRS {
-        let first = atom(20 + pair);
-        let second = atom(40 + pair);
-        if !assume(draft, &[(first, 0), (second, 0), (Op::Or, 2)]) {
-            return false;
-        }
-    }
-    true
-}
-
-/// The clauses of a and b, and as many of two atoms each of their own, with another atom as goal.
-pub(crate) fn beside_pairs<'a>(alloc: Global, program: &'a Program) -> Option<Sequent<'a>> {
-    let mut draft = Draft::new(alloc, World { program });
-    if assume_all(&mut draft, &CLAUSES) && assume_pairs(&mut draft) {
-        conclude(alloc, &mut draft, &[(OTHER, 0)])
-    } else {
-        None
-    }
-}
-
-/// Whether the search in 16 steps without rounds of instances ends with a proof.
-fn are_pairs_proved(alloc: Global, program: &Program) -> bool {
-    match beside_pairs(alloc, program) {
-        Some(sequent) => ends(alloc, &sequent, 16, 0, Ending::Proved),
-        None => false,
-    }
-}
-
-#[test]
-fn proves_beside_other_clauses(rt: HostRuntime) -> Result<(), Fail> {
-    let program = program(rt.alloc())?;
-    assert!(rt; are_pairs_proved(rt.alloc(), &program));
-    Ok(())
-}
 
 /// Why a search stops, with how many branches are closed, and how many literals the branch has that is left.
 #[derive(Clone, Copy)]

@@ -1,4 +1,4 @@
-//! Tests of ground sets, rounds of instances, closures, tables, branches and searches, as tables against
+//! Tests of ground sets, rounds of instances, closures, branches and searches, as tables against
 //! their public calls. The crate holds nothing else.
 #![tactic(auto)]
 
@@ -6,8 +6,6 @@
 mod branches;
 #[cfg(test)]
 mod closures;
-#[cfg(test)]
-mod conflicts;
 #[cfg(test)]
 mod endings;
 #[cfg(test)]
@@ -22,5 +20,3 @@ mod operations;
 mod rounds;
 #[cfg(test)]
 mod searches;
-#[cfg(test)]
-mod tables;

@@ -1,6 +1,6 @@
 //! How many conflicts the engine comes to, and a long chain of equalities.
 
-use crate::evidence::beside_pairs;
+use crate::pairs::beside_pairs;
 use df_cases::{Z, assume, conclude, program};
 use df_form::{Draft, Free, Op, Sequent, Sort, World};
 use df_kern::check;

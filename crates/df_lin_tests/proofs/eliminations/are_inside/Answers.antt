@@ -2,8 +2,8 @@ use Rattle.std.proofs.Common.{◌+◌, take, rules}
 use Rattle.df_level.specs.Row.{function_row}
 use Rattle.df_level.specs.Levels.{rows_of}
 use Rattle.df_level.proofs.Sets.{next_rows, taken_all}
-use Rattle.df_proof_tests.proofs.Inside.{inside_none, inside_more, inside_all}
-use Rattle.df_proof_tests.proofs.eliminations.are_inside.Goals as goal
+use Rattle.df_lin_tests.proofs.Inside.{inside_none, inside_more, inside_all}
+use Rattle.df_lin_tests.proofs.eliminations.are_inside.Goals as goal
 
 pub loop-row-init : goal.loop-row-init
 loop-row-init c = inside_none c.args.count

@@ -1,0 +1,84 @@
+//! Clauses of two atoms that are false together, beside clauses that a proof does without.
+
+use df_cases::{P, Q, Terms, assume, assume_all, conclude, program};
+use df_form::{Draft, Free, Op, Sequent, Sort, World};
+use df_kern::check;
+use df_lang::Program;
+use df_search::{Budget, Found, search};
+use std::alloc::Global;
+use std::test::Fail;
+
+/// A further atom.
+fn atom(number: usize) -> Op {
+    Op::Free(Free {
+        number,
+        sort: Sort::Truth,
+    })
+}
+
+/// The four clauses of two atoms with each sign.
+const CLAUSES: [Terms; 4] = [
+    &[(P, 0), (Q, 0), (Op::Or, 2)],
+    &[(P, 0), (Q, 0), (Op::Not, 1), (Op::Or, 2)],
+    &[(P, 0), (Op::Not, 1), (Q, 0), (Op::Or, 2)],
+    &[(P, 0), (Op::Not, 1), (Q, 0), (Op::Not, 1), (Op::Or, 2)],
+];
+
+/// How many clauses speak of atoms of their own.
+const PAIRS: usize = 6;
+
+/// That one of the two atoms of each pair is true.
+fn assume_pairs(draft: &mut Draft) -> bool {
+    for pair in 0..PAIRS {
+        let first = atom(20 + pair);
+        let second = atom(40 + pair);
+        if !assume(draft, &[(first, 0), (second, 0), (Op::Or, 2)]) {
+            return false;
+        }
+    }
+    true
+}
+
+/// The clauses of two atoms, and as many of two atoms each of their own, with another atom as goal.
+pub(crate) fn beside_pairs<'a>(alloc: Global, program: &'a Program) -> Option<Sequent<'a>> {
+    let mut draft = Draft::new(alloc, World { program });
+    if assume_all(&mut draft, &CLAUSES) && assume_pairs(&mut draft) {
+        conclude(alloc, &mut draft, &[(atom(12), 0)])
+    } else {
+        None
+    }
+}
+
+/// Whether it is a log that the kernel takes.
+fn is_log(alloc: Global, sequent: &Sequent, found: &Found) -> bool {
+    match found {
+        Found::Proved { log, .. } => check(alloc, sequent, log).is_ok(),
+        Found::Modelled(_) | Found::Spent(_) | Found::Wide { .. } | Found::Many(_) => false,
+    }
+}
+
+/// Whether the search in 16 steps without rounds of instances ends with a log that the kernel takes.
+fn is_proved(alloc: Global, sequent: &Sequent) -> bool {
+    let budget = Budget {
+        steps: 16,
+        rounds: 0,
+    };
+    match search(alloc, sequent, budget) {
+        Ok(found) => is_log(alloc, sequent, &found),
+        Err(_) => false,
+    }
+}
+
+fn are_pairs_proved(alloc: Global, program: &Program) -> bool {
+    match beside_pairs(alloc, program) {
+        Some(sequent) => is_proved(alloc, &sequent),
+        None => false,
+    }
+}
+
+#[test]
+fn proves_beside_other_clauses(rt: HostRuntime) -> Result<(), Fail> {
+    let program = program(rt.alloc())?;
+    assert!(rt; are_pairs_proved(rt.alloc(), &program));
+    Ok(())
+}
