@@ -2,6 +2,7 @@
 
 use crate::listing::listing;
 use crate::made::{Made, made_of};
+use crate::proposing::are_proposals_taken;
 use crate::sequents::sequents;
 use crate::verdict::have_verdicts;
 use anyhow::Result;
@@ -98,12 +99,13 @@ fn are_judged(rt: &HostRuntime, row: Row) -> Result<bool> {
     are_judged_at(rt, row, path.as_str())
 }
 
-/// Compares the obligations of a program with the files of its row.
+/// Compares the obligations of a program with the files of its row, and checks what the engine proposes for them.
 fn is_same(rt: &HostRuntime, row: Row) -> Result<bool> {
     let is_listed = is_listed(rt, row)?;
     let are_sequents = are_sequents(rt, row)?;
     let are_judged = are_judged(rt, row)?;
-    Ok(is_listed && are_sequents && are_judged)
+    let are_taken = are_proposals_taken(rt, row.program, row.obligations)?;
+    Ok(is_listed && are_sequents && are_judged && are_taken)
 }
 
 /// Tells the line for which a source is refused.
