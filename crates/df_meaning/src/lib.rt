@@ -1,5 +1,5 @@
-//! What programs mean: values, states, how evaluation and execution end, whole and modular runs, and what is
-//! correct.
+//! The big-step semantics of programs: values, states, how evaluation and execution end, monotone in their depth,
+//! whole and modular runs, and what is correct.
 #![tactic(auto)]
 
 ghost use Rattle.df_meaning.specs.Agreement.{StatementsAgree, ParametersStay};

@@ -1,4 +1,4 @@
-//! The emitter: machine code that does what a program without ghosts does.
+//! The emitter: machine code that does what a program without ghosts does, by a simulation of its runs.
 #![tactic(auto)]
 
 mod draft;

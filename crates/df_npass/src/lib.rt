@@ -1,5 +1,5 @@
-//! Obligations of programs: passing over statements by single assignment, with calls and loops, and what the
-//! obligations of well-typed programs that obey definite assignment have to do with modular runs.
+//! Obligations of programs: passing over statements by single assignment and path conditions, with calls and loops,
+//! and what the obligations of well-typed programs that obey definite assignment have to do with modular runs.
 #![tactic(auto)]
 
 ghost use Rattle.df_npass.specs.Laws.{WrongIsRefuted, RefutedIsWrong, ValidIsSafe, SafeIsValid, AllValidIsSafe, RefutedMemberIsWrong, ValidMembersAreSafe, OneListOfObligations};

@@ -1,4 +1,4 @@
-//! Reads the file that tokens spell.
+//! The parser of files: reads the one that tokens spell.
 #![tactic(auto)]
 
 ghost use Rattle.std.specs.Prelude.{◌≡◌, map, IfOk};

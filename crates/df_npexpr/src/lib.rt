@@ -1,4 +1,4 @@
-//! Reads the expressions and types that tokens spell.
+//! The parser of expressions and types, by recursive descent with lookahead: reads those that tokens spell.
 #![tactic(auto)]
 
 ghost use Rattle.std.specs.Prelude.{◌≡◌, ℕ, map, IfOk};

@@ -1,4 +1,4 @@
-//! Divides the bytes of a source into tokens.
+//! The lexer: divides the bytes of a source into tokens.
 #![tactic(auto)]
 
 ghost use Rattle.std.specs.Prelude.{◌≡◌, ℕ, ◌≤◌, List, length, map, Contains};
