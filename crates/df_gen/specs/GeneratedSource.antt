@@ -1,7 +1,6 @@
 -- The text of generated sources. Each line ends with a line feed.
-use Rattle.std.specs.Prelude.{ℕ, zero, suc, List, [], ◌++◌, codes}
+use Rattle.std.specs.Prelude.{ℕ, zero, suc, List, [], ◌++◌, codes, ◌+◌, ◌*◌, ◌/◌, ◌%◌, ◌^◌}
 use Rattle.std.specs.Fmt.{decimal}
-use Rattle.df_gen.specs.Generator.{factor}
 
 -- the lines of the numbers below this one, in their order
 abbrev pub lines_below : (ℕ → List ℕ) → ℕ → List ℕ
@@ -15,6 +14,23 @@ numbered number after = decimal number ++ after
 -- the method of a number, up to the factor in its postcondition
 abbrev pub method_head : ℕ → List ℕ
 method_head number = codes "method m" ++ numbered number (codes "(n: u) returns (r: u) requires n < 1000 ensures r == n * ")
+
+-- the state after a state
+abbrev pub next : ℕ → ℕ
+next state = (state * 6364136223846793005 + 1442695040888963407) % 2 ^ 64
+
+-- the state after so many, from the seed
+abbrev pub state_after : ℕ → ℕ → ℕ
+state_after seed zero = seed
+state_after seed (suc k) = next (state_after seed k)
+
+-- the high bits of a state, below 100
+abbrev pub factor_of : ℕ → ℕ
+factor_of state = state / 2 ^ 33 % 100
+
+-- the factor of the method of this number, from 0
+abbrev pub factor : ℕ → ℕ → ℕ
+factor seed k = factor_of (state_after seed (suc k))
 
 -- the rest of the method, from the factor on
 abbrev pub method_body : ℕ → List ℕ

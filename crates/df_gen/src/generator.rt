@@ -1,7 +1,7 @@
 //! The numbers that generated sources hold.
 
 ghost use Rattle.std.specs.Prelude.{◌≡◌};
-ghost use Rattle.df_gen.specs.Generator.{next, factor_of};
+ghost use Rattle.df_gen.specs.GeneratedSource.{next, factor_of};
 
 /// A linear congruential generator.
 #[derive(Drop)]

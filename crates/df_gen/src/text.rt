@@ -1,8 +1,7 @@
 //! The text of generated sources.
 
 ghost use Rattle.std.specs.Prelude.{◌≡◌, ◌++◌, OnOk, IfOk};
-ghost use Rattle.df_gen.specs.Generator.{factor};
-ghost use Rattle.df_gen.specs.GeneratedSource.{numbered, method_head, method_body, method_text, call_text, lines_below, generated_source};
+ghost use Rattle.df_gen.specs.GeneratedSource.{numbered, method_head, method_body, method_text, call_text, lines_below, generated_source, factor};
 
 use crate::generator::Generator;
 use df_base::Memory;

@@ -9,6 +9,7 @@ use Rattle.df_lang.specs.declared.expr.Arrow.TheVariants as arrows
 use Rattle.df_lang.specs.Expr.{Expr, Number, Truth, Character, Local, Negate, Not, Sum, Product, Junction, Implies, Iff, Chain, As, Convert, Addends, no_addend, addend, Factors, no_factor, factor, Members, no_member, member, Links, no_link, link}
 use Rattle.df_lang.specs.Stmt.{Operand, Text, Value, Call, Source, Single, Results, Update, Variable, Stmt, Block, Var, Assign, CallOf, If, While, Break, Return, Assert, Print, Stmts, done, next, Branches, no_branch, branch}
 use Rattle.df_lang.specs.Program.{Param, Method, Program, method_at}
+use Rattle.df_lang.specs.Newtype.{is_unbounded}
 
 pub data NativeRule : Type 0 where
   -- a compiled parameter, result or variable is of a newtype, a truth or a character
@@ -25,14 +26,6 @@ pub record Breach : Type 0 where
 
 abbrev pub breach : NativeRule → Pos → List Breach
 breach rule pos = record { rule = rule; pos = pos } ∷ []
-
--- compiled places have numbers of newtypes alone: `int` and `nat` have no bound
-abbrev pub is_unbounded : Ty → Bool
-is_unbounded (types.Newtype id) = false
-is_unbounded types.Int = true
-is_unbounded types.Nat = true
-is_unbounded types.Bool = false
-is_unbounded types.Char = false
 
 -- ---- Expressions. A local of type `int` breaks the rule on places where it is declared, and none where it is read.
 

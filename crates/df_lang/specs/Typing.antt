@@ -8,18 +8,10 @@ use Rattle.df_lang.specs.declared.expr.Comparison.{Comparison}
 use Rattle.df_lang.specs.declared.expr.Comparison.TheVariants as comparisons
 use Rattle.df_lang.specs.Expr.{Expr, Number, Truth, Character, Local, Negate, Not, Sum, Product, Junction, Implies, Iff, Chain, As, Convert, Addends, no_addend, addend, Factors, no_factor, factor, Members, no_member, member, Links, no_link, link}
 use Rattle.df_lang.specs.Stmt.{Operand, Text, Value, Target, Call, Conversion, Source, Single, Results, Update, Variable, Clause, Measure, Stmt, Block, Var, Assign, CallOf, If, While, Break, Return, Assert, Print, Stmts, done, next, Branches, no_branch, branch}
-use Rattle.df_lang.specs.Newtype.{Newtype}
+use Rattle.df_lang.specs.Newtype.{Newtype, same_type}
 use Rattle.df_lang.specs.Program.{Method, Decl, NewtypeDecl, MethodDecl, Program, newtype_at, method_at, types_of}
 use Rattle.df_lang.specs.Measures.{guard_measure}
 use Rattle.df_lang.specs.Marks.{has_no_ghost}
-
-abbrev pub same_type : Ty → Ty → Bool
-same_type (types.Newtype a) (types.Newtype b) = a == b
-same_type types.Int types.Int = true
-same_type types.Nat types.Nat = true
-same_type types.Bool types.Bool = true
-same_type types.Char types.Char = true
-same_type a b = false
 
 abbrev pub are_same_types : List Ty → List Ty → Bool
 are_same_types [] [] = true

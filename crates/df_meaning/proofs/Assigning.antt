@@ -9,7 +9,8 @@ use Rattle.df_lang.specs.declared.ty.Ty.TheVariants as types
 use Rattle.df_lang.specs.Expr.{Expr, Number, Truth, Character, Local, Negate, Not, Sum, Product, Junction, Implies, Iff, Chain, As, Convert, Addends, no_addend, addend, Factors, no_factor, factor, Members, no_member, member, Links, no_link, link}
 use Rattle.df_lang.specs.Stmt.{Target, Update, Variable, Clause, Measure, Stmt, Block, Var, Assign, CallOf, If, While, Break, Return, Assert, Print, Stmts, done, next, Branches, no_branch, branch}
 use Rattle.df_lang.specs.Program.{Param, Method, Program}
-use Rattle.df_lang.specs.Typing.{same_type, are_same_types, is_type, is_arithmetic, casts, compares, converts, is_expr, are_addends, are_factors, are_members, are_links, are_clauses, are_measures, Setting, is_source, source_types, is_target, may_update, are_numbered, variable_numbers, variable_types, locals_after, locals_after_all, locals_after_branches, is_measured, is_stmt, are_stmts, are_branches}
+use Rattle.df_lang.specs.Newtype.{same_type}
+use Rattle.df_lang.specs.Typing.{are_same_types, is_type, is_arithmetic, casts, compares, converts, is_expr, are_addends, are_factors, are_members, are_links, are_clauses, are_measures, Setting, is_source, source_types, is_target, may_update, are_numbered, variable_numbers, variable_types, locals_after, locals_after_all, locals_after_branches, is_measured, is_stmt, are_stmts, are_branches}
 use Rattle.df_lang.specs.Measures.{parameters_from, method_measure}
 use Rattle.df_lang.specs.Assignment.{Use, reads, reads_of_addends, reads_of_factors, reads_of_members, reads_of_links, reads_of_clauses, reads_of_measures, Assigned, Unreached, Reached, has_value, join, mark, declare, assign, assign_all, unassigned, Flowing, goes_to, flow, flow_all, flow_branches}
 use Rattle.df_meaning.specs.Definite.{AreDeclared}

@@ -7,7 +7,8 @@ use Rattle.df_lang.specs.declared.ty.Ty.{Ty}
 use Rattle.df_lang.specs.declared.ty.Ty.TheVariants as types
 use Rattle.df_lang.specs.Stmt.{Target, Update, Variable, Stmt, Block, Var, Assign, CallOf, If, While, Break, Return, Assert, Print, Stmts, done, next, Branches, no_branch, branch}
 use Rattle.df_lang.specs.Program.{Method}
-use Rattle.df_lang.specs.Typing.{same_type, are_same_types, is_type, is_expr, are_clauses, is_source, source_types, is_target, may_update, are_numbered, variable_numbers, variable_types, locals_after, locals_after_all, locals_after_branches, is_measured, is_stmt, are_stmts, are_branches}
+use Rattle.df_lang.specs.Newtype.{same_type}
+use Rattle.df_lang.specs.Typing.{are_same_types, is_type, is_expr, are_clauses, is_source, source_types, is_target, may_update, are_numbered, variable_numbers, variable_types, locals_after, locals_after_all, locals_after_branches, is_measured, is_stmt, are_stmts, are_branches}
 use Rattle.df_meaning.specs.Meaning.{Meaning}
 use Rattle.df_meaning.specs.Modular.{Changed, changed_by_update, changed_by_variables, changed_by, changed_by_all, changed_by_branches}
 use Rattle.df_meaning.specs.Agreement.{is_changed}

@@ -5,7 +5,8 @@ use Rattle.df_lang.specs.declared.ty.Ty.{Ty}
 use Rattle.df_lang.specs.declared.ty.Ty.TheVariants as types
 use Rattle.df_lang.specs.declared.expr.Junction.{Junction as JunctionKind}
 use Rattle.df_lang.specs.Expr.{Expr, Number, Truth, Character, Local, Negate, Not, Sum, Product, Junction, Implies, Iff, Chain, As, Convert, Addends, no_addend, addend, Factors, no_factor, factor, Members, no_member, member, Links, no_link, link}
-use Rattle.df_lang.specs.Typing.{same_type, is_arithmetic, casts, converts, compares, is_expr, are_addends, are_factors, are_members, are_links}
+use Rattle.df_lang.specs.Newtype.{same_type}
+use Rattle.df_lang.specs.Typing.{is_arithmetic, casts, converts, compares, is_expr, are_addends, are_factors, are_members, are_links}
 use Rattle.df_meaning.specs.Value.{Value, number_of, truth_of, same_truth}
 use Rattle.df_meaning.specs.Value as values
 use Rattle.df_meaning.specs.State.{State, value_at}

@@ -1,6 +1,7 @@
 //! The command line: the command that the words ask for, by a table of commands that `clap` reads.
 #![tactic(auto)]
 
+mod bounds;
 mod choosing;
 mod command;
 mod laws;

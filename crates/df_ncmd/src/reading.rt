@@ -7,6 +7,7 @@ ghost use Rattle.clap.specs.Words.{first_of};
 ghost use Rattle.df_ncmd.specs.Line.{budget_in, is_decimal, number_in, number_of, value_of, within};
 ghost use Rattle.df_ncmd.specs.View.{Gives, budget_of, rows_in};
 
+use crate::bounds::{MOST_ROUNDS, MOST_STEPS};
 use crate::command::{Budget, LineFault};
 use clap::ArgMatches;
 use std::alloc::{AllocError, Global};
@@ -97,7 +98,7 @@ pub(crate) fn number(
 pub(crate) fn budget(given: &ArgMatches) -> Result<Budget, LineFault>
     ensures { Gives budget_of result (budget_in (rows_in given.now)) }
 {
-    let steps = number(given, "steps", 1, 10_000_000)?;
-    let rounds = number(given, "rounds", 0, 8)?;
+    let steps = number(given, "steps", 1, MOST_STEPS)?;
+    let rounds = number(given, "rounds", 0, MOST_ROUNDS)?;
     Ok(Budget { steps, rounds })
 }

@@ -1,10 +1,11 @@
 //! The table of commands, built for `clap`.
 
-ghost use Rattle.std.specs.Prelude.{◌≡◌, IfOk};
-ghost use Rattle.clap.specs.Words.{app_of};
+ghost use Rattle.std.specs.Prelude.{◌≡◌, IfOk, codes};
+ghost use Rattle.clap.specs.Words.{app_of, with_subcommand};
 ghost use Rattle.df_ncmd.specs.Table as written;
 ghost use Rattle.df_ncmd.specs.Built.{IsArg, IsCommand};
 
+use crate::bounds::{MOST_FUEL, MOST_METHODS, MOST_ROUNDS, MOST_SEED, MOST_STEPS};
 use clap::builder::ValueParser;
 use clap::{Arg, Command};
 use std::alloc::{AllocError, Global};
@@ -51,8 +52,8 @@ fn proving<'a>(alloc: Global, name: &'a str) -> Result<Command<'a>, AllocError>
 {
     Command::new(alloc, name)
         .arg(place(alloc, "file"))?
-        .arg(number_option(alloc, "steps", 1, 10_000_000, "20000"))?
-        .arg(number_option(alloc, "rounds", 0, 8, "4"))
+        .arg(number_option(alloc, "steps", 1, MOST_STEPS, "20000"))?
+        .arg(number_option(alloc, "rounds", 0, MOST_ROUNDS, "4"))
 }
 
 /// A command that compiles a file, once it is proved or its log is checked.
@@ -66,14 +67,9 @@ fn compiling<'a>(alloc: Global, name: &'a str) -> Result<Command<'a>, AllocError
 fn running<'a>(alloc: Global, name: &'a str) -> Result<Command<'a>, AllocError>
     ensures { IfOk result (λ command. IsCommand command (written.running name.entry.now)) }
 {
-    let fuel = number_option(
-        alloc,
-        "fuel",
-        0,
-        9_223_372_036_854_775_807,
-        "9223372036854775807",
-    );
-    compiling(alloc, name)?.arg(fuel)
+    let command = compiling(alloc, name)?;
+    let fuel = number_option(alloc, "fuel", 0, MOST_FUEL, "9223372036854775807");
+    command.arg(fuel)
 }
 
 /// A command that checks a file's log.
@@ -90,21 +86,58 @@ fn making<'a>(alloc: Global, name: &'a str) -> Result<Command<'a>, AllocError>
     ensures { IfOk result (λ command. IsCommand command (written.making name.entry.now)) }
 {
     Command::new(alloc, name)
-        .arg(number_place(alloc, "seed", 0, 9_223_372_036_854_775_807))?
-        .arg(number_place(alloc, "count", 1, 200))
+        .arg(number_place(alloc, "seed", 0, MOST_SEED))?
+        .arg(number_place(alloc, "count", 1, MOST_METHODS))
 }
 
-/// The whole table. Its words don't begin with the program's name.
-pub(crate) fn table<'a>(alloc: Global) -> Result<Command<'a>, AllocError>
-    ensures { IfOk result (λ command. app_of command ≡ written.table) }
+/// The program before its commands, of which one has to be named. Its words don't begin with its
+/// name.
+fn program<'a>(alloc: Global) -> Command<'a>
+    ensures { app_of result ≡ written.program }
 {
     Command::new(alloc, "dfy")
         .no_binary_name(true)
         .subcommand_required(true)
+}
+
+/// The program with the commands that prove a file.
+fn with_provers<'a>(alloc: Global, program: Command<'a>) -> Result<Command<'a>, AllocError>
+    ensures { IfOk result (λ command. app_of command ≡ written.with_provers (app_of program.entry)) }
+{
+    program
         .subcommand(proving(alloc, "verify")?)?
-        .subcommand(proving(alloc, "prove")?)?
-        .subcommand(checking(alloc, "check")?)?
+        .subcommand(proving(alloc, "prove")?)
+}
+
+/// The program with the command that checks a log.
+fn with_checker<'a>(alloc: Global, program: Command<'a>) -> Result<Command<'a>, AllocError>
+    ensures { IfOk result (λ command. app_of command ≡ with_subcommand (app_of program.entry) (written.checking (codes "check"))) }
+{
+    program.subcommand(checking(alloc, "check")?)
+}
+
+/// The program with the commands that compile a file.
+fn with_compilers<'a>(alloc: Global, program: Command<'a>) -> Result<Command<'a>, AllocError>
+    ensures { IfOk result (λ command. app_of command ≡ written.with_compilers (app_of program.entry)) }
+{
+    program
         .subcommand(compiling(alloc, "build")?)?
-        .subcommand(running(alloc, "run")?)?
-        .subcommand(making(alloc, "bulk")?)
+        .subcommand(running(alloc, "run")?)
+}
+
+/// The program with the command that makes a source.
+fn with_maker<'a>(alloc: Global, program: Command<'a>) -> Result<Command<'a>, AllocError>
+    ensures { IfOk result (λ command. app_of command ≡ with_subcommand (app_of program.entry) (written.making (codes "bulk"))) }
+{
+    program.subcommand(making(alloc, "bulk")?)
+}
+
+/// The whole table.
+pub(crate) fn table<'a>(alloc: Global) -> Result<Command<'a>, AllocError>
+    ensures { IfOk result (λ command. app_of command ≡ written.table) }
+{
+    let command = with_provers(alloc, program(alloc))?;
+    let command = with_checker(alloc, command)?;
+    let command = with_compilers(alloc, command)?;
+    with_maker(alloc, command)
 }

@@ -15,6 +15,7 @@ use Rattle.df_ntyping.specs.Node.{Occurrence}
 use Rattle.df_ntyping.specs.Rule.{Twice}
 use Rattle.df_ntyping.specs.Table.{Table, table_of}
 use Rattle.df_ntyping.specs.rules.Names.{is_among}
+use Rattle.df_ntyping.proofs.NamedFiles.{named_breaks_none}
 use Rattle.df_ntyping.proofs.LeastExists.{is_first, is_later}
 
 behind : {X : Type 0} (front xs : List X) (y : X) → Contains xs y → Contains (front ++ xs) y
@@ -74,4 +75,4 @@ pub declared_once : (file : File) → HasNames file → (i j : ℕ) (one other :
     → (declared_name one).name ≡ (declared_name other).name → i ≡ j
 declared_once file named i j one other at also same =
     one_place [] file.declarations i j one other
-    (are_once (table_of file) [] 0 file.declarations (λ at there broken. named (record { at = at; rule = Twice }) (there, broken) refl)) at also same
+    (are_once (table_of file) [] 0 file.declarations (λ at there broken. named_breaks_none file named (record { at = at; rule = Twice }) (there, broken) refl)) at also same

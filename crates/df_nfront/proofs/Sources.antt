@@ -14,6 +14,7 @@ use Rattle.df_ntyping.specs.Stages.{IsRefusedFile, rules, values}
 use Rattle.df_ntyping.specs.Unassigned.{uses_missing, IsToldMissing}
 use Rattle.df_nfront.specs.Source.{IsDivided, IsRead, IsLawful, IsUnlawful}
 use Rattle.df_nfront.specs.Refused.{IsRefused, bytes, tokens, file}
+use Rattle.df_tok.specs.Limits.{byte_limit, token_limit}
 
 abbrev pub OneDivision : Type 0
 OneDivision = (before : List (List ℕ)) (source : List ℕ) (all others : List Token) (after last : List (List ℕ)) → Divides before source all after → Divides before source others last → (all ≡ others) × (after ≡ last)
@@ -22,7 +23,7 @@ abbrev pub OneFile : Type 0
 OneFile = (all : List Token) (one other : File) → SpellsFile one all → SpellsFile other all → one ≡ other
 
 abbrev pub NoDivision : Type 0
-NoDivision = (before : List (List ℕ)) (source : List ℕ) (r : Refusal) (all : List Token) (after : List (List ℕ)) → IsFault before source r → Divides before source all after → length source ≤ 4194304 → length all ≤ 500000 → ⊥
+NoDivision = (before : List (List ℕ)) (source : List ℕ) (r : Refusal) (all : List Token) (after : List (List ℕ)) → IsFault before source r → Divides before source all after → length source ≤ byte_limit → length all ≤ token_limit → ⊥
 
 -- ---- definite programs
 

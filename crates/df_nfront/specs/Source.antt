@@ -5,16 +5,10 @@ use Rattle.df_lang.specs.Assignment.{IsDefinitelyAssigned}
 use Rattle.df_nmach.specs.Name.{is_name}
 use Rattle.df_tok.specs.Token.{Token}
 use Rattle.df_tok.specs.Division.{Divides}
+use Rattle.df_tok.specs.Limits.{byte_limit, token_limit}
 use Rattle.df_ntree.specs.File.{File}
 use Rattle.df_ntree.specs.FileSpelling.{SpellsFile}
 use Rattle.df_ntyping.specs.FileElaboration.{ElaboratesFile}
-
--- the limits of a source
-abbrev pub byte_limit : ℕ
-byte_limit = 4194304
-
-abbrev pub token_limit : ℕ
-token_limit = 500000
 
 -- within the limits the bytes divide into these tokens; the names are the texts of identifiers in order of first use
 pub record IsDivided (source : List ℕ) (names : List (List ℕ)) (tokens : List Token) : Type 0 where

@@ -2,8 +2,7 @@
 use Rattle.std.proofs.Common.{◌≡◌, ℕ, ◌+◌, List, [], ◌∷◌, ◌++◌, length, take, drop, refl, ap, ◌∙◌, arith}
 use Rattle.df_ntree.specs.declared.file.Local as declared_local
 use Rattle.df_ntree.specs.File.{Statement, Var, Statements, done, next}
-use Rattle.df_ntyping.specs.Environment.{Local, Environment, Variable_role, enter, past, declare, declare_variables}
-use Rattle.df_ntyping.specs.Scopes.{behind, locals_in_all}
+use Rattle.df_ntyping.specs.Environment.{Local, Environment, Variable_role, enter, past, declare, declare_variables, behind, locals_in_all}
 use Rattle.df_ntyping.proofs.SameBehind.{IsSame, same_behind, next_behind}
 use Rattle.df_nenv.specs.Environments.{left}
 use Rattle.df_ninfer.specs.Behind.{behind_all}

@@ -2,11 +2,10 @@
 use Rattle.std.proofs.Common.{◌<◌, ◌≤◌, [], ◌∷◌, length, get_or, arith, ◌≡◌, Bool, true, false, ◌&&◌, List, Option, None, refl, sym, ap, ◌∙◌}
 use Rattle.df_lang.specs.declared.ty.Ty.{Ty}
 use Rattle.df_ntree.specs.Expr.{Expr, Operation, members_of}
-use Rattle.df_ntyping.specs.Types.{is_integer, if_type_known}
+use Rattle.df_ntyping.specs.Types.{is_integer, if_type_known, is_order}
 use Rattle.df_ntyping.specs.Environment.{Environment}
 use Rattle.df_ntyping.specs.ExprTypes.{wanted_first, wanted_behind, is_open, type_in}
 use Rattle.df_ntyping.proofs.Silent.{open_integer}
-use Rattle.df_ntyping.specs.rules.Comparisons.{is_order}
 use Rattle.df_ntyping.specs.rules.Loops.{compares_integers}
 use Rattle.df_ninfer.specs.Guards.{may_be_integer, compares}
 

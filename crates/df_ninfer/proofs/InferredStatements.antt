@@ -6,8 +6,7 @@ use Rattle.df_ntree.specs.declared.file.Statement as declared_statement
 use Rattle.df_ntree.specs.Expr.{Expr}
 use Rattle.df_ntree.specs.File.{Clause, Statement, While, Statements, statement_of, statements_of}
 use Rattle.std.specs.List.{flat_map}
-use Rattle.df_ntyping.specs.Environment.{Local, Environment, enter}
-use Rattle.df_ntyping.specs.Scopes.{behind}
+use Rattle.df_ntyping.specs.Environment.{Local, Environment, enter, behind}
 use Rattle.df_ntyping.specs.LocalTypes.{names_in, used_in_clause, over, inferred_behind, inferred_behind_all}
 use Rattle.df_nenv.specs.Environments.{left}
 use Rattle.df_ninfer.specs.Behind.{behind_all}

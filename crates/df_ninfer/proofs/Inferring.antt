@@ -4,8 +4,7 @@ use Rattle.df_base.specs.declared.pos.Pos.{Pos}
 use Rattle.df_ntree.specs.declared.file.Local as declared_local
 use Rattle.df_ntree.specs.Expr.{Expr}
 use Rattle.df_ntree.specs.File.{Clause, Statement, Var, If, While, Statements, done, next, Branches, more, Otherwise, without}
-use Rattle.df_ntyping.specs.Environment.{Inferred, Environment, Variable_role, enter, past, declare, declare_variables}
-use Rattle.df_ntyping.specs.Scopes.{behind, locals_in_all, locals_in_branches, locals_in_otherwise}
+use Rattle.df_ntyping.specs.Environment.{Inferred, Environment, Variable_role, enter, past, declare, declare_variables, behind, locals_in_all, locals_in_branches, locals_in_otherwise}
 use Rattle.df_ntyping.specs.LocalTypes.{names_in, used_in_clause, used_names, used, over, inferred_behind, inferred_behind_all, inferred_behind_branches, inferred_behind_otherwise}
 use Rattle.std.specs.List.{flat_map}
 use Rattle.df_ninfer.specs.Behind.{behind_all}

@@ -1,7 +1,6 @@
 -- Where a walk goes on behind statements: what private contracts cite.
 use Rattle.df_ntree.specs.File.{Statements, done, next}
-use Rattle.df_ntyping.specs.Environment.{Environment}
-use Rattle.df_ntyping.specs.Scopes.{behind}
+use Rattle.df_ntyping.specs.Environment.{Environment, behind}
 
 abbrev pub behind_all : Environment → Statements → Environment
 behind_all env done = env

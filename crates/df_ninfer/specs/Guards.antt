@@ -1,9 +1,8 @@
 -- Operands that may be integers: what private contracts cite.
 use Rattle.std.specs.Prelude.{Bool, ◌||◌, ◌&&◌}
 use Rattle.df_ntree.specs.Expr.{Expr, Operation}
-use Rattle.df_ntyping.specs.Types.{is_integer, if_type_known}
+use Rattle.df_ntyping.specs.Types.{is_integer, if_type_known, is_order}
 use Rattle.df_ntyping.specs.Environment.{Environment}
-use Rattle.df_ntyping.specs.rules.Comparisons.{is_order}
 use Rattle.df_ntyping.specs.ExprTypes.{is_open, own_type}
 
 -- what is made of literals alone is one

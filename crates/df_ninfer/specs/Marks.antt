@@ -5,9 +5,8 @@ use Rattle.df_ntree.specs.declared.expr.TreeType.{TreeType}
 use Rattle.df_ntree.specs.declared.file.Local as declared_local
 use Rattle.df_ntree.specs.Expr.{Expr}
 use Rattle.df_ntree.specs.File.{Statements, Branches, Otherwise}
-use Rattle.df_ntyping.specs.Environment.{Inferred, Open, Fixed, Environment, enter, past}
+use Rattle.df_ntyping.specs.Environment.{Inferred, Open, Fixed, Environment, enter, past, locals_in_all, locals_in_branches, locals_in_otherwise}
 use Rattle.df_ntyping.specs.Table.{type_of}
-use Rattle.df_ntyping.specs.Scopes.{locals_in_all, locals_in_branches, locals_in_otherwise}
 use Rattle.df_ntyping.specs.LocalTypes.{used_names, over, next_type, other_types, taken_all, inferred_behind_all, inferred_behind_branches, inferred_behind_otherwise}
 
 -- names are used

@@ -2,7 +2,7 @@
 
 ghost use Rattle.std.specs.Prelude.{◌≡◌, map, None};
 ghost use Rattle.df_ntree.specs.Expr.{expr_of, operation_of, members_of};
-ghost use Rattle.df_ntyping.specs.rules.Comparisons as comparisons;
+ghost use Rattle.df_ntyping.specs.Types as comparisons;
 ghost use Rattle.df_ntyping.specs.rules.Loops as loops;
 ghost use Rattle.df_ninfer.specs.Guards as guards;
 ghost use Rattle.df_ninfer.specs.Guards.{may_be_integer};

@@ -4,8 +4,7 @@ ghost use Rattle.std.specs.Prelude.{◌≡◌, ◌++◌, ◌∷◌, [], map, dro
 ghost use Rattle.std.specs.List.{flat_map};
 ghost use Rattle.df_ntree.specs.Expr.{expr_of, operation_of, members_of, arguments_of};
 ghost use Rattle.df_ntree.specs.File as tree;
-ghost use Rattle.df_ntyping.specs.Environment.{declare_variables};
-ghost use Rattle.df_ntyping.specs.Scopes.{behind};
+ghost use Rattle.df_ntyping.specs.Environment.{declare_variables, behind};
 ghost use Rattle.df_ntyping.specs.LocalTypes as fixing;
 ghost use Rattle.df_ntyping.specs.LocalTypes.{names_in, names_in_members, names_in_arguments, used_inside, used_in_clause, used_in_operand, inferred_all, over, inferred_behind, inferred_behind_all};
 ghost use Rattle.df_nenv.specs.Environments as environments;

@@ -2,7 +2,6 @@ pub mod Name
 pub mod Value
 pub mod State
 pub mod View
-pub mod Printing
 pub mod Step
 pub mod Run
 pub mod Front

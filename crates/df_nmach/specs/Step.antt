@@ -8,10 +8,9 @@ use Rattle.df_nmach.specs.declared.instruction.BinaryOperator.{BinaryOperator}
 use Rattle.df_nmach.specs.declared.instruction.BinaryOperator.TheVariants.{Add, Subtract, Multiply, Divide, Modulo, Less, AtMost, Same}
 use Rattle.df_nmach.specs.declared.instruction.Instruction.{Instruction}
 use Rattle.df_nmach.specs.declared.instruction.Instruction.TheVariants as instructions
-use Rattle.df_nmach.specs.Value.{Value, Number, Truth, Char, Text, same}
+use Rattle.df_nmach.specs.Value.{Value, Number, Truth, Char, Text, same, text_of}
 use Rattle.df_nmach.specs.State.{Method, Heap, Frame, State, Final}
 use Rattle.df_nmach.specs.State as state
-use Rattle.df_nmach.specs.Printing.{text_of}
 
 -- What an instruction does: the heap becomes this one, its frame goes on as this one, and the text is
 -- printed; or its frame waits as the first one, above which the second one begins; or its frame ends with

@@ -8,7 +8,7 @@ use Rattle.df_tok.specs.declared.token.Token as declared
 use Rattle.df_tok.specs.Token.{Token, view}
 use Rattle.df_ntree.specs.declared.expr.TreeType.{TreeType}
 use Rattle.df_ntree.specs.Expr.{Expr}
-use Rattle.df_ntree.specs.ExprSpelling.{spell, spell_type, IsExpressionAt, IsTypeAt}
+use Rattle.df_ntree.specs.ExprSpelling.{spell, spell_type, IsExpressionAt, IsTypeAt, height_limit}
 use Rattle.df_ntree.specs.mirror.ExprReading.{expression_at, type_at}
 use Rattle.df_ntree.proofs.Repeat.{differ}
 use Rattle.df_ntree.proofs.Tokens.{Begins-length}
@@ -39,17 +39,17 @@ is_none {X = X} result own stop r found h p q e = stopped stop r found h (sym q 
 
 -- ---- expressions
 
-pub whole : (tokens from rest : List Token) (start n m : ℕ) (e : Expr) → from ≡ drop start tokens → expression_at 200 from ≡ Some (e, rest) → n ≡ length tokens → m ≡ length rest → IsExpressionAt tokens start e (n - m)
-whole tokens from rest start n m e f h p q = rw (p, q) (read_is_spelled tokens start e rest (ap (expression_at 200) (sym f) ∙ h))
+pub whole : (tokens from rest : List Token) (start n m : ℕ) (e : Expr) → from ≡ drop start tokens → expression_at height_limit from ≡ Some (e, rest) → n ≡ length tokens → m ≡ length rest → IsExpressionAt tokens start e (n - m)
+whole tokens from rest start n m e f h p q = rw (p, q) (read_is_spelled tokens start e rest (ap (expression_at height_limit) (sym f) ∙ h))
 
-pub fits : (tokens from rest : List Token) (start n m : ℕ) (e : Expr) → from ≡ drop start tokens → expression_at 200 from ≡ Some (e, rest) → n ≡ length tokens → m ≡ length rest → m ≤ n
+pub fits : (tokens from rest : List Token) (start n m : ℕ) (e : Expr) → from ≡ drop start tokens → expression_at height_limit from ≡ Some (e, rest) → n ≡ length tokens → m ≡ length rest → m ≤ n
 fits tokens from rest start n m e f h p q =
-    let w = expression_sound (drop start tokens) e rest (ap (expression_at 200) (sym f) ∙ h) in
+    let w = expression_sound (drop start tokens) e rest (ap (expression_at height_limit) (sym f) ∙ h) in
     let l = Begins-length (spell e) (drop start tokens) rest w.eats in
     let d = length-drop start tokens in omega arith
 
-pub no_expression : (tokens from : List Token) (start : ℕ) → from ≡ drop start tokens → expression_at 200 from ≡ None → (e : Expr) (after : ℕ) → IsExpressionAt tokens start e after → ⊥
-no_expression tokens from start f h e after x = differ (e, drop after tokens) (sym h ∙ ap (expression_at 200) f ∙ spelled_is_read tokens start after e x)
+pub no_expression : (tokens from : List Token) (start : ℕ) → from ≡ drop start tokens → expression_at height_limit from ≡ None → (e : Expr) (after : ℕ) → IsExpressionAt tokens start e after → ⊥
+no_expression tokens from start f h e after x = differ (e, drop after tokens) (sym h ∙ ap (expression_at height_limit) f ∙ spelled_is_read tokens start after e x)
 
 -- ---- types
 

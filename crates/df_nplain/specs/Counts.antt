@@ -3,11 +3,7 @@ use Rattle.std.specs.Prelude.{ℕ, zero, ◌+◌, Bool, true, false, ◌==◌, �
 use Rattle.std.specs.List.{list_all}
 use Rattle.std.specs.Option.{option_map_or}
 use Rattle.df_nplain.specs.Stmt.{Call, Source, Single, Results, Update, Stmt, Block, Var, Assign, CallOf, If, While, Break, Return, Print, Stmts, done, next, Branches, no_branch, branch}
-use Rattle.df_nplain.specs.Plain.{Method, Plain, method_at}
-
--- how many results the method of a number has
-abbrev pub results_at : Plain → ℕ → ℕ
-results_at program number = option_map_or (λ (m : Method). length m.results) (method_at program number) 0
+use Rattle.df_nplain.specs.Plain.{Method, Plain, method_at, results_at}
 
 -- a method is called that is there, on as many arguments as it has parameters
 abbrev pub is_call : Plain → Call → Bool

@@ -25,6 +25,7 @@ use Rattle.df_ntyping.proofs.Found.{beyond_segment}
 use Rattle.df_ntyping.proofs.SoundNodes as kinds
 use Rattle.df_ntyping.proofs.SoundNodes.{sound}
 use Rattle.df_ntyping.proofs.TypedIsWellTyped.{all_left, all_right}
+use Rattle.df_ntyping.proofs.NamedFiles.{named_breaks_none}
 use Rattle.df_ntexpr.specs.Replies.{Reply}
 use Rattle.df_ntstmt.specs.mirror.Steps.{and_then}
 use Rattle.df_ntdecl.specs.mirror.Declarations.{newtype_in, method_in, declaration_in, declarations_in}
@@ -74,7 +75,7 @@ declarations_told names table before start (x ∷ others) t texts g r n =
 
 file_told : (names : List (List ℕ)) (file : File) → IsReadFile file → HasNames file → AreTexts names file → Judged (file_nodes file) (AreDeclarations names (table_of file) file.declarations) (declarations_in names (table_of file) file.declarations)
 file_told names file g named texts =
-    let n : NoNames (file_nodes file) = record { none = λ fault h. named fault h.0 h.1 } in
+    let n : NoNames (file_nodes file) = record { none = λ fault h. named_breaks_none file named fault h.0 h.1 } in
     let t : TableKnown (table_of file) = record { methods = methods_known names (table_of file) [] 0 0 file.declarations texts n } in
     declarations_told names (table_of file) [] 0 file.declarations t texts g.0 g.1 n
 
@@ -90,4 +91,4 @@ pub refused_told : (names : List (List ℕ)) (file : File) (table : Table) (refu
 refused_told names file table refusal g e named texts p =
     let answer : declarations_in names (table_of file) file.declarations ≡ Err refusal = ap (λ (t : Table). declarations_in names t file.declarations) (sym e) ∙ p in
     let judged = subst (λ (reply : Reply (List program.Decl)). Judged (file_nodes file) (AreDeclarations names (table_of file) file.declarations) reply) answer (file_told names file g named texts) in
-    met_told (file_nodes file) refusal (record { none = λ fault h. named fault h.0 h.1 }) judged
+    met_told (file_nodes file) refusal (record { none = λ fault h. named_breaks_none file named fault h.0 h.1 }) judged

@@ -7,7 +7,7 @@ use Rattle.df_tok.specs.Token.{Token}
 use Rattle.df_ntree.specs.declared.expr.TreeType.{TreeType}
 use Rattle.df_ntree.specs.Spelling.{Piece, Begins}
 use Rattle.df_ntree.specs.Expr.{Expr}
-use Rattle.df_ntree.specs.ExprSpelling.{IsExpressionAt, IsTypeAt, IsEnd, spell, spell_type}
+use Rattle.df_ntree.specs.ExprSpelling.{IsExpressionAt, IsTypeAt, IsEnd, spell, spell_type, height_limit}
 use Rattle.df_ntree.specs.mirror.ExprReading.{expression_at, type_at}
 use Rattle.df_ntree.proofs.Repeat.{some_is}
 use Rattle.df_ntree.proofs.ExprTypes.{type_sound, type_complete}
@@ -41,7 +41,7 @@ left_is start pieces tokens rest b =
 
 -- ---- expressions
 
-pub read_is_spelled : (tokens : List Token) (start : ℕ) (e : Expr) (rest : List Token) → expression_at 200 (drop start tokens) ≡ Some (e, rest) → IsExpressionAt tokens start e (length tokens - length rest)
+pub read_is_spelled : (tokens : List Token) (start : ℕ) (e : Expr) (rest : List Token) → expression_at height_limit (drop start tokens) ≡ Some (e, rest) → IsExpressionAt tokens start e (length tokens - length rest)
 read_is_spelled tokens start e rest h =
     let w = expression_sound (drop start tokens) e rest h in
     let l = left_is start (spell e) tokens rest w.eats in
@@ -53,7 +53,7 @@ read_is_spelled tokens start e rest h =
       ends = subst (IsEnd e) l w.ends;
     }
 
-pub spelled_is_read : (tokens : List Token) (start after : ℕ) (e : Expr) → IsExpressionAt tokens start e after → expression_at 200 (drop start tokens) ≡ Some (e, drop after tokens)
+pub spelled_is_read : (tokens : List Token) (start after : ℕ) (e : Expr) → IsExpressionAt tokens start e after → expression_at height_limit (drop start tokens) ≡ Some (e, drop after tokens)
 spelled_is_read tokens start after e x = expression_complete e (drop start tokens) (drop after tokens) (record { eats = x.spelled; is = x.shape; low = x.low; ends = x.ends })
 
 same_end : (tokens : List Token) (a b : ℕ) → a ≤ length tokens → b ≤ length tokens → drop a tokens ≡ drop b tokens → a ≡ b

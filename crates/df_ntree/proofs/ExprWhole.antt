@@ -7,7 +7,7 @@ use Rattle.df_ntree.specs.declared.expr.Level.TheVariants as levels
 use Rattle.df_ntree.specs.Operator.{rows, rank}
 use Rattle.df_ntree.specs.Spelling.{Begins, separated, AreSome}
 use Rattle.df_ntree.specs.Expr.{Expr, Number, Character}
-use Rattle.df_ntree.specs.ExprSpelling.{spell, IsExpr, height, deepest_of, if_negative, IsEnd}
+use Rattle.df_ntree.specs.ExprSpelling.{spell, IsExpr, height, deepest_of, if_negative, IsEnd, height_limit}
 use Rattle.df_ntree.specs.mirror.Reading.{◌>>=◌, Reader}
 use Rattle.df_ntree.specs.mirror.ExprReading.{Part, Parts, cast_by, primary_by, expressions_by, operand_by, level_at, expr_at, expression_at, expressions_at}
 use Rattle.df_ntree.proofs.Repeat.{bind_some, got, finish, pair, differ}
@@ -99,18 +99,18 @@ values_read room =
 pub record IsWhole (e : Expr) (tokens rest : List Token) : Type 0 where
   pub eats : Begins (spell e) tokens rest
   pub is : IsExpr e
-  pub low : height e ≤ 200
+  pub low : height e ≤ height_limit
   pub ends : IsEnd e rest
 
-pub expression_sound : (tokens : List Token) (e : Expr) (rest : List Token) → expression_at 200 tokens ≡ Some (e, rest) → IsWhole e tokens rest
+pub expression_sound : (tokens : List Token) (e : Expr) (rest : List Token) → expression_at height_limit tokens ≡ Some (e, rest) → IsWhole e tokens rest
 unfolding expression_at
 expression_sound tokens e rest q =
-    let a = bind_some (expr_at 200 levels.Equivalence tokens) (λ y. got y.0.0 y.1) (e, rest) q in
-    let r = (exact 200 levels.Equivalence).sound.reads tokens a.0.0 a.0.1 a.1 in
+    let a = bind_some (expr_at height_limit levels.Equivalence tokens) (λ y. got y.0.0 y.1) (e, rest) q in
+    let r = (exact height_limit levels.Equivalence).sound.reads tokens a.0.0 a.0.1 a.1 in
     finish (λ (y : Expr) (ts : List Token). IsWhole y tokens ts) a.0.0.0 e a.0.1 rest a.2
-    (record { eats = r.eats; is = r.is; low = subst (λ (n : ℕ). n ≤ 200) r.tall r.low; ends = ends_end a.0.0.0 a.0.1 r.ends })
+    (record { eats = r.eats; is = r.is; low = subst (λ (n : ℕ). n ≤ height_limit) r.tall r.low; ends = ends_end a.0.0.0 a.0.1 r.ends })
 
-pub expression_complete : (e : Expr) (tokens rest : List Token) → IsWhole e tokens rest → expression_at 200 tokens ≡ Some (e, rest)
+pub expression_complete : (e : Expr) (tokens rest : List Token) → IsWhole e tokens rest → expression_at height_limit tokens ≡ Some (e, rest)
 unfolding expression_at
 expression_complete e tokens rest w =
-    ap (λ (z : Option (Part × List Token)). z >>= λ y. got y.0.0 y.1) ((exact 200 levels.Equivalence).complete.finds e tokens rest w.eats w.is (omega arith) w.low (end_ends e rest w.ends))
+    ap (λ (z : Option (Part × List Token)). z >>= λ y. got y.0.0 y.1) ((exact height_limit levels.Equivalence).complete.finds e tokens rest w.eats w.is (omega arith) w.low (end_ends e rest w.ends))

@@ -11,7 +11,7 @@ use Rattle.df_ntree.specs.declared.expr.TreeType.{TreeType}
 use Rattle.df_ntree.specs.declared.file.Parameter.{Parameter}
 use Rattle.df_ntree.specs.Spelling.{Piece, Begins, a_word, a_sign, a_name, separated, optional, IsOption}
 use Rattle.df_ntree.specs.Expr.{Expr}
-use Rattle.df_ntree.specs.ExprSpelling.{spell, spell_type}
+use Rattle.df_ntree.specs.ExprSpelling.{spell, spell_type, height_limit}
 use Rattle.df_ntree.specs.declared.file.ConditionKind.TheVariants as conditions
 use Rattle.df_ntree.specs.File.{Clause, Condition, Decreases, NewtypeDeclaration, MethodDeclaration, Declaration, Newtype, Method, File}
 use Rattle.df_ntree.specs.FileSpelling.{spell_typing, spell_clause, spell_parameter, spell_parameters, spell_results, spell_typed, spell_witness, spell_newtype, spell_method, spell_declaration, IsOuterClause, IsBody, IsOuterExpr, IsDeclaration, SpellsFile}
@@ -77,11 +77,11 @@ clause_no_returns x tokens rest starts = (ap (kind_is_word words.Returns) (claus
     no_returns (Condition _ pos e) = refl
     no_returns (Decreases pos es) = refl
 
-before_contract : Joins spell_claused (IsClaused 200) Any NoReturns
-before_contract = before_claused NoReturns 200 clause_no_returns (λ x tokens rest starts. (ap (kind_is_word words.Returns) (block_there x tokens rest starts), tt))
+before_contract : Joins spell_claused (IsClaused height_limit) Any NoReturns
+before_contract = before_claused NoReturns height_limit clause_no_returns (λ x tokens rest starts. (ap (kind_is_word words.Returns) (block_there x tokens rest starts), tt))
 
-contract_reads : ReadsAs (both (many clause_stands (clause_at 200)) (block_at 200)) spell_claused (IsClaused 200) Any
-contract_reads = claused_reads 200 (block_at 200) (levels 200).blocks
+contract_reads : ReadsAs (both (many clause_stands (clause_at height_limit)) (block_at height_limit)) spell_claused (IsClaused height_limit) Any
+contract_reads = claused_reads height_limit (block_at height_limit) (levels height_limit).blocks
 
 results_reads : ReadsAs results_at (optional spell_results) (IsOption (Anything {X = List Parameter})) NoReturns
 unfolding results_at
@@ -115,10 +115,10 @@ abbrev spell_tail : Tail → List Piece
 spell_tail x = optional spell_results x.0 ++ spell_claused x.1
 
 abbrev IsTail : Tail → Type 0
-IsTail x = IsOption (Anything {X = List Parameter}) x.0 × IsClaused 200 x.1
+IsTail x = IsOption (Anything {X = List Parameter}) x.0 × IsClaused height_limit x.1
 
-tail_reads : ReadsAs (both results_at (both (many clause_stands (clause_at 200)) (block_at 200))) spell_tail IsTail Any
-tail_reads = both_reads results_at (both (many clause_stands (clause_at 200)) (block_at 200)) (optional spell_results) spell_claused (IsOption (Anything {X = List Parameter})) (IsClaused 200) NoReturns Any results_reads contract_reads before_contract
+tail_reads : ReadsAs (both results_at (both (many clause_stands (clause_at height_limit)) (block_at height_limit))) spell_tail IsTail Any
+tail_reads = both_reads results_at (both (many clause_stands (clause_at height_limit)) (block_at height_limit)) (optional spell_results) spell_claused (IsOption (Anything {X = List Parameter})) (IsClaused height_limit) NoReturns Any results_reads contract_reads before_contract
 
 abbrev IsMethod : MethodDeclaration → Type 0
 IsMethod x = AllByRecursion IsOuterClause x.clauses × IsBody x.body
@@ -126,8 +126,8 @@ IsMethod x = AllByRecursion IsOuterClause x.clauses × IsBody x.body
 method_reads : ReadsAs method_at spell_method IsMethod Any
 unfolding method_at
 method_reads =
-    made_reads method_from (λ (y : MethodDeclaration). ((y.name, y.parameters), (y.results, (y.clauses, y.body)))) (both method_head_at (both results_at (both (many clause_stands (clause_at 200)) (block_at 200)))) (λ (x : Head × Tail). spell_method_head x.0 ++ spell_tail x.1) (λ (x : Head × Tail). IsHead x.0 × IsTail x.1) Any spell_method IsMethod
-    (pair_reads method_head_at (both results_at (both (many clause_stands (clause_at 200)) (block_at 200))) spell_method_head spell_tail IsHead IsTail Any method_head_reads tail_reads)
+    made_reads method_from (λ (y : MethodDeclaration). ((y.name, y.parameters), (y.results, (y.clauses, y.body)))) (both method_head_at (both results_at (both (many clause_stands (clause_at height_limit)) (block_at height_limit)))) (λ (x : Head × Tail). spell_method_head x.0 ++ spell_tail x.1) (λ (x : Head × Tail). IsHead x.0 × IsTail x.1) Any spell_method IsMethod
+    (pair_reads method_head_at (both results_at (both (many clause_stands (clause_at height_limit)) (block_at height_limit))) spell_method_head spell_tail IsHead IsTail Any method_head_reads tail_reads)
     (λ x tokens rest starts is. (starts, is.1.1)) (λ y tokens rest starts is. (starts, ((tt, tt), (any_results y.results, is)))) (λ y is. refl)
 
 -- ---- newtypes
@@ -166,7 +166,7 @@ NoWitness = NotThen (word_stands words.Witness) NoneContinues
 witness_reads : ReadsAs witness_at (optional spell_witness) (IsOption IsOuterExpr) NoWitness
 unfolding witness_at
 witness_reads =
-    option_reads (word_stands words.Witness) (after_word words.Witness (expression_at 200)) spell_witness IsOuterExpr NoneContinues (word_reads words.Witness (expression_at 200) spell IsOuterExpr NoneContinues (expression_reads 200))
+    option_reads (word_stands words.Witness) (after_word words.Witness (expression_at height_limit)) spell_witness IsOuterExpr NoneContinues (word_reads words.Witness (expression_at height_limit) spell IsOuterExpr NoneContinues (expression_reads height_limit))
     (λ x tokens rest starts is. word_shows words.Witness (kinds.Word words.Witness) None (spell x) tokens rest true refl starts)
 
 abbrev spell_predicate : Expr → List Piece
@@ -174,7 +174,7 @@ spell_predicate e = a_sign signs.Bar ∷ spell e
 
 predicate_reads : ReadsAs predicate_at spell_predicate IsOuterExpr NoneContinues
 unfolding predicate_at
-predicate_reads = sign_reads signs.Bar (expression_at 200) spell IsOuterExpr NoneContinues (expression_reads 200)
+predicate_reads = sign_reads signs.Bar (expression_at height_limit) spell IsOuterExpr NoneContinues (expression_reads height_limit)
 
 before_witness : Joins (optional spell_witness) (IsOption IsOuterExpr) NoWitness NoneContinues
 before_witness None tokens rest starts is after = subst NoneContinues (sym starts) after.1

@@ -229,12 +229,16 @@ abbrev pub IsEnd : Expr → List Token → Type 0
 IsEnd e [] = Unit {0}
 IsEnd e (token ∷ tokens) = (c : Continuation) → token.kind ≡ kind_of c → IsBarred c e
 
+-- how deep expressions, statements and blocks may stand inside one another
+abbrev pub height_limit : ℕ
+height_limit = 200
+
 -- The expression is spelled from token `start` to before token `after`, and the token there does not continue it.
 pub record IsExpressionAt (tokens : List Token) (start : ℕ) (e : Expr) (after : ℕ) : Type 0 where
   pub inside : after ≤ length tokens
   pub spelled : Begins (spell e) (drop start tokens) (drop after tokens)
   pub shape : IsExpr e
-  pub low : height e ≤ 200
+  pub low : height e ≤ height_limit
   pub ends : IsEnd e (drop after tokens)
 
 -- The type is spelled from token `start` to before token `after`.

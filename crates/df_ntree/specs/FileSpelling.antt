@@ -14,7 +14,7 @@ use Rattle.df_ntree.specs.declared.file.ConditionKind.{ConditionKind}
 use Rattle.df_ntree.specs.declared.file.ConditionKind.TheVariants as conditions
 use Rattle.df_ntree.specs.Spelling.{Piece, Characters, Begins, a_word, a_sign, word_there, sign_there, a_name, separated, optional, IsOption, AreSome}
 use Rattle.df_ntree.specs.Expr.{Expr}
-use Rattle.df_ntree.specs.ExprSpelling.{spell, spell_type, IsExpr, IsOfLevel, height, deepest_of}
+use Rattle.df_ntree.specs.ExprSpelling.{spell, spell_type, IsExpr, IsOfLevel, height, deepest_of, height_limit}
 use Rattle.df_ntree.specs.File.{Clause, Condition, Decreases, PrintOperand, Text, Value, Statement, Nested, Var, Assign, Expression, If, While, Return, Break, Assert, Print, Statements, done, next, Branches, end, more, Otherwise, without, otherwise, Block, NewtypeDeclaration, MethodDeclaration, Declaration, Newtype, Method, File}
 
 -- ---- parts of statements
@@ -224,14 +224,14 @@ abbrev mutual
 
 -- an expression of the grammar that stands in no other part with a height
 abbrev pub IsOuterExpr : Expr → Type 0
-IsOuterExpr e = IsExpr e × (height e ≤ 200)
+IsOuterExpr e = IsExpr e × (height e ≤ height_limit)
 
 abbrev pub IsOuterClause : Clause → Type 0
-IsOuterClause x = IsClause x × (clause_height x ≤ 200)
+IsOuterClause x = IsClause x × (clause_height x ≤ height_limit)
 
 -- a body of the grammar
 abbrev pub IsBody : Block → Type 0
-IsBody block = AreStatements block.statements × (deepest block.statements + 1 ≤ 200)
+IsBody block = AreStatements block.statements × (deepest block.statements + 1 ≤ height_limit)
 
 abbrev pub IsDeclaration : Declaration → Type 0
 IsDeclaration (Newtype x) = IsOuterExpr x.predicate × IsOption IsOuterExpr x.witness

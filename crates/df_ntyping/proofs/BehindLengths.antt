@@ -6,8 +6,7 @@ use Rattle.df_ntree.specs.declared.file.Local as declared_local
 use Rattle.df_ntree.specs.Expr.{Expr}
 use Rattle.df_ntree.specs.File as file
 use Rattle.df_ntree.specs.File.{Statement, Nested, Var, Assign, Expression, If, While, Return, Break, Assert, Print, Statements, done, next, Branches, Otherwise, without, otherwise}
-use Rattle.df_ntyping.specs.Environment.{Environment, enter, past}
-use Rattle.df_ntyping.specs.Scopes.{behind, locals_in, locals_in_all, locals_in_branches, locals_in_otherwise}
+use Rattle.df_ntyping.specs.Environment.{Environment, enter, past, behind, locals_in, locals_in_all, locals_in_branches, locals_in_otherwise}
 use Rattle.df_ntyping.specs.LocalTypes.{names_in, used_names, used, other_types, types_of_values, used_inside, inferred_all, used_in_clause, used_in_operand, over, inferred_behind, inferred_behind_all, inferred_behind_branches, inferred_behind_otherwise}
 use Rattle.df_ntyping.proofs.WholeTypes.{names_length, takens_length}
 

@@ -9,7 +9,7 @@ use Rattle.df_ntree.specs.declared.expr.BinaryOperator.{BinaryOperator}
 use Rattle.df_ntree.specs.declared.expr.BinaryOperator.TheVariants as binary
 use Rattle.df_ntree.specs.Operator.{group_of}
 use Rattle.df_ntree.specs.Expr.{Expr, Members}
-use Rattle.df_ntyping.specs.Types.{is_integer, are_one_integer, casts, fits_or_narrows, if_known, if_type_known}
+use Rattle.df_ntyping.specs.Types.{is_integer, are_one_integer, casts, fits_or_narrows, if_known, if_type_known, is_order, keeps_direction}
 use Rattle.df_ntyping.specs.Table.{newtype_of}
 use Rattle.df_ntyping.specs.Environment.{Environment}
 use Rattle.df_ntyping.specs.Meaning.{meaning_of, called_signature}
@@ -20,7 +20,7 @@ use Rattle.df_ntyping.specs.Node.{Node, Occurrence}
 use Rattle.df_ntyping.specs.Rule.{Rule, Unknown, Twice, Typing, Uninferred, Range, TypingRule, Given, Arithmetic, Order, Equality, Direction, Truths, ArgumentCount, Calls, Casts, Assigned, Returned, Broken, Clauses, stage_of}
 use Rattle.df_ntyping.specs.Breaks.{breaks}
 use Rattle.df_ntyping.specs.rules.Calls.{takes, is_method}
-use Rattle.df_ntyping.specs.rules.Comparisons.{is_order, is_equality, are_ordered, one_fits, keeps_direction}
+use Rattle.df_ntyping.specs.rules.Comparisons.{is_equality, are_ordered, one_fits}
 use Rattle.df_ntyping.specs.rules.Truths.{is_logical, is_truth}
 use Rattle.df_ntyping.specs.Rule as own
 use Rattle.df_ntyping.specs.Rule.{TypingRule as Own}

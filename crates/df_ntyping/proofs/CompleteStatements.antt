@@ -17,8 +17,7 @@ use Rattle.df_ntree.specs.Expr.{Expr, Name, Call, Arguments, no_more, argument}
 use Rattle.df_ntree.specs.File as file
 use Rattle.df_ntree.specs.File.{Clause, PrintOperand, Text, Value, Statement, Nested, Var, Assign, Expression, If, While, Return, Break, Assert, Print, Statements, done, next, Branches, Otherwise, without, otherwise, Declaration, Newtype, Method, File, NewtypeDeclaration, MethodDeclaration}
 use Rattle.df_ntyping.specs.Table.{Signature, Table, table_of, results_of}
-use Rattle.df_ntyping.specs.Environment.{Environment, Local, enter, inside_loop, past}
-use Rattle.df_ntyping.specs.Scopes.{behind, locals_in_all, locals_in_branches}
+use Rattle.df_ntyping.specs.Environment.{Environment, Local, enter, inside_loop, past, behind, locals_in_all, locals_in_branches}
 use Rattle.df_ntyping.specs.ExprElaboration.{ElaboratesAt, ElaboratesTruth}
 use Rattle.df_ntyping.specs.SideElaboration.{IsCall, AreArguments, AreResults, IsSource, AreApart, AreSources, IsTarget, AreTargets, AreReturned, types_of_targets}
 use Rattle.df_ntyping.specs.StatementElaboration.{as_target, AreVariables, MayUpdate, AreConditions, measures_in, AreMeasures, MayDecrease, IsOperand, AreOperands, IsWhole, IsStatement, AreStatements, AreBranches, IsOtherwise, conditions_of}

@@ -10,8 +10,7 @@ use Rattle.df_ntree.specs.declared.file.Local as declared_local
 use Rattle.df_ntree.specs.Expr.{Expr, Call}
 use Rattle.df_ntree.specs.File as file
 use Rattle.df_ntree.specs.File.{Statement, Nested, Var, Assign, Expression, If, While, Return, Break, Assert, Print, Statements, done, next, Branches, Otherwise, without, otherwise}
-use Rattle.df_ntyping.specs.Environment.{Inferred, Environment, fixed_type, enter, inside_loop, past}
-use Rattle.df_ntyping.specs.Scopes.{behind, locals_in, locals_in_all, locals_in_branches, locals_in_otherwise}
+use Rattle.df_ntyping.specs.Environment.{Inferred, Environment, fixed_type, enter, inside_loop, past, behind, locals_in, locals_in_all, locals_in_branches, locals_in_otherwise}
 use Rattle.df_ntyping.specs.StatementElaboration.{AreVariables, IsWhole, IsStatement, AreStatements, AreBranches, IsOtherwise}
 use Rattle.df_ntyping.proofs.Fits.{HaveTypes}
 use Rattle.df_ntyping.proofs.SameBehind.{same_behind, next_behind}

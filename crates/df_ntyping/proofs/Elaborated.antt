@@ -6,13 +6,13 @@ use Rattle.df_lang.specs.declared.ty.Ty.{Ty}
 use Rattle.df_lang.specs.declared.ty.Ty.TheVariants as types
 use Rattle.df_lang.specs.declared.expr.Junction.TheVariants as junctions
 use Rattle.df_lang.specs.declared.expr.Arrow.TheVariants as arrows
-use Rattle.df_lang.specs.Typing.{same_type}
+use Rattle.df_lang.specs.Newtype.{same_type}
 use Rattle.df_lang.specs.Expr as typed
 use Rattle.df_lang.specs.Stmt as typed_stmt
 use Rattle.df_lang.specs.Program as program
 use Rattle.df_lang.specs.Newtype as types_of
 use Rattle.df_ntree.specs.declared.tree.Ident.{Ident}
-use Rattle.df_ntyping.specs.SideElaboration.{types_of_targets}
+use Rattle.df_ntyping.specs.SideElaboration.{types_of_targets, keeps_its_value}
 use Rattle.df_ntree.specs.declared.expr.UnaryOperator.TheVariants as unary
 use Rattle.df_ntree.specs.declared.expr.Group.{Group}
 use Rattle.df_ntree.specs.declared.expr.Group.TheVariants as groups
@@ -25,20 +25,17 @@ use Rattle.df_ntree.specs.ExprSpelling.{first_group}
 use Rattle.df_ntree.specs.File as file
 use Rattle.df_ntree.specs.File.{Clause, PrintOperand, Text, Value, Statement, Nested, Var, Assign, Expression, If, While, Return, Break, Assert, Print, Statements, done, next, Branches, Otherwise, without, otherwise, Declaration, Newtype, Method, File, NewtypeDeclaration, MethodDeclaration}
 use Rattle.df_base.specs.declared.pos.Pos.{Pos}
-use Rattle.df_ntyping.specs.Types.{is_integer, counted, casts, fits_or_narrows, literal_type}
+use Rattle.df_ntyping.specs.Types.{is_integer, counted, casts, fits_or_narrows, literal_type, all_of, keeps_direction}
 use Rattle.df_ntyping.specs.Table.{Signature, Table, table_of, type_of, results_of}
-use Rattle.df_ntyping.specs.Environment.{Environment, Local, enter, inside_loop, past, local_type}
+use Rattle.df_ntyping.specs.Environment.{Environment, Local, enter, inside_loop, past, local_type, behind, locals_in_all, locals_in_branches}
 use Rattle.df_ntyping.specs.Meaning.{Meaning, TheLocal, meaning_of, callee_of}
 use Rattle.df_ntyping.specs.Places.{pos_of, beginning_of, beginning_of_first}
 use Rattle.df_ntyping.specs.ExprTypes.{value_of, counted_of, wanted_first, wanted_behind, expected_inside}
 use Rattle.df_ntyping.specs.ExprElaboration.{Part, compares, addends_of, factors_of, members_of, links_of, turned}
-use Rattle.df_ntyping.specs.Scopes.{behind, locals_in_all, locals_in_branches}
 use Rattle.df_ntyping.specs.StatementElaboration.{as_target, conditions_of, measures_in}
 use Rattle.df_ntyping.specs.FileNodes.{over_parameters, over_both, over_body}
 use Rattle.df_ntyping.specs.rules.Newtypes.{bounds_of}
 use Rattle.df_ntyping.specs.Node.{OfMethod, OfLoop}
-use Rattle.df_ntyping.specs.rules.Assignments.{keeps_its_value}
-use Rattle.df_ntyping.specs.rules.Comparisons.{all_of, keeps_direction}
 use Rattle.df_ntyping.specs.rules.Loops.{belongs, is_decreases, has_measure}
 
 -- ---- options

@@ -27,6 +27,7 @@ use Rattle.df_ntyping.specs.FileNodes.{empty_environment, over_parameters, over_
 use Rattle.df_ntyping.specs.StatementElaboration.{conditions_of, measures_in}
 use Rattle.df_ntyping.specs.FileElaboration.{IsDeclared, IsNewtype, AreParameters, IsMethod, AreDeclarations}
 use Rattle.df_ntyping.specs.Laws.{HasText, HaveTexts, IsDeclaredByText, FaultlessIsElaborated}
+use Rattle.df_ntyping.proofs.NamedFiles.{none_broken_is_named}
 use Rattle.df_ntyping.proofs.ClauseExprs.{condition_exprs}
 use Rattle.df_ntyping.proofs.AllNodes.{head, tail, left, right}
 use Rattle.df_ntyping.proofs.SoundStatements.{IsTyped, IsTrueOrFalse}
@@ -222,4 +223,4 @@ faultless_is_elaborated names file g texts breaks_nothing =
     let h = faultless_of (file_nodes file) breaks_nothing in
     let table : TableKnown (table_of file) = record { methods = methods_known names (table_of file) [] 0 0 file.declarations texts h } in
     let (decls, are) = declarations_elaborate names (table_of file) [] 0 file.declarations table texts g h in
-    (record { decls = decls }, record { grammar = g; named = λ fault broken stage. breaks_nothing fault broken; declarations = are })
+    (record { decls = decls }, record { grammar = g; named = none_broken_is_named file (λ fault broken stage. breaks_nothing fault broken); declarations = are })

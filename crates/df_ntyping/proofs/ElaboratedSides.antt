@@ -15,16 +15,16 @@ use Rattle.df_ntyping.specs.Environment.{Local, Environment, local_type}
 use Rattle.df_ntyping.specs.Meaning.{Meaning, TheLocal, TheMethod, Means, meaning_of, called_signature}
 use Rattle.df_ntyping.specs.Places.{pos_of}
 use Rattle.df_ntyping.specs.ExprTypes.{type_in}
-use Rattle.df_ntyping.specs.Sides.{values_of, is_count, are_enough, results_of_call}
+use Rattle.df_ntyping.specs.LocalTypes.{values_of, is_count, are_enough, results_of_call}
 use Rattle.df_ntyping.specs.Rule.{Typing, Given, Truths, ArgumentCount, Assigned}
 use Rattle.df_ntyping.specs.rules.Values.{are_given}
 use Rattle.df_ntyping.specs.rules.Truths.{is_truth}
 use Rattle.df_ntyping.specs.rules.Calls.{takes}
-use Rattle.df_ntyping.specs.rules.Assignments.{keeps_its_value, may_be_assigned, is_place}
+use Rattle.df_ntyping.specs.rules.Assignments.{may_be_assigned, is_place}
 use Rattle.df_ntyping.specs.ExprNodes.{width, places_of, count, callee_nodes, expr_nodes, argument_nodes, value_nodes, condition_nodes, call_nodes}
 use Rattle.df_ntyping.specs.StatementNodes.{place_nodes, all_places, source_nodes, sources_apart, sources_nodes}
 use Rattle.df_ntyping.specs.ExprElaboration.{Elaborates, ElaboratesAt, ElaboratesTruth}
-use Rattle.df_ntyping.specs.SideElaboration.{IsCall, AreArguments, AreResults, IsSource, AreApart, AreSources, IsTarget, AreTargets}
+use Rattle.df_ntyping.specs.SideElaboration.{IsCall, AreArguments, AreResults, IsSource, AreApart, AreSources, IsTarget, AreTargets, keeps_its_value}
 use Rattle.df_ntyping.specs.Laws.{HasTypes}
 use Rattle.df_ntyping.specs.mirror.Parts.{Typed, or_start}
 use Rattle.df_ntyping.specs.mirror.Signs.{converted_to}

@@ -16,10 +16,9 @@ use Rattle.df_ntree.specs.File.{Clause, Condition, Decreases, PrintOperand, Text
 use Rattle.df_ntree.specs.FileSpelling as grammar
 use Rattle.df_ntree.specs.FileSpelling.{spell_clause, spell_statement, spell_statements, spell_branches}
 use Rattle.df_ntyping.specs.Table.{Table}
-use Rattle.df_ntyping.specs.Environment.{Local, Inferred, Environment, fixed_type, enter, inside_loop, past, local_type}
-use Rattle.df_ntyping.specs.Scopes.{behind, locals_in, locals_in_all, locals_in_branches, locals_in_otherwise}
+use Rattle.df_ntyping.specs.Environment.{Local, Inferred, Environment, fixed_type, enter, inside_loop, past, local_type, behind, locals_in, locals_in_all, locals_in_branches, locals_in_otherwise}
 use Rattle.df_ntyping.specs.Places.{beginning_of_first}
-use Rattle.df_ntyping.specs.Sides.{are_enough, types_of_locals}
+use Rattle.df_ntyping.specs.LocalTypes.{are_enough, types_of_locals}
 use Rattle.df_ntyping.specs.Node.{Owner, OfLoop}
 use Rattle.df_ntyping.specs.Rule.{Typing, Calls, Assigned, Returned, Broken, Clauses}
 use Rattle.df_ntyping.specs.rules.Assignments.{gives_all}

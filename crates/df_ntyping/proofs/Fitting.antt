@@ -3,7 +3,7 @@ use Rattle.std.proofs.Common.{◌≡◌, ℕ, Bool, true, false, ◌&&◌, ◌||
 use Rattle.std.proofs.lemmas.Bool.{and_parts}
 use Rattle.df_lang.specs.declared.ty.Ty.{Ty}
 use Rattle.df_lang.specs.declared.ty.Ty.TheVariants as types
-use Rattle.df_lang.specs.Typing.{same_type}
+use Rattle.df_lang.specs.Newtype.{same_type}
 use Rattle.df_lang.specs.Expr as typed
 use Rattle.df_ntree.specs.declared.expr.BinaryOperator.{BinaryOperator}
 use Rattle.df_ntree.specs.declared.expr.BinaryOperator.TheVariants as binary
@@ -12,10 +12,10 @@ use Rattle.df_ntree.specs.declared.expr.Group.TheVariants as groups
 use Rattle.df_ntree.specs.Operator.{group_of}
 use Rattle.df_ntree.specs.Expr.{Members, end, more}
 use Rattle.df_ntree.specs.ExprSpelling.{AreOf}
-use Rattle.df_ntyping.specs.Types.{counted, is_integer, are_one_integer}
+use Rattle.df_ntyping.specs.Types.{counted, is_integer, are_one_integer, all_of}
 use Rattle.df_ntyping.specs.ExprNodes.{left_of_next}
 use Rattle.df_ntyping.specs.ExprElaboration.{Part, compares, IsRun}
-use Rattle.df_ntyping.specs.rules.Comparisons.{all_of, are_ordered, one_fits}
+use Rattle.df_ntyping.specs.rules.Comparisons.{are_ordered, one_fits}
 use Rattle.df_ntyping.specs.rules.Truths.{is_truth}
 use Rattle.df_ntyping.proofs.Complete.{same_self}
 use Rattle.df_ntyping.proofs.WellTyped.{same_equal}

@@ -13,10 +13,9 @@ use Rattle.df_ntree.specs.declared.expr.Group.{Group}
 use Rattle.df_ntree.specs.declared.expr.Group.TheVariants as groups
 use Rattle.df_ntree.specs.Expr.{Expr, Number, Character, Truth, Name, Parentheses, Call, Unary, Cast, Operations, Leading, Members, end, more}
 use Rattle.df_ntree.specs.ExprSpelling.{first_group, IsExpr}
-use Rattle.df_ntyping.specs.Types.{counted, is_integer, if_type_known}
+use Rattle.df_ntyping.specs.Types.{counted, is_integer, if_type_known, is_order}
 use Rattle.df_ntyping.specs.Environment.{Environment}
 use Rattle.df_ntyping.specs.ExprTypes.{type_in, wanted_first, wanted_behind, expected_inside}
-use Rattle.df_ntyping.specs.rules.Comparisons.{is_order}
 use Rattle.df_ntyping.specs.rules.Loops.{compares_integers, is_conjunction, is_comparison, has_measure}
 use Rattle.df_ntyping.specs.ExprElaboration.{Part, comparison_of, links_of, Converts, IsRun, IsLeading, Elaborates, AreOperands}
 use Rattle.df_ntyping.proofs.Types.{counted_integer, one_type}

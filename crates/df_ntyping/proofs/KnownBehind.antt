@@ -12,9 +12,8 @@ use Rattle.df_ntree.specs.Expr.{Expr, Name, Call}
 use Rattle.df_ntree.specs.File as file
 use Rattle.df_ntree.specs.File.{Statement, Nested, Var, Assign, Expression, If, While, Return, Break, Assert, Print, Statements, done, next, Branches, Otherwise, without, otherwise}
 use Rattle.df_ntyping.specs.Table.{Signature}
-use Rattle.df_ntyping.specs.Environment.{Inferred, Open, Used, Fixed, Environment, enter, past}
+use Rattle.df_ntyping.specs.Environment.{Inferred, Open, Used, Fixed, Environment, enter, past, behind, locals_in_all, locals_in_branches}
 use Rattle.df_ntyping.specs.Meaning.{Meaning, TheLocal, TheMethod, meaning_of, called_signature}
-use Rattle.df_ntyping.specs.Scopes.{behind, locals_in_all, locals_in_branches}
 use Rattle.df_ntyping.specs.LocalTypes.{names_in, if_open, at_number, fix_meaning, used_names, used, types_of_value, next_type, other_types, types_of_values, used_inside, taken, taken_all, inferred_of, inferred_all, used_in_clause, used_in_operand, over, inferred_behind, inferred_behind_all, inferred_behind_branches, inferred_behind_otherwise, fixed_by}
 use Rattle.df_ntyping.proofs.WellTyped.{Valid, AllValid, none_valid, type_valid}
 use Rattle.df_ntyping.proofs.KnownTypes.{TableHolds, IsKnown, AllKnown, called_valid, type_known}

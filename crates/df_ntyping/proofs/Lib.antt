@@ -69,5 +69,6 @@ pub mod ElaboratedSides
 pub mod ElaboratedStatements
 pub mod ReadyMethods
 pub mod ElaboratedFiles
+pub mod NamedFiles
 mod Alike
 mod OneRefusal

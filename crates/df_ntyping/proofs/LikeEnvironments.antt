@@ -13,9 +13,8 @@ use Rattle.df_ntree.specs.ExprSpelling.{first_group}
 use Rattle.df_ntree.specs.File.{Statement, Nested, Var, Assign, Expression, If, While, Return, Break, Assert, Print}
 use Rattle.df_ntyping.specs.Types.{arithmetic}
 use Rattle.df_ntyping.specs.Table.{Table, type_of}
-use Rattle.df_ntyping.specs.Environment.{Role, Variable_role, Local, Environment, enter, past, declare, declare_variables}
+use Rattle.df_ntyping.specs.Environment.{Role, Variable_role, Local, Environment, enter, past, declare, declare_variables, behind, locals_in}
 use Rattle.df_ntyping.specs.Meaning.{Meaning, meaning_of, called_signature}
-use Rattle.df_ntyping.specs.Scopes.{behind, locals_in}
 use Rattle.df_ntyping.specs.LocalTypes.{names_in, names_in_members}
 use Rattle.df_ntyping.specs.ExprTypes.{is_arithmetic, is_open, common_type, type_of_meaning, type_of_call, last_type, own_type, own_types, type_in}
 

@@ -10,8 +10,7 @@ use Rattle.df_ntree.specs.declared.file.Parameter.{Parameter}
 use Rattle.df_ntree.specs.File.{MethodDeclaration}
 use Rattle.df_ntree.specs.FileSpelling as grammar
 use Rattle.df_ntyping.specs.Table.{Table, results_of}
-use Rattle.df_ntyping.specs.Environment.{Role, Parameter_role, Result_role, Local, Inferred, Fixed, fixed_type, declare_parameters, enter}
-use Rattle.df_ntyping.specs.Scopes.{locals_in_all}
+use Rattle.df_ntyping.specs.Environment.{Role, Parameter_role, Result_role, Local, Inferred, Fixed, fixed_type, declare_parameters, enter, locals_in_all}
 use Rattle.df_ntyping.specs.FileNodes.{empty_environment, over_parameters, over_both, over_body}
 use Rattle.df_ntyping.specs.StatementNodes.{statements_nodes}
 use Rattle.df_ntyping.specs.FileElaboration.{AreParameters}

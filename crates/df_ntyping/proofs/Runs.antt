@@ -4,7 +4,7 @@ use Rattle.std.proofs.lemmas.Bool.{and_parts}
 use Rattle.df_base.specs.declared.pos.Pos.{Pos}
 use Rattle.df_lang.specs.declared.ty.Ty.{Ty}
 use Rattle.df_lang.specs.declared.ty.Ty.TheVariants as types
-use Rattle.df_lang.specs.Typing.{same_type}
+use Rattle.df_lang.specs.Newtype.{same_type}
 use Rattle.df_ntree.specs.declared.expr.BinaryOperator.{BinaryOperator}
 use Rattle.df_ntree.specs.declared.expr.Group.{Group}
 use Rattle.df_ntree.specs.declared.expr.Group.TheVariants as groups

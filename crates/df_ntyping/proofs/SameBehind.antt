@@ -5,8 +5,7 @@ use Rattle.df_lang.specs.Program.{Program}
 use Rattle.df_ntree.specs.declared.file.Local as declared_local
 use Rattle.df_ntree.specs.File.{Statement, Var}
 use Rattle.df_ntyping.specs.Table.{Table}
-use Rattle.df_ntyping.specs.Environment.{Environment, Variable_role, declare, declare_variables}
-use Rattle.df_ntyping.specs.Scopes.{behind, locals_in}
+use Rattle.df_ntyping.specs.Environment.{Environment, Variable_role, declare, declare_variables, behind, locals_in}
 use Rattle.df_ntyping.proofs.KnownTypes.{TableHolds}
 
 -- but for the locals in scope

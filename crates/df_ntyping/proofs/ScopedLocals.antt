@@ -8,10 +8,9 @@ use Rattle.df_ntree.specs.declared.file.Local as declared_local
 use Rattle.df_ntree.specs.declared.file.Parameter.{Parameter}
 use Rattle.df_ntree.specs.File.{Statement, Nested, Var, Assign, Expression, If, While, Return, Break, Assert, Print}
 use Rattle.df_ntyping.specs.Table.{NamedMethod, method_of}
-use Rattle.df_ntyping.specs.Environment.{Role, Variable_role, Local, Environment, locals_of, enter, past, declare, declare_parameters, declare_variables}
+use Rattle.df_ntyping.specs.Environment.{Role, Variable_role, Local, Environment, locals_of, enter, past, declare, declare_parameters, declare_variables, behind, locals_in}
 use Rattle.df_ntyping.specs.Meaning.{TheLocal, last_local, method_meaning, meaning_of, Means}
-use Rattle.df_ntyping.specs.Scopes.{behind, locals_in}
-use Rattle.df_ntyping.specs.rules.Assignments.{keeps_its_value}
+use Rattle.df_ntyping.specs.SideElaboration.{keeps_its_value}
 
 pub record InScope (from above : ℕ) (local : Local) : Type 0 where
   pub below : local.number < above

@@ -13,7 +13,7 @@ use Rattle.df_ntyping.specs.Node.{Node, Occurrence}
 use Rattle.df_ntyping.specs.Meaning.{called_signature}
 use Rattle.df_ntyping.specs.ExprNodes.{count, width, token_at, places_of, callee_nodes, expr_nodes, argument_nodes, value_nodes, condition_nodes, exprs_nodes, call_nodes, first_place, other_places}
 use Rattle.df_ntyping.specs.StatementNodes.{place_nodes, all_places, source_nodes, sources_apart, sources_nodes, widths, update_nodes}
-use Rattle.df_ntyping.specs.Sides.{results_of_call}
+use Rattle.df_ntyping.specs.LocalTypes.{results_of_call}
 use Rattle.df_ntyping.specs.Rule.{Rule, Typing, Given}
 use Rattle.df_ntyping.specs.Breaks.{breaks}
 use Rattle.df_ntyping.proofs.AllNodes.{Alls, only, both}

@@ -23,6 +23,7 @@ use Rattle.df_ntyping.specs.StatementElaboration.{conditions_of, measures_in}
 use Rattle.df_ntyping.specs.FileElaboration.{IsNewtype, IsMethod, IsDeclaration, AreDeclarations}
 use Rattle.df_ntyping.specs.rules.Loops.{belongs, is_decreases}
 use Rattle.df_ntyping.specs.Laws.{ElaboratedIsFaultless}
+use Rattle.df_ntyping.proofs.NamedFiles.{named_breaks_none}
 use Rattle.df_ntyping.proofs.AllNodes.{none, front, only, both, there}
 use Rattle.df_ntyping.proofs.SoundNodes as kinds
 use Rattle.df_ntyping.proofs.SoundNodes.{IsSound, AllSound, sound}
@@ -101,4 +102,4 @@ stages_sound file fault h n all = (there (file_nodes file) fault.at all h.0).hol
 
 pub elaborated_is_faultless : ElaboratedIsFaultless
 elaborated_is_faultless names file one h fault broken =
-    stages_sound file fault broken (h.named fault broken) (declarations_sound names (table_of file) [] 0 file.declarations one.decls h.grammar h.declarations)
+    stages_sound file fault broken (named_breaks_none file h.named fault broken) (declarations_sound names (table_of file) [] 0 file.declarations one.decls h.grammar h.declarations)

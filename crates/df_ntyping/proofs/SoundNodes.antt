@@ -8,7 +8,7 @@ use Rattle.df_ntree.specs.Expr.{Expr}
 use Rattle.df_ntree.specs.File.{Clause, NewtypeDeclaration}
 use Rattle.df_ntyping.specs.Environment.{Environment}
 use Rattle.df_ntyping.specs.Meaning.{called_signature}
-use Rattle.df_ntyping.specs.Sides.{are_enough}
+use Rattle.df_ntyping.specs.LocalTypes.{are_enough}
 use Rattle.df_ntyping.specs.Node as nodes
 use Rattle.df_ntyping.specs.Node.{Node, Occurrence, Owner}
 use Rattle.df_ntyping.specs.Rule.{Rule, Unknown, Twice, Typing, Uninferred, Range, Given, Truths, ArgumentCount, Calls, Assigned, Returned, Broken, Clauses, stage_of}

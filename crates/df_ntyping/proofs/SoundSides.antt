@@ -11,7 +11,7 @@ use Rattle.df_ntree.specs.ExprSpelling.{IsExpr, AreArguments as AreTreeArguments
 use Rattle.df_ntyping.specs.Table.{Signature}
 use Rattle.df_ntyping.specs.Environment.{Environment}
 use Rattle.df_ntyping.specs.Meaning.{called_signature}
-use Rattle.df_ntyping.specs.Sides.{values_of, is_count, are_enough, results_of_call, place_type, place_types}
+use Rattle.df_ntyping.specs.LocalTypes.{values_of, is_count, are_enough, results_of_call, place_type, place_types}
 use Rattle.df_ntyping.specs.ExprNodes.{width, count, expr_nodes, argument_nodes, value_nodes, condition_nodes, call_nodes}
 use Rattle.df_ntyping.specs.StatementNodes.{place_nodes, all_places, source_nodes, sources_apart, sources_nodes}
 use Rattle.df_ntyping.specs.ExprElaboration.{Elaborates, ElaboratesAt, ElaboratesTruth}

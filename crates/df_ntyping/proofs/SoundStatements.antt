@@ -18,10 +18,9 @@ use Rattle.df_ntree.specs.File as file
 use Rattle.df_ntree.specs.File.{Clause, Condition, Decreases, PrintOperand, Text, Value, Statement, Nested, Var, Assign, Expression, If, While, Return, Break, Assert, Print, Statements, done, next, Branches, Otherwise, without, otherwise}
 use Rattle.df_ntree.specs.FileSpelling as grammar
 use Rattle.df_ntree.specs.FileSpelling.{spell_local, spell_clause, spell_statement, spell_statements, spell_branches}
-use Rattle.df_ntyping.specs.Environment.{Local, Inferred, Open, Used, Fixed, Environment, Variable_role, fixed_type, local_type, enter, inside_loop, past, declare}
-use Rattle.df_ntyping.specs.Scopes.{behind, locals_in_all, locals_in_branches}
+use Rattle.df_ntyping.specs.Environment.{Local, Inferred, Open, Used, Fixed, Environment, Variable_role, fixed_type, local_type, enter, inside_loop, past, declare, behind, locals_in_all, locals_in_branches}
 use Rattle.df_ntyping.specs.Places.{beginning_of_first}
-use Rattle.df_ntyping.specs.Sides.{are_enough, types_of_locals}
+use Rattle.df_ntyping.specs.LocalTypes.{are_enough, types_of_locals}
 use Rattle.df_ntyping.specs.Node.{Owner, OfLoop}
 use Rattle.df_ntyping.specs.ExprNodes.{width, type_nodes, exprs_nodes}
 use Rattle.df_ntyping.specs.StatementNodes.{widths, local_widths, clause_widths, sources_nodes, typed_nodes, untyped_nodes, variable_nodes, declared_by, update_nodes, clause_nodes, clauses_nodes, operand_nodes, whole_nodes, statement_nodes, statements_nodes, branches_nodes, otherwise_nodes}

@@ -10,10 +10,9 @@ use Rattle.df_ntree.specs.ExprSpelling.{spell}
 use Rattle.df_ntree.specs.File as file
 use Rattle.df_ntree.specs.File.{Clause, PrintOperand, Statement, Nested, Var, Assign, Expression, If, While, Return, Break, Assert, Print, Statements, done, next, Branches, Otherwise, without, otherwise}
 use Rattle.df_ntree.specs.FileSpelling.{spell_local, spell_values, spell_clause, spell_operand, spell_statement, spell_statements, spell_branches, spell_otherwise, braces, IsStatement, AreStatements, AreBranches, IsOtherwise}
-use Rattle.df_ntyping.specs.Environment.{Environment, enter, inside_loop, past}
-use Rattle.df_ntyping.specs.Scopes.{behind, locals_in_all, locals_in_branches}
+use Rattle.df_ntyping.specs.Environment.{Environment, enter, inside_loop, past, behind, locals_in_all, locals_in_branches}
 use Rattle.df_ntyping.specs.Places.{beginning_of_first}
-use Rattle.df_ntyping.specs.Sides.{place_types, types_of_locals}
+use Rattle.df_ntyping.specs.LocalTypes.{place_types, types_of_locals}
 use Rattle.df_ntyping.specs.Node.{Occurrence, Owner}
 use Rattle.df_ntyping.specs.ExprNodes.{width, condition_nodes}
 use Rattle.df_ntyping.specs.StatementNodes.{all_places, widths, variable_nodes, declared_by, local_widths, clause_widths, statement_nodes, statements_nodes, branches_nodes, otherwise_nodes}

@@ -10,10 +10,9 @@ use Rattle.df_ntree.specs.ExprSpelling.{IsExpr}
 use Rattle.df_ntree.specs.File as file
 use Rattle.df_ntree.specs.File.{Clause, Condition, Decreases, PrintOperand, Text, Value, Statement, Nested, Var, Assign, Expression, If, While, Return, Break, Assert, Print, Statements, done, next, Branches, Otherwise, without, otherwise}
 use Rattle.df_ntree.specs.FileSpelling.{spell_local, spell_clause, spell_statement, spell_statements, spell_branches, IsPrimary, IsOperand, IsClause, IsStatement, AreStatements, AreBranches, IsOtherwise}
-use Rattle.df_ntyping.specs.Environment.{Environment, enter, inside_loop, past, declare_variables}
-use Rattle.df_ntyping.specs.Scopes.{behind, locals_in_all, locals_in_branches}
+use Rattle.df_ntyping.specs.Environment.{Environment, enter, inside_loop, past, declare_variables, behind, locals_in_all, locals_in_branches}
 use Rattle.df_ntyping.specs.Places.{beginning_of_first}
-use Rattle.df_ntyping.specs.Sides.{place_types, types_of_locals}
+use Rattle.df_ntyping.specs.LocalTypes.{place_types, types_of_locals}
 use Rattle.df_ntyping.specs.Node.{Owner}
 use Rattle.df_ntyping.specs.ExprNodes.{width, first_place, other_places, value_nodes, condition_nodes, exprs_nodes, call_nodes}
 use Rattle.df_ntyping.specs.StatementNodes.{clause_widths, widths, local_widths, declared_by, place_nodes, all_places, source_nodes, sources_apart, sources_nodes, update_nodes, typed_nodes, untyped_nodes, variable_nodes, clause_nodes, clauses_nodes, operand_nodes, whole_nodes, statement_nodes, statements_nodes, branches_nodes, otherwise_nodes}

@@ -24,8 +24,7 @@ use Rattle.df_ntree.specs.File as file
 use Rattle.df_ntree.specs.File.{Clause, PrintOperand, Text, Value, Statement, Nested, Var, Assign, Expression, If, While, Return, Break, Assert, Print, Statements, done, next, Branches, Otherwise, without, otherwise}
 use Rattle.df_ntree.specs.FileSpelling as grammar
 use Rattle.df_ntree.specs.FileSpelling.{braces, spell_local, spell_values, spell_operand, spell_clause, spell_statement, spell_statements, spell_branches, spell_otherwise}
-use Rattle.df_ntyping.specs.Environment.{Local, Inferred, Environment, fixed_type, enter, inside_loop, past}
-use Rattle.df_ntyping.specs.Scopes.{behind, locals_in, locals_in_all, locals_in_branches}
+use Rattle.df_ntyping.specs.Environment.{Local, Inferred, Environment, fixed_type, enter, inside_loop, past, behind, locals_in, locals_in_all, locals_in_branches}
 use Rattle.df_ntyping.specs.Literals.{AreInRange}
 use Rattle.df_ntyping.specs.rules.Loops.{is_decreases, has_measure}
 use Rattle.df_ntyping.specs.ExprElaboration.{Elaborates}

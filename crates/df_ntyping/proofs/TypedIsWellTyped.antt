@@ -7,7 +7,8 @@ use Rattle.df_base.specs.declared.pos.Pos.{Pos}
 use Rattle.df_lang.specs.declared.ty.Ty.{Ty}
 use Rattle.df_lang.specs.declared.ty.Ty.TheVariants as types
 use Rattle.df_lang.specs.Typing as lang
-use Rattle.df_lang.specs.Typing.{same_type, is_type, is_expr, are_addends, are_factors, are_members, are_links, converts}
+use Rattle.df_lang.specs.Newtype.{same_type}
+use Rattle.df_lang.specs.Typing.{is_type, is_expr, are_addends, are_factors, are_members, are_links, converts}
 use Rattle.df_lang.specs.Expr as typed
 use Rattle.df_lang.specs.Program.{Program}
 use Rattle.df_ntree.specs.declared.expr.BinaryOperator.{BinaryOperator}
@@ -19,12 +20,11 @@ use Rattle.df_ntree.specs.declared.expr.TreeType.{TreeType}
 use Rattle.df_ntree.specs.Spelling.{Piece}
 use Rattle.df_ntree.specs.Expr.{Expr, Number, Character, Truth, Name, Parentheses, Call, Unary, Cast, Operations, Leading, Members, end, more}
 use Rattle.df_ntree.specs.ExprSpelling.{first_group, spell, spell_members}
-use Rattle.df_ntyping.specs.Types.{counted, is_integer, literal_type}
+use Rattle.df_ntyping.specs.Types.{counted, is_integer, literal_type, all_of}
 use Rattle.df_ntyping.specs.Table.{type_of}
 use Rattle.df_ntyping.specs.Environment.{Environment}
 use Rattle.df_ntyping.specs.ExprTypes.{counted_of, wanted_first, wanted_behind, expected_inside}
 use Rattle.df_ntyping.specs.Literals.{is_in_range, AreInRange}
-use Rattle.df_ntyping.specs.rules.Comparisons.{all_of}
 use Rattle.df_ntyping.specs.ExprElaboration.{Part, ConvertsBy, Converts, AreCasts, addends_of, factors_of, members_of, links_of, comparison_of, turned, compares, IsRun, IsLeading, Elaborates, AreOperands}
 use Rattle.df_ntyping.specs.Laws.{NewtypesHold, LocalsHold, TypedIsWellTyped}
 use Rattle.df_ntyping.proofs.Complete.{same_self}

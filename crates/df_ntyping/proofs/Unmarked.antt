@@ -9,8 +9,7 @@ use Rattle.df_ntree.specs.Expr.{Expr, Call}
 use Rattle.df_ntree.specs.File as file
 use Rattle.df_ntree.specs.File.{Statement, Nested, Var, Assign, Expression, If, While, Return, Break, Assert, Print, Statements, done, next, Branches, Otherwise, without, otherwise, MethodDeclaration}
 use Rattle.df_ntyping.specs.Table.{Table, results_of}
-use Rattle.df_ntyping.specs.Environment.{Environment, enter, inside_loop, past}
-use Rattle.df_ntyping.specs.Scopes.{behind, locals_in_all, locals_in_branches}
+use Rattle.df_ntyping.specs.Environment.{Environment, enter, inside_loop, past, behind, locals_in_all, locals_in_branches}
 use Rattle.df_ntyping.specs.StatementElaboration.{AreVariables, IsWhole, IsStatement, AreStatements, AreBranches, IsOtherwise}
 use Rattle.df_ntyping.specs.FileNodes.{over_body}
 use Rattle.df_ntyping.specs.FileElaboration.{AreParameters, IsMethod}

@@ -15,11 +15,9 @@ use Rattle.df_ntree.specs.FileSpelling as grammar
 use Rattle.df_ntree.specs.FileSpelling.{spell_statement, spell_statements, spell_branches}
 use Rattle.df_ntyping.specs.Table.{Table}
 use Rattle.df_ntyping.specs.Environment as scope_local
-use Rattle.df_ntyping.specs.Environment.{Inferred, Fixed, Environment, local_type, enter, inside_loop, past}
-use Rattle.df_ntyping.specs.Scopes.{behind, locals_in, locals_in_all, locals_in_branches, locals_in_otherwise}
+use Rattle.df_ntyping.specs.Environment.{Inferred, Fixed, Environment, local_type, enter, inside_loop, past, behind, locals_in, locals_in_all, locals_in_branches, locals_in_otherwise}
 use Rattle.df_ntyping.specs.Places.{beginning_of_first}
-use Rattle.df_ntyping.specs.Sides.{are_enough, place_type, place_types, types_of_locals}
-use Rattle.df_ntyping.specs.LocalTypes.{names_in, used_names, used, types_of_values, used_inside, taken_all, inferred_all, used_in_clause, used_in_operand, over, inferred_behind, inferred_behind_all, inferred_behind_branches, inferred_behind_otherwise}
+use Rattle.df_ntyping.specs.LocalTypes.{names_in, used_names, used, types_of_values, used_inside, taken_all, inferred_all, used_in_clause, used_in_operand, over, inferred_behind, inferred_behind_all, inferred_behind_branches, inferred_behind_otherwise, are_enough, place_type, place_types, types_of_locals}
 use Rattle.df_ntyping.specs.Node.{Owner}
 use Rattle.df_ntyping.specs.Rule.{Typing, Assigned}
 use Rattle.df_ntyping.specs.ExprNodes.{width, condition_nodes}

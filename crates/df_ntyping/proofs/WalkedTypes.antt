@@ -14,8 +14,7 @@ use Rattle.df_ntyping.specs.Table.{Signature}
 use Rattle.df_ntyping.specs.Environment.{Local, Inferred, Open, Used, Fixed, Environment, fixed_type, local_type}
 use Rattle.df_ntyping.specs.Meaning.{Meaning, TheLocal, TheMethod, Means, meaning_of, called_signature}
 use Rattle.df_ntyping.specs.ExprTypes.{type_of_meaning, type_in}
-use Rattle.df_ntyping.specs.Sides.{values_of, is_count, are_enough, results_of_call}
-use Rattle.df_ntyping.specs.LocalTypes.{names_in, used_names, types_of_value, next_type, types_of_values}
+use Rattle.df_ntyping.specs.LocalTypes.{names_in, used_names, types_of_value, next_type, types_of_values, values_of, is_count, are_enough, results_of_call}
 use Rattle.df_ntyping.specs.Rule.{Typing, Calls}
 use Rattle.df_ntyping.specs.ExprNodes.{width, first_place, other_places, places_of, callee_nodes, expr_nodes, argument_nodes, call_nodes}
 use Rattle.df_ntyping.specs.StatementNodes.{source_nodes, sources_apart, sources_nodes}

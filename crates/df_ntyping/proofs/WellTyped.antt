@@ -5,7 +5,8 @@ use Rattle.std.proofs.lemmas.Bool.{eqb-true}
 use Rattle.df_lang.specs.declared.ty.Ty.{Ty}
 use Rattle.df_lang.specs.declared.ty.Ty.TheVariants as types
 use Rattle.df_lang.specs.Typing as lang
-use Rattle.df_lang.specs.Typing.{same_type, is_type, is_expr, converts}
+use Rattle.df_lang.specs.Newtype.{same_type}
+use Rattle.df_lang.specs.Typing.{is_type, is_expr, converts}
 use Rattle.df_lang.specs.Program.{Program, newtype_at}
 use Rattle.df_lang.specs.Expr as typed
 use Rattle.df_ntree.specs.declared.expr.UnaryOperator.TheVariants as unary

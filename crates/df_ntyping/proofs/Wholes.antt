@@ -15,7 +15,7 @@ use Rattle.df_ntree.specs.declared.expr.Level.TheVariants as levels
 use Rattle.df_ntree.specs.Operator.{group_of, level_of}
 use Rattle.df_ntree.specs.Expr.{Expr, Operations, Leading, Members, end, more}
 use Rattle.df_ntree.specs.ExprSpelling.{spell_members, first_group, IsExpr, AreOf}
-use Rattle.df_ntyping.specs.Types.{counted, is_integer, literal_type}
+use Rattle.df_ntyping.specs.Types.{counted, is_integer, literal_type, all_of, keeps_direction}
 use Rattle.df_ntyping.specs.Environment.{Environment}
 use Rattle.df_ntyping.specs.Places.{first_sign}
 use Rattle.df_ntyping.specs.ExprTypes.{is_arithmetic, is_open, are_open, own_type, own_types, type_in, common_type, counted_of, first_or, wanted_first, wanted_behind}
@@ -26,7 +26,6 @@ use Rattle.df_ntyping.specs.Node.{Occurrence}
 use Rattle.df_ntyping.specs.Rule.{Rule, Typing, Direction, stage_of}
 use Rattle.df_ntyping.specs.Breaks.{breaks}
 use Rattle.df_ntyping.specs.Least.{Fault, IsFault, comes_before}
-use Rattle.df_ntyping.specs.rules.Comparisons.{all_of, keeps_direction}
 use Rattle.df_ntyping.proofs.Order.{Segment}
 use Rattle.df_ntyping.proofs.ExprOrder.{expr_order, run_order, width_operations}
 use Rattle.df_ntyping.specs.Rule.{TypingRule as Own}

@@ -11,7 +11,7 @@ use Rattle.df_lang.specs.declared.expr.Junction.TheVariants as junctions
 use Rattle.df_lang.specs.declared.expr.Arrow.TheVariants as arrows
 use Rattle.df_lang.specs.declared.expr.Comparison.{Comparison}
 use Rattle.df_lang.specs.declared.expr.Comparison.TheVariants as comparisons
-use Rattle.df_lang.specs.Typing.{same_type}
+use Rattle.df_lang.specs.Newtype.{same_type}
 use Rattle.df_lang.specs.Expr as typed
 use Rattle.df_ntree.specs.declared.expr.BinaryOperator.{BinaryOperator}
 use Rattle.df_ntree.specs.declared.expr.BinaryOperator.TheVariants as binary
@@ -21,13 +21,12 @@ use Rattle.df_ntree.specs.declared.expr.Group.TheVariants as groups
 use Rattle.df_ntree.specs.declared.expr.TreeType.{TreeType}
 use Rattle.df_ntree.specs.Expr.{Expr, Number, Character, Truth, Name, Parentheses, Call, Unary, Cast, Operations, Leading, Members, end, more}
 use Rattle.df_ntree.specs.ExprSpelling.{first_group}
-use Rattle.df_ntyping.specs.Types.{is_integer, counted, casts, fits_or_narrows, literal_type}
+use Rattle.df_ntyping.specs.Types.{is_integer, counted, casts, fits_or_narrows, literal_type, is_order, all_of, keeps_direction}
 use Rattle.df_ntyping.specs.Table.{type_of}
 use Rattle.df_ntyping.specs.Environment.{Local, Environment, local_type}
 use Rattle.df_ntyping.specs.Meaning.{TheLocal, Means}
 use Rattle.df_ntyping.specs.Places.{pos_of, beginning_of}
 use Rattle.df_ntyping.specs.ExprTypes.{value_of, counted_of, wanted_first, wanted_behind, expected_inside}
-use Rattle.df_ntyping.specs.rules.Comparisons.{is_order, all_of, keeps_direction}
 
 -- ---- conversions
 

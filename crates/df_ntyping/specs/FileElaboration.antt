@@ -1,6 +1,6 @@
 -- Elaboration of files: rules on source and program side by side. A file of the grammar, in which each name has one
 -- meaning, elaborates declaration by declaration.
-use Rattle.std.specs.Prelude.{◌≡◌, ℕ, true, false, List, [], ◌∷◌, slice_get, Some}
+use Rattle.std.specs.Prelude.{◌≡◌, ℕ, true, false, Contains, List, [], ◌∷◌, slice_get, Some}
 use Rattle.std.specs.List.{list_all}
 use Rattle.df_lang.specs.declared.ty.Ty.{Ty}
 use Rattle.df_lang.specs.Newtype as types
@@ -12,9 +12,8 @@ use Rattle.df_ntree.specs.File.{NewtypeDeclaration, MethodDeclaration, Declarati
 use Rattle.df_ntree.specs.FileSpelling.{IsFile}
 use Rattle.df_ntyping.specs.Table.{Table, results_of, type_of, table_of}
 use Rattle.df_ntyping.specs.FileNodes.{over_parameters, over_both, over_body, file_nodes}
-use Rattle.df_ntyping.specs.Node.{OfMethod}
-use Rattle.df_ntyping.specs.Rule.{stage_of}
-use Rattle.df_ntyping.specs.Least.{Fault, IsFault}
+use Rattle.df_ntyping.specs.Node.{Occurrence, OfMethod}
+use Rattle.df_ntyping.specs.rules.Names.{breaks_unknown, breaks_twice}
 use Rattle.df_ntyping.specs.rules.Loops.{belongs}
 use Rattle.df_ntyping.specs.rules.Newtypes.{bounds_of}
 use Rattle.df_ntyping.specs.StatementElaboration.{conditions_of, AreConditions, IsDecreases, AreStatements}
@@ -60,7 +59,8 @@ AreDeclarations names table (tree ∷ others) decls =
 
 -- no name is without a meaning, and none is declared twice in a scope
 abbrev pub HasNames : File → Type 0
-HasNames file = (fault : Fault) → IsFault (file_nodes file) fault → stage_of fault.rule ≡ 0 → ⊥
+HasNames file =
+    (at : Occurrence) → Contains (file_nodes file) at → (breaks_unknown at.env at.node ≡ false) × (breaks_twice at.env at.node ≡ false)
 
 -- The file elaborates to the program.
 pub record ElaboratesFile (names : List (List ℕ)) (file : File) (one : program.Program) : Type 0 where

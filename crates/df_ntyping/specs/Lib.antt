@@ -7,8 +7,6 @@ pub mod ExprTypes
 pub mod Rule
 pub mod Node
 pub mod ExprNodes
-pub mod Scopes
-pub mod Sides
 pub mod StatementNodes
 pub mod LocalTypes
 pub mod FileNodes

@@ -1,7 +1,7 @@
 -- What fixes the types of a method's locals, in the order of the text: the type that is written, else that of the first
 -- value, else that of the first assignment, unless the local is used before.
-use Rattle.std.specs.Prelude.{ℕ, zero, suc, List, [], ◌∷◌, ◌++◌, map, Option, Some, None}
-use Rattle.std.specs.List.{flat_map}
+use Rattle.std.specs.Prelude.{ℕ, zero, suc, List, [], ◌∷◌, ◌++◌, map, Option, Some, None, ◌==◌, ◌&&◌, Bool, true, length, option_map}
+use Rattle.std.specs.List.{flat_map, list_all}
 use Rattle.df_lang.specs.declared.ty.Ty.{Ty}
 use Rattle.df_ntree.specs.declared.expr.TreeType.{TreeType}
 use Rattle.df_ntree.specs.declared.file.Local as declared_local
@@ -9,12 +9,10 @@ use Rattle.df_ntree.specs.declared.file.Parameter.{Parameter}
 use Rattle.df_ntree.specs.Expr.{Expr, Number, Character, Truth, Name, Parentheses, Call, Unary, Cast, Operations, Leading, Members, end, more, Arguments, no_more, argument}
 use Rattle.df_ntree.specs.File as file
 use Rattle.df_ntree.specs.File.{Clause, Condition, Decreases, PrintOperand, Text, Value, Statement, Nested, Var, Assign, Expression, If, While, Return, Break, Assert, Print, Statements, done, next, Branches, Otherwise, without, otherwise}
-use Rattle.df_ntyping.specs.Table.{type_of}
-use Rattle.df_ntyping.specs.Environment.{Inferred, Open, Used, Fixed, Environment, enter, past, with_types}
-use Rattle.df_ntyping.specs.Scopes.{behind, locals_in_all, locals_in_branches}
-use Rattle.df_ntyping.specs.Meaning.{Meaning, TheLocal, meaning_of}
+use Rattle.df_ntyping.specs.Table.{type_of, Signature}
+use Rattle.df_ntyping.specs.Environment.{Inferred, Open, Used, Fixed, Environment, enter, past, with_types, behind, locals_in_all, locals_in_branches, Local, local_type}
+use Rattle.df_ntyping.specs.Meaning.{Meaning, TheLocal, meaning_of, called_signature}
 use Rattle.df_ntyping.specs.ExprTypes.{type_in}
-use Rattle.df_ntyping.specs.Sides.{results_of_call}
 
 -- ---- the names in an expression
 
@@ -63,6 +61,45 @@ used_names env (name ∷ others) types = used_names env others (fix_meaning (mea
 
 abbrev pub used : Environment → List Expr → List Inferred
 used env es = used_names env (flat_map names_in es) env.types
+
+-- how many values a right side gives, if it is known: a call as many as its method has results
+abbrev pub values_of : Environment → Expr → Option ℕ
+values_of env (Call callee arguments) = option_map (λ (signature : Signature). length signature.results) (called_signature env callee)
+values_of env e = Some 1
+
+abbrev pub is_count : ℕ → Option ℕ → Bool
+is_count wanted (Some given) = given == wanted
+is_count wanted None = true
+
+-- As many values as places: one right side gives all of them, of several each gives one. What isn't known is not wrong.
+abbrev pub are_enough : Environment → ℕ → List Expr → Bool
+are_enough env places (value ∷ []) = is_count places (values_of env value)
+are_enough env places values = (length values == places) && list_all (λ (value : Expr). is_count 1 (values_of env value)) values
+
+-- the types of the results of a right side that is a call
+abbrev pub results_of_call : Environment → Expr → List (Option Ty)
+results_of_call env callee = elim (called_signature env callee) [
+  | Some signature ↦ signature.results
+  | None ↦ []
+]
+
+-- ---- places
+
+abbrev pub type_of_place : Environment → Option Meaning → Option Ty
+type_of_place env (Some (TheLocal local)) = local_type env local.number
+type_of_place env meaning = None
+
+-- the type of a left side
+abbrev pub place_type : Environment → Expr → Option Ty
+place_type env (Name ident) = type_of_place env (meaning_of env ident.name)
+place_type env e = None
+
+abbrev pub place_types : Environment → List Expr → List (Option Ty)
+place_types env targets = map (place_type env) targets
+
+-- of locals by their numbers
+abbrev pub types_of_locals : Environment → List Local → List (Option Ty)
+types_of_locals env locals = map (λ (local : Local). local_type env local.number) locals
 
 -- ---- left and right sides
 

@@ -1,5 +1,5 @@
 -- Elaboration of calls, left and right sides: rules on source and typed program side by side.
-use Rattle.std.specs.Prelude.{◌≡◌, ℕ, true, false, List, [], ◌∷◌, map, Option, Some}
+use Rattle.std.specs.Prelude.{◌≡◌, ℕ, true, false, List, [], ◌∷◌, map, Option, Some, Bool}
 use Rattle.df_base.specs.declared.pos.Pos.{Pos}
 use Rattle.df_lang.specs.declared.ty.Ty.{Ty}
 use Rattle.df_lang.specs.Expr as typed_expr
@@ -7,9 +7,8 @@ use Rattle.df_lang.specs.Stmt as typed
 use Rattle.df_ntree.specs.Expr.{Expr, Name, Call, Arguments, no_more, argument}
 use Rattle.df_ntyping.specs.Types.{fits_or_narrows}
 use Rattle.df_ntyping.specs.Table.{Signature}
-use Rattle.df_ntyping.specs.Environment.{Local, Environment, local_type}
+use Rattle.df_ntyping.specs.Environment.{Local, Environment, local_type, Role, Parameter_role}
 use Rattle.df_ntyping.specs.Meaning.{TheLocal, TheMethod, Means}
-use Rattle.df_ntyping.specs.rules.Assignments.{keeps_its_value}
 use Rattle.df_ntyping.specs.ExprElaboration.{ElaboratesAt}
 
 -- ---- calls
@@ -65,6 +64,10 @@ AreSources env places values sources = AreApart env places values sources
 
 abbrev pub types_of_targets : List typed.Target → List Ty
 types_of_targets targets = map (λ (target : typed.Target). target.ty) targets
+
+abbrev pub keeps_its_value : Role → Bool
+keeps_its_value Parameter_role = true
+keeps_its_value role = false
 
 -- a local or a result, which is no parameter
 abbrev pub IsTarget : Environment → Expr → typed.Target → Type 0

@@ -11,9 +11,8 @@ use Rattle.df_ntree.specs.declared.file.ConditionKind.TheVariants as conditions
 use Rattle.df_ntree.specs.Expr.{Expr, Call}
 use Rattle.df_ntree.specs.File.{Clause, Condition, Decreases, PrintOperand, Text, Value, Statement, Nested, Var, Assign, Expression, If, While, Return, Break, Assert, Print, Statements, done, next, Branches, end, more, Otherwise, without, otherwise}
 use Rattle.df_ntyping.specs.Table.{Signature}
-use Rattle.df_ntyping.specs.Environment.{Environment, enter, inside_loop, past, local_type}
+use Rattle.df_ntyping.specs.Environment.{Environment, enter, inside_loop, past, local_type, behind, locals_in_all, locals_in_branches}
 use Rattle.df_ntyping.specs.Places.{beginning_of, beginning_of_first}
-use Rattle.df_ntyping.specs.Scopes.{behind, locals_in_all, locals_in_branches}
 use Rattle.df_ntyping.specs.Node.{OfLoop}
 use Rattle.df_ntyping.specs.rules.Loops.{belongs, is_decreases, has_measure}
 use Rattle.df_ntyping.specs.ExprElaboration.{Elaborates, ElaboratesTruth}

@@ -1,10 +1,13 @@
--- Types as they are written and as operands meet: which fit others, and where `nat` counts as `int`.
+-- Types as they are written and as operands meet: which fit others, where `nat` counts as `int`, and which way a chain goes.
 use Rattle.std.specs.Prelude.{Bool, true, false, ◌&&◌, ◌||◌, Option, Some, None, if◌then◌else◌}
 use Rattle.df_lang.specs.declared.ty.Ty.{Ty}
 use Rattle.df_lang.specs.declared.ty.Ty.TheVariants as types
-use Rattle.df_lang.specs.Typing.{same_type}
+use Rattle.df_lang.specs.Newtype.{same_type}
 use Rattle.df_ntree.specs.declared.expr.BasicType.{BasicType}
 use Rattle.df_ntree.specs.declared.expr.BasicType.TheVariants as basics
+use Rattle.df_ntree.specs.declared.expr.BinaryOperator.{BinaryOperator}
+use Rattle.df_ntree.specs.declared.expr.BinaryOperator.TheVariants as binary
+use Rattle.df_ntree.specs.Expr.{Members, end, more}
 
 -- A type that is not known is none: its part breaks a rule, and no rule that asks for the type is broken by it.
 
@@ -68,3 +71,35 @@ arithmetic left right = None
 abbrev pub literal_type : Option Ty → Ty
 literal_type (Some ty) = if is_integer ty then ty else types.Int
 literal_type None = types.Int
+
+abbrev pub is_order : BinaryOperator → Bool
+is_order binary.Less = true
+is_order binary.AtMost = true
+is_order binary.Greater = true
+is_order binary.AtLeast = true
+is_order operator = false
+
+-- ---- directions
+
+abbrev pub rises : BinaryOperator → Bool
+rises binary.Less = true
+rises binary.AtMost = true
+rises binary.Equal = true
+rises operator = false
+
+abbrev pub falls : BinaryOperator → Bool
+falls binary.Greater = true
+falls binary.AtLeast = true
+falls binary.Equal = true
+falls operator = false
+
+abbrev pub all_of : (BinaryOperator → Bool) → Members → Bool
+all_of test end = true
+all_of test (more operator pos operand rest) = test operator && all_of test rest
+
+abbrev pub is_single : Members → Bool
+is_single (more operator pos operand end) = true
+is_single members = false
+
+abbrev pub keeps_direction : Members → Bool
+keeps_direction members = is_single members || all_of rises members || all_of falls members

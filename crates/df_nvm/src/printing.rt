@@ -3,7 +3,7 @@
 ghost use Rattle.std.specs.Prelude.{◌≡◌, ◌≢◌, [], false, IsTrue, OnOk, Err};
 ghost use Rattle.df_base.specs.Outside.{Appends, AppendsPrefix, HasCause};
 ghost use Rattle.df_nmach.specs.View.{value_of};
-ghost use Rattle.df_nmach.specs.Printing as meaning;
+ghost use Rattle.df_nmach.specs.Value as meaning;
 ghost use Rattle.df_nvm.specs.Quiet.{is_some};
 ghost use Rattle.df_nvm.specs.mirror.Quiet.{prints};
 ghost use Rattle.df_nvm.specs.mirror.Turns.{Prints};

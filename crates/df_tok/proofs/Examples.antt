@@ -37,6 +37,7 @@ use Rattle.df_tok.proofs.Pieces.{lex_next, lexeme_seen, nothing_next}
 use Rattle.df_tok.proofs.Divisions.{one_division}
 use Rattle.df_tok.proofs.Begins.{stops_at}
 use Rattle.df_tok.proofs.Faults.{fault_from, cannot_from, fault_excludes}
+use Rattle.df_tok.specs.Limits.{byte_limit, token_limit}
 
 abbrev pub at : ℕ → ℕ → Pos
 at line col = record { line = line; col = col }
@@ -200,7 +201,7 @@ abbrev no_token : Pos → Refusal
 no_token pos = refusal tags.Token pos Nothing
 
 -- where nothing stands at the front, that is the fault
-at_front : (source : List ℕ) → front_at source ≡ None → 0 < length source → length source ≤ 4194304 → IsFault [] source (fault_at start source)
+at_front : (source : List ℕ) → front_at source ≡ None → 0 < length source → length source ≤ byte_limit → IsFault [] source (fault_at start source)
 at_front source none some few = stop few [] source [] (refl, refl) (omega arith) (fault_from [] source start 0 some none)
 
 -- what begins no comment begins no open comment
@@ -229,7 +230,7 @@ refused_once rest pos r none (token h front behind s low e) =
     e ∙ rw (no_open rest h.comment, is_token) refl
 
 -- and there is no other
-only_at_front : (source : List ℕ) (r : Refusal) → front_at source ≡ None → IsFault [] source r → length source ≤ 4194304 → r ≡ fault_at start source
+only_at_front : (source : List ℕ) (r : Refusal) → front_at source ≡ None → IsFault [] source r → length source ≤ byte_limit → r ≡ fault_at start source
 only_at_front source r none (long more e) few = absurd (omega arith)
 only_at_front source r none (stop _ (piece ∷ pieces) rest names (next, between, is, p, others) count h) few = absurd (nothing_next [] source none piece next between is p)
 only_at_front source r none (stop _ [] rest names (is, kept) count h) few =
@@ -241,7 +242,7 @@ unfolding front_at
 fault_of_hexadecimal = at_front (codes "0x") refl (omega arith) (omega arith)
 
 -- so it does not divide
-pub hexadecimal_divides_not : (tokens : List Token) (names : List (List ℕ)) → Divides [] (codes "0x") tokens names → length tokens ≤ 500000 → ⊥
+pub hexadecimal_divides_not : (tokens : List Token) (names : List (List ℕ)) → Divides [] (codes "0x") tokens names → length tokens ≤ token_limit → ⊥
 hexadecimal_divides_not tokens names d few = fault_excludes [] (codes "0x") (no_token (at 1 1)) tokens names fault_of_hexadecimal d (omega arith) few
 
 -- and `x` is not where the fault is

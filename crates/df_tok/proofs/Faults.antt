@@ -23,6 +23,7 @@ use Rattle.df_tok.proofs.OneKind.{number_small}
 use Rattle.df_tok.proofs.Pieces.{Turn, blank, line, block, lexeme, turn_of, no_comment, block_case, lex_next, lexeme_next, lexeme_seen, nothing_next, no_kind_next}
 use Rattle.df_tok.proofs.Divisions.{Progress, progress_exceeds, no_piece_exceeds, token_exceeds}
 use Rattle.df_tok.proofs.Begins.{NoLexeme, stops_at}
+use Rattle.df_tok.specs.Limits.{token_limit, byte_limit}
 
 -- ---- where no piece is found
 
@@ -117,13 +118,13 @@ unclosed_none rest (inner, is, h) = ap front_at is ∙ block_case inner ∙ ap (
     by None e = e
     by (Some k) e = let c = comment_sound 0 0 inner k e in absurd (h c.inner c.rest c.parts.is (used 0 c.inner c.closes))
 
-refused_exceeds : (names : List (List ℕ)) (rest : List ℕ) (pos : Pos) (count : ℕ) (r : Refusal) → IsRefusedAt names rest pos count r → Exceeds names rest (500000 - count)
+refused_exceeds : (names : List (List ℕ)) (rest : List ℕ) (pos : Pos) (count : ℕ) (r : Refusal) → IsRefusedAt names rest pos count r → Exceeds names rest (token_limit - count)
 refused_exceeds names rest pos count r (number text more is lex longest comment num value e) =
     let f = lexeme_seen text more lex longest comment in
     let found : front_at rest ≡ Some (Lexed f.0 (length text)) = ap front_at is ∙ f.1 in
     let l = lex_next rest f.0 (length text) found in
     let taken : take (length text) rest ≡ text = ap (take (length text)) is ∙ take_at text more (length text) refl in
-    no_piece_exceeds names rest (500000 - count) (omega (arith, l.some, l.within))
+    no_piece_exceeds names rest (token_limit - count) (omega (arith, l.some, l.within))
     (no_kind_next names rest f.0 (length text) found (λ kind after has.
     absurd (omega (arith, value, number_small names text kind after num (subst (λ (t : List ℕ). HasKind names t kind after) taken has)))))
 refused_exceeds names rest pos count r (many kind text more after is p c e) =
@@ -131,24 +132,24 @@ refused_exceeds names rest pos count r (many kind text more after is p c e) =
     let found : front_at rest ≡ Some (Lexed f.0 (length text)) = ap front_at is ∙ f.1 in
     let l = lex_next rest f.0 (length text) found in
     let taken : take (length text) rest ≡ text = ap (take (length text)) is ∙ take_at text more (length text) refl in
-    let none : 0 ≡ 500000 - count = omega arith in
+    let none : 0 ≡ token_limit - count = omega arith in
     let next = lexeme_next names rest start f.0 (length text) kind after l (subst (λ (t : List ℕ). HasKind names t kind after) (sym taken) p.3) in
     subst (Exceeds names rest) none (token_exceeds names rest start _ (length text) after (omega (arith, l.some, l.within)) next)
-refused_exceeds names rest pos count r (unclosed h e) = no_piece_exceeds names rest (500000 - count) (omega (arith, ap length h.1)) (nothing_next names rest (unclosed_none rest h))
-refused_exceeds names rest pos count r (byte h front b behind s high e) = no_piece_exceeds names rest (500000 - count) (some_length rest h.some) (no_piece_begins names rest h)
-refused_exceeds names rest pos count r (token h front behind s low e) = no_piece_exceeds names rest (500000 - count) (some_length rest h.some) (no_piece_begins names rest h)
+refused_exceeds names rest pos count r (unclosed h e) = no_piece_exceeds names rest (token_limit - count) (omega (arith, ap length h.1)) (nothing_next names rest (unclosed_none rest h))
+refused_exceeds names rest pos count r (byte h front b behind s high e) = no_piece_exceeds names rest (token_limit - count) (some_length rest h.some) (no_piece_begins names rest h)
+refused_exceeds names rest pos count r (token h front behind s low e) = no_piece_exceeds names rest (token_limit - count) (some_length rest h.some) (no_piece_begins names rest h)
 
 -- a source with a fault has no division within the limits
-pub fault_excludes : (before : List (List ℕ)) (source : List ℕ) (r : Refusal) (all : List Token) (after : List (List ℕ)) → IsFault before source r → Divides before source all after → length source ≤ 4194304 → length all ≤ 500000 → ⊥
+pub fault_excludes : (before : List (List ℕ)) (source : List ℕ) (r : Refusal) (all : List Token) (after : List (List ℕ)) → IsFault before source r → Divides before source all after → length source ≤ byte_limit → length all ≤ token_limit → ⊥
 fault_excludes before source r all after (long more e) d within few = absurd (omega arith)
 fault_excludes before source r all after (stop small pieces rest names reaches count h) d within few =
     let p : Progress before source (tokens_of start pieces) rest (after_pieces start pieces) names = record { pieces = pieces; reaches = reaches; tokens_are = refl; pos_is = refl } in
-    let n = progress_exceeds before source (tokens_of start pieces) rest (after_pieces start pieces) names (500000 - length (tokens_of start pieces)) p (refused_exceeds names rest (after_pieces start pieces) (length (tokens_of start pieces)) r h) all after d in
+    let n = progress_exceeds before source (tokens_of start pieces) rest (after_pieces start pieces) names (token_limit - length (tokens_of start pieces)) p (refused_exceeds names rest (after_pieces start pieces) (length (tokens_of start pieces)) r h) all after d in
     absurd (omega arith)
 
 -- a refusal where a loop has come to is the first fault
 pub fault_there : (before : List (List ℕ)) (source : List ℕ) (tokens : List Token) (rest : List ℕ) (pos : Pos) (names : List (List ℕ)) (count : ℕ) (r : Refusal)
-    → Progress before source tokens rest pos names → count ≡ length tokens → count ≤ 500000 → length source ≤ 4194304 → IsRefusedAt names rest pos count r → IsFault before source r
+    → Progress before source tokens rest pos names → count ≡ length tokens → count ≤ token_limit → length source ≤ byte_limit → IsRefusedAt names rest pos count r → IsFault before source r
 fault_there before source tokens rest pos names count r p c few small h =
     let n : count ≡ length (tokens_of start p.pieces) = c ∙ ap length p.tokens_are in
     stop small p.pieces rest names p.reaches (omega (arith, n))

@@ -18,6 +18,7 @@ use Rattle.df_tok.proofs.OneKind.{number_small}
 use Rattle.df_tok.proofs.Pieces.{lexeme_seen, nothing_next, no_kind_next, fronts_same, Same, one_piece}
 use Rattle.df_tok.proofs.Divisions.{tokens_cons}
 use Rattle.df_tok.proofs.Faults.{no_piece_begins, unclosed_none}
+use Rattle.df_tok.specs.Limits.{token_limit}
 
 -- ---- one refusal at a position
 
@@ -86,7 +87,7 @@ one_refused names rest pos count r other (token h front behind s low e) (token h
 
 -- where a piece stands at a rest that is refused, its token is one too many
 goes_no_further : (names : List (List ℕ)) (rest : List ℕ) (pos : Pos) (count : ℕ) (r : Refusal) (at : Pos) (piece : Piece) (next : List ℕ) (between : List (List ℕ))
-    → IsRefusedAt names rest pos count r → rest ≡ text_of piece ++ next → IsPiece names piece next between → 500000 < count + length (token_of at piece)
+    → IsRefusedAt names rest pos count r → rest ≡ text_of piece ++ next → IsPiece names piece next between → token_limit < count + length (token_of at piece)
 goes_no_further names rest pos count r at piece next between (number text more is lex longest comment num value e) reads h =
     let f = lexeme_seen text more lex longest comment in
     let taken : take (length text) rest ≡ text = ap (take (length text)) is ∙ take_at text more (length text) refl in
@@ -109,7 +110,7 @@ record GoesOn (rest : List ℕ) (names : List (List ℕ)) (count most : ℕ) : T
   is_piece : IsPiece names piece next between
   counted : count + length (token_of at piece) ≤ most
 
-no_further : (names : List (List ℕ)) (rest : List ℕ) (pos : Pos) (count most : ℕ) (r : Refusal) → IsRefusedAt names rest pos count r → GoesOn rest names count most → most ≤ 500000 → ⊥
+no_further : (names : List (List ℕ)) (rest : List ℕ) (pos : Pos) (count most : ℕ) (r : Refusal) → IsRefusedAt names rest pos count r → GoesOn rest names count most → most ≤ token_limit → ⊥
 no_further names rest pos count most r h g few =
     omega (arith, g.counted, few, goes_no_further names rest pos count r g.at g.piece g.next g.between h g.is g.is_piece)
 

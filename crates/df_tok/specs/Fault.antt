@@ -10,6 +10,7 @@ use Rattle.df_tok.specs.declared.token.Kind.{Kind}
 use Rattle.df_tok.specs.Byte.{is_blank}
 use Rattle.df_tok.specs.Lexeme.{NotNext, IsNumber, value_of_number, IsLexeme}
 use Rattle.df_tok.specs.Division.{after_bytes, start, Closes, BeginsComment, IsLongest, Piece, Lexeme, text_of, IsPiece, tokens_of}
+use Rattle.df_tok.specs.Limits.{token_limit, byte_limit}
 
 abbrev pub refusal : Code → Pos → Detail → Refusal
 refusal code pos detail = record { code = code; pos = pos; detail = detail }
@@ -42,7 +43,7 @@ pub data IsRefusedAt (names : List (List ℕ)) (rest : List ℕ) (pos : Pos) (co
   number : (text more : List ℕ) → rest ≡ text ++ more → IsLexeme text more → IsLongest text more → ¬ BeginsComment (text ++ more)
       → IsNumber text → 2 ^ 127 ≤ value_of_number text → r ≡ refusal codes.Number pos Nothing → IsRefusedAt names rest pos count r
   many : (kind : Kind) (text more : List ℕ) (after : List (List ℕ)) → rest ≡ text ++ more → IsPiece names (Lexeme kind text) more after
-      → count ≡ 500000 → r ≡ refusal codes.Limit pos (Count 500000) → IsRefusedAt names rest pos count r
+      → count ≡ token_limit → r ≡ refusal codes.Limit pos (Count token_limit) → IsRefusedAt names rest pos count r
   unclosed : IsUnclosed rest → r ≡ refusal codes.Token pos Nothing → IsRefusedAt names rest pos count r
   byte : NothingBegins rest → (front : List ℕ) (b : ℕ) (behind : List ℕ) → Stops rest front (b ∷ behind) → 128 ≤ b
       → r ≡ refusal codes.Byte (after_bytes pos front) Nothing → IsRefusedAt names rest pos count r
@@ -62,6 +63,6 @@ after_pieces pos (piece ∷ pieces) = after_pieces (after_bytes pos (text_of pie
 
 -- The first fault of a source: it is too long, or after a front with no fault the rest is refused.
 pub data IsFault (before : List (List ℕ)) (source : List ℕ) (r : Refusal) : Type 0 where
-  long : 4194304 < length source → r ≡ refusal codes.Limit start (Count (length source)) → IsFault before source r
-  stop : length source ≤ 4194304 → (pieces : List Piece) (rest : List ℕ) (names : List (List ℕ)) → IsFront before source pieces rest names
-      → length (tokens_of start pieces) ≤ 500000 → IsRefusedAt names rest (after_pieces start pieces) (length (tokens_of start pieces)) r → IsFault before source r
+  long : byte_limit < length source → r ≡ refusal codes.Limit start (Count (length source)) → IsFault before source r
+  stop : length source ≤ byte_limit → (pieces : List Piece) (rest : List ℕ) (names : List (List ℕ)) → IsFront before source pieces rest names
+      → length (tokens_of start pieces) ≤ token_limit → IsRefusedAt names rest (after_pieces start pieces) (length (tokens_of start pieces)) r → IsFault before source r

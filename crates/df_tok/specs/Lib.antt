@@ -8,5 +8,6 @@ pub mod Words
 pub mod Scanned
 pub mod Scanning
 pub mod Division
+pub mod Limits
 pub mod Steps
 pub mod Fault

@@ -9,6 +9,7 @@ use Rattle.df_tok.specs.Lexeme.{IsNumber, value_of_number}
 use Rattle.df_tok.specs.Fault.{refusal}
 use Rattle.df_tok.specs.Token.{Token, HasKind}
 use Rattle.df_tok.specs.Division.{Piece, Blank, LineComment, BlockComment, Lexeme, text_of, IsPiece, AreDivided, tokens_of}
+use Rattle.df_tok.specs.Limits.{token_limit}
 
 -- the token that a piece is, if it is one
 abbrev pub token_of : Pos → Piece → List Token
@@ -35,7 +36,7 @@ pub record AddsToken (before : List (List ℕ)) (text : List ℕ) (pos : Pos) (o
 -- why a text of this form cannot be added: it is too large a number, or there are too many tokens before it
 pub data CannotAdd (before : List (List ℕ)) (text : List ℕ) (pos : Pos) (count : ℕ) (r : Refusal) : Type 0 where
   large : IsNumber text → 2 ^ 127 ≤ value_of_number text → r ≡ refusal tags.Number pos Nothing → CannotAdd before text pos count r
-  full : (kind : Kind) (after : List (List ℕ)) → HasKind before text kind after → count ≡ 500000 → r ≡ refusal tags.Limit pos (Count 500000) → CannotAdd before text pos count r
+  full : (kind : Kind) (after : List (List ℕ)) → HasKind before text kind after → count ≡ token_limit → r ≡ refusal tags.Limit pos (Count token_limit) → CannotAdd before text pos count r
 
 -- the tokens with that of the piece at the front
 pub record AddsPiece (before : List (List ℕ)) (bytes : List ℕ) (pos : Pos) (n : ℕ) (old new : List Token) (after : List (List ℕ)) : Type 0 where

@@ -6,6 +6,7 @@ ghost use Rattle.df_tok.specs.Token as pure;
 ghost use Rattle.df_base.specs.declared.refusal.Refusal.{Refusal};
 ghost use Rattle.df_tok.specs.Division.{Divides};
 ghost use Rattle.df_tok.specs.Fault.{IsFault};
+ghost use Rattle.df_tok.specs.Limits.{byte_limit, token_limit};
 
 mod begun;
 mod byte;
@@ -34,7 +35,7 @@ pub fn one_division()
 /// A source with a fault divides in no way within the limits, so that just what cannot be divided is refused.
 pub fn no_division()
     ensures { (before : List (List ℕ)) (source : List ℕ) (r : Refusal) (tokens : List pure.Token) (after : List (List ℕ))
-        → IsFault before source r → Divides before source tokens after → length source ≤ 4194304 → length tokens ≤ 500000 → ⊥ }
+        → IsFault before source r → Divides before source tokens after → length source ≤ byte_limit → length tokens ≤ token_limit → ⊥ }
 {}
 
 /// A source has at most one fault to be refused for.

@@ -8,6 +8,7 @@ ghost use Rattle.df_tok.specs.Division.{Divides};
 ghost use Rattle.df_tok.specs.Scanned.{HasForm, Grows};
 ghost use Rattle.df_tok.specs.Steps.{AddsToken, CannotAdd, AddsPiece};
 ghost use Rattle.df_tok.specs.Fault.{refusal, IsRefusedAt, IsFault};
+ghost use Rattle.df_tok.specs.Limits.{token_limit, byte_limit};
 
 use crate::begun::fault;
 use crate::kind::kind_of;
@@ -17,10 +18,10 @@ use crate::token::{Token, Tokens};
 use df_base::{Code, Detail, Global, Names, Pos, Refusal, Stop};
 
 /// The most bytes that a source may have.
-const MAX_BYTES: usize = 4194304;
+const BYTE_LIMIT: usize = 4_194_304;
 
 /// The most tokens that a source may have.
-const MAX_TOKENS: usize = 500000;
+const TOKEN_LIMIT: usize = 500_000;
 
 fn refused(code: Code, pos: Pos, detail: Detail) -> Stop
     ensures { result ≡ Refused (refusal code pos detail) }
@@ -38,15 +39,15 @@ fn add_token<'a>(
 ) -> Result<(), Stop>
     requires room { length names.old < 2 ^ 32 }
     requires form { HasForm form text.now }
-    requires few { vec_len all.old ≤ 500000 }
+    requires few { vec_len all.old ≤ token_limit }
     ensures added { OnOk result (AddsToken names.old text.now pos (map view all.old.items) (map view all.new.items) names.new) }
-    ensures few { vec_len all.new ≤ 500000 }
+    ensures few { vec_len all.new ≤ token_limit }
     ensures refused { (r : Refusal) → result ≡ Err (Refused r) → CannotAdd names.old text.now pos (vec_len all.old) r }
     ensures kept { Grows names.old names.new 1 }
 {
     let kind = kind_of(names, form, text, pos)?;
-    if all.len() == MAX_TOKENS {
-        return Err(refused(Code::Limit, pos, Detail::Count(MAX_TOKENS as u64)));
+    if all.len() == TOKEN_LIMIT {
+        return Err(refused(Code::Limit, pos, Detail::Count(TOKEN_LIMIT as u64)));
     }
     if all.push(Token { kind, text, pos }).is_err() {
         return Err(Stop::Memory);
@@ -65,9 +66,9 @@ fn add_next<'a>(
     requires some { 0 < length rest.now }
     requires line { pos.line + length rest.now < 2 ^ 32 }
     requires col { pos.col + length rest.now < 2 ^ 32 }
-    requires few { vec_len all.old ≤ 500000 }
+    requires few { vec_len all.old ≤ token_limit }
     ensures found { IfOk result (λ len. AddsPiece names.old rest.now pos len (map view all.old.items) (map view all.new.items) names.new) }
-    ensures few { vec_len all.new ≤ 500000 }
+    ensures few { vec_len all.new ≤ token_limit }
     ensures refused { (r : Refusal) → result ≡ Err (Refused r) → IsRefusedAt names.old rest.now pos (vec_len all.old) r }
     ensures kept { Grows names.old names.new 1 }
 {
@@ -90,13 +91,13 @@ pub fn tokens<'a>(alloc: Global, source: &'a [u8], names: &mut Names) -> Result<
     requires { length names.old < 2 ^ 31 }
     // The tokens are the division of the source, and the names those in order of first use.
     ensures divided { IfOk result (λ tokens. Divides names.old source.now (map view tokens.all.items) names.new) }
-    ensures few { IfOk result (λ tokens. (length source.now ≤ 4194304) × (vec_len tokens.all ≤ 500000)) }
+    ensures few { IfOk result (λ tokens. (length source.now ≤ byte_limit) × (vec_len tokens.all ≤ token_limit)) }
     // It is refused for its first fault, and for no other reason.
     ensures refused { (r : Refusal) → result ≡ Err (Refused r) → IsFault names.old source.now r }
     // Names only grow, by at most one a token.
-    ensures kept { Grows names.old names.new 500001 }
+    ensures kept { Grows names.old names.new (token_limit + 1) }
 {
-    if MAX_BYTES < source.len() {
+    if BYTE_LIMIT < source.len() {
         return Err(refused(Code::Limit, START, Detail::Count(source.len() as u64)));
     }
     let mut all = Vec::new(alloc);

@@ -17,6 +17,7 @@ use Rattle.df_ntree.specs.Expr.{Expr}
 use Rattle.df_ntree.specs.File.{Clause, Condition, Decreases, PrintOperand, Text, Value, Statement, Nested, Var, Assign, Expression, If, While, Return, Break, Assert, Print, statements_of, branches_of, otherwise_of, Block, Branch, NewtypeDeclaration, MethodDeclaration, Declaration, Newtype, Method, File}
 use Rattle.df_ntree.specs.mirror.Reading.{◌>>=◌, Reader, pos_of_word, pos_of_sign, name_at, text_at, kind_at, word_stands, sign_stands, is_open, some_stands, given, both, made, after_word, after_sign, before_sign, optionally, many, one_or_more, where_stands}
 use Rattle.df_ntree.specs.mirror.ExprReading.{type_at, expression_at, expressions_at}
+use Rattle.df_ntree.specs.ExprSpelling.{height_limit}
 
 -- ---- tests of the next tokens
 
@@ -211,7 +212,7 @@ unfoldable pub typed_at : Reader Bool
 typed_at tokens = if sign_stands signs.Colon tokens then after_sign signs.Colon (after_word words.Int (given true)) tokens else Some (false, tokens)
 
 unfoldable pub witness_at : Reader (Option Expr)
-witness_at tokens = optionally (word_stands words.Witness) (after_word words.Witness (expression_at 200)) tokens
+witness_at tokens = optionally (word_stands words.Witness) (after_word words.Witness (expression_at height_limit)) tokens
 
 -- "newtype" name "=" name
 unfoldable pub newtype_head_at : Reader (Ident × Ident)
@@ -219,7 +220,7 @@ newtype_head_at tokens = after_word words.Newtype (both name_at (after_sign sign
 
 -- "|" expression
 unfoldable pub predicate_at : Reader Expr
-predicate_at tokens = after_sign signs.Bar (expression_at 200) tokens
+predicate_at tokens = after_sign signs.Bar (expression_at height_limit) tokens
 
 abbrev pub newtype_from : (Ident × Ident) × (Bool × (Expr × Option Expr)) → NewtypeDeclaration
 newtype_from x = record { name = x.0.0; variable = x.0.1; is_typed = x.1.0; predicate = x.1.1.0; witness = x.1.1.1 }
@@ -235,7 +236,7 @@ abbrev pub method_from : (Ident × List Parameter) × (Option (List Parameter) �
 method_from x = record { name = x.0.0; parameters = x.0.1; results = x.1.0; clauses = x.1.1.0; body = x.1.1.1 }
 
 unfoldable pub method_at : Reader MethodDeclaration
-method_at tokens = made method_from (both method_head_at (both results_at (both (many clause_stands (clause_at 200)) (block_at 200)))) tokens
+method_at tokens = made method_from (both method_head_at (both results_at (both (many clause_stands (clause_at height_limit)) (block_at height_limit)))) tokens
 
 -- by the kind of the first token
 abbrev pub declaration_by : Option Kind → Reader Declaration

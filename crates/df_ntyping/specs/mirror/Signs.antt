@@ -5,7 +5,7 @@ use Rattle.df_lang.specs.declared.ty.Ty.{Ty}
 use Rattle.df_lang.specs.declared.ty.Ty.TheVariants as types
 use Rattle.df_lang.specs.declared.expr.Junction.TheVariants as junctions
 use Rattle.df_lang.specs.declared.expr.Arrow.TheVariants as arrows
-use Rattle.df_lang.specs.Typing.{same_type}
+use Rattle.df_lang.specs.Newtype.{same_type}
 use Rattle.df_lang.specs.Expr as typed
 use Rattle.df_ntree.specs.declared.tree.Literal.{Literal}
 use Rattle.df_ntree.specs.declared.expr.BinaryOperator.{BinaryOperator}
@@ -13,11 +13,11 @@ use Rattle.df_ntree.specs.declared.expr.BinaryOperator.TheVariants as binary
 use Rattle.df_ntree.specs.declared.expr.Group.{Group}
 use Rattle.df_ntree.specs.declared.expr.Group.TheVariants as groups
 use Rattle.df_ntree.specs.Expr.{Expr, Members, end, more}
-use Rattle.df_ntyping.specs.Types.{counted, are_one_integer, literal_type}
+use Rattle.df_ntyping.specs.Types.{counted, are_one_integer, literal_type, keeps_direction}
 use Rattle.df_ntyping.specs.ExprTypes.{is_arithmetic, counted_of}
 use Rattle.df_ntyping.specs.Places.{pos_of, first_sign}
 use Rattle.df_ntyping.specs.ExprElaboration.{Part, addends_of, factors_of, members_of, links_of, turned}
-use Rattle.df_ntyping.specs.rules.Comparisons.{are_ordered, one_fits, keeps_direction}
+use Rattle.df_ntyping.specs.rules.Comparisons.{are_ordered, one_fits}
 use Rattle.df_ntyping.specs.rules.Truths.{is_truth}
 use Rattle.df_ntyping.specs.Rule.{TypingRule}
 use Rattle.df_ntyping.specs.Rule as rules

@@ -2,14 +2,11 @@
 -- all results.
 use Rattle.std.specs.Prelude.{Bool, true, false, not, List, [], length, Option, Some}
 use Rattle.df_ntree.specs.Expr.{Expr, Name}
-use Rattle.df_ntyping.specs.Environment.{Role, Parameter_role, Environment}
+use Rattle.df_ntyping.specs.Environment.{Environment}
 use Rattle.df_ntyping.specs.Meaning.{Meaning, TheLocal, meaning_of}
-use Rattle.df_ntyping.specs.Sides.{are_enough}
+use Rattle.df_ntyping.specs.LocalTypes.{are_enough}
 use Rattle.df_ntyping.specs.Node.{Node, Place, Assignment, Return}
-
-abbrev pub keeps_its_value : Role → Bool
-keeps_its_value Parameter_role = true
-keeps_its_value role = false
+use Rattle.df_ntyping.specs.SideElaboration.{keeps_its_value}
 
 abbrev pub may_be_assigned : Option Meaning → Bool
 may_be_assigned (Some (TheLocal local)) = not (keeps_its_value local.role)

@@ -8,10 +8,9 @@ use Rattle.df_ntree.specs.declared.file.ConditionKind.TheVariants as conditions
 use Rattle.df_ntree.specs.Expr.{Expr, Parentheses, Operations, Leading, Members, end, more}
 use Rattle.df_ntree.specs.ExprSpelling.{first_group}
 use Rattle.df_ntree.specs.File.{Clause, Condition, Decreases}
-use Rattle.df_ntyping.specs.Types.{is_integer, if_type_known}
+use Rattle.df_ntyping.specs.Types.{is_integer, if_type_known, is_order}
 use Rattle.df_ntyping.specs.Environment.{Environment}
 use Rattle.df_ntyping.specs.ExprTypes.{type_in, wanted_first, wanted_behind}
-use Rattle.df_ntyping.specs.rules.Comparisons.{is_order}
 use Rattle.df_ntyping.specs.Node.{Node, Owner, OfMethod, OfLoop, Break, ClauseOf, Loop}
 
 abbrev pub breaks_broken : Environment → Node → Bool

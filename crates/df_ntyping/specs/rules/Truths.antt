@@ -2,7 +2,7 @@
 use Rattle.std.specs.Prelude.{Bool, true, false, not, ◌&&◌, None}
 use Rattle.df_lang.specs.declared.ty.Ty.{Ty}
 use Rattle.df_lang.specs.declared.ty.Ty.TheVariants as types
-use Rattle.df_lang.specs.Typing.{same_type}
+use Rattle.df_lang.specs.Newtype.{same_type}
 use Rattle.df_ntree.specs.declared.expr.BinaryOperator.{BinaryOperator}
 use Rattle.df_ntree.specs.declared.expr.BinaryOperator.TheVariants as binary
 use Rattle.df_ntyping.specs.Types.{if_type_known}

@@ -3,9 +3,8 @@ use Rattle.std.specs.Prelude.{ℕ, ◌+◌, Bool, cond, nat_lt, nat_le, List, []
 use Rattle.df_nmach.specs.declared.instruction.UnaryOperator.{UnaryOperator}
 use Rattle.df_nmach.specs.declared.instruction.BinaryOperator.{BinaryOperator}
 use Rattle.df_nmach.specs.declared.code.Shape.{Shape}
-use Rattle.df_nmach.specs.Value.{Value, Truth}
+use Rattle.df_nmach.specs.Value.{Value, Truth, text_of}
 use Rattle.df_nmach.specs.State.{Heap, Frame}
-use Rattle.df_nmach.specs.Printing.{text_of}
 use Rattle.df_nmach.specs.Step.{Effect, Goes, Broken, given, demand, unary, binary, after, leaves, goes_to, sequence}
 
 -- goes on with the value on top and the others

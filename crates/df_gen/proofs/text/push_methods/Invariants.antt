@@ -1,6 +1,5 @@
 use Rattle.std.proofs.Common.{◌≡◌, ◌++◌}
-use Rattle.df_gen.specs.Generator.{state_after, factor}
-use Rattle.df_gen.specs.GeneratedSource.{method_text, lines_below}
+use Rattle.df_gen.specs.GeneratedSource.{method_text, lines_below, state_after, factor}
 use Rattle.df_gen.proofs.text.push_methods.Given as goal
 
 abbrev pub invariant-loop-number : goal.invariant-loop-number

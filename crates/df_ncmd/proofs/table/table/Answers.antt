@@ -1,14 +1,12 @@
+use Rattle.std.proofs.Common.{ap, codes, ◌∙◌}
 use Rattle.std.proofs.lemmas.Result.{IfOk-weaker}
-use Rattle.df_ncmd.proofs.Builders.{adds_command, nameless, wants_command}
+use Rattle.clap.specs.Words.{App, with_subcommand}
+use Rattle.df_ncmd.specs.Table.{checking, making, with_compilers, with_provers}
 use Rattle.df_ncmd.proofs.table.table.Goals as goal
 
 pub returns : goal.returns
 returns c =
-    let begun = nameless c.new.result c.no_binary_name.result _ c.new.ensures.app c.no_binary_name.ensures in
-    let none = wants_command c.no_binary_name.result c.subcommand_required.result _ begun c.subcommand_required.ensures in
-    let one = adds_command _ _ _ _ _ none c.in_ok-proving.ensures c.in_ok-subcommand.ensures in
-    let two = adds_command _ _ _ _ _ one c.in_ok-proving-2.ensures c.in_ok-subcommand-2.ensures in
-    let three = adds_command _ _ _ _ _ two c.in_ok-checking.ensures c.in_ok-subcommand-3.ensures in
-    let four = adds_command _ _ _ _ _ three c.in_ok-compiling.ensures c.in_ok-subcommand-4.ensures in
-    let five = adds_command _ _ _ _ _ four c.in_ok-running.ensures c.in_ok-subcommand-5.ensures in
-    IfOk-weaker c.subcommand-6.result _ _ (λ command adds. adds_command _ _ _ _ _ five c.in_ok-making.ensures adds) c.subcommand-6.ensures
+    let one = c.in_ok-command.ensures ∙ ap with_provers c.program.ensures in
+    let two = c.in_ok-command-2.ensures ∙ ap (λ (a : App). with_subcommand a (checking (codes "check"))) one in
+    let three = c.in_ok-command-3.ensures ∙ ap with_compilers two in
+    IfOk-weaker c.with_maker.result _ _ (λ command made. made ∙ ap (λ (a : App). with_subcommand a (making (codes "bulk"))) three) c.with_maker.ensures

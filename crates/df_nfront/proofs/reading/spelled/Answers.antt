@@ -8,8 +8,9 @@ use Rattle.df_tok.specs.Division.{Divides}
 use Rattle.df_nfront.specs.Source.{IsDivided}
 use Rattle.df_nfront.proofs.Refusals.{bytes_told, tokens_told}
 use Rattle.df_nfront.proofs.reading.spelled.Goals as goal
+use Rattle.df_tok.specs.Limits.{byte_limit, token_limit}
 
-is_divided : (source : List ℕ) (before names : List (List ℕ)) (all : List declared.Token) → before ≡ [] → length source ≤ 4194304 → length all ≤ 500000 → Divides before source (map view all) names → IsDivided source names (map view all)
+is_divided : (source : List ℕ) (before names : List (List ℕ)) (all : List declared.Token) → before ≡ [] → length source ≤ byte_limit → length all ≤ token_limit → Divides before source (map view all) names → IsDivided source names (map view all)
 is_divided source before names all none short few divided = record {
   short = short;
   divided = rw (← none) divided;
@@ -23,7 +24,7 @@ returns-in_err-tokens-clause-refused c =
 
 pub returns-clause-read : goal.returns-clause-read
 returns-clause-read c =
-    let few : length c.in_ok-tokens.tokens.all.items ≤ 500000 = omega (arith, c.in_ok-tokens.ensures.few.1, c.in_ok-tokens.tokens.all.ok.0) in
+    let few : length c.in_ok-tokens.tokens.all.items ≤ token_limit = omega (arith, c.in_ok-tokens.ensures.few.1, c.in_ok-tokens.tokens.all.ok.0) in
     let divided = is_divided c.args.source.now c.args.names.now _ _ c.requires c.in_ok-tokens.ensures.few.0 few c.in_ok-tokens.ensures.divided in
     IfOk-weaker c.parse.result _ _ (λ file h. record {
       tokens = map view c.in_ok-tokens.tokens.all.items;
@@ -33,6 +34,6 @@ returns-clause-read c =
 
 pub returns-clause-refused : goal.returns-clause-refused
 returns-clause-refused c =
-    let few : length c.in_ok-tokens.tokens.all.items ≤ 500000 = omega (arith, c.in_ok-tokens.ensures.few.1, c.in_ok-tokens.tokens.all.ok.0) in
+    let few : length c.in_ok-tokens.tokens.all.items ≤ token_limit = omega (arith, c.in_ok-tokens.ensures.few.1, c.in_ok-tokens.tokens.all.ok.0) in
     let divided = is_divided c.args.source.now c.args.names.now _ _ c.requires c.in_ok-tokens.ensures.few.0 few c.in_ok-tokens.ensures.divided in
     tokens_told c.args.source.now _ (map view c.in_ok-tokens.tokens.all.items) c.parse.result divided c.parse.ensures.refused c.parse.ensures.which

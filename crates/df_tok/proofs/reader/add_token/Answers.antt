@@ -11,7 +11,7 @@ returns-in_err-kind-clause-refused c = λ r e.
     let q = c.in_err-kind.ensures.refused r (passed c.from_residual.result c.in_err-kind.field-0.0 (Refused r) p e) in
     large q.0 q.1 q.2
 
-pub returns-then-len-eq-MAX_TOKENS-clause-refused :
-    goal.returns-then-len-eq-MAX_TOKENS-clause-refused
-returns-then-len-eq-MAX_TOKENS-clause-refused c = λ r e.
-    full c.in_ok-kind.kind c.kind_of.new.names c.in_ok-kind.ensures.kind (sym c.len.ensures ∙ c.if-len-eq-MAX_TOKENS.true) (refused_is c.refused.result r _ e c.refused.ensures)
+pub returns-then-len-eq-TOKEN_LIMIT-clause-refused :
+    goal.returns-then-len-eq-TOKEN_LIMIT-clause-refused
+returns-then-len-eq-TOKEN_LIMIT-clause-refused c = λ r e.
+    full c.in_ok-kind.kind c.kind_of.new.names c.in_ok-kind.ensures.kind (sym c.len.ensures ∙ c.if-len-eq-TOKEN_LIMIT.true) (refused_is c.refused.result r _ e c.refused.ensures)

@@ -8,6 +8,7 @@ use Rattle.df_tok.proofs.Results.{passed}
 use Rattle.df_tok.proofs.Divisions.{progress_more, progress_divides, progress_grows, grows_more, grows_most}
 use Rattle.df_tok.proofs.Faults.{fault_there}
 use Rattle.df_tok.proofs.reader.tokens.Goals as goal
+use Rattle.df_tok.specs.Limits.{token_limit}
 
 pub add_next-requires-clause-room : goal.add_next-requires-clause-room
 add_next-requires-clause-room c =
@@ -23,7 +24,7 @@ returns-in_err-len-clause-refused c = λ r e.
 pub returns-in_err-len-clause-kept : goal.returns-in_err-len-clause-kept
 returns-in_err-len-clause-kept c =
     let g = progress_grows _ _ _ _ _ _ c.loop-rest.invariant.progress in
-    grows_most _ _ _ 500001 (omega (arith, length-map c.loop-rest.all.items view, c.loop-rest.invariant.few)) (grows_more _ _ _ _ _ g c.in_err-len.ensures.kept)
+    grows_most _ _ _ (token_limit + 1) (omega (arith, length-map c.loop-rest.all.items view, c.loop-rest.invariant.few)) (grows_more _ _ _ _ _ g c.in_err-len.ensures.kept)
 
 pub loop-rest-preserved : goal.loop-rest-preserved
 loop-rest-preserved c =
@@ -46,4 +47,4 @@ returns-clause-divided c = progress_divides _ _ _ _ _ _ c.loop-rest.invariant.pr
 pub returns-clause-kept : goal.returns-clause-kept
 returns-clause-kept c =
     let g = progress_grows _ _ _ _ _ _ c.loop-rest.invariant.progress in
-    grows_most _ _ _ 500001 (omega (arith, length-map c.loop-rest.all.items view, c.loop-rest.invariant.few)) g
+    grows_most _ _ _ (token_limit + 1) (omega (arith, length-map c.loop-rest.all.items view, c.loop-rest.invariant.few)) g
