@@ -1,6 +1,6 @@
 -- Chains of comparisons: one more link, and the loop over the links.
-use Rattle.df_nenc.proofs.Words.{◌≡◌, ℕ, List, [], ◌∷◌, ◌++◌, Option, Some, refl, sym, ap, ◌∙◌, None, ◌<◌, ◌≤◌, ◌+◌, true, length, drop, get_or, AllByRecursion, Pos, Ty, Comparison, Expr, Links, link, expr_of, DeclaredLink, Node, Term, Truths, term, conjunction, sort_of_type, terms_of, Environment, Condition, term_of, comparisons_of, compared, narrowed_path, conditions_under, conditions_of_links, tree_at, trees_at, trees_in, path_in, Grows, IsFront, IsTerm, Stands, IsPath, may_compare, Encodes, Gives, further, AreLinksOver, DeclaredCondition, links_in}
-use Rattle.df_nenc.proofs.Lemmas.{tree_stays, path_same, grows_then, stays, grows_not, is_term, term_stays, locals_same, path_stays, adds_as, terms_with, with_next, trees_next, with_none, all_next, Reached, reached_next, reached_grown, reached_first, reached_last, front_not, front_then, adds_front, compared_is, Part, links_left, link_part, link_compares, links_next, links_done}
+use Rattle.df_nenc.proofs.Words.{◌≡◌, ℕ, List, [], ◌∷◌, ◌++◌, Option, Some, refl, sym, ap, ◌∙◌, None, ◌<◌, ◌≤◌, ◌+◌, true, length, drop, get_or, AllByRecursion, Pos, Ty, Comparison, Expr, Links, link, expr_of, DeclaredLink, Node, Term, Truths, term, conjunction, sort_of_type, terms_of, Environment, Condition, term_of, comparisons_of, compared, narrowed_path, conditions_under, conditions_of_links, tree_at, trees_at, trees_in, path_in, Grows, Extends, IsTerm, Stands, IsPath, may_compare, Encodes, Gives, further, AreLinksOver, DeclaredCondition, links_in}
+use Rattle.df_nenc.proofs.Lemmas.{tree_stays, path_same, grows_then, stays, is_term, term_stays, locals_same, path_stays, adds_as, terms_with, with_next, trees_next, with_none, all_next, Reached, reached_next, reached_grown, reached_first, reached_last, extends_not, extends_then, extends_nodes, extends_by, compared_is, Part, links_left, link_part, link_compares, links_next, links_done}
 
 module _ (tree : Term) (conditions : List Condition) (old now : List Node) (terms : List ℕ) (path last : Option ℕ) (env : Environment) (ty : Ty) (before after : List DeclaredCondition) (c : Comparison) (at : Pos) (e : Expr) (rest : Links) where
   pub chain_next : (n1 n2 next : List Node) (p : Option ℕ) (formulas : List ℕ) (left right f : ℕ) (between : List DeclaredCondition)
@@ -32,8 +32,7 @@ module _ (tree : Term) (conditions : List Condition) (old now : List Node) (term
       (λ i. conditions_of_links env (Some (narrowed_path (sym later i) (sym formula_is i))) ty (sym right_is i) rest)
 
 pub record Chaining (old now : List Node) (terms : List ℕ) (path on last : Option ℕ) (ty : Ty) (first left : ℕ) (formulas : List ℕ) (before after : List DeclaredCondition) (all rest : Links) : Type 0 where
-  pub grows : Grows old now
-  pub begins : IsFront before after
+  pub extends : Extends old now before after
   pub over : AreLinksOver now terms ty rest
   pub left_is : IsTerm (sort_of_type ty) now left
   pub formulas_are : AllByRecursion (IsTerm Truths now) formulas
@@ -44,7 +43,7 @@ pub record Chaining (old now : List Node) (terms : List ℕ) (path on last : Opt
 
 pub chain_starts : {old : List Node} {terms : List ℕ} {path : Option ℕ} {ty : Ty} {first : ℕ} {before : List DeclaredCondition} (all xs : List DeclaredLink) (formulas : List ℕ)
     → xs ≡ all → formulas ≡ [] → AreLinksOver old terms ty (links_in all) → IsPath old path → IsTerm (sort_of_type ty) old first → Chaining old old terms path path None ty first first formulas before before (links_in all) (links_in xs)
-chain_starts {old = old} {before = before} all xs formulas same none over is_path is = rw (same, none) (record { grows = grows_not old; begins = front_not before; over = over; left_is = is; formulas_are = tt; path_is = is_path; last_is = tt; reached = reached_first _ _ old before })
+chain_starts {old = old} {before = before} all xs formulas same none over is_path is = rw (same, none) (record { extends = extends_not old before; over = over; left_is = is; formulas_are = tt; path_is = is_path; last_is = tt; reached = reached_first _ _ old before })
 
 pub chain_operand : {old now next : List Node} {terms : List ℕ} {path on last : Option ℕ} {ty : Ty} {first left : ℕ} {formulas : List ℕ} {before after : List DeclaredCondition} {all : Links} (xs : List DeclaredLink) (i : ℕ) (x : DeclaredLink)
     → x ≡ get_or xs i x → i < length xs → Chaining old now terms path on last ty first left formulas before after all (links_in (drop i xs)) → Grows now next → Part (sort_of_type ty) next terms (expr_of x.operand)
@@ -66,14 +65,13 @@ chain_steps {old = old} {now = now} {n1 = n1} {n2 = n2} {next = next} {terms = t
     let to = grows_then now n2 next (grows_then now n1 n2 g1 h.grows) g2 in
     let formula_is = is_term next Truths _ f made (compared_is ty x.comparison (tree_at n2 left) (tree_at n2 right)) in
     rw pushed (record {
-      grows = grows_then old now next s.grows to;
-      begins = front_then before after between s.begins (adds_front n2 _ after between h.adds);
+      extends = extends_then s.extends (extends_then (extends_nodes now n1 after g1) (extends_then (extends_by h) (extends_nodes n2 next between g2)));
       over = links_left now next terms to ty x.comparison x.pos (expr_of x.operand) (links_in (drop (i + 1) xs)) here.over;
       left_is = term_stays (sort_of_type ty) n2 next right g2 (is_term n2 (sort_of_type ty) _ right h.stands part.is);
       formulas_are = all_next now next formulas f to s.formulas_are formula_is;
       path_is = path_stays n1 next p (grows_then n1 n2 next h.grows g2) is_path;
       last_is = formula_is;
-      reached = chain_next _ _ old now terms on last (trees_in old terms) ty before after x.comparison x.pos (expr_of x.operand) (links_in (drop (i + 1) xs)) n1 n2 next p formulas left right f between (locals_same old n1 over.types terms (grows_then old now n1 s.grows g1) over.locals) here.reached s.formulas_are s.left_is g1 path_is is_path h g2 made;
+      reached = chain_next _ _ old now terms on last (trees_in old terms) ty before after x.comparison x.pos (expr_of x.operand) (links_in (drop (i + 1) xs)) n1 n2 next p formulas left right f between (locals_same old n1 over.types terms (grows_then old now n1 s.extends.grows g1) over.locals) here.reached s.formulas_are s.left_is g1 path_is is_path h g2 made;
     })
 
 pub chain_stops : {old now new : List Node} {terms : List ℕ} {path on last : Option ℕ} {ty : Ty} {first left n : ℕ} {formulas : List ℕ} {before after : List DeclaredCondition} {all : Links} (xs : List DeclaredLink) (i : ℕ) (made : List ℕ)

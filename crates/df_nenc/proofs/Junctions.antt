@@ -1,6 +1,7 @@
 -- Junctions, implications and equivalences: one more member, and what their loops have so far.
-use Rattle.df_nenc.proofs.Words.{◌≡◌, ℕ, List, [], ◌∷◌, ◌++◌, Option, Some, refl, sym, ap, ◌∙◌, AllByRecursion, Pos, JunctionKind, Expr, Members, member, Node, Term, Truths, iff, term, Environment, Condition, term_of, members_of, implication_of, equivalence_of, joined, goes_on, narrowed_path, conditions_under, conditions_of_junction, conditions_of_implication, conditions_of_members, tree_at, trees_at, trees_in, path_in, Grows, IsFront, IsTerm, Stands, IsPath, Encodes, implied_by, AreMembersOver, DeclaredCondition}
-use Rattle.df_nenc.proofs.Lemmas.{tree_stays, path_same, grows_then, stays, adds_as, terms_with, with_next, implied_next, trees_next, Reached, reached_next, reached_grown}
+use Rattle.df_nenc.proofs.Words.{◌≡◌, ℕ, List, [], ◌∷◌, ◌++◌, Option, Some, sym, ap, ◌∙◌, AllByRecursion, Pos, JunctionKind, Expr, Members, member, Node, Term, Truths, term, Environment, Condition, term_of, members_of, implication_of, equivalence_of, joined, goes_on, narrowed_path, conditions_under, conditions_of_junction, conditions_of_implication, conditions_of_members, tree_at, trees_at, trees_in, path_in, Grows, Extends, IsTerm, Stands, IsPath, Encodes, implied_by, AreMembersOver, DeclaredCondition}
+use Rattle.df_nenc.proofs.Folding.{Folding}
+use Rattle.df_nenc.proofs.Lemmas.{tree_stays, path_same, grows_then, stays, adds_as, terms_with, with_next, implied_next, trees_next, Reached, reached_next}
 
 module _ (tree : Term) (conditions : List Condition) (old now : List Node) (terms : List ℕ) (path : Option ℕ) (env : Environment) (before after : List DeclaredCondition) (at : Pos) (e : Expr) (rest : Members) where
   -- the member's operand, at a place whose formula is known
@@ -49,24 +50,8 @@ module _ (tree : Term) (conditions : List Condition) (old now : List Node) (term
       ((λ i. implied_by (trees i) (implication_of env (made i) rest)) ∙ implied_next (trees_at now premises) (tree_at now last) (implication_of env (term_of env e) rest))
       (λ i. conditions_under env (Some on) e ++ conditions_of_implication env (Some (sym later i)) (sym made i) rest)
 
-  pub equivalence_next : (n1 next : List Node) (on : Option Term) (formula operand n : ℕ) (between : List DeclaredCondition)
-      → trees_in now terms ≡ env → path_in now path ≡ on
-      → Reached tree conditions old now before after (equivalence_of env (tree_at now formula) (member at e rest)) (conditions_of_members env on (member at e rest))
-      → IsTerm Truths now formula
-      → Encodes now n1 terms path e operand after between → Grows n1 next → Stands next (iff (tree_at n1 formula) (tree_at n1 operand)) n
-      → Reached tree conditions old next before between (equivalence_of env (tree_at next n) rest) (conditions_of_members env on rest)
-  equivalence_next n1 next on formula operand n between same_env same_path r is_formula h g made =
-      let kept = tree_stays Truths now n1 formula h.grows is_formula in
-      let right : tree_at n1 operand ≡ term_of env e = h.stands.tree_is ∙ ap (λ (v : Environment). term_of v e) same_env in
-      let a : Term = iff (tree_at now formula) (term_of env e) in
-      let is : tree_at next n ≡ a = made.tree_is ∙ (λ i. iff (kept i) (right i)) in
-      let first : conditions_under (trees_in now terms) (path_in now path) e ≡ conditions_under env on e = λ i. conditions_under (same_env i) (same_path i) e in
-      let after_operand = reached_next tree conditions old now n1 before after between _ (equivalence_of env a rest) (conditions_under env on e) _ (conditions_of_members env on rest) r h.grows (adds_as n1 _ (conditions_under env on e) after between first h.adds) refl refl in
-      reached_grown tree conditions old n1 next before between (equivalence_of env a rest) (equivalence_of env (tree_at next n) rest) (conditions_of_members env on rest) (conditions_of_members env on rest) after_operand g (ap (λ z. equivalence_of env z rest) is) refl
-
 pub record Junctioning (old now : List Node) (terms : List ℕ) (path on : Option ℕ) (j : JunctionKind) (first last : ℕ) (formulas : List ℕ) (before after : List DeclaredCondition) (all rest : Members) : Type 0 where
-  pub grows : Grows old now
-  pub begins : IsFront before after
+  pub extends : Extends old now before after
   pub over : AreMembersOver now terms rest
   pub last_is : IsTerm Truths now last
   pub formulas_are : AllByRecursion (IsTerm Truths now) formulas
@@ -75,8 +60,7 @@ pub record Junctioning (old now : List Node) (terms : List ℕ) (path on : Optio
       (joined j (terms_with (trees_at now formulas) (members_of (trees_in old terms) rest))) (conditions_of_junction (trees_in old terms) (path_in now on) j (tree_at now last) rest)
 
 pub record Implying (old now : List Node) (terms : List ℕ) (path on : Option ℕ) (first last : ℕ) (premises : List ℕ) (before after : List DeclaredCondition) (all rest : Members) : Type 0 where
-  pub grows : Grows old now
-  pub begins : IsFront before after
+  pub extends : Extends old now before after
   pub over : AreMembersOver now terms rest
   pub last_is : IsTerm Truths now last
   pub premises_are : AllByRecursion (IsTerm Truths now) premises
@@ -85,9 +69,4 @@ pub record Implying (old now : List Node) (terms : List ℕ) (path on : Option �
       (implied_by (trees_at now premises) (implication_of (trees_in old terms) (tree_at now last) rest)) (conditions_of_implication (trees_in old terms) (path_in now on) (tree_at now last) rest)
 
 pub record Equating (old now : List Node) (terms : List ℕ) (path : Option ℕ) (first formula : ℕ) (before after : List DeclaredCondition) (all rest : Members) : Type 0 where
-  pub grows : Grows old now
-  pub begins : IsFront before after
-  pub over : AreMembersOver now terms rest
-  pub formula_is : IsTerm Truths now formula
-  pub reached : Reached (equivalence_of (trees_in old terms) (tree_at old first) all) (conditions_of_members (trees_in old terms) (path_in old path) all) old now before after
-      (equivalence_of (trees_in old terms) (tree_at now formula) rest) (conditions_of_members (trees_in old terms) (path_in old path) rest)
+  pub so_far : Folding (AreMembersOver now terms rest) Truths (equivalence_of (trees_in old terms) (tree_at old first) all) (conditions_of_members (trees_in old terms) (path_in old path) all) (λ a. equivalence_of (trees_in old terms) a rest) (λ a. conditions_of_members (trees_in old terms) (path_in old path) rest) old now formula before after

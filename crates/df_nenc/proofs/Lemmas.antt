@@ -6,6 +6,6 @@ pub use Rattle.df_nenc.proofs.Sorts.{no_numbers, takes_all, takes_one, takes_two
 pub use Rattle.df_nenc.proofs.Narrowing.{owed_as, narrowed, not_narrowed, narrowed_number}
 pub use Rattle.df_nenc.proofs.Typed.{term_is, compared_is, summed_is, multiplied_is, goes_on_is, counted_number}
 pub use Rattle.df_nenc.proofs.Joining.{terms_with, with_next, trees_next, with_none, all_next, implied_next}
-pub use Rattle.df_nenc.proofs.Reaching.{Reached, reached_next, reached_grown, reached_first, reached_last, front_not, front_then, adds_front, front_more}
-pub use Rattle.df_nenc.proofs.Parts.{Part, local_tree, env_sorted, over_stays, local_term, negate_part, not_part, sum_first, sum_rest, product_first, product_rest, level_first, level_rest, chain_first, chain_rest, as_part, as_counts, convert_part}
+pub use Rattle.df_nenc.proofs.Reaching.{Reached, reached_next, reached_grown, reached_first, reached_last, front_not, front_then, adds_front, front_more, extends_not, extends_then, extends_nodes, extends_by}
+pub use Rattle.df_nenc.proofs.Parts.{Part, local_tree, env_sorted, over_stays, local_term, negate_part, not_part, sum_parts, product_parts, level_parts, chain_parts, as_part, as_counts, convert_part}
 pub use Rattle.df_nenc.proofs.Siblings.{links_left, link_part, link_compares, links_next, links_done, addends_left, factors_left, addend_part, factor_part, addends_next, factors_next, addends_done, factors_done, member_at, members_next, members_done, members_left}

@@ -10,6 +10,7 @@ pub mod Joining
 pub mod Cases
 pub mod Narrowing
 pub mod WalkingMembers
+pub mod Folding
 pub mod Sums
 pub mod Chains
 pub mod Junctions

@@ -48,49 +48,29 @@ module _ (nodes : List Node) (terms : List ℕ) where
   pub not_part : (at : Pos) (e : Expr) → IsOver nodes terms (Not at e) → Part Truths nodes terms e
   not_part at e h = part h.program h.types types.Bool Truths nodes terms e (both (same_type h.ty types.Bool) (is_expr h.program h.types types.Bool e) h.typed).1 refl h.locals
 
-  pub sum_first : (own : Ty) (first : Expr) (rest : Addends) → IsOver nodes terms (Sum own first rest) → Part Numbers nodes terms first
-  sum_first own first rest h =
+  pub sum_parts : (own : Ty) (first : Expr) (rest : Addends) → IsOver nodes terms (Sum own first rest) → (Part Numbers nodes terms first) × (AreAddendsOver nodes terms rest)
+  sum_parts own first rest h =
       let is = four (same_type own h.ty) (is_arithmetic h.program h.ty) (is_expr h.program h.types h.ty first) (are_addends h.program h.types h.ty rest) h.typed in
-      part h.program h.types h.ty Numbers nodes terms first is.2 (integer_sort h.program h.ty (arithmetic_integer h.program h.ty is.1)) h.locals
+      (part h.program h.types h.ty Numbers nodes terms first is.2 (integer_sort h.program h.ty (arithmetic_integer h.program h.ty is.1)) h.locals, record { program = h.program; types = h.types; ty = h.ty; arithmetic = is.1; typed = is.3; locals = h.locals })
 
-  pub sum_rest : (own : Ty) (first : Expr) (rest : Addends) → IsOver nodes terms (Sum own first rest) → AreAddendsOver nodes terms rest
-  sum_rest own first rest h =
-      let is = four (same_type own h.ty) (is_arithmetic h.program h.ty) (is_expr h.program h.types h.ty first) (are_addends h.program h.types h.ty rest) h.typed in
-      record { program = h.program; types = h.types; ty = h.ty; arithmetic = is.1; typed = is.3; locals = h.locals }
-
-  pub product_first : (own : Ty) (first : Expr) (rest : Factors) → IsOver nodes terms (Product own first rest) → Part Numbers nodes terms first
-  product_first own first rest h =
+  pub product_parts : (own : Ty) (first : Expr) (rest : Factors) → IsOver nodes terms (Product own first rest) → (Part Numbers nodes terms first) × (AreFactorsOver nodes terms rest)
+  product_parts own first rest h =
       let is = four (same_type own h.ty) (is_arithmetic h.program h.ty) (is_expr h.program h.types h.ty first) (are_factors h.program h.types h.ty rest) h.typed in
-      part h.program h.types h.ty Numbers nodes terms first is.2 (integer_sort h.program h.ty (arithmetic_integer h.program h.ty is.1)) h.locals
-
-  pub product_rest : (own : Ty) (first : Expr) (rest : Factors) → IsOver nodes terms (Product own first rest) → AreFactorsOver nodes terms rest
-  product_rest own first rest h =
-      let is = four (same_type own h.ty) (is_arithmetic h.program h.ty) (is_expr h.program h.types h.ty first) (are_factors h.program h.types h.ty rest) h.typed in
-      record { program = h.program; types = h.types; ty = h.ty; arithmetic = is.1; typed = is.3; locals = h.locals }
+      (part h.program h.types h.ty Numbers nodes terms first is.2 (integer_sort h.program h.ty (arithmetic_integer h.program h.ty is.1)) h.locals, record { program = h.program; types = h.types; ty = h.ty; arithmetic = is.1; typed = is.3; locals = h.locals })
 
   -- a level of members: it is a truth, and so is each of them
   abbrev IsLevel : Expr → Expr → Members → Type 0
   IsLevel whole first rest = (p : Program) (locals : List Ty) (ty : Ty) → is_expr p locals ty whole ≡ (same_type ty types.Bool && is_expr p locals types.Bool first && are_members p locals rest)
 
-  pub level_first : (whole first : Expr) (rest : Members) → IsOver nodes terms whole → IsLevel whole first rest → Part Truths nodes terms first
-  level_first whole first rest h level =
+  pub level_parts : (whole first : Expr) (rest : Members) → IsOver nodes terms whole → IsLevel whole first rest → (Part Truths nodes terms first) × (AreMembersOver nodes terms rest)
+  level_parts whole first rest h level =
       let is = three (same_type h.ty types.Bool) (is_expr h.program h.types types.Bool first) (are_members h.program h.types rest) (sym (level h.program h.types h.ty) ∙ h.typed) in
-      part h.program h.types types.Bool Truths nodes terms first is.1 refl h.locals
+      (part h.program h.types types.Bool Truths nodes terms first is.1 refl h.locals, record { program = h.program; types = h.types; typed = is.2; locals = h.locals })
 
-  pub level_rest : (whole first : Expr) (rest : Members) → IsOver nodes terms whole → IsLevel whole first rest → AreMembersOver nodes terms rest
-  level_rest whole first rest h level =
-      let is = three (same_type h.ty types.Bool) (is_expr h.program h.types types.Bool first) (are_members h.program h.types rest) (sym (level h.program h.types h.ty) ∙ h.typed) in
-      record { program = h.program; types = h.types; typed = is.2; locals = h.locals }
-
-  pub chain_first : (own : Ty) (first : Expr) (rest : Links) → IsOver nodes terms (Chain own first rest) → Part (sort_of_type own) nodes terms first
-  chain_first own first rest h =
+  pub chain_parts : (own : Ty) (first : Expr) (rest : Links) → IsOver nodes terms (Chain own first rest) → (Part (sort_of_type own) nodes terms first) × (AreLinksOver nodes terms own rest)
+  chain_parts own first rest h =
       let is = three (same_type h.ty types.Bool) (is_expr h.program h.types own first) (are_links h.program h.types own rest) h.typed in
-      part h.program h.types own (sort_of_type own) nodes terms first is.1 refl h.locals
-
-  pub chain_rest : (own : Ty) (first : Expr) (rest : Links) → IsOver nodes terms (Chain own first rest) → AreLinksOver nodes terms own rest
-  chain_rest own first rest h =
-      let is = three (same_type h.ty types.Bool) (is_expr h.program h.types own first) (are_links h.program h.types own rest) h.typed in
-      record { program = h.program; types = h.types; typed = is.2; locals = h.locals }
+      (part h.program h.types own (sort_of_type own) nodes terms first is.1 refl h.locals, record { program = h.program; types = h.types; typed = is.2; locals = h.locals })
 
   pub as_part : (source target : Ty) (at : Pos) (e : Expr) → IsOver nodes terms (As source target at e) → Part (sort_of_type source) nodes terms e
   as_part source target at e h =

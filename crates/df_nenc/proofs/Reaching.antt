@@ -1,5 +1,5 @@
 -- A run so far, and fronts of lists.
-use Rattle.df_nenc.proofs.Words.{◌≡◌, ℕ, List, [], ◌++◌, refl, sym, ap, ◌∙◌, append_assoc, ◌≤◌, length, take, arith, append-nil, take_all, take-take, length-take, Node, Term, Condition, Grows, Stands, Adds, Gives, DeclaredCondition}
+use Rattle.df_nenc.proofs.Words.{◌≡◌, ℕ, List, [], ◌++◌, refl, sym, ap, ◌∙◌, append_assoc, ◌≤◌, length, take, arith, append-nil, take_all, take-take, length-take, Node, Term, Condition, Grows, Stands, Adds, Gives, Extends, DeclaredCondition}
 use Rattle.std.proofs.Math.Seq.{take-append_seam}
 use Rattle.df_nenc.specs.Growing.{IsFront}
 use Rattle.df_nenc.proofs.Growing.{grows_not, grows_then}
@@ -65,3 +65,18 @@ front_more front more all is = ap (take (length front)) is ∙ take-append_seam 
 
 pub adds_front : (nodes : List Node) (C : List Condition) (before after : List DeclaredCondition) → Adds nodes C before after → IsFront before after
 adds_front nodes C before after a = front_more before a.more after a.is
+
+-- ---- both
+
+pub extends_not : (nodes : List Node) (cs : List DeclaredCondition) → Extends nodes nodes cs cs
+extends_not nodes cs = record { grows = grows_not nodes; begins = front_not cs }
+
+pub extends_then : {a b c : List Node} {before between after : List DeclaredCondition} → Extends a b before between → Extends b c between after → Extends a c before after
+extends_then {a = a} {b = b} {c = c} {before = before} {between = between} {after = after} e f = record { grows = grows_then a b c e.grows f.grows; begins = front_then before between after e.begins f.begins }
+
+-- nodes alone were made
+pub extends_nodes : (old new : List Node) (cs : List DeclaredCondition) → Grows old new → Extends old new cs cs
+extends_nodes old new cs g = record { grows = g; begins = front_not cs }
+
+pub extends_by : {tree : Term} {conditions : List Condition} {old new : List Node} {n : ℕ} {before after : List DeclaredCondition} → Gives tree conditions old new n before after → Extends old new before after
+extends_by {before = before} {after = after} g = record { grows = g.grows; begins = adds_front _ _ before after g.adds }

@@ -14,7 +14,8 @@ pub use Rattle.df_base.specs.declared.pos.Pos.{Pos}
 pub use Rattle.df_lang.specs.Expr.{Expr, Links, link, Members, member, Local, Negate, Not, Sum, Product, Junction, Implies, Iff, Chain, As, Convert, Addends, Factors, addend, factor, no_addend, no_factor, no_link, no_member, Number, Truth, Character}
 pub use Rattle.df_lang.specs.ExprView.{expr_of, Addend, Factor, Link, Member, addends_of, factors_of, links_of}
 pub use Rattle.df_lang.specs.Program.{Program}
-pub use Rattle.df_lang.specs.Typing.{is_expr, same_type, is_arithmetic, casts, converts, are_addends, are_factors, are_members, are_links, compares, is_integer}
+pub use Rattle.df_lang.specs.Newtype.{same_type}
+pub use Rattle.df_lang.specs.Typing.{is_expr, is_arithmetic, casts, converts, are_addends, are_factors, are_members, are_links, compares, is_integer}
 pub use Rattle.df_lang.specs.declared.expr.Addend.{Addend as DeclaredAddend}
 pub use Rattle.df_lang.specs.declared.expr.AddendOperator.{AddendOperator}
 pub use Rattle.df_lang.specs.declared.expr.Comparison.{Comparison}
@@ -34,7 +35,7 @@ pub use Rattle.df_form.specs.Made.{made, Made}
 pub use Rattle.df_form.specs.Node.{Node, same_sort}
 pub use Rattle.df_form.specs.Sorting.{IsTable, is_well_sorted, sort_at, takes}
 pub use Rattle.df_form.specs.declared.node.Op.{Op}
-pub use Rattle.df_nenc.specs.Encoding.{condition_in, conditions_in, AreConditions, Adds, Gives, Encodes, IsOver}
+pub use Rattle.df_nenc.specs.Encoding.{condition_in, conditions_in, AreConditions, Adds, Gives, Extends, Encodes, IsOver}
 pub use Rattle.df_nenc.specs.Growing.{Grows, IsFront}
 pub use Rattle.df_nenc.specs.Siblings.{conditions_of_factor, implied_by, further, AreLinksOver, AreMembersOver, AreAddendsOver, AreFactorsOver}
 pub use Rattle.df_nenc.specs.Standing.{IsTerm, Stands, IsPath, HasTerm, AreLocals, may_compare, narrows, counts_as_number}

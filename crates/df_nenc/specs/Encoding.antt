@@ -10,7 +10,7 @@ use Rattle.df_nterm.specs.Term.{Term, Truths}
 use Rattle.df_nterm.specs.Expressions.{Condition, term_of, conditions_under}
 use Rattle.df_nenc.specs.declared.condition.Condition as declared
 use Rattle.df_nenc.specs.Tree.{tree_at, trees_in, path_in}
-use Rattle.df_nenc.specs.Growing.{Grows}
+use Rattle.df_nenc.specs.Growing.{Grows, IsFront}
 use Rattle.df_nenc.specs.Standing.{IsTerm, Stands, AreLocals}
 
 -- ---- conditions
@@ -23,6 +23,11 @@ conditions_in nodes conditions = map (condition_in nodes) conditions
 
 abbrev pub AreConditions : List Node → List declared.Condition → Type 0
 AreConditions nodes conditions = AllByRecursion (λ (c : declared.Condition). IsTerm Truths nodes c.formula) conditions
+
+-- the table has grown, and so has the list of conditions
+pub record Extends (old new : List Node) (before after : List declared.Condition) : Type 0 where
+  pub grows : Grows old new
+  pub begins : IsFront before after
 
 -- these conditions were added
 pub record Adds (nodes : List Node) (conditions : List Condition) (before after : List declared.Condition) : Type 0 where

@@ -1,5 +1,5 @@
 //! Conditions under which expressions have values.
-#![tactic(auto, using(crate::proofs::Growing::grows_not, crate::proofs::Growing::grows_then, crate::proofs::Reaching::front_not, crate::proofs::Reaching::front_then, crate::proofs::Growing::term_stays, crate::proofs::Growing::path_stays))]
+#![tactic(auto, using(crate::proofs::Growing::grows_then, crate::proofs::Reaching::extends_then, crate::proofs::Reaching::extends_nodes))]
 
 ghost use Rattle.std.specs.Prelude.{◌≡◌, pos, true, IfOk, OnOk};
 ghost use Rattle.df_lang.specs.declared.ty.Ty.TheVariants as types;
@@ -11,7 +11,7 @@ ghost use Rattle.df_nterm.specs.Expressions as expressions;
 ghost use Rattle.df_nenc.specs.Tree.{tree_at, path_in};
 ghost use Rattle.df_nenc.specs.Growing.{Grows, IsFront};
 ghost use Rattle.df_nenc.specs.Standing.{IsTerm, Stands, IsPath, counts_as_number, narrows};
-ghost use Rattle.df_nenc.specs.Encoding.{Adds};
+ghost use Rattle.df_nenc.specs.Encoding.{Adds, Extends};
 
 use crate::comparison::{at_most, equal};
 use crate::operation::{both, implies, is_of, literal, negation};
@@ -77,8 +77,7 @@ pub(crate) fn owe(
     requires path { IsPath nodes.old path }
     requires formula { IsTerm Truths nodes.old formula }
     ensures adds { OnOk result (Adds nodes.new (expressions.under (path_in nodes.old path) (expressions.condition pos kind (tree_at nodes.old formula))) out.old.items out.new.items) }
-    ensures grows { Grows nodes.old nodes.new }
-    ensures begins { IsFront out.old.items out.new.items }
+    ensures extends { Extends nodes.old nodes.new out.old.items out.new.items }
 {
     let formula = on_path(alloc, nodes, path, formula)?;
     out.push(Condition { pos, kind, formula })?;
@@ -112,8 +111,7 @@ fn owe_type(
     requires path { IsPath nodes.old path }
     requires value { IsTerm (sort_of_type ty) nodes.old value }
     ensures adds { OnOk result (Adds nodes.new (expressions.under (path_in nodes.old path) (expressions.condition pos kinds.Range (trees.of_one (trees.Is ty) (tree_at nodes.old value)))) out.old.items out.new.items) }
-    ensures grows { Grows nodes.old nodes.new }
-    ensures begins { IsFront out.old.items out.new.items }
+    ensures extends { Extends nodes.old nodes.new out.old.items out.new.items }
 {
     let formula = is_of(alloc, nodes, ty, value)?;
     owe(alloc, nodes, path, pos, Kind::Range, formula, out)
@@ -131,8 +129,7 @@ fn owe_code(
     requires path { IsPath nodes.old path }
     requires number { IsTerm Numbers nodes.old number }
     ensures adds { OnOk result (Adds nodes.new (expressions.under (path_in nodes.old path) (expressions.in_range types.Char pos (tree_at nodes.old number))) out.old.items out.new.items) }
-    ensures grows { Grows nodes.old nodes.new }
-    ensures begins { IsFront out.old.items out.new.items }
+    ensures extends { Extends nodes.old nodes.new out.old.items out.new.items }
 {
     let formula = is_code(alloc, nodes, number)?;
     owe(alloc, nodes, path, pos, Kind::Range, formula, out)
@@ -151,8 +148,7 @@ pub(crate) fn owe_range(
     requires path { IsPath nodes.old path }
     requires number { IsTerm Numbers nodes.old number }
     ensures adds { OnOk result (Adds nodes.new (expressions.under (path_in nodes.old path) (expressions.in_range ty pos (tree_at nodes.old number))) out.old.items out.new.items) }
-    ensures grows { Grows nodes.old nodes.new }
-    ensures begins { IsFront out.old.items out.new.items }
+    ensures extends { Extends nodes.old nodes.new out.old.items out.new.items }
 {
     match ty {
         Ty::Newtype(_) => owe_type(alloc, nodes, path, ty, pos, number, out),
@@ -175,8 +171,7 @@ fn owe_nonzero(
     requires path { IsPath nodes.old path }
     requires number { IsTerm Numbers nodes.old number }
     ensures adds { OnOk result (Adds nodes.new (expressions.under (path_in nodes.old path) (expressions.divides factors.Divide pos (tree_at nodes.old number))) out.old.items out.new.items) }
-    ensures grows { Grows nodes.old nodes.new }
-    ensures begins { IsFront out.old.items out.new.items }
+    ensures extends { Extends nodes.old nodes.new out.old.items out.new.items }
 {
     let zero = literal(alloc, nodes, 0)?;
     let is_zero = equal(alloc, nodes, number, zero)?;
@@ -197,8 +192,7 @@ pub(crate) fn owe_divisor(
     requires path { IsPath nodes.old path }
     requires number { IsTerm Numbers nodes.old number }
     ensures adds { OnOk result (Adds nodes.new (expressions.under (path_in nodes.old path) (expressions.divides operator pos (tree_at nodes.old number))) out.old.items out.new.items) }
-    ensures grows { Grows nodes.old nodes.new }
-    ensures begins { IsFront out.old.items out.new.items }
+    ensures extends { Extends nodes.old nodes.new out.old.items out.new.items }
 {
     match operator {
         FactorOperator::Times => Ok(()),

@@ -1,5 +1,5 @@
 //! The walk over an expression: its term, and its conditions in the order of evaluation.
-#![tactic(auto, using(crate::proofs::Growing::grows_not, crate::proofs::Growing::grows_then, crate::proofs::Reaching::front_not, crate::proofs::Reaching::front_then, crate::proofs::Growing::term_stays, crate::proofs::Growing::path_stays))]
+#![tactic(auto, using(crate::proofs::Reaching::extends_then, crate::proofs::Reaching::extends_nodes))]
 
 ghost use Rattle.std.specs.Prelude.{IfOk};
 ghost use Rattle.df_lang.specs.ExprView.{expr_of};
@@ -9,7 +9,7 @@ ghost use Rattle.df_nterm.specs.Expressions as expressions;
 ghost use Rattle.df_nenc.specs.Tree.{tree_at, trees_in, path_in};
 ghost use Rattle.df_nenc.specs.Growing.{Grows, IsFront};
 ghost use Rattle.df_nenc.specs.Standing.{IsTerm, Stands, IsPath};
-ghost use Rattle.df_nenc.specs.Encoding.{IsOver, Gives, Encodes};
+ghost use Rattle.df_nenc.specs.Encoding.{IsOver, Gives, Encodes, Extends};
 ghost use Rattle.df_nenc.specs.Siblings.{AreAddendsOver, AreFactorsOver, AreMembersOver, AreLinksOver};
 ghost use Rattle.df_nenc.specs.Views.{addends_in, factors_in, members_in, links_in};
 
@@ -35,8 +35,7 @@ pub fn encode(
     requires over { IsOver nodes.old terms.now (expr_of expr.now) }
     requires path { IsPath nodes.old path }
     ensures encodes { IfOk result (λ n. Encodes nodes.old nodes.new terms.now path (expr_of expr.now) n out.old.items out.new.items) }
-    ensures grows { Grows nodes.old nodes.new }
-    ensures begins { IsFront out.old.items out.new.items }
+    ensures extends { Extends nodes.old nodes.new out.old.items out.new.items }
 {
     match expr {
         Expr::Number { ty, value, pos } => number(alloc, nodes, path, *ty, *value, *pos, out),
@@ -117,8 +116,7 @@ fn sum(
     requires path { IsPath nodes.old path }
     requires first { IsTerm Numbers nodes.old first }
     ensures gives { IfOk result (λ n. Gives (expressions.sum_of (trees_in nodes.old terms.now) (tree_at nodes.old first) (addends_in rest.now.items)) (expressions.conditions_of_addends (trees_in nodes.old terms.now) (path_in nodes.old path) ty (tree_at nodes.old first) (addends_in rest.now.items)) nodes.old nodes.new n out.old.items out.new.items) }
-    ensures grows { Grows nodes.old nodes.new }
-    ensures begins { IsFront out.old.items out.new.items }
+    ensures extends { Extends nodes.old nodes.new out.old.items out.new.items }
 {
     let mut total = first;
     for addend in rest {
@@ -154,8 +152,7 @@ fn product(
     requires path { IsPath nodes.old path }
     requires first { IsTerm Numbers nodes.old first }
     ensures gives { IfOk result (λ n. Gives (expressions.product_of (trees_in nodes.old terms.now) (tree_at nodes.old first) (factors_in rest.now.items)) (expressions.conditions_of_factors (trees_in nodes.old terms.now) (path_in nodes.old path) ty (tree_at nodes.old first) (factors_in rest.now.items)) nodes.old nodes.new n out.old.items out.new.items) }
-    ensures grows { Grows nodes.old nodes.new }
-    ensures begins { IsFront out.old.items out.new.items }
+    ensures extends { Extends nodes.old nodes.new out.old.items out.new.items }
 {
     let mut product = first;
     for factor in rest {
@@ -191,8 +188,7 @@ fn junction_of(
     requires path { IsPath nodes.old path }
     requires first { IsTerm Truths nodes.old first }
     ensures gives { IfOk result (λ n. Gives (expressions.joined junction (trees.term (tree_at nodes.old first) (expressions.members_of (trees_in nodes.old terms.now) (members_in rest.now.items)))) (expressions.conditions_of_junction (trees_in nodes.old terms.now) (path_in nodes.old path) junction (tree_at nodes.old first) (members_in rest.now.items)) nodes.old nodes.new n out.old.items out.new.items) }
-    ensures grows { Grows nodes.old nodes.new }
-    ensures begins { IsFront out.old.items out.new.items }
+    ensures extends { Extends nodes.old nodes.new out.old.items out.new.items }
 {
     let mut formulas = Vec::new(alloc);
     formulas.push(first)?;
@@ -223,8 +219,7 @@ fn implication(
     requires path { IsPath nodes.old path }
     requires first { IsTerm Truths nodes.old first }
     ensures gives { IfOk result (λ n. Gives (expressions.implication_of (trees_in nodes.old terms.now) (tree_at nodes.old first) (members_in rest.now.items)) (expressions.conditions_of_implication (trees_in nodes.old terms.now) (path_in nodes.old path) (tree_at nodes.old first) (members_in rest.now.items)) nodes.old nodes.new n out.old.items out.new.items) }
-    ensures grows { Grows nodes.old nodes.new }
-    ensures begins { IsFront out.old.items out.new.items }
+    ensures extends { Extends nodes.old nodes.new out.old.items out.new.items }
 {
     let mut premises = Vec::new(alloc);
     let mut path = path;
@@ -253,8 +248,7 @@ fn equivalence(
     requires path { IsPath nodes.old path }
     requires first { IsTerm Truths nodes.old first }
     ensures gives { IfOk result (λ n. Gives (expressions.equivalence_of (trees_in nodes.old terms.now) (tree_at nodes.old first) (members_in rest.now.items)) (expressions.conditions_of_members (trees_in nodes.old terms.now) (path_in nodes.old path) (members_in rest.now.items)) nodes.old nodes.new n out.old.items out.new.items) }
-    ensures grows { Grows nodes.old nodes.new }
-    ensures begins { IsFront out.old.items out.new.items }
+    ensures extends { Extends nodes.old nodes.new out.old.items out.new.items }
 {
     let mut formula = first;
     for member in rest {
@@ -280,8 +274,7 @@ fn chain(
     requires path { IsPath nodes.old path }
     requires first { IsTerm (sort_of_type ty) nodes.old first }
     ensures gives { IfOk result (λ n. Gives (trees.conjunction (expressions.comparisons_of (trees_in nodes.old terms.now) ty (tree_at nodes.old first) (links_in rest.now.items))) (expressions.conditions_of_links (trees_in nodes.old terms.now) (path_in nodes.old path) ty (tree_at nodes.old first) (links_in rest.now.items)) nodes.old nodes.new n out.old.items out.new.items) }
-    ensures grows { Grows nodes.old nodes.new }
-    ensures begins { IsFront out.old.items out.new.items }
+    ensures extends { Extends nodes.old nodes.new out.old.items out.new.items }
 {
     let mut formulas = Vec::new(alloc);
     let mut path = path;

@@ -1,5 +1,5 @@
 //! What operators do with the terms of their operands, with what these ask for.
-#![tactic(auto, using(crate::proofs::Growing::grows_not, crate::proofs::Growing::grows_then, crate::proofs::Reaching::front_not, crate::proofs::Reaching::front_then, crate::proofs::Growing::term_stays, crate::proofs::Growing::path_stays))]
+#![tactic(auto, using(crate::proofs::Growing::grows_then, crate::proofs::Reaching::extends_then, crate::proofs::Reaching::extends_nodes))]
 
 ghost use Rattle.std.specs.Prelude.{◌≡◌, true, IfOk};
 ghost use Rattle.std.specs.List.{AllByRecursion};
@@ -7,9 +7,9 @@ ghost use Rattle.df_nterm.specs.Term.{Numbers, Truths, sort_of_type};
 ghost use Rattle.df_nterm.specs.Term as trees;
 ghost use Rattle.df_nterm.specs.Expressions as expressions;
 ghost use Rattle.df_nenc.specs.Tree.{tree_at, trees_at, path_in};
-ghost use Rattle.df_nenc.specs.Growing.{Grows, IsFront};
+ghost use Rattle.df_nenc.specs.Growing.{Grows};
 ghost use Rattle.df_nenc.specs.Standing.{IsTerm, Stands, IsPath, counts_as_number};
-ghost use Rattle.df_nenc.specs.Encoding.{Gives};
+ghost use Rattle.df_nenc.specs.Encoding.{Gives, Extends};
 ghost use Rattle.df_nenc.specs.Siblings as siblings;
 
 use crate::condition::{Condition, narrowed_path, owe_divisor, owe_range};
@@ -31,8 +31,7 @@ pub(crate) fn number(
 ) -> Result<Term, AllocError>
     requires { IsPath nodes.old path }
     ensures gives { IfOk result (λ n. Gives (trees.literal value) (expressions.under (path_in nodes.old path) (expressions.in_range ty pos (trees.literal value))) nodes.old nodes.new n out.old.items out.new.items) }
-    ensures grows { Grows nodes.old nodes.new }
-    ensures begins { IsFront out.old.items out.new.items }
+    ensures extends { Extends nodes.old nodes.new out.old.items out.new.items }
 {
     let number = literal(alloc, nodes, value)?;
     owe_range(alloc, nodes, path, ty, pos, number, out)?;
@@ -52,8 +51,7 @@ pub(crate) fn negated(
     requires path { IsPath nodes.old path }
     requires operand { IsTerm Numbers nodes.old operand }
     ensures gives { IfOk result (λ n. Gives (trees.negative (tree_at nodes.old operand)) (expressions.under (path_in nodes.old path) (expressions.in_range ty pos (trees.negative (tree_at nodes.old operand)))) nodes.old nodes.new n out.old.items out.new.items) }
-    ensures grows { Grows nodes.old nodes.new }
-    ensures begins { IsFront out.old.items out.new.items }
+    ensures extends { Extends nodes.old nodes.new out.old.items out.new.items }
 {
     let number = negative(alloc, nodes, operand)?;
     owe_range(alloc, nodes, path, ty, pos, number, out)?;
@@ -76,8 +74,7 @@ pub(crate) fn with_addend(
     requires total { IsTerm Numbers nodes.old total }
     requires operand { IsTerm Numbers nodes.old operand }
     ensures gives { IfOk result (λ n. Gives (expressions.summed operator (tree_at nodes.old total) (tree_at nodes.old operand)) (expressions.under (path_in nodes.old path) (expressions.in_range ty pos (expressions.summed operator (tree_at nodes.old total) (tree_at nodes.old operand)))) nodes.old nodes.new n out.old.items out.new.items) }
-    ensures grows { Grows nodes.old nodes.new }
-    ensures begins { IsFront out.old.items out.new.items }
+    ensures extends { Extends nodes.old nodes.new out.old.items out.new.items }
 {
     let total = summed(alloc, nodes, operator, total, operand)?;
     owe_range(alloc, nodes, path, ty, pos, total, out)?;
@@ -100,8 +97,7 @@ pub(crate) fn with_factor(
     requires product { IsTerm Numbers nodes.old product }
     requires operand { IsTerm Numbers nodes.old operand }
     ensures gives { IfOk result (λ n. Gives (expressions.multiplied operator (tree_at nodes.old product) (tree_at nodes.old operand)) (siblings.conditions_of_factor (path_in nodes.old path) ty operator pos (tree_at nodes.old product) (tree_at nodes.old operand)) nodes.old nodes.new n out.old.items out.new.items) }
-    ensures grows { Grows nodes.old nodes.new }
-    ensures begins { IsFront out.old.items out.new.items }
+    ensures extends { Extends nodes.old nodes.new out.old.items out.new.items }
 {
     let product = multiplied(alloc, nodes, operator, product, operand)?;
     owe_divisor(alloc, nodes, path, operator, pos, operand, out)?;
@@ -124,8 +120,7 @@ pub(crate) fn cast(
     requires value { IsTerm (sort_of_type source) nodes.old value }
     requires source { counts_as_number source ≡ true }
     ensures gives { IfOk result (λ n. Gives (expressions.value_in target (expressions.number_in source (tree_at nodes.old value))) (expressions.under (path_in nodes.old path) (expressions.in_range target pos (expressions.number_in source (tree_at nodes.old value)))) nodes.old nodes.new n out.old.items out.new.items) }
-    ensures grows { Grows nodes.old nodes.new }
-    ensures begins { IsFront out.old.items out.new.items }
+    ensures extends { Extends nodes.old nodes.new out.old.items out.new.items }
 {
     let number = number_in(alloc, nodes, source, value)?;
     owe_range(alloc, nodes, path, target, pos, number, out)?;

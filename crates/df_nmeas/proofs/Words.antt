@@ -8,7 +8,8 @@ pub use Rattle.df_lang.specs.ExprView.{expr_of, links_of}
 pub use Rattle.df_lang.specs.Measures.{guard_measure, measure_of_number, parameters_from, method_measure}
 pub use Rattle.df_lang.specs.Program.{Program, Param, types_of}
 pub use Rattle.df_lang.specs.Stmt.{Measure}
-pub use Rattle.df_lang.specs.Typing.{same_type, compares, is_expr, are_links, is_type, are_measures}
+pub use Rattle.df_lang.specs.Newtype.{same_type}
+pub use Rattle.df_lang.specs.Typing.{compares, is_expr, are_links, is_type, are_measures}
 pub use Rattle.df_lang.specs.declared.decl.Param.{Param as DeclaredParam}
 pub use Rattle.df_lang.specs.declared.expr.Link.{Link as DeclaredLink}
 pub use Rattle.df_lang.specs.declared.ty.Ty.{Ty}

@@ -5,11 +5,8 @@ use Rattle.df_nenc.proofs.comparison.at_most_in.Goals as goal
 pub number_in-requires-2 : goal.number_in-requires-2
 number_in-requires-2 c = term_stays (sort_of_type c.args.ty) c.args.nodes.now c.number_in.new.nodes c.args.right c.number_in.ensures.grows c.requires.right
 
-pub at_most-requires-clause-left : goal.at_most-requires-clause-left
-at_most-requires-clause-left c = term_stays Numbers c.number_in.new.nodes c.number_in-2.new.nodes c.in_ok-left.left c.number_in-2.ensures.grows (is_term _ Numbers _ _ c.in_ok-left.ensures.stands (counted_number c.args.ty _ c.requires.counts c.requires.left.sort_is))
-
-pub at_most-requires-clause-right : goal.at_most-requires-clause-right
-at_most-requires-clause-right c = is_term _ Numbers _ _ c.in_ok-right.ensures.stands (counted_number c.args.ty _ c.requires.counts (term_stays (sort_of_type c.args.ty) c.args.nodes.now c.number_in.new.nodes c.args.right c.number_in.ensures.grows c.requires.right).sort_is)
+pub at_most-requires : goal.at_most-requires
+at_most-requires c = record { left = term_stays Numbers c.number_in.new.nodes c.number_in-2.new.nodes c.in_ok-left.left c.number_in-2.ensures.grows (is_term _ Numbers _ _ c.in_ok-left.ensures.stands (counted_number c.args.ty _ c.requires.counts c.requires.left.sort_is)); right = is_term _ Numbers _ _ c.in_ok-right.ensures.stands (counted_number c.args.ty _ c.requires.counts (term_stays (sort_of_type c.args.ty) c.args.nodes.now c.number_in.new.nodes c.args.right c.number_in.ensures.grows c.requires.right).sort_is) }
 
 pub returns-clause-stands : goal.returns-clause-stands
 returns-clause-stands c = two_as AtMost c.at_most.result c.at_most.new.nodes _ _ _ _ (stays c.number_in.new.nodes c.number_in-2.new.nodes _ c.in_ok-left.left c.number_in-2.ensures.grows c.in_ok-left.ensures.stands).tree_is (c.in_ok-right.ensures.stands.tree_is ∙ ap (number_in c.args.ty) (tree_stays (sort_of_type c.args.ty) c.args.nodes.now c.number_in.new.nodes c.args.right c.number_in.ensures.grows c.requires.right)) c.at_most.ensures.stands

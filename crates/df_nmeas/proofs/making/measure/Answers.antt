@@ -1,4 +1,5 @@
-use Rattle.df_nmeas.proofs.Words.{◌≡◌, ◌+◌, ◌∷◌, drop, sym, ap, subst, drop_all, trees_in, drop_next, AreOver, measures_in}
+use Rattle.df_nenc.proofs.Reaching.{front_then}
+use Rattle.df_nmeas.proofs.Words.{rules, ◌≡◌, ◌+◌, ◌∷◌, drop, sym, ap, subst, drop_all, trees_in, drop_next, AreOver, measures_in, grows_then}
 use Rattle.df_lang.specs.StmtView.{measure_of}
 use Rattle.df_nmeas.proofs.Pairs.{Measuring, measure_begins, measure_ends}
 use Rattle.df_nmeas.proofs.Over.{member_part, members_left, measure_next}
@@ -34,9 +35,19 @@ loop-measure-preserved c =
           (measure_next c.args.terms.now (measure_of x) rest c.args.nodes.now l.nodes c.defined.new.nodes l.members.items c.args.out.now.items l.out.items c.defined.new.out.items (measures_in xs) c.in_ok-value.value c.requires over going c.in_ok-value.ensures.gives);
     }
 
-pub returns-clause-measures : goal.returns-clause-measures
-returns-clause-measures c =
+pub returns : goal.returns
+returns c =
     let l = c.loop-measure in
     let xs = c.args.measures.now in
-    measure_ends (trees_in c.args.nodes.now c.args.terms.now) c.args.nodes.now l.nodes l.members.items c.args.out.now.items l.out.items (measures_in xs)
-    (subst (λ ys. Measuring (trees_in c.args.nodes.now c.args.terms.now) c.args.nodes.now l.nodes l.members.items c.args.out.now.items l.out.items (measures_in xs) (measures_in ys)) (drop_all l.measure-index xs c.loop-measure-test.false) l.invariant.going)
+    record {
+      measures = measure_ends (trees_in c.args.nodes.now c.args.terms.now) c.args.nodes.now l.nodes l.members.items c.args.out.now.items l.out.items (measures_in xs)
+          (subst (λ ys. Measuring (trees_in c.args.nodes.now c.args.terms.now) c.args.nodes.now l.nodes l.members.items c.args.out.now.items l.out.items (measures_in xs) (measures_in ys)) (drop_all l.measure-index xs c.loop-measure-test.false) l.invariant.going);
+      grows = c.loop-measure.invariant.going.grows;
+      begins = c.loop-measure.invariant.going.begins;
+    }
+
+pub returns-in_err-value : goal.returns-in_err-value
+returns-in_err-value c = record { measures = search rules; grows = grows_then _ _ _ c.loop-measure.invariant.going.grows c.defined.ensures.grows; begins = front_then c.args.out.now.items c.loop-measure.out.items c.defined.new.out.items c.loop-measure.invariant.going.begins c.defined.ensures.begins }
+
+pub returns-in_err-push : goal.returns-in_err-push
+returns-in_err-push c = record { measures = search rules; grows = grows_then _ _ _ c.loop-measure.invariant.going.grows c.defined.ensures.grows; begins = front_then c.args.out.now.items c.loop-measure.out.items c.defined.new.out.items c.loop-measure.invariant.going.begins c.defined.ensures.begins }

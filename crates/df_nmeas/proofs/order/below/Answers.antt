@@ -32,15 +32,11 @@ offset_bounds-before-place c =
 pub bounds-before-place : goal.bounds-before-place
 bounds-before-place c = let second = (pairs_fit c.args.now.now c.args.before.now).1 in omega arith
 
-pub in_front-requires-clause-now : goal.in_front-requires-clause-now
-in_front-requires-clause-now c =
+pub in_front-requires : goal.in_front-requires
+in_front-requires c =
     let first = (pairs_fit c.args.now.now c.args.before.now).0 in
-    member_stays c.args.now.now c.args.before.now _ c.args.nodes.now c.loop-place.nodes c.loop-place.nodes c.args.now.now (c.loop-place.place - 1) (omega arith) c.requires.now c.loop-place.invariant.grows
-
-pub in_front-requires-clause-before : goal.in_front-requires-clause-before
-in_front-requires-clause-before c =
     let second = (pairs_fit c.args.now.now c.args.before.now).1 in
-    member_stays c.args.now.now c.args.before.now _ c.args.nodes.now c.loop-place.nodes c.loop-place.nodes c.args.before.now (c.loop-place.place - 1) (omega arith) c.requires.before c.loop-place.invariant.grows
+    record { now = member_stays c.args.now.now c.args.before.now _ c.args.nodes.now c.loop-place.nodes c.loop-place.nodes c.args.now.now (c.loop-place.place - 1) (omega arith) c.requires.now c.loop-place.invariant.grows; before = member_stays c.args.now.now c.args.before.now _ c.args.nodes.now c.loop-place.nodes c.loop-place.nodes c.args.before.now (c.loop-place.place - 1) (omega arith) c.requires.before c.loop-place.invariant.grows; others = c.loop-place.invariant.formula }
 
 pub loop-place-preserved : goal.loop-place-preserved
 loop-place-preserved c = record {
@@ -50,3 +46,9 @@ loop-place-preserved c = record {
   same = front_goes c.args.now.now c.args.before.now _ c.args.nodes.now c.loop-place.nodes c.in_front.new.nodes c.loop-place.place (c.loop-place.place - 1) c.loop-place.formula c.in_ok-formula-2.formula (omega arith) c.loop-place.invariant.place c.requires.now c.requires.before
       c.loop-place.invariant.grows c.loop-place.invariant.same c.in_ok-formula-2.ensures.stands;
 }
+
+pub returns-in_err-formula-2-clause-grows : goal.returns-in_err-formula-2-clause-grows
+returns-in_err-formula-2-clause-grows c = grows_then _ _ _ c.loop-place.invariant.grows c.in_front.ensures.grows
+
+pub returns-clause-grows : goal.returns-clause-grows
+returns-clause-grows c = c.loop-place.invariant.grows
