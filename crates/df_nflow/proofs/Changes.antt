@@ -3,7 +3,7 @@ use Rattle.df_nflow.proofs.Words.{◌≡◌, ℕ, true, List, [], ◌∷◌, sli
 use Rattle.df_npass.proofs.Turns.{type_there}
 use Rattle.df_nflow.proofs.Flowing.{moves_then}
 use Rattle.df_nflow.proofs.Standings.{also_fresh, moves_with}
-use Rattle.df_nflow.proofs.Once.{same_when}
+use Rattle.df_nlocals.proofs.Once.{same_when}
 
 pub at_first : (types : List Ty) (c : Changed) (others : List Changed) → are_at types (c ∷ others) ≡ true → is_at types c.local c.ty ≡ true
 at_first types c others is = (and_parts (is_at types c.local c.ty) (list_all (λ (d : Changed). is_at types d.local d.ty) others) is).0

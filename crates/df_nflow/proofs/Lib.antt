@@ -6,6 +6,7 @@ pub mod Placing
 pub mod Branching
 pub mod Looping
 pub mod Updating
+pub mod Gathering
 pub mod Beginning
 pub mod Trailing
 pub mod Arriving
@@ -21,7 +22,6 @@ pub mod Ending
 pub mod Passing
 pub mod Parting
 pub mod Waiting
-pub mod Once
 pub mod Leaving
 pub mod Joined
 pub mod Changes

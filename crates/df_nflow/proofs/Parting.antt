@@ -3,22 +3,17 @@ use Rattle.df_nflow.proofs.Words.{◌≡◌, ℕ, Bool, ◌||◌, ◌+◌, ◌<�
 use Rattle.df_lang.specs.declared.ty.Ty.TheVariants as tys
 use Rattle.df_lang.specs.declared.stmt.Branch.{Branch as DeclaredBranch}
 use Rattle.df_lemmas.proofs.Truths.{three}
+use Rattle.df_nlocals.proofs.Branches.{branch_next}
 use Rattle.df_nflow.proofs.Arriving.{all_there, ended_arrive}
 use Rattle.df_nflow.proofs.Branching.{all_ended_same, arrivals_ended}
 use Rattle.df_nflow.proofs.Going.{Parting, parting_on}
 use Rattle.df_nflow.proofs.Waiting.{all_arrived_stay}
 
-pub branch_seen : (b : DeclaredBranch) → branch_of b ≡ record { pos = b.pos; guard = expr_of b.guard; body = stmts_in b.body.items }
-branch_seen b = search (rules, the_lemmas)
-
 module _ (bs : List DeclaredBranch) (i : ℕ) (b : DeclaredBranch) (e : b ≡ get_or bs i b) (lt : i < length bs) where
-  pub branch_next : branches_in (drop i bs) ≡ branch b.pos (expr_of b.guard) (stmts_in b.body.items) (branches_in (drop (i + 1) bs))
-  branch_next = ap branches_in (drop_next bs i b e lt) ∙ ap (λ (x : Branch). branch x.pos x.guard x.body (branches_in (drop (i + 1) bs))) (branch_seen b)
-
   pub branch_over : (program : Program) (types : List Ty) → are_branches_over program types (branches_in (drop i bs)) ≡ true
       → (is_expr program types tys.Bool (expr_of b.guard) ≡ true) × (are_over program types (stmts_in b.body.items) ≡ true) × (are_branches_over program types (branches_in (drop (i + 1) bs)) ≡ true)
   branch_over program types is =
-      three (is_expr program types tys.Bool (expr_of b.guard)) (are_over program types (stmts_in b.body.items)) (are_branches_over program types (branches_in (drop (i + 1) bs))) (sym (ap (are_branches_over program types) branch_next) ∙ is)
+      three (is_expr program types tys.Bool (expr_of b.guard)) (are_over program types (stmts_in b.body.items)) (are_branches_over program types (branches_in (drop (i + 1) bs))) (sym (ap (are_branches_over program types) (branch_next bs i b e lt)) ∙ is)
 
 -- the ways at the ends of one branch more
 module _ (old new : List Node) (types now : List Ty) (g : Grows old new) (same : now ≡ types) (before one more : List DeclaredArrived) (e : more ≡ before ++ one) (are : AreArrived old types before) where

@@ -5,7 +5,7 @@ use Rattle.df_nmeas.proofs.Parameters.{locals_long}
 use Rattle.df_npass.proofs.Arguments.{same_types_are}
 use Rattle.df_nflow.proofs.Flowing.{moves_then}
 use Rattle.df_nflow.proofs.Going.{Moving, moving_give}
-use Rattle.df_nflow.proofs.Once.{is_met, Meets, either_of}
+use Rattle.df_nlocals.proofs.Once.{is_met, Meets, either_of}
 use Rattle.df_nflow.proofs.Standings.{also_fresh, moves_with}
 use Rattle.df_nflow.proofs.Updating.{AreLast, is_named, last_none, last_more, named_again}
 

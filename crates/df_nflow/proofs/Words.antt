@@ -15,7 +15,8 @@ pub use Rattle.df_lang.specs.Measures.{loop_measure, method_measure}
 pub use Rattle.df_lang.specs.Program.{Param, Method, Program, types_of, method_at}
 pub use Rattle.df_lang.specs.Stmt.{Clause, Target, Measure, Stmts, While, Branches, no_branch, branch, Operand, Text, Value, Call, Source, Single, Results, Update, Stmt, Block, Var, Assign, CallOf, If, Break, Return, Assert, Print, done, next}
 pub use Rattle.df_lang.specs.StmtView.{Branch, target_of, variable_of, clause_of, operand_of, stmt_of, call_of, source_of, update_of}
-pub use Rattle.df_lang.specs.Typing.{same_type, is_type, are_clauses, are_measures, are_stmts, is_method, is_arithmetic, converts, casts, compares, is_expr, are_addends, are_factors, are_members, are_links, are_exprs, are_same_types, is_operand, is_call, are_results, is_source, source_types, is_target, is_update, may_update, are_numbered, variable_numbers, variable_types, locals_after, locals_after_all, locals_after_branches, is_measured, is_stmt, are_branches}
+pub use Rattle.df_lang.specs.Newtype.{same_type}
+pub use Rattle.df_lang.specs.Typing.{is_type, are_clauses, are_measures, are_stmts, is_method, is_arithmetic, converts, casts, compares, is_expr, are_addends, are_factors, are_members, are_links, are_exprs, are_same_types, is_operand, is_call, are_results, is_source, source_types, is_target, is_update, may_update, are_numbered, variable_numbers, variable_types, locals_after, locals_after_all, locals_after_branches, is_measured, is_stmt, are_branches}
 pub use Rattle.df_lang.specs.View.{program_of}
 pub use Rattle.df_lang.specs.declared.decl.Clause.{Clause as DeclaredClause}
 pub use Rattle.df_lang.specs.declared.stmt.Operand.{Operand as DeclaredOperand}
@@ -55,6 +56,8 @@ pub use Rattle.df_nledger.specs.Clauses.{AreClauses}
 pub use Rattle.df_nledger.specs.Ledger.{ledger_of, way_of, with_fresh, way_over, Ledger}
 pub use Rattle.df_nledger.specs.Setting.{setting_of}
 pub use Rattle.df_nledger.specs.declared.ledger.Ledger.{Ledger as DeclaredLedger}
+pub use Rattle.df_nlocals.specs.Views.{changed_of, changed_in}
+pub use Rattle.df_nlocals.specs.declared.changed.Changed.{Changed as DeclaredChanged}
 pub use Rattle.df_nflow.specs.Branches.{Ended, AreEnded, IsEnded, Parts}
 pub use Rattle.df_nflow.specs.Joining.{term_at, IsThere, AreThere, AllThere, paths_in, are_same_at, assume_joined_at, join_locals_from, take_all}
 pub use Rattle.df_nflow.specs.Loops.{any_turn, loop_head, loop_past, turned_if, past_loop, join_past}
@@ -62,8 +65,7 @@ pub use Rattle.df_nflow.specs.Methods.{also_returns, at_end, owed_at, ended_over
 pub use Rattle.df_nflow.specs.PassedView.{standing_of}
 pub use Rattle.df_nflow.specs.Standing.{Standing, also, at_path, over_terms, way_if, Passes, Joins, Moves}
 pub use Rattle.df_nflow.specs.Typed.{is_at, are_at, are_over, is_over, are_branches_over, is_operand_over, is_target_over, is_update_over, may_update_over, are_targets_over, target_types}
-pub use Rattle.df_nflow.specs.Views.{IsArrived, AreArrived, arrival_in, arrivals_in, ended_in, all_ended_in, IsKept, HaveTerms, changed_of, changed_in, IsPassed, all_kept_in, AreKept, kept_in, ArePaths}
+pub use Rattle.df_nflow.specs.Views.{IsArrived, AreArrived, arrival_in, arrivals_in, ended_in, all_ended_in, IsKept, HaveTerms, IsPassed, all_kept_in, AreKept, kept_in, ArePaths}
 pub use Rattle.df_nflow.specs.Ways.{Arrival, arrival, IsSortedWay, AreSortedWays, Arrive, Kept, back}
 pub use Rattle.df_nflow.specs.declared.way.Arrived.{Arrived as DeclaredArrived}
-pub use Rattle.df_nflow.specs.declared.way.Changed.{Changed as DeclaredChanged}
 pub use Rattle.df_nflow.specs.declared.way.Kept.{Kept as DeclaredKept}

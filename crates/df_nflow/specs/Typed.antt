@@ -6,7 +6,8 @@ use Rattle.df_lang.specs.declared.ty.Ty.{Ty}
 use Rattle.df_lang.specs.declared.ty.Ty.TheVariants as types
 use Rattle.df_lang.specs.Stmt.{Operand, Text, Value, Target, Update, Stmt, Block, Var, Assign, CallOf, If, While, Break, Return, Assert, Print, Stmts, done, next, Branches, no_branch, branch}
 use Rattle.df_lang.specs.Program.{Program}
-use Rattle.df_lang.specs.Typing.{same_type, are_same_types, is_expr, are_clauses, are_measures, source_types}
+use Rattle.df_lang.specs.Newtype.{same_type}
+use Rattle.df_lang.specs.Typing.{are_same_types, is_expr, are_clauses, are_measures, source_types}
 use Rattle.df_meaning.specs.Modular.{Changed}
 use Rattle.df_npass.specs.Statements.{changed_outside, changed_outside_if}
 use Rattle.df_nledger.specs.Calls.{is_call_over, is_source_over}

@@ -2,7 +2,6 @@
 use Rattle.std.specs.Prelude.{◌≡◌, ◌<◌, ℕ, List, length, map, slice_get, Some}
 use Rattle.std.specs.List.{AllByRecursion}
 use Rattle.df_lang.specs.declared.ty.Ty.{Ty}
-use Rattle.df_meaning.specs.Modular.{Changed}
 use Rattle.df_form.specs.Node.{Node}
 use Rattle.df_nterm.specs.Term.{sort_of_type}
 use Rattle.df_nenc.specs.Tree.{sort_of_term, tree_at, trees_at, path_in}
@@ -11,15 +10,8 @@ use Rattle.df_nmeas.specs.declared.measured.Measured as members
 use Rattle.df_nledger.specs.Said.{HasPath}
 use Rattle.df_nflow.specs.Ways.{Kept, Arrival}
 use Rattle.df_nflow.specs.Branches.{Ended}
-use Rattle.df_nflow.specs.declared.way.Changed as declared_changed
 use Rattle.df_nflow.specs.declared.way.Kept as declared_kept
 use Rattle.df_nflow.specs.declared.way.Arrived as declared_arrived
-
-abbrev pub changed_of : declared_changed.Changed → Changed
-changed_of c = record { local = c.local; ty = c.ty }
-
-abbrev pub changed_in : List declared_changed.Changed → List Changed
-changed_in all = map changed_of all
 
 abbrev pub kept_in : List Node → declared_kept.Kept → Kept
 kept_in nodes k = record { local = k.local; term = tree_at nodes k.term }

@@ -14,18 +14,20 @@ ghost use Rattle.df_nflow.specs.PassedView.{standing_of};
 ghost use Rattle.df_nledger.specs.Said.{HasPath};
 ghost use Rattle.df_nflow.specs.Standing.{also, Moves, Joins};
 ghost use Rattle.df_nflow.specs.Typed.{is_at, are_at};
-ghost use Rattle.df_nflow.specs.Views.{AreArrived, ArePaths, IsArrived, arrival_in, arrivals_in, all_ended_in, changed_in, changed_of};
+ghost use Rattle.df_nflow.specs.Views.{AreArrived, ArePaths, IsArrived, arrival_in, arrivals_in, all_ended_in};
+ghost use Rattle.df_nlocals.specs.Views.{changed_in, changed_of};
 ghost use Rattle.df_nflow.specs.Ways.{Arrive};
 ghost use Rattle.df_npass.specs.Rules.{Way, any_path as any_of, paths_of, join as joined, join_branches as joined_branches};
 ghost use Rattle.df_npass.specs.Statements.{saying};
 ghost use Rattle.df_nterm.specs.Term.{sort_of_type};
 
 use crate::passed::Passed;
-use crate::way::{Arrived, Changed};
+use crate::way::Arrived;
 use df_form::{Formula, Term};
 use df_lang::Ty;
 use df_nenc::one_of;
 use df_nledger::Ledger;
+use df_nlocals::Changed;
 use std::alloc::{AllocError, Global};
 
 /// Whether this term stands at a place.

@@ -1,9 +1,7 @@
 //! Passing over the statements of methods by single assignment: what is known and what is owed, in order.
 #![tactic(auto)]
 
-mod changed;
 mod join;
-mod locals;
 mod passage;
 mod passed;
 mod simple;

@@ -12,19 +12,20 @@ ghost use Rattle.df_nflow.specs.Methods.{IsTypedMethod, also_returns, at_end, be
 ghost use Rattle.df_nflow.specs.PassedView.{standing_of};
 ghost use Rattle.df_nflow.specs.Standing.{Standing, also, way_if, Passes, Joins};
 ghost use Rattle.df_nflow.specs.Typed.{are_at};
-ghost use Rattle.df_nflow.specs.Views.{AreArrived, arrivals_in, changed_in};
+ghost use Rattle.df_nflow.specs.Views.{AreArrived, arrivals_in};
+ghost use Rattle.df_nlocals.specs.Views.{changed_in};
 ghost use Rattle.df_nflow.specs.Ways.{Arrive, arrival};
 ghost use Rattle.df_nledger.specs.Said.{said_in, AreSaid};
 ghost use Rattle.df_npass.specs.Methods.{locals_of, locals_from, pass_method};
 ghost use Rattle.df_npass.specs.Rules.{Way, paths_of, any_path as any_of, join as joined};
 ghost use Rattle.df_npass.specs.Statements.{Flow, ways_of};
 
-use crate::locals::{exits, locals};
 use crate::passed::Passed;
-use crate::way::{Arrived, Changed, Exits, Onward};
+use crate::way::{Arrived, Exits, Onward};
 use df_form::{Kind, Nodes};
 use df_lang::{DeclId, Method, Program};
 use df_nledger::{Ledger, Said, Setting};
+use df_nlocals::{Changed, exits, locals};
 use std::alloc::{AllocError, Global};
 use std::mem;
 
@@ -37,6 +38,16 @@ pub struct Passage {
 }
 
 impl Passed {
+    /// What was said, over its nodes.
+    fn into_passage(self) -> Passage
+        ensures { said_in result.nodes result.said.items ≡ (standing_of self).said }
+    {
+        Passage {
+            nodes: self.ledger.nodes,
+            said: self.ledger.said,
+        }
+    }
+
     /// Any arguments, of which what callers owe is asked for, and the measure on entry.
     fn begin(alloc: Global, method: &Method) -> Result<Passed, AllocError>
         requires { IsTypedMethod (method_of method.now) }
@@ -170,8 +181,5 @@ pub fn method(
     };
     let onward = passed.stmts(&setting, outermost, &method.body)?;
     passed.end(alloc, &in_method, onward, method)?;
-    Ok(Passage {
-        nodes: passed.ledger.nodes,
-        said: passed.ledger.said,
-    })
+    Ok(passed.into_passage())
 }

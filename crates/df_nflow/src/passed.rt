@@ -4,10 +4,11 @@
 ghost use Rattle.std.proofs.Props.{props};
 ghost use Rattle.df_nflow.specs.Views.{IsPassed};
 
-use crate::way::{Arrived, Changed, Kept};
+use crate::way::{Arrived, Kept};
 use df_form::Term;
 use df_lang::Ty;
 use df_nledger::Ledger;
+use df_nlocals::Changed;
 use df_nmeas::Measured;
 use std::alloc::{AllocError, Global};
 
@@ -34,7 +35,8 @@ impl Passed {
     ghost use Rattle.df_nflow.specs.PassedView.{standing_of};
     ghost use Rattle.df_nflow.specs.Standing.{over_terms, Moves};
     ghost use Rattle.df_nflow.specs.Typed.{are_at};
-    ghost use Rattle.df_nflow.specs.Views.{AreKept, IsKept, IsArrived, arrival_in, changed_in, all_kept_in};
+    ghost use Rattle.df_nflow.specs.Views.{AreKept, IsKept, IsArrived, arrival_in, all_kept_in};
+    ghost use Rattle.df_nlocals.specs.Views.{changed_in};
     ghost use Rattle.df_nflow.specs.Ways.{arrival, back};
     ghost use Rattle.df_npass.specs.Rules.{over, with_term};
     ghost use Rattle.df_npass.specs.Statements.{saying};

@@ -10,7 +10,7 @@ ghost use Rattle.df_nflow.specs.PassedView.{standing_of};
 ghost use Rattle.df_nflow.specs.Standing.{Moves, Passes};
 ghost use Rattle.df_nflow.specs.Typed.{are_at, may_update_over};
 ghost use Rattle.df_nledger.specs.Calls.{is_call_over};
-ghost use Rattle.df_nflow.specs.Views.{changed_in};
+ghost use Rattle.df_nlocals.specs.Views.{changed_in};
 ghost use Rattle.df_nledger.specs.Setting.{setting_of};
 ghost use Rattle.df_npass.specs.Statements as pure;
 

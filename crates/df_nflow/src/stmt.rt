@@ -24,7 +24,8 @@ ghost use Rattle.df_nflow.specs.PassedView.{standing_of};
 ghost use Rattle.df_nledger.specs.Said.{HasPath};
 ghost use Rattle.df_nflow.specs.Standing.{Standing, also, at_path, Moves, Passes, Joins};
 ghost use Rattle.df_nflow.specs.Typed.{are_at, is_operand_over, is_over, are_over, are_branches_over};
-ghost use Rattle.df_nflow.specs.Views.{AreArrived, ArePaths, arrivals_in, all_ended_in, changed_in};
+ghost use Rattle.df_nflow.specs.Views.{AreArrived, ArePaths, arrivals_in, all_ended_in};
+ghost use Rattle.df_nlocals.specs.Views.{changed_in};
 ghost use Rattle.df_nledger.specs.Setting.{setting_of};
 ghost use Rattle.df_nflow.specs.Ways.{Arrive, arrival};
 ghost use Rattle.df_nmeas.specs.Measuring.{AreMembers, decreases_in, measured_in};
@@ -35,15 +36,15 @@ ghost use Rattle.df_nterm.specs.Expressions.{term_of};
 ghost use Rattle.df_nterm.specs.Measuring.{measured};
 ghost use Rattle.df_nterm.specs.Term.{Truths, negation as negated};
 
-use crate::changed::{outside, outside_if};
 use crate::join::any_path;
 use crate::passed::Passed;
-use crate::way::{Arrived, Changed, Exits, Onward};
+use crate::way::{Arrived, Exits, Onward};
 use df_base::Pos;
 use df_form::{Formula, Kind};
 use df_lang::{Branch, Clause, Expr, Measure, Operand, Stmt};
 use df_nenc::negation;
 use df_nledger::{Ledger, Setting};
+use df_nlocals::{Changed, outside, outside_if};
 use df_nmeas::Measured;
 use std::alloc::{AllocError, Global};
 

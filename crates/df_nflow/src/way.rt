@@ -1,14 +1,7 @@
 //! Ways that come together.
 
 use df_form::{Formula, Term};
-use df_lang::Ty;
-
-/// A local that statements change, and its type.
-#[derive(Clone, Copy)]
-pub(crate) struct Changed {
-    pub(crate) local: usize,
-    pub(crate) ty: Ty,
-}
+use df_nlocals::Changed;
 
 /// A term that a local had, or is to have.
 #[derive(Clone, Copy)]

@@ -32,5 +32,5 @@ returns c =
     let passes : Passes [] (changed_in c.deref.result.now) passed (flow passed) last on.goes_on on.loses = c.in_ok-onward.ensures.passes in
     let body = subst (λ (s : Standing). Passes [] (changed_in c.deref.result.now) s (flow s) last on.goes_on on.loses) c.in_ok-passed.ensures passes in
     let exits = ap changed_in (c.deref.ensures.value ∙ sym c.deref-2.ensures.value) in
-    whole_said program c.args.groups.now c.args.number m _ (c.in_ok-end.ensures.ended (begun m) (flow (begun m)) (subst (λ (changed : List Changed). Passes [] changed (begun m) (flow (begun m)) last on.goes_on on.loses) exits body) refl refl
+    whole_said program c.args.groups.now c.args.number m _ (c.into_passage.ensures ∙ c.in_ok-end.ensures.ended (begun m) (flow (begun m)) (subst (λ (changed : List Changed). Passes [] changed (begun m) (flow (begun m)) last on.goes_on on.loses) exits body) refl refl
     ∙ ap (λ (changed : List Changed). (begun m).said ++ ((flow (begun m)).said ++ ended_over (begun m).way.env changed m.postconditions (flow (begun m)))) (ap changed_in c.deref-2.ensures.value ∙ c.in_ok-in_method.ensures))

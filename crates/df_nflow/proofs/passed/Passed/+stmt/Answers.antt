@@ -1,10 +1,11 @@
-use Rattle.df_nflow.proofs.Words.{◌≡◌, ◌+◌, rules, IfOk, Bool, true, false, ◌||◌, List, map, drop, length, refl, sym, ap, ◌∙◌, subst, arith, and_parts, drop_all, length-map, flat_map, stmts_in, branches_in, expr_of, loop_measure, Stmt, Print, While, Stmts, next, Clause, If, clause_of, operand_of, stmt_of, program_of, the_lemmas, DeclaredStmt, Ty, DeclaredOperand, Changed, tree_at, grows_then, term_stays, tree_stays, stays, path_same, if_ok, drop_next, AreMembers, decreases_in, measured_in, Measured, measured, Truths, Way, assert_operand, assert_turn, changed_outside, pass_all, pass_branches, pass_stmt, rejoined, Parts, AllThere, loop_head, loop_past, turned_if, past_loop, join_past, standing_of, Standing, also, Passes, Moves, Joins, are_at, is_over, are_over, arrival_in, changed_in, kept_in, all_ended_in, arrivals_in, setting_of, Arrive, measured_stay, measured_same, path_is, has_path_stays}
+use Rattle.df_nflow.proofs.Words.{◌≡◌, ◌+◌, rules, IfOk, Bool, true, false, ◌||◌, List, map, drop, length, refl, sym, ap, ◌∙◌, subst, arith, and_parts, drop_all, length-map, flat_map, stmts_in, branches_in, expr_of, loop_measure, Stmt, Print, While, Stmts, next, Clause, If, clause_of, operand_of, stmt_of, program_of, the_lemmas, DeclaredStmt, Ty, DeclaredOperand, Changed, tree_at, grows_not, grows_same, grows_then, term_stays, tree_stays, stays, path_same, if_ok, drop_next, AreMembers, decreases_in, measured_in, Measured, measured, Truths, Way, assert_operand, assert_turn, changed_outside, pass_all, pass_branches, pass_stmt, rejoined, Parts, AllThere, loop_head, loop_past, turned_if, past_loop, join_past, standing_of, Standing, also, Passes, Moves, Joins, are_at, is_over, are_over, arrival_in, changed_in, kept_in, all_ended_in, arrivals_in, setting_of, Arrive, measured_stay, measured_same, path_is, has_path_stays}
 use Rattle.df_nflow.proofs.Arriving.{all_there}
 use Rattle.df_nflow.proofs.Flowing.{moves_pass}
 use Rattle.df_nflow.proofs.Going.{Going, going_on, going_done}
 use Rattle.df_nflow.proofs.Leaving.{told}
 use Rattle.df_nflow.proofs.Looping.{longer, breaks_arrive, loop_passes, body_over, changed_at}
-use Rattle.df_nflow.proofs.Parting.{branch_next, branch_over, arrived_more, ended_more, ended_there, part_next, part_last, if_parts}
+use Rattle.df_nflow.proofs.Parting.{branch_over, arrived_more, ended_more, ended_there, part_next, part_last, if_parts}
+use Rattle.df_nlocals.proofs.Branches.{branch_next}
 use Rattle.df_nflow.proofs.Standings.{also_moves}
 use Rattle.df_nflow.proofs.passed.Passed.+stmt.Goals as goal
 use Rattle.df_nflow.proofs.passed.Passed.+stmt.Goals.{stmts-then-loses, stmts-else-loses}
@@ -298,3 +299,53 @@ stmt-returns-in-While-clause-passes t c =
     let s = standing_of c.args.self.now in
     let is : stmt_of c.args.stmt.now ≡ While c.in-While.pos (expr_of c.in-While.guard) (map clause_of c.in-While.invariants.items) (decreases_in c.in-While.decreases) (stmts_in c.in-While.body.items) = search (rules, the_lemmas) in
     subst (λ (stmt : Stmt). IfOk c.looping.result (λ onward. Passes (changed_in c.args.exits.in_loop.now) (changed_in c.args.exits.in_method.now) s (pass_stmt (setting_of c.args.setting.now s.entry) s.way stmt s.fresh) (standing_of c.looping.new.self) onward.goes_on onward.loses)) (sym is) c.looping.ensures.passes
+
+-- ---- on every way out
+
+pub stmt-returns-in_err-changed-in-If-clause-grows : goal.stmt-returns-in_err-changed-in-If-clause-grows
+stmt-returns-in_err-changed-in-If-clause-grows t c = grows_not c.args.self.now.ledger.nodes
+
+pub stmt-returns-in_err-branch-in-If-clause-grows : goal.stmt-returns-in_err-branch-in-If-clause-grows
+stmt-returns-in_err-branch-in-If-clause-grows t c = grows_then _ _ _ c.branches.ensures.grows c.branch-self.ensures.grows
+
+pub stmt-returns-in_err-add-in-If-clause-grows : goal.stmt-returns-in_err-add-in-If-clause-grows
+stmt-returns-in_err-add-in-If-clause-grows t c = grows_then _ _ _ c.branches.ensures.grows c.branch-self.ensures.grows
+
+pub stmt-returns-in_ok-add-in-If-clause-grows : goal.stmt-returns-in_ok-add-in-If-clause-grows
+stmt-returns-in_ok-add-in-If-clause-grows t c = grows_then _ _ _ (grows_then _ _ _ c.branches.ensures.grows c.branch-self.ensures.grows) c.rejoin.ensures.grows
+
+pub stmts-returns-in_err-onward-clause-grows : goal.stmts-returns-in_err-onward-clause-grows
+stmts-returns-in_err-onward-clause-grows t c = grows_then _ _ _ c.loop-stmt.invariant.grows c.stmt.ensures.grows
+
+pub stmts-returns-clause-grows : goal.stmts-returns-clause-grows
+stmts-returns-clause-grows t c = c.loop-stmt.invariant.grows
+
+pub branch-returns-clause-grows : goal.branch-returns-clause-grows
+branch-returns-clause-grows t c = grows_then _ _ _ c.stmts.ensures.grows (grows_same _ _ c.end_branch.ensures.nodes)
+
+pub branches-returns-in_err-past-clause-grows : goal.branches-returns-in_err-past-clause-grows
+branches-returns-in_err-past-clause-grows t c = grows_then _ _ _ c.loop-branch.invariant.grows c.enter_branch.ensures.grows
+
+pub branches-returns-in_err-branch-clause-grows : goal.branches-returns-in_err-branch-clause-grows
+branches-returns-in_err-branch-clause-grows t c = grows_then _ _ _ (grows_then _ _ _ c.loop-branch.invariant.grows c.enter_branch.ensures.grows) c.branch-self.ensures.grows
+
+pub branches-returns-in_err-add-clause-grows : goal.branches-returns-in_err-add-clause-grows
+branches-returns-in_err-add-clause-grows t c = grows_then _ _ _ (grows_then _ _ _ c.loop-branch.invariant.grows c.enter_branch.ensures.grows) c.branch-self.ensures.grows
+
+pub branches-returns-clause-grows : goal.branches-returns-clause-grows
+branches-returns-clause-grows t c = c.loop-branch.invariant.grows
+
+pub looping-returns-in_err-changed-clause-grows : goal.looping-returns-in_err-changed-clause-grows
+looping-returns-in_err-changed-clause-grows t c = grows_not c.args.self.now.ledger.nodes
+
+pub looping-returns-in_err-onward-clause-grows : goal.looping-returns-in_err-onward-clause-grows
+looping-returns-in_err-onward-clause-grows t c = grows_then _ _ _ c.begin_loop.ensures.grows c.stmts.ensures.grows
+
+pub looping-returns-in_err-turn_if-clause-grows : goal.looping-returns-in_err-turn_if-clause-grows
+looping-returns-in_err-turn_if-clause-grows t c = grows_then _ _ _ (grows_then _ _ _ c.begin_loop.ensures.grows c.stmts.ensures.grows) c.turn_if.ensures.grows
+
+pub looping-returns-in_err-goes_on-clause-grows : goal.looping-returns-in_err-goes_on-clause-grows
+looping-returns-in_err-goes_on-clause-grows t c = grows_then _ _ _ (grows_then _ _ _ (grows_then _ _ _ c.begin_loop.ensures.grows c.stmts.ensures.grows) c.turn_if.ensures.grows) c.end_loop.ensures.grows
+
+pub looping-returns-clause-grows : goal.looping-returns-clause-grows
+looping-returns-clause-grows t c = grows_then _ _ _ (grows_then _ _ _ (grows_then _ _ _ c.begin_loop.ensures.grows c.stmts.ensures.grows) c.turn_if.ensures.grows) c.end_loop.ensures.grows

@@ -1,4 +1,4 @@
-use Rattle.df_nflow.proofs.Words.{List, map, ap, ◌∙◌, subst, clause_of, program_of, Ty, are_clauses, grows_not, havoc, at_clause, assert_clauses, assume_clauses, ledger_of, way_of, standing_of, Standing, Moves, changed_in, on_ok_then}
+use Rattle.df_nflow.proofs.Words.{List, map, ap, ◌∙◌, subst, clause_of, program_of, Ty, are_clauses, grows_not, havoc, at_clause, assert_clauses, assume_clauses, ledger_of, way_of, standing_of, Standing, Moves, changed_in, on_ok_then, grows_then}
 use Rattle.df_meaning.specs.declared.kind.Kind.TheVariants as kinds
 use Rattle.df_nledger.specs.Ledger.{saying}
 use Rattle.df_nflow.proofs.Looping.{turns}
@@ -34,3 +34,11 @@ returns-clause-moves c =
     on_ok_then c.assume_clauses.result c.assume_clauses.ensures.ledger (λ e. turns old (standing_of here) _ changed clauses
     (subst (λ (x : Standing). Moves x (havoc changed x.fresh x.way) (standing_of here)) owed c.in_ok-havoc.ensures.moves)
     (says here c.assume_clauses.new.self c.assume_clauses.ensures.grows (assume_clauses (standing_of here).way clauses) (e ∙ (λ i. saying (assume_clauses (way_of here.ledger (d2 i)) clauses) (ledger_of here.ledger)))))
+
+-- ---- on every way out
+
+pub returns-in_err-havoc-clause-grows : goal.returns-in_err-havoc-clause-grows
+returns-in_err-havoc-clause-grows c = grows_then _ _ _ c.assert_clauses.ensures.grows c.havoc.ensures.grows
+
+pub returns-clause-grows : goal.returns-clause-grows
+returns-clause-grows c = grows_then _ _ _ (grows_then _ _ _ c.assert_clauses.ensures.grows c.havoc.ensures.grows) c.assume_clauses.ensures.grows

@@ -37,3 +37,8 @@ returns-clause-moves c =
     let tree = c.in_ok-formula.ensures.stands.tree_is ∙ (λ i. term_of (way_of s.ledger (d i)).env e) in
     let second = assert way.path c.args.pos kinds.Assert (term_of way.env e) in
     on_ok_then c.assert.result c.assert.ensures.ledger (λ then. also_moves (standing_of s) _ (assert_expr way e ++ second) (standing_also s.ledger c.assert.new.self s.types.items s.terms.items s.entry.items s.trail.items s.breaks.items s.returns.items (grows_then s.ledger.nodes c.value.new.self.nodes c.assert.new.self.nodes c.value.ensures.grows c.assert.ensures.grows) s.is_passed (assert_expr way e ++ second) (then ∙ (λ i. saying (assert (path i) c.args.pos kinds.Assert (tree i)) (first i)) ∙ say_both (assert_expr way e) second (ledger_of s.ledger))))
+
+-- ---- on every way out
+
+pub returns-clause-grows : goal.returns-clause-grows
+returns-clause-grows c = grows_then _ _ _ c.value.ensures.grows c.assert.ensures.grows

@@ -30,3 +30,8 @@ returns-clause-same c =
     let kept = ledger_keeps s.ledger.nodes c.equal_in.new.nodes s.ledger.said.items s.ledger.frees.items s.ledger.path c.equal_in.ensures.grows s.ledger.is_ledger in
     let tree = c.in_ok-equal.ensures.stands.tree_is ∙ ap (equal_in target.ty (tree_at nodes c.args.term)) last in
     on_ok_then c.assert.result c.assert.ensures.ledger (λ then. standing_also s.ledger c.assert.new.self s.types.items s.terms.items s.entry.items s.trail.items s.breaks.items s.returns.items (grows_then s.ledger.nodes c.equal_in.new.nodes c.assert.new.self.nodes c.equal_in.ensures.grows c.assert.ensures.grows) s.is_passed (assert way.path target.pos kinds.Distinct (equal_in target.ty (tree_at nodes c.args.term) (way.env target.local))) (then ∙ (λ i. saying (assert (kept i).path target.pos kinds.Distinct (tree i)) (kept i))))
+
+-- ---- on every way out
+
+pub returns-clause-grows : goal.returns-clause-grows
+returns-clause-grows c = grows_then _ _ _ c.equal_in.ensures.grows c.assert.ensures.grows

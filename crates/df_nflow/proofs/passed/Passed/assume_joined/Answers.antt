@@ -47,3 +47,11 @@ loop-way-preserved c =
       there = at.3;
       said = also_next (standing_of old) (standing_of s) _ _ said _ (ap (λ (ways : List DeclaredArrived). also (assume_joined_at c.args.ty place a (arrivals_in nodes ways)) (standing_of s)) (sym is) ∙ l.invariant.said) step;
     }
+
+-- ---- on every way out
+
+pub returns-in_err-assume_there-clause-grows : goal.returns-in_err-assume_there-clause-grows
+returns-in_err-assume_there-clause-grows c = grows_then _ _ _ c.loop-way.invariant.grows c.assume_there.ensures.grows
+
+pub returns-clause-grows : goal.returns-clause-grows
+returns-clause-grows c = c.loop-way.invariant.grows

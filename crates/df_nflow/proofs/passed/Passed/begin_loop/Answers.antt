@@ -1,4 +1,4 @@
-use Rattle.df_nflow.proofs.Words.{◌≡◌, List, map, sym, ap, ◌∙◌, subst, expr_of, loop_measure, clause_of, program_of, Ty, AreLocals, trees_in, grows_not, stays, decreases_in, assert_measure, measured, ledger_of, way_of, standing_of, Standing, also, changed_in, term_stays, Truths}
+use Rattle.df_nflow.proofs.Words.{◌≡◌, List, map, sym, ap, ◌∙◌, subst, expr_of, loop_measure, clause_of, program_of, Ty, AreLocals, trees_in, grows_not, stays, decreases_in, assert_measure, measured, ledger_of, way_of, standing_of, Standing, also, changed_in, term_stays, Truths, grows_then}
 use Rattle.df_nledger.specs.Ledger.{saying}
 use Rattle.df_nflow.proofs.Looping.{heads, passes_by}
 use Rattle.df_nflow.proofs.Passing.{gone_on, says, locals, is_passed}
@@ -50,3 +50,14 @@ returns-clause-measured c =
     let measures = loop_measure (expr_of c.args.guard.now) (decreases_in c.args.decreases.now) in
     let d = c.deref.ensures.value in
     c.in_ok-before.ensures.measured ∙ (λ i. measured (trees_in s.ledger.nodes (d i)) measures) ∙ ap (λ (a : Standing). measured a.way.env measures) (sym (measure_said c))
+
+-- ---- on every way out
+
+pub returns-in_err-past-clause-grows : goal.returns-in_err-past-clause-grows
+returns-in_err-past-clause-grows c = grows_then _ _ _ c.any_turn.ensures.grows c.enter_branch.ensures.grows
+
+pub returns-in_err-before-clause-grows : goal.returns-in_err-before-clause-grows
+returns-in_err-before-clause-grows c = grows_then _ _ _ (grows_then _ _ _ c.any_turn.ensures.grows c.enter_branch.ensures.grows) c.loop_measure.ensures.grows
+
+pub returns-clause-grows : goal.returns-clause-grows
+returns-clause-grows c = grows_then _ _ _ (grows_then _ _ _ c.any_turn.ensures.grows c.enter_branch.ensures.grows) c.loop_measure.ensures.grows

@@ -1,4 +1,4 @@
-use Rattle.df_nflow.proofs.Words.{◌∷◌, refl, sym, ap, ◌∙◌, subst, tree_at, if_ok, AllThere, past_loop, standing_of, Standing, are_at, arrivals_in, changed_in, arrival}
+use Rattle.df_nflow.proofs.Words.{◌∷◌, refl, sym, ap, ◌∙◌, subst, tree_at, if_ok, AllThere, past_loop, standing_of, Standing, are_at, arrivals_in, changed_in, arrival, grows_then, grows_same}
 use Rattle.df_nflow.proofs.Leaving.{sorted_way}
 use Rattle.df_nflow.proofs.Looping.{way_there, joins_past}
 use Rattle.df_nflow.proofs.passed.Passed.end_loop.Goals as goal
@@ -23,3 +23,11 @@ returns-clause-passes c =
     if_ok c.join_all.result _ _ c.join_all.ensures.joins (λ on joins. λ ways arrive.
     joins_past (standing_of s) behind _ changed ways on is.standing
     (joins (behind.way ∷ ways) (record { are = ap (arrivals_in s.ledger.nodes) c.deref.ensures.value ∙ is.ways ∙ (λ i. arrival changed (is.standing i).way ∷ arrive.are i); sorted = (sorted, arrive.sorted) })))
+
+-- ---- on every way out
+
+pub returns-in_err-ways-clause-grows : goal.returns-in_err-ways-clause-grows
+returns-in_err-ways-clause-grows c = grows_same _ _ c.ways_past.ensures.nodes
+
+pub returns-clause-grows : goal.returns-clause-grows
+returns-clause-grows c = grows_then _ _ _ (grows_same _ _ c.ways_past.ensures.nodes) c.join_all.ensures.grows

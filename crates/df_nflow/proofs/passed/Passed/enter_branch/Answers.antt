@@ -1,4 +1,4 @@
-use Rattle.df_nflow.proofs.Words.{Some, ◌∙◌, tree_stays, stays, narrowed_path, Truths, negation, at_path, term_stays}
+use Rattle.df_nflow.proofs.Words.{Some, ◌∙◌, tree_stays, stays, narrowed_path, Truths, negation, at_path, term_stays, grows_then}
 use Rattle.df_nflow.proofs.passed.Passed.enter_branch.Goals as goal
 
 pub enter-requires : goal.enter-requires
@@ -19,3 +19,14 @@ returns-clause-stands c =
     let said = c.in_ok-formula.ensures.said in
     let tree = c.in_ok-formula.ensures.stands.tree_is in
     stays c.past.new.self.ledger.nodes c.enter.new.self.ledger.nodes _ c.in_ok-past.past c.enter.ensures.grows (record { below = is.below; tree_is = is.tree_is ∙ (λ i. narrowed_path (said i).way.path (negation (tree i))) })
+
+-- ---- on every way out
+
+pub returns-in_err-past-clause-grows : goal.returns-in_err-past-clause-grows
+returns-in_err-past-clause-grows c = grows_then _ _ _ c.guard.ensures.grows c.past.ensures.grows
+
+pub returns-in_err-enter-clause-grows : goal.returns-in_err-enter-clause-grows
+returns-in_err-enter-clause-grows c = grows_then _ _ _ (grows_then _ _ _ c.guard.ensures.grows c.past.ensures.grows) c.enter.ensures.grows
+
+pub returns-clause-grows : goal.returns-clause-grows
+returns-clause-grows c = grows_then _ _ _ (grows_then _ _ _ c.guard.ensures.grows c.past.ensures.grows) c.enter.ensures.grows

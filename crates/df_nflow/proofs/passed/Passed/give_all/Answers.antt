@@ -1,7 +1,7 @@
 use Rattle.df_nflow.proofs.Words.{◌+◌, ℕ, List, [], map, drop, get_or, length, ap, ◌∙◌, subst, rules, drop_all, Ty, target_of, DeclaredTarget, trees_at, grows_not, grows_then, locals_stay, grown_tree, standing_of, are_targets_over, target_types, index_below, give_all}
 use Rattle.df_lang.specs.declared.ty.Ty.TheVariants as tys
 use Rattle.df_nflow.proofs.Going.{moving_done}
-use Rattle.df_nflow.proofs.Once.{is_met}
+use Rattle.df_nlocals.proofs.Once.{is_met}
 use Rattle.df_nflow.proofs.Targets.{Giving, giving_from, turn, giving_turn}
 use Rattle.df_nflow.proofs.passed.Passed.give_all.Goals as goal
 
@@ -65,3 +65,14 @@ returns-clause-moves c =
     let whole = give_all [] (map target_of c.args.targets.now) (trees_at old c.args.terms.now) (standing_of s).fresh (standing_of s).way in
     moving_done (standing_of s) (standing_of l.self) whole
     (subst (λ (ts : List DeclaredTarget). Giving (standing_of s) whole (standing_of l.self) (map target_of ts) (trees_at old (drop l.i c.args.terms.now)) l.named.keys) (drop_all l.i c.args.targets.now c.loop-i-test.false) l.invariant.giving).moving
+
+-- ---- on every way out
+
+pub returns-in_err-is_new-clause-grows : goal.returns-in_err-is_new-clause-grows
+returns-in_err-is_new-clause-grows c = c.loop-i.invariant.grows
+
+pub returns-in_err-give_one-clause-grows : goal.returns-in_err-give_one-clause-grows
+returns-in_err-give_one-clause-grows c = grows_then _ _ _ c.loop-i.invariant.grows c.give_one.ensures.grows
+
+pub returns-clause-grows : goal.returns-clause-grows
+returns-clause-grows c = c.loop-i.invariant.grows

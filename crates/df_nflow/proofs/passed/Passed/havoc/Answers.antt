@@ -44,3 +44,14 @@ returns-clause-moves c =
     let first = standing_of c.args.self.now in
     let here = standing_of l.self in
     moving_done first here _ (subst (λ (ds : List DeclaredChanged). Moving first (havoc (changed_in c.args.changed.now) first.fresh first.way) here (havoc (changed_in ds) here.fresh here.way)) (drop_all l.one-index c.args.changed.now c.loop-one-test.false) l.invariant.moving)
+
+-- ---- on every way out
+
+pub returns-in_err-term-clause-grows : goal.returns-in_err-term-clause-grows
+returns-in_err-term-clause-grows c = grows_then _ _ _ c.loop-one.invariant.grows c.any.ensures.grows
+
+pub returns-in_err-give-clause-grows : goal.returns-in_err-give-clause-grows
+returns-in_err-give-clause-grows c = grows_then _ _ _ (grows_then _ _ _ c.loop-one.invariant.grows c.any.ensures.grows) (grows_same _ _ c.give.ensures.nodes)
+
+pub returns-clause-grows : goal.returns-clause-grows
+returns-clause-grows c = c.loop-one.invariant.grows

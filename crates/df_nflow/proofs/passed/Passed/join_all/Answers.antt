@@ -1,4 +1,4 @@
-use Rattle.df_nflow.proofs.Words.{◌≡◌, Option, sym, ap, ◌∙◌, subst, path_in, if_ok, Term, any_path, join, paths_of, AllThere, paths_in, standing_of, Standing, Joins, changed_in}
+use Rattle.df_nflow.proofs.Words.{◌≡◌, Option, sym, ap, ◌∙◌, subst, path_in, if_ok, Term, any_path, join, paths_of, AllThere, paths_in, standing_of, Standing, Joins, changed_in, grows_then}
 use Rattle.df_nflow.proofs.Waiting.{all_arrived_stay, arrivals_same}
 use Rattle.df_nflow.proofs.Changes.{paths_joined}
 use Rattle.df_nflow.proofs.Passing.{gone_on, keeps, is_passed}
@@ -27,3 +27,8 @@ returns-clause-joins c =
     let all = joins ways (record { are = arrivals_same s.ledger.nodes l.nodes grows s.types.items c.args.arrived.now c.requires.arrived ∙ arrive.are; sorted = arrive.sorted }) in
     subst (λ (a : Standing). Joins a (join (any_path (paths_of ways)) a.way.env changed ways a.fresh) new on) (keeps s l grows c.in_ok-path.ensures.ledger)
     (subst (λ (p : Option Term). Joins (gone_on s l grows) (join p (gone_on s l grows).way.env changed ways (gone_on s l grows).fresh) new on) path all))
+
+-- ---- on every way out
+
+pub returns-clause-grows : goal.returns-clause-grows
+returns-clause-grows c = grows_then _ _ _ c.any_path.ensures.grows c.join.ensures.grows

@@ -1,4 +1,4 @@
-use Rattle.df_nflow.proofs.Words.{List, refl, sym, ap, ◌∙◌, subst, tree_at, is_term, stays, sort_of_type, AreThere, standing_of, Standing, is_at, Arrival, changed_of, arrivals_in, on_ok_then}
+use Rattle.df_nflow.proofs.Words.{List, refl, sym, ap, ◌∙◌, subst, tree_at, is_term, stays, sort_of_type, AreThere, standing_of, Standing, is_at, Arrival, changed_of, arrivals_in, on_ok_then, grows_not, grows_then, grows_same}
 use Rattle.df_nflow.proofs.Changes.{kept_of}
 use Rattle.df_nflow.proofs.Waiting.{all_arrived_stay, arrivals_same}
 use Rattle.df_nflow.proofs.Joined.{join_kept, join_new}
@@ -44,3 +44,14 @@ returns-clause-moves c =
     on_ok_then c.give.result c.give.ensures.moves (λ p. join_new (standing_of s) c.args.place (changed_of one) (arrivals_in s.ledger.nodes c.args.arrived.now) fresh (standing_of mid) (standing_of c.give.new.self) (arrivals_in c.fresh.new.self.nodes c.args.arrived.now)
     (tree_at c.fresh.new.self.nodes c.in_ok-term.term) (tree_at mid.ledger.nodes c.in_ok-term.term) test made (arrivals_same s.ledger.nodes c.fresh.new.self.nodes c.fresh.ensures.grows s.types.items c.args.arrived.now c.requires.arrived) stands.tree_is
     (stays c.fresh.new.self.nodes mid.ledger.nodes _ c.in_ok-term.term c.assume_joined.ensures.grows stands).tree_is c.in_ok-assume_joined.ensures.said p)
+
+-- ---- on every way out
+
+pub returns-then-are_same-clause-grows : goal.returns-then-are_same-clause-grows
+returns-then-are_same-clause-grows c = grows_not c.args.self.now.ledger.nodes
+
+pub returns-in_err-assume_joined-clause-grows : goal.returns-in_err-assume_joined-clause-grows
+returns-in_err-assume_joined-clause-grows c = grows_then _ _ _ c.fresh.ensures.grows c.assume_joined.ensures.grows
+
+pub returns-clause-grows : goal.returns-clause-grows
+returns-clause-grows c = grows_then _ _ _ (grows_then _ _ _ c.fresh.ensures.grows c.assume_joined.ensures.grows) (grows_same _ _ c.give.ensures.nodes)

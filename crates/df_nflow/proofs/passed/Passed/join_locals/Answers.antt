@@ -38,3 +38,11 @@ returns-clause-moves c =
     let here = standing_of l.self in
     let arrivals = arrivals_in c.args.self.now.ledger.nodes c.args.arrived.now in
     moving_done old here _ (subst (λ (ds : List DeclaredChanged). Moving old (join_locals_from 0 (changed_in c.args.changed.now) arrivals old.fresh old.way.env old.way.path) here (join_locals_from l.place (changed_in ds) arrivals here.fresh here.way.env here.way.path)) (drop_all l.place c.args.changed.now c.loop-place-test.false) l.invariant.moving)
+
+-- ---- on every way out
+
+pub returns-in_err-join_local-clause-grows : goal.returns-in_err-join_local-clause-grows
+returns-in_err-join_local-clause-grows c = grows_then _ _ _ c.loop-place.invariant.grows c.join_local.ensures.grows
+
+pub returns-clause-grows : goal.returns-clause-grows
+returns-clause-grows c = c.loop-place.invariant.grows

@@ -1,4 +1,4 @@
-use Rattle.df_nflow.proofs.Words.{◌≡◌, ℕ, List, sym, ap, ◌∙◌, subst, expr_of, Operand, Value, operand_of, program_of, IsOver, ledger_of, way_of, standing_of, also, is_operand_over, assert_expr, assert_operand}
+use Rattle.df_nflow.proofs.Words.{◌≡◌, ℕ, List, sym, ap, ◌∙◌, subst, expr_of, Operand, Value, operand_of, program_of, IsOver, ledger_of, way_of, standing_of, also, is_operand_over, assert_expr, assert_operand, grows_not}
 use Rattle.df_nledger.specs.Ledger.{saying}
 use Rattle.df_nflow.proofs.Terms.{locals_are}
 use Rattle.df_nflow.proofs.Standings.{standing_also}
@@ -23,3 +23,8 @@ returns-in_ok-value-in-Value-clause-said c =
     let is : operand_of c.args.operand.now ≡ Value c.in-Value.ty e = ap operand_of c.in-Value.is in
     standing_also s.ledger c.value.new.self s.types.items s.terms.items s.entry.items s.trail.items s.breaks.items s.returns.items c.value.ensures.grows s.is_passed (assert_expr (standing_of s).way e) (c.in_ok-value-in-Value.ensures.ledger ∙ (λ i. saying (assert_expr (way_of s.ledger (d i)) e) (ledger_of s.ledger)))
     ∙ ap (λ (o : Operand). also (assert_operand (standing_of s).way o) (standing_of s)) (sym is)
+
+-- ---- on every way out
+
+pub returns-in-Text-clause-grows : goal.returns-in-Text-clause-grows
+returns-in-Text-clause-grows c = grows_not c.args.self.now.ledger.nodes

@@ -25,3 +25,8 @@ returns-clause-stands c =
     let path = ap (λ (l : Ledger). l.path) (ledger_keeps s.ledger.nodes c.negation.new.nodes s.ledger.said.items s.ledger.frees.items s.ledger.path c.negation.ensures.grows s.ledger.is_ledger) in
     let tree = c.in_ok-negated.ensures.stands.tree_is in
     stands_as c.narrowed.result c.narrowed.new.self.nodes _ _ (λ i. narrowed_path (path i) (tree i)) c.narrowed.ensures.stands
+
+-- ---- on every way out
+
+pub returns-clause-grows : goal.returns-clause-grows
+returns-clause-grows c = grows_then _ _ _ c.negation.ensures.grows c.narrowed.ensures.grows

@@ -41,3 +41,11 @@ returns-clause-said c =
     let l = c.loop-operand in
     also_last (standing_of c.args.self.now) (standing_of l.self) _
     (ap (λ (os : List DeclaredOperand). also (flat_map (assert_operand (standing_of c.args.self.now).way) (map operand_of os)) (standing_of l.self)) (sym (drop_all l.operand-index c.args.operands.now c.loop-operand-test.false)) ∙ l.invariant.said)
+
+-- ---- on every way out
+
+pub returns-in_err-operand-clause-grows : goal.returns-in_err-operand-clause-grows
+returns-in_err-operand-clause-grows c = grows_then _ _ _ c.loop-operand.invariant.grows c.operand.ensures.grows
+
+pub returns-clause-grows : goal.returns-clause-grows
+returns-clause-grows c = c.loop-operand.invariant.grows

@@ -1,4 +1,4 @@
-use Rattle.df_nflow.proofs.Words.{sym, ap, ◌∙◌, subst, AllThere, standing_of, AreArrived, all_ended_in, arrivals_in, changed_in}
+use Rattle.df_nflow.proofs.Words.{sym, ap, ◌∙◌, subst, AllThere, standing_of, AreArrived, all_ended_in, arrivals_in, changed_in, grows_then}
 use Rattle.df_nflow.proofs.Branching.{rejoins, all_ended_same, arrivals_ended}
 use Rattle.df_nflow.proofs.Waiting.{all_arrived_stay, arrivals_same}
 use Rattle.df_nflow.proofs.Passing.{gone_on, keeps, is_passed}
@@ -30,3 +30,11 @@ returns-clause-passes c = λ in_loop in_method start all p starts.
     (keeps s l grows c.in_ok-path.ensures.ledger)
     (ap (all_ended_in l.nodes) c.deref.ensures.value ∙ all_ended_same s.ledger.nodes l.nodes s.types.items grows arrived c.requires.arrived)
     (arrivals_ended s.ledger.nodes arrived) c.in_ok-path.ensures.path c.in_ok-goes_on.ensures.joins
+
+-- ---- on every way out
+
+pub returns-in_err-goes_on-clause-grows : goal.returns-in_err-goes_on-clause-grows
+returns-in_err-goes_on-clause-grows c = grows_then _ _ _ c.path_behind.ensures.grows c.join_branches.ensures.grows
+
+pub returns-clause-grows : goal.returns-clause-grows
+returns-clause-grows c = grows_then _ _ _ c.path_behind.ensures.grows c.join_branches.ensures.grows

@@ -48,3 +48,11 @@ returns-clause-said c =
     let then = measured_same s.ledger.nodes l2.nodes g2 c.args.before.now c.requires.before in
     on_ok_then c.assert_below.result c.assert_below.ensures.ledger (λ e3. says s c.assert_below.new.self (grows_then _ _ _ g2 c.assert_below.ensures.grows) (kept ++ (asked ++ less))
     (e3 ∙ (λ i. saying (assert (e2 i).path c.args.pos kinds.Decreases (are_below (now i) (then i))) (e2 i)) ∙ say_both (kept ++ asked) less (ledger_of s.ledger) ∙ ap (λ (said : List Said). saying said (ledger_of s.ledger)) (append_assoc kept asked less)))
+
+-- ---- on every way out
+
+pub returns-in_err-now-clause-grows : goal.returns-in_err-now-clause-grows
+returns-in_err-now-clause-grows c = grows_then _ _ _ c.assert_clauses.ensures.grows c.loop_measure.ensures.grows
+
+pub returns-clause-grows : goal.returns-clause-grows
+returns-clause-grows c = grows_then _ _ _ (grows_then _ _ _ c.assert_clauses.ensures.grows c.loop_measure.ensures.grows) c.assert_below.ensures.grows

@@ -1,4 +1,4 @@
-use Rattle.df_nflow.proofs.Words.{◌≡◌, ℕ, List, [], map, length, sym, ap, ◌∙◌, subst, flat_map, Ty, source_of, target_of, update_of, source_types, program_of, DeclaredTarget, AreLocals, trees_at, measured_in, DeclaredMeasured, AreSources, ledger_of, way_of, with_fresh, standing_of, Moves, target_types, setting_of, on_ok_then, Given, give_all, moved_behind, pass_sources}
+use Rattle.df_nflow.proofs.Words.{◌≡◌, ℕ, List, [], map, length, sym, ap, ◌∙◌, subst, flat_map, Ty, source_of, target_of, update_of, source_types, program_of, DeclaredTarget, AreLocals, trees_at, measured_in, DeclaredMeasured, AreSources, ledger_of, way_of, with_fresh, standing_of, Moves, target_types, setting_of, on_ok_then, Given, give_all, moved_behind, pass_sources, grows_then}
 use Rattle.df_lang.specs.declared.stmt.Source.{Source as DeclaredSource}
 use Rattle.df_nflow.proofs.Terms.{locals_are}
 use Rattle.df_nflow.proofs.Standings.{standing, standing_with}
@@ -45,3 +45,8 @@ returns-clause-moves c =
     on_ok_then c.give_all.result c.give_all.ensures.moves (λ p.
     subst (λ (ts : List DeclaredTarget). Moves (standing_of s) (moved_behind given.said (give_all [] (map target_of ts) given.terms given.fresh (standing_of s).way)) (standing_of c.give_all.new.self)) c.deref-4.ensures.value
     (updated (standing_of s) mid (standing_of c.give_all.new.self) given (map target_of c.deref-4.result.now) (trees_at nodes c.deref-5.result.now) is terms p))
+
+-- ---- on every way out
+
+pub returns-clause-grows : goal.returns-clause-grows
+returns-clause-grows c = grows_then _ _ _ c.sources.ensures.grows c.give_all.ensures.grows

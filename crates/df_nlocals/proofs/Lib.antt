@@ -1,0 +1,5 @@
+pub mod Words
+pub mod Gathering
+pub mod Branches
+pub mod Once
+pub mod Leaving
