@@ -16,4 +16,5 @@ pub mod TextWritten
 pub mod TwoHalves
 pub mod WordsRead
 pub mod WordsWritten
+mod EachWritten
 mod PairsLeft

@@ -12,8 +12,7 @@ use Rattle.df_nerase.specs.Erasing.{method_number}
 use Rattle.df_nmach.specs.Value as machine
 use Rattle.df_nmach.specs.State.{Code}
 use Rattle.df_nemit.specs.Ending.{EndsWith}
-use Rattle.df_nback.specs.Lowering.{lower}
-use Rattle.df_nback.specs.Run.{nothing_yet, IsCompiled, RunsAsEntry}
+use Rattle.df_nback.specs.Run.{nothing_yet, IsCompiled, RunsAsEntry, lower}
 
 -- no places have no values
 no_places : (vs : List Value) (lowered : List machine.Value) → lower [] vs ≡ Some lowered → lowered ≡ []

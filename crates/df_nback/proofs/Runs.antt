@@ -13,8 +13,7 @@ use Rattle.df_nmach.specs.State.{Code}
 use Rattle.df_nmach.specs.Run.{start_of, NeverFaults}
 use Rattle.df_nemit.specs.Correct.{DoesWhat}
 use Rattle.df_nemit.specs.Ending.{machine_value}
-use Rattle.df_nback.specs.Compiled.{code_for}
-use Rattle.df_nback.specs.Run.{nothing_yet, IsCompiled, NeverFaultsWhereCorrect}
+use Rattle.df_nback.specs.Run.{nothing_yet, IsCompiled, NeverFaultsWhereCorrect, code_for}
 use Rattle.df_nback.proofs.KindsOfValues.{kinds_simple, kinds_long}
 
 one_some : {A : Type 0} (o : Option A) (x y : A) → o ≡ Some x → o ≡ Some y → x ≡ y

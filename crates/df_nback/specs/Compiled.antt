@@ -2,14 +2,8 @@
 use Rattle.std.specs.Prelude.{Bool}
 use Rattle.std.specs.List.{list_all}
 use Rattle.df_lang.specs.Program.{Method, Program}
-use Rattle.df_nerase.specs.Erasing.{methods_among, erased}
+use Rattle.df_nerase.specs.Erasing.{methods_among}
 use Rattle.df_nmach.specs.Name.{is_name}
-use Rattle.df_nmach.specs.State.{Code}
-use Rattle.df_nemit.specs.Code.{plain_code}
-
--- the instructions of the program without its ghosts
-abbrev pub code_for : Program → Code
-code_for program = plain_code (erased program)
 
 -- the names of all methods are identifiers parted by dots
 abbrev pub has_names : Program → Bool

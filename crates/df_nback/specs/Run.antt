@@ -1,6 +1,6 @@
 -- Runs of methods with their ghosts, and on the machine.
-use Rattle.std.specs.Prelude.{◌≡◌, ℕ, true, List, [], Some}
-use Rattle.df_lang.specs.Program.{Method, Program, method_at, types_of}
+use Rattle.std.specs.Prelude.{◌≡◌, ℕ, true, List, [], Some, map, Option}
+use Rattle.df_lang.specs.Program.{Method, Program, method_at, types_of, Param}
 use Rattle.df_meaning.specs.Value.{Value}
 use Rattle.df_meaning.specs.Types.{have_types}
 use Rattle.df_meaning.specs.Outcome.{Gives}
@@ -8,17 +8,23 @@ use Rattle.df_meaning.specs.State.{Store, store_with}
 use Rattle.df_meaning.specs.Meaning.{Returned}
 use Rattle.df_meaning.specs.Whole.{run_method, whole}
 use Rattle.df_meaning.specs.Correct.{MeetsPreconditions, IsCorrect}
-use Rattle.df_nerase.specs.Erasing.{method_number}
+use Rattle.df_nerase.specs.Erasing.{method_number, erased}
 use Rattle.df_nmach.specs.Value as machine
 use Rattle.df_nmach.specs.State.{Code, Heap}
 use Rattle.df_nmach.specs.Run.{start_of, NeverFaults}
-use Rattle.df_nemit.specs.Ending.{EndsWith}
-use Rattle.df_nback.specs.Lowering.{lower}
-use Rattle.df_nback.specs.Compiled.{code_for}
+use Rattle.df_nemit.specs.Ending.{EndsWith, machine_value}
+use Rattle.std.specs.Option.{option_map}
+use Rattle.df_nerase.specs.Erasing as erasing
+use Rattle.df_nemit.specs.Code.{plain_code}
 
 -- nothing is printed, and nothing is left to be handed in
 abbrev pub nothing_yet : Store
 nothing_yet = store_with [] []
+
+-- The values of places on the machine, one for each place that is no ghost's. There are such values where the places keep
+-- the rule on their types.
+abbrev pub lower : List Param → List Value → Option (List machine.Value)
+lower params values = option_map (map machine_value) (erasing.lower params values)
 
 -- The whole run of a method with its ghosts ends, at some depth: so it satisfies every assertion, invariant and contract
 -- on its way. On the machine, over any heap, the method begins with the arguments lowered, no number of steps faults, and
@@ -32,6 +38,10 @@ pub record RunsAs (program : Program) (code : Code) (number : ℕ) (method : Met
   pub left : List machine.Value
   pub ends_lowered : lower method.results returned.values ≡ Some left
   pub on_machine : (heap : Heap) → EndsWith code (method_number program number) heap given left returned.store.text
+
+-- the instructions of the program without its ghosts
+abbrev pub code_for : Program → Code
+code_for program = plain_code (erased program)
 
 -- The code is the program's, and every correct method runs so on it, on all arguments of the types of its parameters that
 -- meet its preconditions.

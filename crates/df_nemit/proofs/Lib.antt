@@ -3,6 +3,9 @@ pub mod ExpressionsEmitted
 pub mod StatementsEmitted
 pub mod LinkView
 pub mod Tail
+pub mod Walk
+pub mod Walks
+pub mod StatementWalks
 pub mod Reach
 pub mod OperatorRuns
 pub mod ExpressionRuns

@@ -22,7 +22,6 @@ use Rattle.df_nmach.specs.declared.instruction.Instruction.TheVariants as i
 use Rattle.df_nmach.specs.declared.code.Shape.{Shape}
 use Rattle.df_nmach.specs.declared.code.Shape.TheVariants as shapes
 use Rattle.df_nmach.specs.Value as mach
-use Rattle.df_nmach.specs.Printing as printing
 use Rattle.df_nmach.specs.Step.{Effect, Goes, TooLong, given, demand, leaves, characters, sequence, effect}
 use Rattle.df_nmach.specs.Step as step
 use Rattle.df_nemit.specs.Code.{expr_code, shape_of, text_code, operands_code}
@@ -35,7 +34,7 @@ use Rattle.df_nemit.proofs.Lifts.{Comes, comes_after, comes_to}
 
 -- prints the value on top
 print_one : (w : World) (q n : ℕ) (s : State) (v : Value) (shape : Shape) → slice_get (instructions w) q ≡ Some (i.Print n) → slice_get (shapes.Number ∷ shapes.Truth ∷ shapes.Char ∷ shapes.Text ∷ []) n ≡ Some shape
-    → printing.text_of shape (machine_value v) ≡ Some (text_of v) → Carries w q s (machine_value v ∷ []) (q + 1) (printed s v) []
+    → mach.text_of shape (machine_value v) ≡ Some (text_of v) → Carries w q s (machine_value v ∷ []) (q + 1) (printed s v) []
 print_one w q n s v shape h there says = record {
   by = λ l c.
       let x = machine_value v in
@@ -44,13 +43,13 @@ print_one w q n s v shape h there says = record {
         locals = l;
         covers = record { each = c.each; long = c.long };
         leads = leads_one w q (q + 1) l l (x ∷ []) [] s.text (text_of v) (i.Print n) h
-            (ap (λ (all : List Shape). given (slice_get all n) (λ y. given (printing.text_of y x) (λ z. Goes w.heap (step.after f []) z))) w.shapes
-            ∙ ap (λ (o : Option Shape). given o (λ y. given (printing.text_of y x) (λ z. Goes w.heap (step.after f []) z))) there
+            (ap (λ (all : List Shape). given (slice_get all n) (λ y. given (mach.text_of y x) (λ z. Goes w.heap (step.after f []) z))) w.shapes
+            ∙ ap (λ (o : Option Shape). given o (λ y. given (mach.text_of y x) (λ z. Goes w.heap (step.after f []) z))) there
             ∙ ap (λ (o : Option (List ℕ)). given o (λ z. Goes w.heap (step.after f []) z)) says);
       };
 }
 
-truths_say : (b : Bool) → printing.text_of shapes.Truth (mach.Truth b) ≡ Some (text_of (values.Truth b))
+truths_say : (b : Bool) → mach.text_of shapes.Truth (mach.Truth b) ≡ Some (text_of (values.Truth b))
 truths_say true = refl
 truths_say false = refl
 

@@ -9,7 +9,8 @@ use Rattle.df_nplain.specs.Expr.{Expr}
 use Rattle.df_nplain.specs.Stmt.{Variable, Stmt, Block, Var, Assign, CallOf, If, While, Break, Return, Print, Stmts, done, next, Branches, no_branch, branch}
 use Rattle.df_nplain.specs.Plain as plain
 use Rattle.df_nplain.specs.Bounded.{is_bounded, is_bounded_variable, is_bounded_update, is_bounded_stmt, are_bounded_stmts, are_bounded_branches}
-use Rattle.df_nplain.specs.Counts.{results_at, is_stmt, are_stmts, are_branches}
+use Rattle.df_nplain.specs.Plain.{results_at}
+use Rattle.df_nplain.specs.Counts.{is_stmt, are_stmts, are_branches}
 use Rattle.df_nplain.specs.Short.{is_short_stmt, are_short_stmts, are_short_branches}
 use Rattle.df_nplain.specs.Outcome.{Outcome, Wrong, TooDeep, Stuck, after}
 use Rattle.df_nplain.specs.Outcome as outcomes

@@ -9,7 +9,7 @@ use Rattle.df_nplain.specs.Plain as plain
 use Rattle.df_nmach.specs.declared.instruction.Instruction.{Instruction}
 use Rattle.df_nmach.specs.declared.instruction.Instruction.TheVariants as i
 use Rattle.df_nmach.specs.State.{Method}
-use Rattle.df_nplain.specs.Counts.{results_at}
+use Rattle.df_nplain.specs.Plain.{results_at}
 use Rattle.df_nemit.specs.Code.{Exit, Behind, Outside, Ending, Mark, Fixed, To, instruction_of, unknown, with_outside, ending_at, leaving_at, fixed, expr_code, exprs_code, call_code, source_code, sources_code, sets_code, update_code, optional_code, shape_of, operand_code, operands_code, stmt_marks, stmts_marks, branches_marks, gets, scratch_of, body_code, highest, method_code}
 use Rattle.df_nemit.specs.mirror.Emitting.{fill, emit_call, emit_source, emit_sources, emit_update, emit_optional, emit_operand, emit_operands, Draft, coded, put_return, guarded, passing, entered, left, Choice, closed, chosen, emit_stmt, emit_stmts, emit_branches, give, emit_body, emit_method}
 use Rattle.df_nemit.proofs.Fills.{places, places_append, places_fixed, instructions_of, instructions_fixed, instructions_long, fixed_long, fills, ending_behind, ending_outside, ending_ending, ending_filled, leaving_long, leaving_behind, leaving_outside, leaving_ending, leaving_filled}

@@ -10,7 +10,8 @@ use Rattle.df_nplain.specs.Expr.{Expr}
 use Rattle.df_nplain.specs.Stmt.{Call, Source, Single, Results, Update}
 use Rattle.df_nplain.specs.Plain as plain
 use Rattle.df_nplain.specs.Bounded.{is_bounded, is_bounded_source, is_bounded_call, is_bounded_update}
-use Rattle.df_nplain.specs.Counts.{results_at, is_call, is_source, count_of, is_update}
+use Rattle.df_nplain.specs.Plain.{results_at}
+use Rattle.df_nplain.specs.Counts.{is_call, is_source, count_of, is_update}
 use Rattle.df_nplain.specs.Outcome.{Outcome, Wrong, TooDeep, Stuck, after}
 use Rattle.df_nplain.specs.Outcome as outcomes
 use Rattle.df_nplain.specs.State.{State, with_text}

@@ -12,7 +12,7 @@ use Rattle.df_nplain.specs.Kind as kinds
 use Rattle.df_nplain.specs.Expr.{Expr, Number, Truth, Character, Local, Negate, Not, Sum, Product, Junction, Implies, Iff, Chain, As, Addends, no_addend, addend, Factors, no_factor, factor, Members, no_member, member, Links, no_link, link}
 use Rattle.df_nplain.specs.Stmt.{Operand, Text, Value, Call, Source, Single, Results, Update, Stmt, Block, Var, Assign, CallOf, If, While, Break, Return, Print, Stmts, done, next, Branches, no_branch, branch}
 use Rattle.df_nplain.specs.Plain as plain
-use Rattle.df_nplain.specs.Counts.{results_at}
+use Rattle.df_nplain.specs.Plain.{results_at}
 use Rattle.df_nmach.specs.declared.instruction.Range.{Range}
 use Rattle.df_nmach.specs.declared.instruction.UnaryOperator.TheVariants as unary
 use Rattle.df_nmach.specs.declared.instruction.BinaryOperator.TheVariants as binary

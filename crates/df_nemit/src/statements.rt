@@ -4,7 +4,7 @@ ghost use Rattle.std.specs.Prelude.{◌≡◌, ◌<◌, ◌≤◌, [], ◌∷◌
 ghost use Rattle.df_nplain.specs.ExprView.{expr_of};
 ghost use Rattle.df_nplain.specs.StmtView as view;
 ghost use Rattle.df_nplain.specs.View.{plain_of};
-ghost use Rattle.df_nplain.specs.Counts as counts;
+ghost use Rattle.df_nplain.specs.Plain.{results_at};
 ghost use Rattle.df_nemit.specs.mirror.Drafts.{draft_of, choice_of};
 ghost use Rattle.df_nemit.specs.mirror.Emitting as mirror;
 
@@ -19,7 +19,7 @@ use std::mem;
 
 /// How many results the method of a number has.
 fn results_at(plain: &Plain, number: usize) -> usize
-    ensures { result ≡ counts.results_at (plain_of plain.now) number }
+    ensures { result ≡ results_at (plain_of plain.now) number }
 {
     match plain.methods.get(number) {
         Some(method) => method.results.len(),

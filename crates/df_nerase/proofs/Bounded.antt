@@ -7,13 +7,13 @@ use Rattle.df_base.specs.declared.pos.Pos.{Pos}
 use Rattle.df_lang.specs.declared.ty.Ty.{Ty}
 use Rattle.df_lang.specs.declared.ty.Ty.TheVariants as types
 use Rattle.df_lang.specs.declared.expr.Arrow.TheVariants as arrows
-use Rattle.df_lang.specs.Newtype.{Newtype}
+use Rattle.df_lang.specs.Newtype.{Newtype, same_type, is_unbounded}
 use Rattle.df_lang.specs.Expr.{Expr, Number, Truth, Character, Local, Negate, Not, Sum, Product, Junction, Implies, Iff, Chain, As, Convert, Addends, no_addend, addend, Factors, no_factor, factor, Members, no_member, member, Links, no_link, link}
 use Rattle.df_lang.specs.Stmt.{Operand, Text, Value, Target, Call, Source, Single, Results, Update, Variable, Stmt, Block, Var, Assign, CallOf, If, While, Break, Return, Assert, Print, Stmts, done, next, Branches, no_branch, branch}
 use Rattle.df_lang.specs.Program.{Param, Method, Decl, NewtypeDecl, MethodDecl, Program, as_method, newtype_at, method_at, types_of}
-use Rattle.df_lang.specs.Typing.{same_type, are_same_types, is_type, is_arithmetic, casts, converts, compares, is_expr, are_addends, are_factors, are_members, are_links, are_exprs, are_clauses, are_measures, Setting, over_locals, inside_loop, is_operand, is_call, are_results, is_source, source_types, is_target, is_update, may_update, are_numbered, variable_numbers, variable_types, locals_after, locals_after_all, locals_after_branches, gives_results, is_measured, is_stmt, are_stmts, are_branches, is_decl, is_method}
+use Rattle.df_lang.specs.Typing.{are_same_types, is_type, is_arithmetic, casts, converts, compares, is_expr, are_addends, are_factors, are_members, are_links, are_exprs, are_clauses, are_measures, Setting, over_locals, inside_loop, is_operand, is_call, are_results, is_source, source_types, is_target, is_update, may_update, are_numbered, variable_numbers, variable_types, locals_after, locals_after_all, locals_after_branches, gives_results, is_measured, is_stmt, are_stmts, are_branches, is_decl, is_method}
 use Rattle.df_lang.specs.Marks.{are_unmarked_variables, are_unmarked_params, is_unmarked, are_unmarked, are_unmarked_branches, has_no_ghost}
-use Rattle.df_lang.specs.Native.{Breach, is_unbounded, if_int, if_int_elsewhere, if_nat, breaches, breaches_of_addends, breaches_of_factors, breaches_of_members, breaches_of_turned, breaches_of_links, breaches_of_printed, breaches_of_source, breaches_of_update, breaches_of_place, breaches_of_variables, breaches_of_params, breaches_in, breaches_in_all, breaches_in_branches, breaches_in_method}
+use Rattle.df_lang.specs.Native.{Breach, if_int, if_int_elsewhere, if_nat, breaches, breaches_of_addends, breaches_of_factors, breaches_of_members, breaches_of_turned, breaches_of_links, breaches_of_printed, breaches_of_source, breaches_of_update, breaches_of_place, breaches_of_variables, breaches_of_params, breaches_in, breaches_in_all, breaches_in_branches, breaches_in_method}
 use Rattle.df_meaning.proofs.Cases.{both, three, four, joined}
 use Rattle.df_meaning.proofs.Types.{same_type_equal}
 use Rattle.df_meaning.proofs.Wholes.{body_typed}

@@ -9,7 +9,8 @@ use Rattle.df_lang.specs.declared.ty.Ty.TheVariants as types
 use Rattle.df_lang.specs.Expr.{Expr}
 use Rattle.df_lang.specs.Stmt.{Target, Call, Conversion, Source, Single, Results, Update, Stmt, Block, Var, Assign, CallOf, If, While, Break, Return, Assert, Print, Stmts, done, next, Branches, no_branch, branch}
 use Rattle.df_lang.specs.Program.{Param, Method, Decl, NewtypeDecl, MethodDecl, Program, method_at, types_of}
-use Rattle.df_lang.specs.Typing.{same_type, are_same_types, is_type, converts, is_expr, are_exprs, are_clauses, Setting, over_locals, inside_loop, is_call, are_results, is_source, source_types, is_target, may_update, are_numbered, variable_numbers, variable_types, locals_after, locals_after_all, locals_after_branches, is_measured, is_stmt, are_stmts, are_branches, is_decl, is_method}
+use Rattle.df_lang.specs.Newtype.{same_type}
+use Rattle.df_lang.specs.Typing.{are_same_types, is_type, converts, is_expr, are_exprs, are_clauses, Setting, over_locals, inside_loop, is_call, are_results, is_source, source_types, is_target, may_update, are_numbered, variable_numbers, variable_types, locals_after, locals_after_all, locals_after_branches, is_measured, is_stmt, are_stmts, are_branches, is_decl, is_method}
 use Rattle.df_lang.specs.Marks.{has_no_ghost}
 use Rattle.df_meaning.proofs.Cases.{both, three, four, joined}
 use Rattle.df_meaning.proofs.Wholes.{body_typed}
@@ -59,14 +60,14 @@ call_counted setting call is = by_callee (method_at setting.program call.callee)
         subst (λ (o : Option plain.Method). option_map_or (λ (m : plain.Method). length (map (erase_expr p) call.arguments) == length m.parameters) o false ≡ true)
         (sym (methods_are_found p call.callee method e)) (equal _ _ many)
 
-results_counted : (p : Program) (call : Call) (results : List Conversion) → are_results p call results ≡ true → counts.results_at (erased p) (method_number p call.callee) ≡ length results
+results_counted : (p : Program) (call : Call) (results : List Conversion) → are_results p call results ≡ true → plain.results_at (erased p) (method_number p call.callee) ≡ length results
 results_counted p call results are =
     by_callee (method_at p call.callee) refl
     (both (option_map_or (λ (method : Method). are_same_types (map (λ (c : Conversion). c.source) results) (types_of method.results)) (method_at p call.callee) false)
     (list_all (λ (c : Conversion). is_type p c.target && converts c.source c.target) results) are).0
   where
     by_callee : (o : Option Method) → method_at p call.callee ≡ o → option_map_or (λ (method : Method). are_same_types (map (λ (c : Conversion). c.source) results) (types_of method.results)) o false ≡ true
-        → counts.results_at (erased p) (method_number p call.callee) ≡ length results
+        → plain.results_at (erased p) (method_number p call.callee) ≡ length results
     by_callee None e h = cc
     by_callee (Some method) e h =
         ap (λ (o : Option plain.Method). option_map_or (λ (m : plain.Method). length m.results) o 0) (methods_are_found p call.callee method e)

@@ -10,10 +10,10 @@ use Rattle.df_lang.specs.declared.expr.AddendOperator.{AddendOperator}
 use Rattle.df_lang.specs.declared.expr.FactorOperator.{FactorOperator}
 use Rattle.df_lang.specs.declared.expr.FactorOperator.TheVariants as factors
 use Rattle.df_lang.specs.declared.expr.Junction.{Junction as JunctionKind}
-use Rattle.df_lang.specs.Newtype.{Newtype}
+use Rattle.df_lang.specs.Newtype.{Newtype, same_type}
 use Rattle.df_lang.specs.Expr.{Expr, Number, Truth, Character, Local, Negate, Not, Sum, Product, Junction, Implies, Iff, Chain, As, Convert, Addends, no_addend, addend, Factors, no_factor, factor, Members, no_member, member, Links, no_link, link}
 use Rattle.df_lang.specs.Program.{Program, newtype_at}
-use Rattle.df_lang.specs.Typing.{same_type, is_integer, is_arithmetic, casts, converts, is_expr, are_addends, are_factors, are_members, are_links, compares}
+use Rattle.df_lang.specs.Typing.{is_integer, is_arithmetic, casts, converts, is_expr, are_addends, are_factors, are_members, are_links, compares}
 use Rattle.df_meaning.specs.declared.kind.Kind.TheVariants as kinds
 use Rattle.df_meaning.specs.Value.{Value, number_of, truth_of, same_truth}
 use Rattle.df_meaning.specs.Value as values

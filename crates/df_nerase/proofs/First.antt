@@ -9,7 +9,8 @@ use Rattle.df_lang.specs.declared.expr.Arrow.TheVariants as arrows
 use Rattle.df_lang.specs.Expr.{Expr, Number, Truth, Character, Local, Negate, Not, Sum, Product, Junction, Implies, Iff, Chain, As, Convert, Addends, no_addend, addend, Factors, no_factor, factor, Members, no_member, member, Links, no_link, link}
 use Rattle.df_lang.specs.Stmt.{Operand, Text, Value, Call, Source, Single, Results, Update, Variable, Stmt, Block, Var, Assign, CallOf, If, While, Break, Return, Assert, Print, Stmts, done, next, Branches, no_branch, branch}
 use Rattle.df_lang.specs.Program.{Param, Method, Decl, NewtypeDecl, MethodDecl, Program, as_method}
-use Rattle.df_lang.specs.Native.{NativeRule, Places, Integers, Forms, Breach, is_unbounded, if_int, if_int_elsewhere, if_nat, breaches, breaches_of_addends, breaches_of_factors, breaches_of_members, breaches_of_turned, breaches_of_links, breaches_of_printed, breaches_of_call, breaches_of_source, breaches_of_update, breaches_of_place, breaches_of_variables, breaches_of_params, breaches_in, breaches_in_all, breaches_in_branches, breaches_in_method, IsNative}
+use Rattle.df_lang.specs.Newtype.{is_unbounded}
+use Rattle.df_lang.specs.Native.{NativeRule, Places, Integers, Forms, Breach, if_int, if_int_elsewhere, if_nat, breaches, breaches_of_addends, breaches_of_factors, breaches_of_members, breaches_of_turned, breaches_of_links, breaches_of_printed, breaches_of_call, breaches_of_source, breaches_of_update, breaches_of_place, breaches_of_variables, breaches_of_params, breaches_in, breaches_in_all, breaches_in_branches, breaches_in_method, IsNative}
 use Rattle.df_nerase.specs.First.{number_of, breaches_of_decl, breaches_in_program, IsFirst, BrokenIsNotNative, NativeOrBroken}
 use Rattle.df_nerase.specs.mirror.Finding.{or_broken, find_int, find_int_elsewhere, find_nat, find, find_in_addends, find_in_factors, find_in_members, find_in_turned, find_in_links, find_in_operand, find_in_argument, find_in_call, find_in_source, find_in_update, find_at_place, find_in_variable, find_in_param, find_in, find_in_all, find_in_branches, find_in_method, find_in_decl}
 

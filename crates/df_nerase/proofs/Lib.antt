@@ -8,5 +8,9 @@ pub mod Wholes
 pub mod Erased
 pub mod Bounded
 pub mod Counts
+pub mod Numbered
+pub mod MadeViews
+pub mod SourceViews
+pub mod Intervals
 pub mod Lowering
 pub mod FirstRows

@@ -4,11 +4,11 @@ use Rattle.std.specs.Option.{option_map, option_map_or, option_and_then}
 use Rattle.std.specs.List.{list_all}
 use Rattle.df_lang.specs.declared.ty.Ty.{Ty}
 use Rattle.df_lang.specs.declared.ty.Ty.TheVariants as types
-use Rattle.df_lang.specs.Newtype.{Newtype}
+use Rattle.df_lang.specs.Newtype.{Newtype, is_unbounded}
 use Rattle.df_lang.specs.Program.{Param, Method, Decl, NewtypeDecl, MethodDecl, Program, as_method, newtype_at, method_at, types_of}
 use Rattle.df_lang.specs.Marks.{are_unmarked_params, are_unmarked, has_no_ghost}
 use Rattle.df_lang.specs.Typing.{is_method, is_decl, is_well_typed}
-use Rattle.df_lang.specs.Native.{is_unbounded, breaches_of_place, breaches_of_params, breaches_in_all, IsNative}
+use Rattle.df_lang.specs.Native.{breaches_of_place, breaches_of_params, breaches_in_all, IsNative}
 use Rattle.df_meaning.specs.Value.{Value}
 use Rattle.df_meaning.specs.Value as values
 use Rattle.df_meaning.specs.Types.{holds, has_type, have_types}
@@ -16,8 +16,7 @@ use Rattle.df_meaning.proofs.Cases.{both, three, joined}
 use Rattle.df_nplain.specs.Kind.{Between, Unbounded}
 use Rattle.df_nplain.specs.Kind as kinds
 use Rattle.df_nplain.specs.Values.{has_kind, have_kinds}
-use Rattle.df_nerase.specs.Erasing.{kind_of, kinds_of}
-use Rattle.df_nerase.specs.Lowering.{lower}
+use Rattle.df_nerase.specs.Erasing.{kind_of, kinds_of, lower}
 use Rattle.df_nerase.specs.Running.{ArgumentsAreLowered, ResultsAreLowered}
 use Rattle.df_nerase.proofs.Bounded.{nothing_in, nothing_in_three, bounded_type}
 

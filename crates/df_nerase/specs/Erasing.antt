@@ -1,10 +1,10 @@
 -- The program without ghosts. Contracts, assertions, invariants and measures are dropped, types become ranges and kinds,
 -- locals keep their numbers, and methods are numbered by themselves.
-use Rattle.std.specs.Prelude.{ℕ, List, [], ◌∷◌, map, length, take, Option, None, Some}
+use Rattle.std.specs.Prelude.{ℕ, List, [], ◌∷◌, map, length, take, Option, None, Some, if◌then◌else◌}
 use Rattle.std.specs.Option.{option_map, option_map_or}
 use Rattle.df_lang.specs.declared.ty.Ty.{Ty}
 use Rattle.df_lang.specs.declared.ty.Ty.TheVariants as types
-use Rattle.df_lang.specs.Newtype.{Newtype}
+use Rattle.df_lang.specs.Newtype.{Newtype, is_unbounded}
 use Rattle.df_lang.specs.Expr as source
 use Rattle.df_lang.specs.Stmt as source_stmt
 use Rattle.df_lang.specs.Program.{Param, Method, Decl, NewtypeDecl, MethodDecl, Program, newtype_at}
@@ -14,6 +14,7 @@ use Rattle.df_nplain.specs.Expr as plain
 use Rattle.df_nplain.specs.Stmt as plain_stmt
 use Rattle.df_nplain.specs.Plain as plain_program
 use Rattle.df_nplain.specs.Plain.{Plain}
+use Rattle.df_meaning.specs.Value.{Value}
 
 -- ---- Types and numbers.
 
@@ -129,3 +130,14 @@ erase_method p m = record { text = m.declared.text; parameters = kinds_of p m.pa
 -- the program without ghosts: its methods, in their order
 abbrev pub erased : Program → Plain
 erased p = record { methods = map (erase_method p) (methods_among p.decls) }
+
+-- The values of places, one for each. Those of ghosts are dropped, and the others stay what they are: truths, characters
+-- and numbers. There are such values where the compiled places keep the rule on their types.
+abbrev pub lower : List Param → List Value → Option (List Value)
+lower [] [] = Some []
+lower [] (value ∷ others) = None
+lower (param ∷ more) [] = None
+lower (param ∷ more) (value ∷ others) =
+    if param.is_ghost then lower more others
+    else if is_unbounded param.ty then None
+    else option_map (λ (kept : List Value). value ∷ kept) (lower more others)

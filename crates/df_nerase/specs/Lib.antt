@@ -2,7 +2,6 @@ pub mod Erasing
 pub mod First
 pub mod Refusals
 pub mod Simulation
-pub mod Lowering
 pub mod Running
 pub mod Views
 pub mod Eraser

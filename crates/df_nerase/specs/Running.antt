@@ -18,8 +18,7 @@ use Rattle.df_nplain.specs.Values.{have_kinds}
 use Rattle.df_nplain.specs.Outcome as outcomes
 use Rattle.df_nplain.specs.Outcome.{Fault}
 use Rattle.df_nplain.specs.Whole as plain_whole
-use Rattle.df_nerase.specs.Lowering.{lower}
-use Rattle.df_nerase.specs.Erasing.{method_number, kinds_of, erase_method, erased}
+use Rattle.df_nerase.specs.Erasing.{method_number, kinds_of, erase_method, erased, lower}
 use Rattle.df_nerase.specs.Simulation.{Simulates, returned_of}
 
 -- In a well-typed program that keeps the native rules each number at a place, and each result of arithmetic, has an interval.

@@ -381,11 +381,19 @@ impl<'a> Eraser<'a> {
     {
         let mut erased = Vec::with_capacity(self.alloc, all.len())?;
         for branch in all {
-            let guard = self.expr(&branch.guard)?;
-            let body = self.stmts(&branch.body)?;
-            erased.push(df_nplain::Branch { guard, body })?;
+            erased.push(self.branch(branch)?)?;
         }
         Ok(erased)
+    }
+
+    #[cycle(stmt)]
+    fn branch(&self, branch: &Branch) -> Result<df_nplain::Branch, AllocError>
+        ensures guard { IfOk result (λ erased. (plain_stmt.branch_of erased).guard ≡ erasing.erase_expr (program_in self.now) (branch_of branch.now).guard) }
+        ensures body { IfOk result (λ erased. (plain_stmt.branch_of erased).body ≡ erasing.erase_stmts (program_in self.now) (branch_of branch.now).body) }
+    {
+        let guard = self.expr(&branch.guard)?;
+        let body = self.stmts(&branch.body)?;
+        Ok(df_nplain::Branch { guard, body })
     }
 
     fn kinds(&self, params: &Vec<Param>) -> Result<Vec<Kind>, AllocError>

@@ -6,7 +6,7 @@ ghost use Rattle.df_lang.specs.ExprView.{expr_of, addends_of, factors_of, member
 ghost use Rattle.df_lang.specs.StmtView.{operand_of, call_of, source_of, update_of, variable_of, stmt_of, stmts_of, branches_of};
 ghost use Rattle.df_lang.specs.DeclView.{param_of, method_of, decl_of};
 ghost use Rattle.df_lang.specs.View.{program_of};
-ghost use Rattle.df_lang.specs.Native.{is_unbounded as unbounded};
+ghost use Rattle.df_lang.specs.Newtype.{is_unbounded as unbounded};
 ghost use Rattle.df_nerase.specs.Views.{addend_of, factor_of, member_of, link_of, branch_of};
 ghost use Rattle.df_nerase.specs.First.{number_of};
 ghost use Rattle.df_nerase.specs.mirror.Finding as mirror;

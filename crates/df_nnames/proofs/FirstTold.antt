@@ -21,6 +21,7 @@ use Rattle.df_ntyping.specs.FileNodes.{file_nodes}
 use Rattle.df_ntyping.specs.FileElaboration.{HasNames}
 use Rattle.df_ntyping.specs.Least.{Fault, Tells, IsToldIn, IsFaultIn, BreaksNoneIn, comes_before}
 use Rattle.df_ntyping.specs.Laws.{AreInOrder}
+use Rattle.df_ntyping.proofs.NamedFiles.{none_broken_is_named}
 use Rattle.df_ntyping.proofs.LeastExists.{irreflexive}
 use Rattle.df_ntyping.proofs.Order.{AreApart}
 use Rattle.df_ntyping.proofs.FileOrder.{nodes_are_in_order, names_are_apart}
@@ -179,7 +180,7 @@ first_told (one ∷ others) refusal ordered apart h = by (outcome one.env one.no
 -- ---- files
 
 pub file_is_named : (file : File) → file_faults file ≡ [] → HasNames file
-file_is_named file none fault broken of_stage = none_told (file_nodes file) (file_same file ∙ none) fault (broken, of_stage)
+file_is_named file none = none_broken_is_named file (λ fault broken of_stage. none_told (file_nodes file) (file_same file ∙ none) fault (broken, of_stage))
 
 pub file_is_told : (file : File) (refusal : Refusal) → IsFile file → IsFirst (file_faults file) refusal → IsToldIn 0 (file_nodes file) refusal
 file_is_told file refusal g h =

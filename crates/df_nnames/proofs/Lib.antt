@@ -3,6 +3,7 @@ pub mod Telling
 pub mod Entries
 pub mod Meanings
 pub mod Parts
+pub mod Declared
 pub mod Opening
 pub mod ExprNodes
 pub mod StatementNodes

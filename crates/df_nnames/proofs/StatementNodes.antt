@@ -11,10 +11,9 @@ use Rattle.df_ntree.specs.Expr.{Expr, Name, Call}
 use Rattle.df_ntree.specs.File.{Clause, Condition, Decreases, PrintOperand, Text, Value, Statement, Nested, Var, Assign, Expression, If, While, Return, Break, Assert, Print, Statements, done, next, Branches, end, more, Otherwise, without, otherwise}
 use Rattle.df_ntree.specs.FileSpelling.{spell_statement, spell_statements, spell_branches, spell_clause, spell_local}
 use Rattle.df_ntyping.specs.Table.{Table}
-use Rattle.df_ntyping.specs.Environment.{Environment, Role, Variable_role, Local, enter, inside_loop, past, declare, declare_variables, names_of}
-use Rattle.df_ntyping.specs.Scopes.{behind, locals_in, locals_in_all, locals_in_branches}
+use Rattle.df_ntyping.specs.Environment.{Environment, Role, Variable_role, Local, enter, inside_loop, past, declare, declare_variables, names_of, behind, locals_in, locals_in_all, locals_in_branches}
 use Rattle.df_ntyping.specs.Places.{beginning_of_first}
-use Rattle.df_ntyping.specs.Sides.{place_types, types_of_locals, results_of_call}
+use Rattle.df_ntyping.specs.LocalTypes.{place_types, types_of_locals, results_of_call}
 use Rattle.df_ntyping.specs.Node as nodes
 use Rattle.df_ntyping.specs.Node.{Owner, Occurrence}
 use Rattle.df_ntyping.specs.ExprNodes.{width, occurrence, token_at, expr_nodes, value_nodes, condition_nodes, exprs_nodes, call_nodes, first_place, other_places}

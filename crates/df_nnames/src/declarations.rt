@@ -2,14 +2,15 @@
 
 ghost use Rattle.std.specs.Prelude.{◌≡◌, ◌++◌, map, option_map, false, Some, IfOk, OnOk};
 ghost use Rattle.std.specs.List.{flat_map};
+ghost use Rattle.df_ntree.specs.Expr.{expr_of};
 ghost use Rattle.df_ntree.specs.File.{clause_of, newtype_of, method_of, declaration_of};
 ghost use Rattle.df_ntyping.specs.FileNodes as nodes;
-ghost use Rattle.df_ntyping.specs.Table.{results_in};
-ghost use Rattle.df_nnames.specs.Scope.{declare};
+ghost use Rattle.df_ntyping.specs.Table.{results_in, results_of};
+ghost use Rattle.df_nnames.specs.Scope.{no_locals, enter, declare};
 ghost use Rattle.df_nnames.specs.Table.{no_table, signature_of};
 ghost use Rattle.df_nnames.specs.Listing.{type_meant, types_meant, signature_meant, is_declared, with_declaration, with_declarations};
 ghost use Rattle.df_nnames.specs.Faults as faults;
-ghost use Rattle.df_nnames.specs.Faults.{new_faults, type_faults, parameter_faults, contract_faults, method_faults, newtype_faults, declaration_faults, declarations_faults};
+ghost use Rattle.df_nnames.specs.Faults.{expr_faults, new_faults, statements_faults, type_faults, parameter_faults, contract_faults, method_faults, witness_faults, newtype_faults, declaration_faults, declarations_faults};
 ghost use Rattle.df_nnames.specs.Meanings.{meanings_of};
 ghost use Rattle.df_nnames.specs.Telling.{Tells};
 
@@ -21,7 +22,8 @@ use crate::tables::{Method, Signature, Table};
 use df_base::{Global, Stop};
 use df_lang::{DeclId, Ty};
 use df_ntree::{
-    Clause, ConditionKind, Declaration, Ident, MethodDeclaration, NewtypeDeclaration, Parameter,
+    Clause, ConditionKind, Declaration, Expr, Ident, MethodDeclaration, NewtypeDeclaration,
+    Parameter,
 };
 use std::alloc::AllocError;
 
@@ -111,6 +113,60 @@ fn contract(globals: &Globals, parameters: &Scope, both: &Scope, all: &[Clause])
     Ok(())
 }
 
+/// The types of a method's signature. Its parameters are declared in both scopes, its results in the
+/// second alone.
+fn signature(
+    alloc: Global,
+    globals: &Globals,
+    before: &mut Scope,
+    both: &mut Scope,
+    method: &MethodDeclaration,
+) -> Result<Signature, Stop>
+    ensures faults { Tells result (parameter_faults (meanings_of globals.now) before.old method.now.parameters.items ++ parameter_faults (meanings_of globals.now) (faults.with_parameters both.old method.now.parameters.items) (results_of (method_of method.now))) }
+    ensures before { OnOk result (before.new ≡ faults.with_parameters before.old method.now.parameters.items) }
+    ensures both { OnOk result (both.new ≡ faults.with_parameters (faults.with_parameters both.old method.now.parameters.items) (results_of (method_of method.now))) }
+    ensures signature { IfOk result (λ made. signature_of made ≡ signature_meant (meanings_of globals.now) (method_of method.now)) }
+{
+    let parameters = parameters(alloc, globals, before, &method.parameters)?;
+    declare_all(both, &method.parameters)?;
+    let results = results(alloc, globals, both, &method.results)?;
+    Ok(Signature {
+        parameters,
+        results,
+    })
+}
+
+/// Looks up the names of a method's contract and of its body.
+fn behaviour(
+    globals: &Globals,
+    parameters: &Scope,
+    both: &mut Scope,
+    method: &MethodDeclaration,
+) -> Result<(), Stop>
+    ensures { Tells result (flat_map (contract_faults (meanings_of globals.now) parameters.now both.old) (method_of method.now).clauses ++ statements_faults (meanings_of globals.now) (enter both.old) (method_of method.now).body.statements) }
+{
+    contract(globals, parameters, both, &method.clauses)?;
+    block(globals, both, &method.body)
+}
+
+/// Looks up the names of a method in its two scopes, which are empty before.
+fn method_within(
+    alloc: Global,
+    globals: &Globals,
+    before: &mut Scope,
+    both: &mut Scope,
+    method: &MethodDeclaration,
+) -> Result<Signature, Stop>
+    requires before { before.old ≡ no_locals }
+    requires both { both.old ≡ no_locals }
+    ensures faults { Tells result (method_faults (meanings_of globals.now) (method_of method.now)) }
+    ensures signature { IfOk result (λ made. signature_of made ≡ signature_meant (meanings_of globals.now) (method_of method.now)) }
+{
+    let signature = signature(alloc, globals, before, both, method)?;
+    behaviour(globals, before, both, method)?;
+    Ok(signature)
+}
+
 /// Looks up the names of a method, the declaration of this number.
 fn method(
     alloc: Global,
@@ -123,30 +179,35 @@ fn method(
     ensures signature { IfOk result (λ made. signature_of made.signature ≡ signature_meant (meanings_of globals.now) (method_of method.now)) }
 {
     let mut before = Scope::new(alloc);
-    let parameters = parameters(alloc, globals, &mut before, &method.parameters)?;
     let mut both = Scope::new(alloc);
-    declare_all(&mut both, &method.parameters)?;
-    let results = results(alloc, globals, &mut both, &method.results)?;
-    contract(globals, &before, &both, &method.clauses)?;
-    block(globals, &mut both, &method.body)?;
-    let signature = Signature {
-        parameters,
-        results,
-    };
+    let signature = method_within(alloc, globals, &mut before, &mut both, method)?;
     Ok(Method { id, signature })
 }
 
-/// Looks up the names of a newtype. The predicate sees the variable, the witness does not.
-fn newtype(alloc: Global, globals: &Globals, newtype: &NewtypeDeclaration) -> Result<(), Stop>
-    ensures { Tells result (newtype_faults (meanings_of globals.now) (newtype_of newtype.now)) }
+/// Looks up the names of a newtype's predicate, which sees the variable.
+fn predicate(globals: &Globals, scope: &mut Scope, newtype: &NewtypeDeclaration) -> Result<(), Stop>
+    ensures { Tells result (expr_faults (meanings_of globals.now) (declare scope.old newtype.now.variable.name) (newtype_of newtype.now).predicate) }
 {
-    let mut scope = Scope::new(alloc);
     scope.declare(newtype.variable.name)?;
-    expr(globals, &scope, &newtype.predicate)?;
-    match &newtype.witness {
+    expr(globals, scope, &newtype.predicate)
+}
+
+/// Looks up the names of a newtype's witness, which sees no local.
+fn witness(alloc: Global, globals: &Globals, witness: &Option<Expr>) -> Result<(), Stop>
+    ensures { Tells result (witness_faults (meanings_of globals.now) (option_map expr_of witness.now)) }
+{
+    match witness {
         None => Ok(()),
         Some(witness) => expr(globals, &Scope::new(alloc), witness),
     }
+}
+
+/// Looks up the names of a newtype.
+fn newtype(alloc: Global, globals: &Globals, newtype: &NewtypeDeclaration) -> Result<(), Stop>
+    ensures { Tells result (newtype_faults (meanings_of globals.now) (newtype_of newtype.now)) }
+{
+    predicate(globals, &mut Scope::new(alloc), newtype)?;
+    witness(alloc, globals, &newtype.witness)
 }
 
 /// The name that a declaration declares.

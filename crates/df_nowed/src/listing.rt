@@ -3,6 +3,7 @@
 ghost use Rattle.std.proofs.Props.{props};
 ghost use Rattle.std.specs.Prelude.{◌≡◌, ◌<◌, ◌≤◌, ◌++◌, ℕ, [], Some, flat_map, length, map, slice_get, IfOk, OnOk};
 ghost use Rattle.std.specs.List.{AllByRecursion};
+ghost use Rattle.df_form.specs.Sorting.{IsTable};
 ghost use Rattle.df_lang.specs.DeclView.{decl_of, method_of};
 ghost use Rattle.df_lang.specs.Program.{method_at};
 ghost use Rattle.df_lang.specs.View.{program_of};
@@ -59,15 +60,20 @@ struct Listed {
     ghost are_owed: { AllByRecursion (IsOwed known.items) obligations.items } by { Prim.hlevel props },
 }
 
-/// The obligations among what was said: an obligation, once asked, is known as well.
-fn owed(alloc: Global, passage: Passage) -> Result<Listed, AllocError>
-    ensures { IfOk result (λ listed. (declaration : ℕ) → map (obligation_in declaration listed.nodes listed.known.items) listed.obligations.items ≡ from_said declaration [] (said_in passage.nodes passage.said.items)) }
+/// Lists what was said, in order: an obligation, once asked, is known as well.
+fn list(
+    known: &mut Known,
+    obligations: &mut Vec<Obligation>,
+    passage: &Passage,
+) -> Result<(), AllocError>
+    requires table { IsTable passage.now.nodes }
+    requires long { length known.old.places.items ≡ length passage.now.nodes }
+    requires none_known { known.old.formulas.items ≡ [] }
+    requires none_owed { obligations.old.items ≡ [] }
+    ensures are_known { OnOk result (AllByRecursion (IsTerm Truths passage.now.nodes) known.new.formulas.items) }
+    ensures are_owed { OnOk result (AllByRecursion (IsOwed known.new.formulas.items) obligations.new.items) }
+    ensures owed { OnOk result ((declaration : ℕ) → map (obligation_in declaration passage.now.nodes known.new.formulas.items) obligations.new.items ≡ from_said declaration [] (said_in passage.now.nodes passage.now.said.items)) }
 {
-    let mut known = Known {
-        formulas: Vec::new(alloc),
-        places: vec![in alloc; None; passage.nodes.len()]?,
-    };
-    let mut obligations = Vec::new(alloc);
     for said in &passage.said {
         match said {
             Said::Known(formula) => {
@@ -86,6 +92,19 @@ fn owed(alloc: Global, passage: Passage) -> Result<Listed, AllocError>
             }
         }
     }
+    Ok(())
+}
+
+/// The obligations among what was said.
+fn owed(alloc: Global, passage: Passage) -> Result<Listed, AllocError>
+    ensures { IfOk result (λ listed. (declaration : ℕ) → map (obligation_in declaration listed.nodes listed.known.items) listed.obligations.items ≡ from_said declaration [] (said_in passage.nodes passage.said.items)) }
+{
+    let mut known = Known {
+        formulas: Vec::new(alloc),
+        places: vec![in alloc; None; passage.nodes.len()]?,
+    };
+    let mut obligations = Vec::new(alloc);
+    list(&mut known, &mut obligations, &passage)?;
     Ok(Listed {
         nodes: passage.nodes,
         known: known.formulas,

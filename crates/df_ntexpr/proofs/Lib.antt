@@ -1,5 +1,7 @@
 mod Turning
 mod Opening
 mod LastWrong
+mod ArgumentsSoFar
+mod PartsSoFar
 mod RowsSoFar
 mod Told

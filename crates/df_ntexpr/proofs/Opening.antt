@@ -2,7 +2,7 @@
 use Rattle.std.proofs.Common.{◌≡◌, ℕ, suc, ◌+◌, ◌<◌, List, [], ◌∷◌, length, map, drop, get_or, nat_eq, arith, refl, ap, ◌∙◌, rules, drop-cons, add-one}
 use Rattle.std.proofs.lemmas.Bool.{ne_eqb}
 use Rattle.df_ntyping.specs.ExprNodes.{count}
-use Rattle.df_ntyping.specs.rules.Comparisons.{is_single}
+use Rattle.df_ntyping.specs.Types.{is_single}
 use Rattle.df_ntree.specs.declared.expr.Expr as declared
 use Rattle.df_ntree.specs.declared.expr.Operation as declared_operation
 use Rattle.df_ntree.specs.Expr as tree

@@ -1,6 +1,6 @@
 //! The walk over an expression, by recursion along its nesting.
 
-ghost use Rattle.std.specs.Prelude.{◌≡◌, ◌<◌, ◌+◌, length, drop, map, option_map, Some, None, IfOk};
+ghost use Rattle.std.specs.Prelude.{◌≡◌, ◌<◌, ◌+◌, length, drop, map, option_map, slice_get, Some, None, IfOk};
 ghost use Rattle.df_lang.specs.ExprView as typed;
 ghost use Rattle.df_lang.specs.declared.ty.Ty.TheVariants as types;
 ghost use Rattle.df_ntree.specs.Expr as tree;
@@ -471,13 +471,24 @@ fn argument(alloc: Global, env: &Environment<'_>, place: Option<Ty>, e: &Expr) -
     }
 }
 
+/// The type of the place of a number, if there is one.
+fn place_at(places: &[Ty], i: usize) -> Option<Ty>
+    ensures { result ≡ slice_get places.now i }
+{
+    match places.get(i) {
+        Some(ty) => Some(*ty),
+        None => None,
+    }
+}
+
 /// The arguments of a call: what they break.
 #[cycle(looking)]
 fn arguments(alloc: Global, env: &Environment<'_>, places: &[Ty], all: &[Expr]) -> Result<(), Halt>
     ensures { Gives (λ done. done) result (look_arguments env.now (map Some places.now) (tree.arguments_of (map tree.expr_of all.now))) }
 {
     for (i, e) in all.iter().enumerate() {
-        argument(alloc, env, places.get(i).copied(), e)?;
+        let place = place_at(places, i);
+        argument(alloc, env, place, e)?;
     }
     Ok(())
 }

@@ -3,7 +3,7 @@
 ghost use Rattle.std.specs.Prelude.{◌≡◌, ◌<◌, ◌+◌, length, drop, ◌&&◌, ◌||◌, not, true, map, Some, None, if◌then◌else◌, IfOk, option_map};
 ghost use Rattle.df_lang.specs.ExprView as typed;
 ghost use Rattle.df_ntree.specs.Expr as tree;
-ghost use Rattle.df_ntyping.specs.rules.Comparisons as comparisons;
+ghost use Rattle.df_ntyping.specs.Types as comparisons;
 ghost use Rattle.df_ntyping.specs.ExprTypes as shapes;
 ghost use Rattle.df_ntyping.specs.mirror.Parts.{type_of_operand, breach, or_start};
 ghost use Rattle.df_ntyping.specs.Rule as rules;

@@ -5,8 +5,7 @@ use Rattle.df_base.specs.declared.refusal.Stop.{Stop}
 use Rattle.df_lang.specs.Stmt as typed
 use Rattle.df_lang.specs.StmtView as view
 use Rattle.df_ntree.specs.File.{Statement, If, Statements, Branches, Branch, Otherwise}
-use Rattle.df_ntyping.specs.Environment.{Environment, enter, past}
-use Rattle.df_ntyping.specs.Scopes.{behind, locals_in_all, locals_in_branches, locals_in_otherwise}
+use Rattle.df_ntyping.specs.Environment.{Environment, enter, past, behind, locals_in_all, locals_in_branches, locals_in_otherwise}
 use Rattle.df_nenv.specs.Environments.{left}
 use Rattle.df_ninfer.specs.Behind.{behind_all}
 use Rattle.df_ninfer.proofs.Behind.{all_outer, block_left, past_more}

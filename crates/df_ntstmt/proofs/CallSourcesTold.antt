@@ -11,12 +11,11 @@ use Rattle.df_ntyping.specs.Types.{fits_or_narrows}
 use Rattle.df_ntyping.specs.Environment.{Environment}
 use Rattle.df_ntyping.specs.Meaning.{called_signature}
 use Rattle.df_ntyping.specs.Places.{beginning_of}
-use Rattle.df_ntyping.specs.Sides.{values_of, is_count, results_of_call}
 use Rattle.df_ntyping.specs.ExprNodes.{width, expr_nodes, callee_nodes, argument_nodes, places_of, count}
 use Rattle.df_ntyping.specs.StatementNodes.{source_nodes}
 use Rattle.df_ntyping.specs.Node.{Occurrence}
 use Rattle.df_ntyping.specs.Rule.{Calls}
-use Rattle.df_ntyping.specs.LocalTypes.{names_in, names_in_arguments}
+use Rattle.df_ntyping.specs.LocalTypes.{names_in, names_in_arguments, values_of, is_count, results_of_call}
 use Rattle.df_ntyping.specs.SideElaboration.{AreResults, IsSource}
 use Rattle.df_ntyping.specs.rules.Values.{are_given}
 use Rattle.df_ntyping.specs.mirror.Parts.{or_start}

@@ -15,13 +15,12 @@ use Rattle.df_ntyping.specs.Table.{Signature}
 use Rattle.df_ntyping.specs.Environment.{Environment}
 use Rattle.df_ntyping.specs.Meaning.{Meaning, TheLocal, TheMethod, Means, meaning_of, as_method, called_signature}
 use Rattle.df_ntyping.specs.Places.{beginning_of}
-use Rattle.df_ntyping.specs.Sides.{results_of_call}
 use Rattle.df_ntyping.specs.ExprNodes.{width, occurrence, token_at, expr_nodes, callee_nodes, argument_nodes, call_nodes, places_of, count}
 use Rattle.df_ntyping.specs.Node as nodes
 use Rattle.df_ntyping.specs.Node.{Occurrence}
 use Rattle.df_ntyping.specs.Rule.{Rule, Typing, Given, ArgumentCount, Calls, stage_of}
 use Rattle.df_ntyping.specs.Breaks.{breaks}
-use Rattle.df_ntyping.specs.LocalTypes.{names_in, names_in_arguments}
+use Rattle.df_ntyping.specs.LocalTypes.{names_in, names_in_arguments, results_of_call}
 use Rattle.df_ntyping.specs.SideElaboration.{AreArguments, IsCall}
 use Rattle.df_ntyping.specs.rules.Values.{are_given}
 use Rattle.df_ntyping.specs.Wanted as wanteds

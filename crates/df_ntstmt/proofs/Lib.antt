@@ -18,4 +18,6 @@ mod Blocks
 mod Saying
 mod Listed
 mod LoopedStatements
+mod LoopedArguments
+mod LoopsMade
 mod LoopedBlocks

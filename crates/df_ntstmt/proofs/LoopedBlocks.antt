@@ -7,8 +7,7 @@ use Rattle.df_lang.specs.StmtView as view
 use Rattle.df_ntree.specs.declared.file.Statement as declared
 use Rattle.df_ntree.specs.declared.file.Branch as declared_branch
 use Rattle.df_ntree.specs.File.{Statements, next, Branches, more, Branch, statement_of, statements_of, branch_of, branches_of}
-use Rattle.df_ntyping.specs.Environment.{Environment, past}
-use Rattle.df_ntyping.specs.Scopes.{behind, locals_in_all, locals_in_branches}
+use Rattle.df_ntyping.specs.Environment.{Environment, past, behind, locals_in_all, locals_in_branches}
 use Rattle.df_ninfer.specs.Behind.{behind_all}
 use Rattle.df_ninfer.proofs.Behind.{past_none, past_more}
 use Rattle.df_ntexpr.specs.Replies.{Reply, Replies}

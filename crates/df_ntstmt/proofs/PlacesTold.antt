@@ -13,15 +13,14 @@ use Rattle.df_ntyping.specs.Literals.{AreInRange}
 use Rattle.df_ntyping.specs.Environment.{Local, Environment, local_type}
 use Rattle.df_ntyping.specs.Meaning.{Meaning, TheLocal, TheMethod, meaning_of}
 use Rattle.df_ntyping.specs.Places.{beginning_of}
-use Rattle.df_ntyping.specs.Sides.{are_enough, place_type, place_types}
 use Rattle.df_ntyping.specs.ExprNodes.{width, token_at, expr_nodes}
 use Rattle.df_ntyping.specs.StatementNodes.{place_nodes, all_places, widths, sources_nodes}
 use Rattle.df_ntyping.specs.Node as nodes
 use Rattle.df_ntyping.specs.Node.{Occurrence}
 use Rattle.df_ntyping.specs.Rule.{TypingRule, Assigned}
-use Rattle.df_ntyping.specs.LocalTypes.{names_in, used_inside}
-use Rattle.df_ntyping.specs.SideElaboration.{IsTarget, AreTargets, AreSources, types_of_targets}
-use Rattle.df_ntyping.specs.rules.Assignments.{keeps_its_value, is_place}
+use Rattle.df_ntyping.specs.LocalTypes.{names_in, used_inside, are_enough, place_type, place_types}
+use Rattle.df_ntyping.specs.SideElaboration.{IsTarget, AreTargets, AreSources, types_of_targets, keeps_its_value}
+use Rattle.df_ntyping.specs.rules.Assignments.{is_place}
 use Rattle.df_ntyping.specs.Wanted as wanteds
 use Rattle.df_ntyping.specs.mirror.Parts.{or_start}
 use Rattle.df_ntyping.proofs.AllNodes.{only}

@@ -13,10 +13,8 @@ use Rattle.df_ntree.specs.File.{Statement, Var, Assign, Expression, Return, Brea
 use Rattle.df_ntree.specs.FileSpelling as grammar
 use Rattle.df_ntree.specs.FileSpelling.{spell_local, spell_values, spell_clause, spell_operand, spell_statement, spell_statements, spell_branches, spell_otherwise, braces}
 use Rattle.df_ntyping.specs.Literals.{AreInRange}
-use Rattle.df_ntyping.specs.Environment.{Environment}
-use Rattle.df_ntyping.specs.Scopes.{locals_in}
+use Rattle.df_ntyping.specs.Environment.{Environment, locals_in}
 use Rattle.df_ntyping.specs.Places.{beginning_of, beginning_of_first}
-use Rattle.df_ntyping.specs.Sides.{place_types, types_of_locals}
 use Rattle.df_ntyping.specs.Node as nodes
 use Rattle.df_ntyping.specs.Node.{Occurrence, Owner, OfLoop}
 use Rattle.df_ntyping.specs.ExprNodes.{occurrence, expr_nodes}
@@ -24,7 +22,7 @@ use Rattle.df_ntyping.specs.StatementNodes.{widths, local_widths, all_places, va
 use Rattle.df_ntyping.specs.Rule.{Rule, Typing}
 use Rattle.df_ntyping.specs.Rule as rules
 use Rattle.df_ntyping.specs.Breaks.{breaks}
-use Rattle.df_ntyping.specs.LocalTypes.{names_in, used_inside}
+use Rattle.df_ntyping.specs.LocalTypes.{names_in, used_inside, place_types, types_of_locals}
 use Rattle.df_ntyping.specs.SideElaboration.{types_of_targets}
 use Rattle.df_ntyping.specs.StatementElaboration.{MayUpdate, IsStatement}
 use Rattle.df_ntyping.specs.Wanted as wanteds

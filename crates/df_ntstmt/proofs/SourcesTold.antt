@@ -9,10 +9,9 @@ use Rattle.df_ntree.specs.Expr.{Expr, Number, Character, Truth, Name, Parenthese
 use Rattle.df_ntree.specs.ExprSpelling.{spell, IsExpr}
 use Rattle.df_ntyping.specs.Literals.{AreInRange}
 use Rattle.df_ntyping.specs.Environment.{Environment}
-use Rattle.df_ntyping.specs.Sides.{values_of, is_count, are_enough}
 use Rattle.df_ntyping.specs.ExprNodes.{width, value_nodes, first_place, other_places}
 use Rattle.df_ntyping.specs.StatementNodes.{source_nodes, sources_apart, sources_nodes, widths}
-use Rattle.df_ntyping.specs.LocalTypes.{names_in}
+use Rattle.df_ntyping.specs.LocalTypes.{names_in, values_of, is_count, are_enough}
 use Rattle.std.specs.List.{flat_map}
 use Rattle.df_ntyping.specs.ExprElaboration.{ElaboratesAt}
 use Rattle.df_ntyping.specs.SideElaboration.{IsSource, AreApart, AreSources}

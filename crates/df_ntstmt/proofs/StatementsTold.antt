@@ -9,8 +9,7 @@ use Rattle.df_ntree.specs.File.{Clause, PrintOperand, Statement, Nested, Var, As
 use Rattle.df_ntree.specs.FileSpelling as grammar
 use Rattle.df_ntree.specs.FileSpelling.{spell_local, spell_values, spell_clause, spell_operand, spell_statement, spell_statements, spell_branches, spell_otherwise, braces}
 use Rattle.df_ntyping.specs.Literals.{AreInRange}
-use Rattle.df_ntyping.specs.Environment.{Inferred, Environment, enter, inside_loop, past}
-use Rattle.df_ntyping.specs.Scopes.{behind, locals_in, locals_in_all, locals_in_branches, locals_in_otherwise}
+use Rattle.df_ntyping.specs.Environment.{Inferred, Environment, enter, inside_loop, past, behind, locals_in, locals_in_all, locals_in_branches, locals_in_otherwise}
 use Rattle.df_ntyping.specs.Node.{Occurrence, OfLoop}
 use Rattle.df_ntyping.specs.ExprNodes.{width, condition_nodes}
 use Rattle.df_ntyping.specs.StatementNodes.{clause_widths, clauses_nodes, operand_nodes, statement_nodes, statements_nodes, branches_nodes, otherwise_nodes}

@@ -9,14 +9,13 @@ use Rattle.df_ntree.specs.Expr.{Expr}
 use Rattle.df_ntree.specs.ExprSpelling.{IsExpr}
 use Rattle.df_ntree.specs.FileSpelling.{spell_values}
 use Rattle.df_ntyping.specs.Environment.{Local, Environment, local_type}
-use Rattle.df_ntyping.specs.Sides.{are_enough, types_of_locals}
 use Rattle.df_ntyping.specs.ExprNodes.{occurrence}
 use Rattle.df_ntyping.specs.StatementNodes.{widths, sources_nodes, update_nodes}
 use Rattle.df_ntyping.specs.Node as nodes
 use Rattle.df_ntyping.specs.Node.{Occurrence}
 use Rattle.df_ntyping.specs.Rule.{Rule, Typing, Assigned, Returned}
 use Rattle.df_ntyping.specs.Breaks.{breaks}
-use Rattle.df_ntyping.specs.LocalTypes.{names_in}
+use Rattle.df_ntyping.specs.LocalTypes.{names_in, are_enough, types_of_locals}
 use Rattle.df_ntyping.specs.SideElaboration.{AreReturned}
 use Rattle.df_ntyping.specs.StatementElaboration.{MayUpdate}
 use Rattle.df_ntyping.proofs.AllNodes.{only}

@@ -9,7 +9,7 @@ use Rattle.df_ntree.specs.declared.file.Local as declared_local
 use Rattle.df_ntree.specs.Expr.{Expr}
 use Rattle.df_ntree.specs.FileSpelling.{spell_local}
 use Rattle.df_ntyping.specs.Environment.{Environment, Variable_role, declare, local_type, names_of}
-use Rattle.df_ntyping.specs.Sides.{types_of_locals}
+use Rattle.df_ntyping.specs.LocalTypes.{types_of_locals}
 use Rattle.df_ntyping.specs.ExprNodes.{token_at, type_nodes}
 use Rattle.df_ntyping.specs.StatementNodes.{untyped_nodes, typed_nodes, variable_nodes, local_widths}
 use Rattle.df_ntyping.specs.Node as nodes

@@ -1,4 +1,5 @@
 pub mod Rules
 pub mod Said
+pub mod Headings
 pub mod Views
 pub mod mirror

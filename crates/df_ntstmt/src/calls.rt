@@ -1,11 +1,11 @@
 //! Calls that are whole right sides or statements.
 
-ghost use Rattle.std.specs.Prelude.{◌≡◌, map, option_map, Some};
+ghost use Rattle.std.specs.Prelude.{◌≡◌, map, option_map, slice_get, Some};
 ghost use Rattle.df_lang.specs.ExprView as typed;
 ghost use Rattle.df_lang.specs.StmtView.{call_of};
 ghost use Rattle.df_ntree.specs.Expr as tree;
 ghost use Rattle.df_ntyping.specs.Meaning.{called_signature, as_method, meaning_of};
-ghost use Rattle.df_ntyping.specs.Sides.{results_of_call};
+ghost use Rattle.df_ntyping.specs.LocalTypes.{results_of_call};
 ghost use Rattle.df_ntyping.specs.ExprNodes.{places_of, count};
 ghost use Rattle.df_nenv.specs.Environments.{callee_from};
 ghost use Rattle.df_ntexpr.specs.Parts.{typed_of};
@@ -39,6 +39,16 @@ pub(crate) fn at_place(
     }
 }
 
+/// The type of the place of a number, if there is one.
+fn place_at(places: &[Ty], i: usize) -> Option<Ty>
+    ensures { result ≡ slice_get places.now i }
+{
+    match places.get(i) {
+        Some(ty) => Some(*ty),
+        None => None,
+    }
+}
+
 /// The arguments of a call, each at its place.
 fn arguments(
     alloc: Global,
@@ -50,7 +60,8 @@ fn arguments(
 {
     let mut arguments = Vec::new(alloc);
     for (i, e) in all.iter().enumerate() {
-        let one = at_place(alloc, env, places.get(i).copied(), e)?;
+        let place = place_at(places, i);
+        let one = at_place(alloc, env, place, e)?;
         arguments.push(one.expr)?;
     }
     Ok(arguments)

@@ -5,7 +5,7 @@ ghost use Rattle.std.specs.List.{list_all};
 ghost use Rattle.df_lang.specs.StmtView.{conversion_of, source_of, update_of};
 ghost use Rattle.df_ntree.specs.Expr as tree;
 ghost use Rattle.df_ntyping.specs.ExprNodes as nodes;
-ghost use Rattle.df_ntyping.specs.Sides as counts;
+ghost use Rattle.df_ntyping.specs.LocalTypes as counts;
 ghost use Rattle.df_ntyping.specs.rules.Values.{are_given};
 ghost use Rattle.df_ntexpr.specs.Replies.{Replies};
 ghost use Rattle.df_ntstmt.specs.Rules.{typing_rule};

@@ -6,11 +6,11 @@ ghost use Rattle.df_lang.specs.StmtView as view;
 ghost use Rattle.df_ntree.specs.Expr.{expr_of};
 ghost use Rattle.df_ntree.specs.File as source;
 ghost use Rattle.df_ntyping.specs.Environment as environment;
-ghost use Rattle.df_ntyping.specs.Environment.{past};
-ghost use Rattle.df_ntyping.specs.Scopes.{behind, locals_in_all, locals_in_branches};
+ghost use Rattle.df_ntyping.specs.Environment.{past, behind, locals_in_all, locals_in_branches};
 ghost use Rattle.df_ntyping.specs.Places.{beginning_of_first};
 ghost use Rattle.df_ntyping.specs.mirror.Parts.{or_start};
 ghost use Rattle.df_ntexpr.specs.Replies.{Replies};
+ghost use Rattle.df_ntstmt.specs.Headings.{heading_of};
 ghost use Rattle.df_ntstmt.specs.Views.{branch_of};
 ghost use Rattle.df_ntstmt.specs.mirror.Statements as mirror;
 ghost use Rattle.df_ninfer.specs.Behind.{behind_all};
@@ -18,7 +18,7 @@ ghost use Rattle.df_ntstmt.specs.mirror.Statements.{whole_in, statement_in, stat
 
 use crate::broken::{Rule, broken, unless};
 use crate::calls::call;
-use crate::clauses::{has_decreases, loop_clauses, operands};
+use crate::clauses::{Clauses, has_decreases, loop_clauses, operands};
 use crate::places::{assigned, declared, returned, variables};
 use crate::sources::{may_update, update};
 use df_base::{Global, Pos, Stop};
@@ -26,7 +26,7 @@ use df_lang::{Branch, Stmt};
 use df_nenv::{Environment, Role};
 use df_ninfer::has_measure;
 use df_nrules::beginning_of;
-use df_ntexpr::{Wanted, walked};
+use df_ntexpr::{Typed, Wanted, walked};
 use df_ntree as tree;
 use df_ntree::{Block, Clause, Expr, Local, PrintOperand, Statement};
 use std::alloc::AllocError;
@@ -181,6 +181,47 @@ fn is_measured(env: &Environment<'_>, guard: &Expr, clauses: &[Clause]) -> bool
     has_decreases(clauses) || has_measure(env, guard)
 }
 
+/// What stands before the body of a loop: its guard and its clauses, and whether it has a measure.
+#[derive(Drop)]
+struct Heading {
+    guard: Typed,
+    clauses: Clauses,
+    is_measured: bool,
+}
+
+/// The guard of a loop and its clauses.
+fn loop_heading(
+    alloc: Global,
+    env: &Environment<'_>,
+    guard: &Expr,
+    clauses: &[Clause],
+) -> Result<Heading, Stop>
+    ensures parts { Replies heading_of result (mirror.heading_in env.now (expr_of guard.now) (map source.clause_of clauses.now)) }
+    ensures measured { IfOk result (λ heading. heading.is_measured ≡ mirror.is_measured env.now (expr_of guard.now) (map source.clause_of clauses.now)) }
+{
+    let condition = walked(alloc, env, Wanted::Truth, guard)?;
+    let all = loop_clauses(alloc, env, clauses)?;
+    Ok(Heading {
+        guard: condition,
+        clauses: all,
+        is_measured: is_measured(env, guard, clauses),
+    })
+}
+
+/// The loop of these parts, if it has a measure.
+fn looped(heading: Heading, pos: Pos, body: Vec<Stmt>) -> Result<Stmt, Stop>
+    ensures { Replies view.stmt_of result (mirror.looped_in heading.is_measured (heading_of heading) pos (view.stmts_of (map view.stmt_of body.items))) }
+{
+    unless(heading.is_measured, Rule::Clauses, pos)?;
+    Ok(Stmt::While {
+        pos,
+        guard: heading.guard.expr,
+        invariants: heading.clauses.invariants,
+        decreases: heading.clauses.decreases,
+        body,
+    })
+}
+
 /// A statement. What it declares is in scope behind it.
 #[cycle(statement)]
 fn statement(alloc: Global, env: &mut Environment<'_>, statement: &Statement) -> Result<Stmt, Stop>
@@ -227,18 +268,9 @@ fn statement(alloc: Global, env: &mut Environment<'_>, statement: &Statement) ->
             clauses,
             body,
         } => {
-            let condition = walked(alloc, env, Wanted::Truth, guard)?;
-            let all = loop_clauses(alloc, env, clauses)?;
-            let is_measured = is_measured(env, guard, clauses);
+            let heading = loop_heading(alloc, env, guard, clauses)?;
             let body = turn(alloc, env, body)?;
-            unless(is_measured, Rule::Clauses, *pos)?;
-            Ok(Stmt::While {
-                pos: *pos,
-                guard: condition.expr,
-                invariants: all.invariants,
-                decreases: all.decreases,
-                body,
-            })
+            looped(heading, *pos, body)
         }
         Statement::Return { pos, values } => give_back(alloc, env, *pos, values),
         Statement::Break { pos } => broken_off(env, *pos),

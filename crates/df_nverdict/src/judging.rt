@@ -2,9 +2,11 @@
 
 ghost use Rattle.std.specs.Prelude.{◌≡◌, ◌≤◌, [], map, string_bytes, OnOk, IfOk};
 ghost use Rattle.df_form.specs.SequentView.{sequent_of};
+ghost use Rattle.df_form.specs.World.{world_of, of_program};
 ghost use Rattle.df_lang.specs.DeclView.{param_of};
 ghost use Rattle.df_lang.specs.View.{program_of};
 ghost use Rattle.df_meaning.specs.Kind.{word_of};
+ghost use Rattle.df_nowed.specs.Laws.{obligation_of};
 ghost use Rattle.df_nowed.specs.Obligation.{obligation_in, obligations_in};
 ghost use Rattle.df_nowed.specs.Owed.{IsOwed};
 ghost use Rattle.df_report.specs.View.{failure_of};
@@ -96,6 +98,31 @@ fn failure(alloc: Global, obligation: &Obligation, finding: Finding) -> Result<F
     })
 }
 
+/// Judges the sequent of an obligation, and adds its proof, or its failure where none is found.
+fn settle(
+    alloc: Global,
+    entry: &Entry,
+    engine: &mut Engine,
+    failures: &mut Vec<Failure>,
+    proofs: &mut Vec<Proof>,
+    obligation: &Obligation,
+    sequent: &Sequent,
+    budget: Budget,
+) -> Result<(), AllocError>
+    requires steps { 1 ≤ budget.steps }
+    requires world { world_of sequent.now.world ≡ of_program (program_of entry.now.program.now) }
+    requires owed { obligation_of entry.now.owed.now.declaration obligation.now.pos obligation.now.kind (sequent_of sequent.now) ≡ obligation_in entry.now.owed.now.declaration entry.now.owed.now.nodes entry.now.owed.now.known obligation.now }
+    ensures { OnOk result (Adds (program_of entry.now.program.now) (map param_of entry.now.params.now) budget (obligation_in entry.now.owed.now.declaration entry.now.owed.now.nodes entry.now.owed.now.known obligation.now) (map failure_of failures.old.items) (map failure_of failures.new.items) proofs.old.items proofs.new.items) }
+{
+    match judge(alloc, engine, entry.params, sequent, proofs, budget)? {
+        Some(finding) => {
+            failures.push(failure(alloc, obligation, finding)?)?;
+            Ok(())
+        }
+        None => Ok(()),
+    }
+}
+
 /// Judges an obligation, and adds its proof, or its failure where none is found.
 fn add(
     alloc: Global,
@@ -111,13 +138,9 @@ fn add(
     ensures { OnOk result (Adds (program_of entry.now.program.now) (map param_of entry.now.params.now) budget (obligation_in entry.now.owed.now.declaration entry.now.owed.now.nodes entry.now.owed.now.known obligation.now) (map failure_of failures.old.items) (map failure_of failures.new.items) proofs.old.items proofs.new.items) }
 {
     let sequent = entry.owed.sequent(alloc, entry.program, obligation)?;
-    match judge(alloc, engine, entry.params, &sequent, proofs, budget)? {
-        Some(finding) => {
-            failures.push(failure(alloc, obligation, finding)?)?;
-            Ok(())
-        }
-        None => Ok(()),
-    }
+    settle(
+        alloc, entry, engine, failures, proofs, obligation, &sequent, budget,
+    )
 }
 
 /// The failures of the obligations, in their order; the proofs of the others are added.

@@ -8,7 +8,8 @@ use Rattle.df_lang.specs.declared.expr.Arrow.TheVariants as arrows
 use Rattle.df_lang.specs.Expr.{Expr, Number, Truth, Character, Local, Negate, Not, Sum, Product, Junction, Implies, Iff, Chain, As, Convert, Addends, no_addend, addend, Factors, no_factor, factor, Members, no_member, member, Links, no_link, link}
 use Rattle.df_lang.specs.Stmt.{Operand, Text, Value, Call, Source, Single, Results, Update, Variable, Stmt, Block, Var, Assign, CallOf, If, While, Break, Return, Assert, Print, Stmts, done, next, Branches, no_branch, branch}
 use Rattle.df_lang.specs.Program.{Param, Method, Decl, NewtypeDecl, MethodDecl}
-use Rattle.df_lang.specs.Native.{NativeRule, Places, Integers, Forms, Breach, is_unbounded}
+use Rattle.df_lang.specs.Newtype.{is_unbounded}
+use Rattle.df_lang.specs.Native.{NativeRule, Places, Integers, Forms, Breach}
 use Rattle.df_nerase.specs.declared.native.Rule.{Rule}
 use Rattle.df_nerase.specs.declared.native.Rule.TheVariants as rules
 use Rattle.df_nerase.specs.declared.native.Broken.{Broken}

@@ -14,11 +14,11 @@ use Rattle.df_ntyping.specs.Table.{Signature}
 use Rattle.df_ntyping.specs.Environment.{Local, Environment, local_type}
 use Rattle.df_ntyping.specs.Meaning.{Meaning, TheLocal, meaning_of, as_method, called_signature}
 use Rattle.df_ntyping.specs.Places.{beginning_of}
-use Rattle.df_ntyping.specs.Sides.{are_enough, results_of_call}
+use Rattle.df_ntyping.specs.LocalTypes.{are_enough, results_of_call}
 use Rattle.df_ntyping.specs.ExprNodes.{places_of, first_place, other_places, count}
 use Rattle.df_ntyping.specs.rules.Values.{are_given}
 use Rattle.df_ntyping.specs.rules.Names.{is_unfixed}
-use Rattle.df_ntyping.specs.rules.Assignments.{keeps_its_value}
+use Rattle.df_ntyping.specs.SideElaboration.{keeps_its_value}
 use Rattle.df_ntyping.specs.Rule.{TypingRule}
 use Rattle.df_ntyping.specs.Rule as rules
 use Rattle.df_ntyping.specs.Wanted as wanteds

@@ -6,8 +6,7 @@ use Rattle.df_lang.specs.Stmt as typed
 use Rattle.df_lang.specs.StmtView as view
 use Rattle.df_ntree.specs.Expr.{Expr, Call}
 use Rattle.df_ntree.specs.File.{Clause, Statement, Nested, Var, Assign, Expression, If, While, Return, Break, Assert, Print, Statements, done, next, Branches, end, more, Branch, Otherwise, without, otherwise}
-use Rattle.df_ntyping.specs.Environment.{Environment, enter, inside_loop, past}
-use Rattle.df_ntyping.specs.Scopes.{behind, locals_in_all, locals_in_branches}
+use Rattle.df_ntyping.specs.Environment.{Environment, enter, inside_loop, past, behind, locals_in_all, locals_in_branches}
 use Rattle.df_ntyping.specs.Places.{beginning_of, beginning_of_first}
 use Rattle.df_ntyping.specs.Node.{OfLoop}
 use Rattle.df_ntyping.specs.rules.Loops.{is_decreases, has_measure}
@@ -35,6 +34,21 @@ is_measured env guard clauses = list_any is_decreases clauses || has_measure env
 
 abbrev pub measured : Environment → Pos → Expr → List Clause → Reply (Unit {0})
 measured env pos guard clauses = unless (is_measured env guard clauses) (broken rules.Clauses pos)
+
+-- the guard and the clauses of a loop
+pub record Heading : Type 0 where
+  pub guard : Typed
+  pub clauses : Clauses
+
+abbrev pub heading_in : Environment → Expr → List Clause → Reply Heading
+heading_in env guard clauses =
+    and_then (typed_in env wanteds.Truth guard) (λ (condition : Typed).
+    and_then (clauses_in env env OfLoop clauses) (λ (all : Clauses). Ok (record { guard = condition; clauses = all })))
+
+-- a loop that has to have a measure
+abbrev pub looped_in : Bool → Heading → Pos → typed.Stmts → Reply typed.Stmt
+looped_in is_measured heading pos inner =
+    and_then (unless is_measured (broken rules.Clauses pos)) (λ (held : Unit {0}). Ok (typed.While pos heading.guard.expr heading.clauses.invariants heading.clauses.decreases inner))
 
 abbrev mutual
   pub statement_in : Environment → Statement → Reply typed.Stmt

@@ -1,6 +1,6 @@
 use Rattle.std.proofs.Common.{◌≡◌, map, drop}
 use Rattle.df_ntree.specs.Expr.{operation_of, members_of}
-use Rattle.df_ntyping.specs.rules.Comparisons.{rises, all_of}
+use Rattle.df_ntyping.specs.Types.{rises, all_of}
 use Rattle.df_ntexpr.proofs.signs.all_rise.Given as goal
 
 abbrev pub invariant-loop-operation : goal.invariant-loop-operation

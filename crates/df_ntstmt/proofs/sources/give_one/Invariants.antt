@@ -1,7 +1,7 @@
 use Rattle.std.proofs.Common.{◌≡◌, map, drop}
 use Rattle.std.specs.List.{list_all}
 use Rattle.df_ntree.specs.Expr.{expr_of}
-use Rattle.df_ntyping.specs.Sides.{is_count, values_of}
+use Rattle.df_ntyping.specs.LocalTypes.{is_count, values_of}
 use Rattle.df_ntstmt.proofs.sources.give_one.Given as goal
 
 abbrev pub invariant-loop-e : goal.invariant-loop-e

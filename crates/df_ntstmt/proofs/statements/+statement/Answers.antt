@@ -1,17 +1,20 @@
-use Rattle.std.proofs.Common.{◌≡◌, ◌++◌, [], ◌∷◌, List, map, Some, None, rules, refl, sym, ap, ◌∙◌}
+use Rattle.std.proofs.Common.{◌≡◌, map, Some, None, rules, refl}
 use Rattle.std.specs.Prelude.{option_map}
 use Rattle.std.proofs.lemmas.List.{map-append}
 use Rattle.std.proofs.lemmas.Result.{err_from_is_err_and}
 use Rattle.df_lang.specs.Stmt as pure
 use Rattle.df_lang.specs.StmtView as view
 use Rattle.df_ntree.specs.declared.file.Statement.{the_lemmas}
+use Rattle.df_ntree.specs.Expr.{expr_of}
 use Rattle.df_ntree.specs.File as source
-use Rattle.df_ntree.specs.File.{Statements, statement_of, statements_of, block_of, branches_of, otherwise_of}
+use Rattle.df_ntree.specs.File.{statement_of, statements_of, block_of, branches_of, otherwise_of}
 use Rattle.df_nnames.proofs.Opening.{statement_if}
+use Rattle.df_ntstmt.specs.Headings.{heading_of}
 use Rattle.df_ntstmt.specs.Views.{branch_of}
 use Rattle.df_ntstmt.specs.mirror.Statements.{statements_in, branches_in}
 use Rattle.df_ntstmt.proofs.LoopedBlocks.{statements_go, statements_stop, statements_done, others_go, others_stop, others_done}
 use Rattle.df_ntstmt.proofs.Blocks.{block_fits, block_behind, first_stops, others_stop_if, last_stops, if_made}
+use Rattle.df_ntstmt.proofs.LoopsMade.{on_ok, heading_stops, body_stops, loop_made}
 use Rattle.df_ntstmt.proofs.statements.+statement.Goals as goal
 
 -- ---- blocks
@@ -87,6 +90,34 @@ statement-returns-in_ok-joined-in-Some-clause-stmt t c =
     rw (c.in_ok-joined-in-Some.ensures, c.in-If.is, statement_if c.in-If.first c.in-If.others c.in-If.otherwise, c.in-Some.is)
     (if_made c.args.env.now c.branch-alloc.new.env c.branches.new.env (source.branch_of c.in-If.first) (branches_of (map source.branch_of c.in-If.others.items)) (otherwise_of (option_map block_of (Some c.in-Some.last)))
     (branch_of c.in_ok-first-in-If.first) (view.branches_of (map branch_of c.in_ok-others-in-If.others.items)) (view.stmts_of (map view.stmt_of c.in_ok-last-in-Some.last.items)) c.in_ok-first-in-If.ensures.branch c.in_ok-first-in-If.ensures.env c.in_ok-others-in-If.ensures.branches c.in_ok-others-in-If.ensures.env c.in_ok-last-in-Some.ensures.stmts)
+
+-- ---- `while`
+
+pub statement-returns-in_err-heading-in-While-clause-stmt : goal.statement-returns-in_err-heading-in-While-clause-stmt
+statement-returns-in_err-heading-in-While-clause-stmt t c =
+    let is : source.statement_of c.args.statement.now ≡ source.While c.in-While.pos (expr_of c.in-While.guard) (map source.clause_of c.in-While.clauses.items) (block_of c.in-While.body).pos (block_of c.in-While.body).statements = search (rules, the_lemmas) in
+    let p = err_from_is_err_and c.from_residual-in_err-heading-in-While.result c.from_residual-in_err-heading-in-While.ensures.1 in
+    rw (p.1, p.2, is, ← c.deref-in-While.ensures.value)
+    (heading_stops c.args.env.now c.in-While.pos (expr_of c.in-While.guard) (map source.clause_of c.deref-in-While.result.now) (block_of c.in-While.body).pos (block_of c.in-While.body).statements heading_of (λ (x : pure.Stmt). x) c.in_err-heading-in-While.field-0.0 c.in_err-heading-in-While.ensures.parts)
+
+pub statement-returns-in_err-body-in-While-clause-stmt : goal.statement-returns-in_err-body-in-While-clause-stmt
+statement-returns-in_err-body-in-While-clause-stmt t c =
+    let is : source.statement_of c.args.statement.now ≡ source.While c.in-While.pos (expr_of c.in-While.guard) (map source.clause_of c.in-While.clauses.items) (block_of c.in-While.body).pos (block_of c.in-While.body).statements = search (rules, the_lemmas) in
+    let p = err_from_is_err_and c.from_residual-in_err-body-in-While.result c.from_residual-in_err-body-in-While.ensures.1 in
+    rw (p.1, p.2, is, ← c.deref-in-While.ensures.value)
+    (body_stops c.args.env.now c.in-While.pos (expr_of c.in-While.guard) (map source.clause_of c.deref-in-While.result.now) (block_of c.in-While.body).pos (block_of c.in-While.body).statements (heading_of c.in_ok-heading-in-While.heading) c.in_ok-heading-in-While.ensures.parts (λ (x : pure.Stmts). x) (λ (x : pure.Stmt). x) c.in_err-body-in-While.field-0.0 c.in_err-body-in-While.ensures.stmts)
+
+pub statement-returns-in_ok-body-in-While-clause-stmt : goal.statement-returns-in_ok-body-in-While-clause-stmt
+statement-returns-in_ok-body-in-While-clause-stmt t c =
+    let is : source.statement_of c.args.statement.now ≡ source.While c.in-While.pos (expr_of c.in-While.guard) (map source.clause_of c.in-While.clauses.items) (block_of c.in-While.body).pos (block_of c.in-While.body).statements = search (rules, the_lemmas) in
+    rw (is, ← c.deref-in-While.ensures.value)
+    (loop_made c.args.env.now c.in-While.pos (expr_of c.in-While.guard) (map source.clause_of c.deref-in-While.result.now) (block_of c.in-While.body).pos (block_of c.in-While.body).statements (heading_of c.in_ok-heading-in-While.heading) c.in_ok-heading-in-While.ensures.parts view.stmt_of c.looped.result (view.stmts_of (map view.stmt_of c.in_ok-body-in-While.body.items)) c.in_ok-heading-in-While.heading.is_measured
+    c.in_ok-body-in-While.ensures.stmts c.in_ok-heading-in-While.ensures.measured c.looped.ensures)
+
+pub statement-returns-in_ok-body-in-While-clause-env : goal.statement-returns-in_ok-body-in-While-clause-env
+statement-returns-in_ok-body-in-While-clause-env t c =
+    let is : source.statement_of c.args.statement.now ≡ source.While c.in-While.pos (expr_of c.in-While.guard) (map source.clause_of c.in-While.clauses.items) (block_of c.in-While.body).pos (block_of c.in-While.body).statements = search (rules, the_lemmas) in
+    rw is (on_ok c.looped.result _ c.in_ok-body-in-While.ensures.env)
 
 -- ---- at the ends of lists
 

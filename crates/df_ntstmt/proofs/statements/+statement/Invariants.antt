@@ -2,8 +2,7 @@ use Rattle.std.proofs.Common.{◌≡◌, map, drop}
 use Rattle.df_lang.specs.StmtView.{stmt_of}
 use Rattle.df_ntree.specs.File as source
 use Rattle.df_ntree.specs.File.{statement_of, statements_of}
-use Rattle.df_ntyping.specs.Environment.{past}
-use Rattle.df_ntyping.specs.Scopes.{locals_in_branches}
+use Rattle.df_ntyping.specs.Environment.{past, locals_in_branches}
 use Rattle.df_ntstmt.specs.Views.{branch_of}
 use Rattle.df_ninfer.specs.Behind.{behind_all}
 use Rattle.df_ntstmt.specs.mirror.Statements.{statements_in, branches_in, before_stmts, before_branches}

@@ -8,12 +8,20 @@ use Rattle.df_nplain.specs.declared.stmt.Stmt.{Stmt}
 use Rattle.df_nerase.specs.Views.{branch_of}
 use Rattle.df_nerase.specs.Eraser.{program_in}
 use Rattle.df_nerase.specs.Erasing.{erase_stmt}
-use Rattle.df_nerase.proofs.Erased.{all_branches, all_stmts, one_erased, none_more}
+use Rattle.df_nerase.proofs.Erased.{all_branches, all_stmts, erase_branch, one_erased, none_more}
+use Rattle.df_nerase.proofs.MadeViews.{made_more}
 use Rattle.df_nerase.proofs.eraser.Eraser.+stmt.Goals as goal
 use Rattle.df_nerase.proofs.eraser.Eraser.+stmt.Goals.{stmts-in-Some+in_ok-push, stmts-in_default}
 
 pub branches-returns : goal.branches-returns
 branches-returns t c = all_branches branch_of (program_in c.args.self.now) c.args.all.now.items c.loop-branch.branch-index (map plain.branch_of c.loop-branch.erased.items) c.loop-branch.invariant (omega arith)
+
+pub branches-loop-branch-preserved : goal.branches-loop-branch-preserved
+branches-loop-branch-preserved t c =
+    let l = c.loop-branch in
+    let made = c.in_ok-branch.ensures in
+    made_more branch_of plain.branch_of (erase_branch (program_in c.args.self.now)) c.args.all.now.items l.branch-index c.branch-item.result (omega arith) (search rules) l.erased.items c.push.new.self.items c.in_ok-branch.field-0
+    (λ i. record { guard = made.guard i; body = made.body i }) c.in_ok-push.ensures.items l.invariant
 
 pub stmts-returns : goal.stmts-returns
 stmts-returns t c = all_stmts stmt_of (program_in c.args.self.now) c.args.all.now.items c.loop-one.one-index (map plain.stmt_of c.loop-one.erased.items) c.loop-one.invariant (omega arith)

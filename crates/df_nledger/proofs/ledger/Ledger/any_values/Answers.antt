@@ -44,3 +44,11 @@ returns-clause-given c =
       locals = any_are l.self.nodes path (map param_of xs) (length c.args.self.now.frees.items) l.terms.items terms l.invariant.below;
       many = any_many l.self.nodes path (map param_of xs) (length c.args.self.now.frees.items) l.terms.items terms;
     }
+
+-- ---- on every way out
+
+pub returns-in_err-term-clause-grows : goal.returns-in_err-term-clause-grows
+returns-in_err-term-clause-grows c = grows_then _ _ _ c.loop-param.invariant.grows c.any.ensures.grows
+
+pub returns-in_err-push-clause-grows : goal.returns-in_err-push-clause-grows
+returns-in_err-push-clause-grows c = grows_then _ _ _ c.loop-param.invariant.grows c.any.ensures.grows

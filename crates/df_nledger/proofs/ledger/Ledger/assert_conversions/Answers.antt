@@ -64,3 +64,8 @@ returns-clause-ledger c =
     let l = c.loop-i in
     say_last (ledger_of c.args.self.now) (ledger_of l.self) _
     (ap (λ (cs : List DeclaredConversion). saying (assert_conversions c.args.pos (way_of c.args.self.now []) (map conversion_of cs) (trees_at c.args.self.now.nodes (drop l.i c.args.terms.now))) (ledger_of l.self)) (sym (drop_all l.i c.args.conversions.now c.loop-i-test.false)) ∙ l.invariant.said)
+
+-- ---- on every way out
+
+pub returns-in_err-assert_conversion-clause-grows : goal.returns-in_err-assert_conversion-clause-grows
+returns-in_err-assert_conversion-clause-grows c = grows_then _ _ _ c.loop-i.invariant.grows c.assert_conversion.ensures.grows

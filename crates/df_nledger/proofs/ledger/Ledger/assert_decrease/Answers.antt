@@ -1,4 +1,4 @@
-use Rattle.df_nledger.proofs.Words.{◌≡◌, true, [], List, ◌++◌, if◌then◌else◌, sym, ap, ◌∙◌, method_of, method_measure, measured_in, DeclaredMeasured, measured, are_below, Ledger, ledger_of, way_of, saying, assert, assert_measure, setting_of}
+use Rattle.df_nledger.proofs.Words.{◌≡◌, true, [], List, ◌++◌, if◌then◌else◌, sym, ap, ◌∙◌, method_of, method_measure, measured_in, DeclaredMeasured, measured, are_below, Ledger, ledger_of, way_of, saying, assert, assert_measure, setting_of, grows_then}
 use Rattle.df_meaning.specs.declared.kind.Kind.TheVariants as kinds
 use Rattle.df_nledger.proofs.Growing.{measured_same}
 use Rattle.df_nledger.proofs.Sayings.{say_both}
@@ -19,3 +19,11 @@ returns-in_ok-assert_below-clause-ledger c =
     c.in_ok-assert_below.ensures.ledger ∙ (λ i. saying (assert (path i) c.args.call.now.pos kinds.Decreases (are_below (now i) (entry i))) (first i))
     ∙ say_both (assert_measure way measure) second old
     ∙ ap (λ b. saying (if b then assert_measure way measure ++ second else []) old) (sym inside)
+
+-- ---- on every way out
+
+pub returns-in_err-assert_below-clause-grows : goal.returns-in_err-assert_below-clause-grows
+returns-in_err-assert_below-clause-grows c = grows_then _ _ _ c.method_measure.ensures.grows c.assert_below.ensures.grows
+
+pub returns-in_ok-assert_below-clause-grows : goal.returns-in_ok-assert_below-clause-grows
+returns-in_ok-assert_below-clause-grows c = grows_then _ _ _ c.method_measure.ensures.grows c.assert_below.ensures.grows

@@ -1,4 +1,4 @@
-use Rattle.df_nledger.proofs.Words.{◌∙◌, path_same, saying, assume}
+use Rattle.df_nledger.proofs.Words.{◌∙◌, path_same, saying, assume, grows_then}
 use Rattle.df_nledger.proofs.Growing.{ledger_stays}
 use Rattle.df_nledger.proofs.Ledgers.{ledger_keeps, on_ok_then}
 use Rattle.df_nledger.proofs.Places.{path_is, has_path_stays}
@@ -18,3 +18,8 @@ returns-clause-ledger c =
     let path = path_same s.nodes c.equal_in.new.nodes c.args.path grows (path_is s.nodes c.args.path c.requires.path) in
     let tree = c.in_ok-equal.ensures.stands.tree_is in
     on_ok_then c.assume_on.result c.assume_on.ensures.ledger (λ e. e ∙ (λ i. saying (assume (path i) (tree i)) (kept i)))
+
+-- ---- on every way out
+
+pub returns-clause-grows : goal.returns-clause-grows
+returns-clause-grows c = grows_then _ _ _ c.equal_in.ensures.grows c.assume_on.ensures.grows

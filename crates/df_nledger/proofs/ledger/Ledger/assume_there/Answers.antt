@@ -1,4 +1,4 @@
-use Rattle.df_nledger.proofs.Words.{sym, ap, ◌∙◌, term_stays, tree_stays, path_same, path_in, sort_of_type, tree_at, ledger_of, saying, assume, is_unset}
+use Rattle.df_nledger.proofs.Words.{sym, ap, ◌∙◌, term_stays, tree_stays, path_same, path_in, sort_of_type, tree_at, ledger_of, saying, assume, is_unset, grows_then}
 use Rattle.std.proofs.lemmas.Bool.{eq-eqb, ne_eqb}
 use Rattle.df_nterm.specs.Expressions.{equal_in}
 use Rattle.df_nledger.proofs.Ledgers.{on_ok_then}
@@ -38,3 +38,8 @@ returns-clause-ledger c =
     let kept = c.in_ok-unset.ensures.ledger in
     let known = there_known c.args.ty (tree_at s.nodes c.args.term) (tree_at s.nodes c.args.here) (path_in s.nodes c.args.path) (ledger_of s) (ap is_unset (sym here) ∙ (told ∙ ne_eqb c.in_ok-unset.unset c.args.here c.if-unset-here.false)) in
     on_ok_then c.assume_equal.result c.assume_equal.ensures.ledger (λ e. e ∙ ((λ i. saying (assume (path i) (equal_in c.args.ty (first i) (here i))) (kept i)) ∙ known))
+
+-- ---- on every way out
+
+pub returns-clause-grows : goal.returns-clause-grows
+returns-clause-grows c = grows_then _ _ _ c.unset_one.ensures.grows c.assume_equal.ensures.grows

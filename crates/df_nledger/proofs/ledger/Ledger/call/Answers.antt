@@ -1,4 +1,4 @@
-use Rattle.df_nledger.proofs.Words.{◌≡◌, true, false, [], List, map, length, Some, sym, ap, ◌∙◌, subst, arith, length-map, option_map, option_map_or, method_of, expr_of, Param, Method, method_at, types_of, call_of, are_exprs, program_of, DeclaredExpr, trees_at, if_ok, measured_in, term_of, Ledger, ledger_of, way_of, saying, with_fresh, setting_of, assert_exprs, given_behind, pass_method_call}
+use Rattle.df_nledger.proofs.Words.{◌≡◌, true, false, [], List, map, length, Some, sym, ap, ◌∙◌, subst, arith, length-map, option_map, option_map_or, method_of, expr_of, Param, Method, method_at, types_of, call_of, are_exprs, program_of, DeclaredExpr, trees_at, if_ok, measured_in, term_of, Ledger, ledger_of, way_of, saying, with_fresh, setting_of, assert_exprs, given_behind, pass_method_call, grows_then}
 use Rattle.df_meaning.proofs.Wholes.{method_typed}
 use Rattle.df_nledger.proofs.Sources.{gives_same, exprs_many, called}
 use Rattle.df_nledger.proofs.Growing.{measured_same}
@@ -48,3 +48,8 @@ returns-in-Some-clause-given c =
       locals = g.locals;
       many = g.many;
     }))
+
+-- ---- on every way out
+
+pub returns-in-Some-clause-grows : goal.returns-in-Some-clause-grows
+returns-in-Some-clause-grows c = grows_then _ _ _ c.values.ensures.grows c.method_call.ensures.grows

@@ -1,4 +1,4 @@
-use Rattle.df_nledger.proofs.Words.{◌∙◌, stays, saying, assume_all}
+use Rattle.df_nledger.proofs.Words.{◌∙◌, stays, saying, assume_all, grows_then}
 use Rattle.df_nledger.proofs.Growing.{ledger_stays}
 use Rattle.df_nledger.proofs.Sayings.{asked_are, asked_same}
 use Rattle.df_nledger.proofs.Ledgers.{ledger_keeps}
@@ -18,3 +18,11 @@ returns-clause-ledger c =
 
 pub returns-clause-stands : goal.returns-clause-stands
 returns-clause-stands c = stays c.defined.new.nodes c.assume_all.new.self.nodes _ c.in_ok-term.term c.assume_all.ensures.grows c.in_ok-term.ensures.gives.stands
+
+-- ---- on every way out
+
+pub returns-in_err-assume_all-clause-grows : goal.returns-in_err-assume_all-clause-grows
+returns-in_err-assume_all-clause-grows c = grows_then _ _ _ c.defined.ensures.grows c.assume_all.ensures.grows
+
+pub returns-clause-grows : goal.returns-clause-grows
+returns-clause-grows c = grows_then _ _ _ c.defined.ensures.grows c.assume_all.ensures.grows

@@ -75,3 +75,20 @@ returns-clause-given c =
       locals = locals_stay fourth.nodes c.assume_clauses.new.self.nodes (types_of m.results) c.in_ok-results.results.items c.assume_clauses.ensures.grows are;
       many = given.many ∙ ap (λ (ps : List DeclaredParam). length (types_of (map param_of ps))) d4;
     }
+
+-- ---- on every way out
+
+pub returns-in_err-assert_decrease-clause-grows : goal.returns-in_err-assert_decrease-clause-grows
+returns-in_err-assert_decrease-clause-grows c = grows_then _ _ _ c.assert_clauses.ensures.grows c.assert_decrease.ensures.grows
+
+pub returns-in_err-results-clause-grows : goal.returns-in_err-results-clause-grows
+returns-in_err-results-clause-grows c = grows_then _ _ _ (grows_then _ _ _ c.assert_clauses.ensures.grows c.assert_decrease.ensures.grows) c.any_values.ensures.grows
+
+pub returns-in_err-extend_from_slice-clause-grows : goal.returns-in_err-extend_from_slice-clause-grows
+returns-in_err-extend_from_slice-clause-grows c = grows_then _ _ _ (grows_then _ _ _ c.assert_clauses.ensures.grows c.assert_decrease.ensures.grows) c.any_values.ensures.grows
+
+pub returns-in_err-assume_clauses-clause-grows : goal.returns-in_err-assume_clauses-clause-grows
+returns-in_err-assume_clauses-clause-grows c = grows_then _ _ _ (grows_then _ _ _ (grows_then _ _ _ c.assert_clauses.ensures.grows c.assert_decrease.ensures.grows) c.any_values.ensures.grows) c.assume_clauses.ensures.grows
+
+pub returns-clause-grows : goal.returns-clause-grows
+returns-clause-grows c = grows_then _ _ _ (grows_then _ _ _ (grows_then _ _ _ c.assert_clauses.ensures.grows c.assert_decrease.ensures.grows) c.any_values.ensures.grows) c.assume_clauses.ensures.grows

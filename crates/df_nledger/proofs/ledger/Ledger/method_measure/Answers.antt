@@ -1,4 +1,4 @@
-use Rattle.df_nledger.proofs.Words.{ap, ◌∙◌, method_of, method_measure, ledger_of, way_of, saying, assert_all}
+use Rattle.df_nledger.proofs.Words.{ap, ◌∙◌, method_of, method_measure, ledger_of, way_of, saying, assert_all, grows_then}
 use Rattle.df_nledger.proofs.Sayings.{asked_are, asked_same, measure_said}
 use Rattle.df_nledger.proofs.Growing.{ledger_stays, measured_same}
 use Rattle.df_nledger.proofs.Ledgers.{ledger_keeps}
@@ -19,3 +19,11 @@ returns-clause-ledger c =
 
 pub returns-clause-measured : goal.returns-clause-measured
 returns-clause-measured c = measured_same c.method_measure.new.nodes c.assert_all.new.self.nodes c.assert_all.ensures.grows c.in_ok-made.made.items c.in_ok-made.ensures.measures.are ∙ c.in_ok-made.ensures.measures.members_are
+
+-- ---- on every way out
+
+pub returns-in_err-assert_all-clause-grows : goal.returns-in_err-assert_all-clause-grows
+returns-in_err-assert_all-clause-grows c = grows_then _ _ _ c.method_measure.ensures.grows c.assert_all.ensures.grows
+
+pub returns-clause-grows : goal.returns-clause-grows
+returns-clause-grows c = grows_then _ _ _ c.method_measure.ensures.grows c.assert_all.ensures.grows

@@ -1,4 +1,4 @@
-use Rattle.df_nledger.proofs.Words.{◌≡◌, true, ℕ, List, [], ◌∷◌, ◌++◌, map, length, refl, sym, ap, ◌∙◌, subst, arith, and_parts, length-map, Ty, expr_of, Source, Single, Results, Conversion, call_of, conversion_of, source_of, are_results, source_types, program_of, DeclaredConversion, AreLocals, trees_at, is_term, all_same, locals_stay, part, measured_in, Term, sort_of_type, AreConverted, Gives, is_call_over, is_source_over, Ledger, ledger_of, way_of, saying, setting_of, assert_conversions, pass_call, pass_source}
+use Rattle.df_nledger.proofs.Words.{◌≡◌, true, ℕ, List, [], ◌∷◌, ◌++◌, map, length, refl, sym, ap, ◌∙◌, subst, arith, and_parts, length-map, Ty, expr_of, Source, Single, Results, Conversion, call_of, conversion_of, source_of, are_results, source_types, program_of, DeclaredConversion, AreLocals, trees_at, is_term, all_same, locals_stay, part, measured_in, Term, sort_of_type, AreConverted, Gives, is_call_over, is_source_over, Ledger, ledger_of, way_of, saying, setting_of, assert_conversions, pass_call, pass_source, grows_then}
 use Rattle.df_nledger.proofs.Sources.{results_are, results_convert, converted_locals, conversions_same, converted_said}
 use Rattle.df_nledger.proofs.Values.{no_locals, locals_cons}
 use Rattle.df_nledger.proofs.ledger.Ledger.source.Goals as goal
@@ -71,3 +71,11 @@ returns-in_ok-assert_conversions-in-Call-clause-given c =
       locals = locals_stay mid.nodes new.nodes (map (λ (x : Conversion). x.target) cs) items c.assert_conversions.ensures.grows (converted_locals mid.nodes program cs items (results_convert program call cs results) from);
       many = omega (arith, given.many, ap (λ (tys : List Ty). length tys) (results_are program call cs results), length-map cs (λ (x : Conversion). x.source), length-map cs (λ (x : Conversion). x.target));
     })
+
+-- ---- on every way out
+
+pub returns-in_err-assert_conversions-in-Call-clause-grows : goal.returns-in_err-assert_conversions-in-Call-clause-grows
+returns-in_err-assert_conversions-in-Call-clause-grows c = grows_then _ _ _ c.call.ensures.grows c.assert_conversions.ensures.grows
+
+pub returns-in_ok-assert_conversions-in-Call-clause-grows : goal.returns-in_ok-assert_conversions-in-Call-clause-grows
+returns-in_ok-assert_conversions-in-Call-clause-grows c = grows_then _ _ _ c.call.ensures.grows c.assert_conversions.ensures.grows

@@ -86,3 +86,11 @@ returns-clause-given c =
       locals = subst (λ (ys : List DeclaredSource). AreLocals l.self.nodes (flat_map source_types (map source_of ys)) l.all.items) all l.invariant.locals;
       many = l.invariant.many ∙ ap (λ (ys : List DeclaredSource). length (flat_map source_types (map source_of ys))) all;
     }
+
+-- ---- on every way out
+
+pub returns-in_err-given-clause-grows : goal.returns-in_err-given-clause-grows
+returns-in_err-given-clause-grows c = grows_then _ _ _ c.loop-source.invariant.grows c.source.ensures.grows
+
+pub returns-in_err-extend_from_slice-clause-grows : goal.returns-in_err-extend_from_slice-clause-grows
+returns-in_err-extend_from_slice-clause-grows c = grows_then _ _ _ c.loop-source.invariant.grows c.source.ensures.grows

@@ -18,3 +18,14 @@ loop-place-preserved c =
           (ap (λ (ts : List Ty). trees_at l.self.nodes l.terms.items ++ map (λ (ty : Ty). some_term (sort_of_type ty)) ts) (sym (drop_next xs l.place x e c.loop-place-test.true)) ∙ l.invariant.terms);
       below = below_next l.self.nodes c.unset_one.new.self.nodes l.terms.items c.push.new.self.items c.in_ok-term.term c.unset_one.ensures.grows l.invariant.below c.in_ok-push.ensures.items c.in_ok-term.ensures.stands.below;
     }
+
+-- ---- on every way out
+
+pub returns-in_err-term-clause-grows : goal.returns-in_err-term-clause-grows
+returns-in_err-term-clause-grows c = grows_then _ _ _ c.loop-place.invariant.grows c.unset_one.ensures.grows
+
+pub returns-in_err-push-clause-grows : goal.returns-in_err-push-clause-grows
+returns-in_err-push-clause-grows c = grows_then _ _ _ c.loop-place.invariant.grows c.unset_one.ensures.grows
+
+pub returns-clause-grows : goal.returns-clause-grows
+returns-clause-grows c = c.loop-place.invariant.grows

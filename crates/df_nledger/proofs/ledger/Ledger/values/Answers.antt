@@ -69,3 +69,11 @@ returns-clause-many c =
     let e : trees_at l.self.nodes l.values.items ≡ map (term_of (trees_in c.args.self.now.nodes c.args.terms.now)) (map expr_of c.args.exprs.now) = sym (append-nil (trees_at l.self.nodes l.values.items))
     ∙ ap (λ (es : List DeclaredExpr). trees_at l.self.nodes l.values.items ++ map (term_of (trees_in c.args.self.now.nodes c.args.terms.now)) (map expr_of es)) (sym (drop_all l.expr-index c.args.exprs.now c.loop-expr-test.false)) ∙ l.invariant.values in
     omega (arith, ap (λ (ts : List Term). length ts) e, length-map l.values.items (tree_at l.self.nodes), length-map (map expr_of c.args.exprs.now) (term_of (trees_in c.args.self.now.nodes c.args.terms.now)), length-map c.args.exprs.now expr_of)
+
+-- ---- on every way out
+
+pub returns-in_err-value-clause-grows : goal.returns-in_err-value-clause-grows
+returns-in_err-value-clause-grows c = grows_then _ _ _ c.loop-expr.invariant.grows c.value.ensures.grows
+
+pub returns-in_err-push-clause-grows : goal.returns-in_err-push-clause-grows
+returns-in_err-push-clause-grows c = grows_then _ _ _ c.loop-expr.invariant.grows c.value.ensures.grows
