@@ -9,7 +9,7 @@ use Rattle.df_nmach.specs.declared.instruction.Instruction.TheVariants as i
 use Rattle.df_nmach.specs.State.{Code}
 use Rattle.df_nmach.specs.Step.{Ended}
 use Rattle.df_nmach.specs.Run.{and_then, machine_run, start_of, NeverFaults}
-use Rattle.df_nback.specs.Compiled.{code_for}
+use Rattle.df_nback.specs.Run.{code_for}
 use Rattle.df_codes.specs.Programs.{loop, programs}
 use Rattle.df_codes.proofs.Running.{ends_never_faults}
 use Rattle.df_back_tests.specs.Digits.{bits, printing, entry, program}

@@ -7,7 +7,7 @@ use Rattle.df_lang.specs.declared.expr.AddendOperator.TheVariants as addends
 use Rattle.df_lang.specs.declared.expr.Comparison.{Comparison}
 use Rattle.df_lang.specs.declared.expr.Comparison.TheVariants as comparisons
 use Rattle.df_lang.specs.Expr.{Expr, Number, Local, Sum, Chain, no_addend, addend, no_link, link}
-use Rattle.df_lang.specs.Stmt.{Value, Single, Update, Stmt, Var, Assign, CallOf, While, Print, Stmts, done, next}
+use Rattle.df_lang.specs.Stmt.{Value, Target, Single, Update, Clause, Stmt, Var, Assign, CallOf, While, Print, Stmts, done, next}
 use Rattle.df_lang.specs.Newtype.{Declared}
 use Rattle.df_lang.specs.Program.{Decl, NewtypeDecl, MethodDecl, Program}
 
@@ -36,8 +36,11 @@ against_three ty comparison = Chain ty counter (link comparison here (number ty 
 abbrev pub one_more : Ty → Expr
 one_more ty = Sum ty counter (addend addends.Plus here (number ty (pos 1)) no_addend)
 
+abbrev pub targets : Ty → List Target
+targets ty = record { local = 0; name = 0; pos = here; ty = ty } ∷ []
+
 abbrev pub takes : Ty → Expr → Update
-takes ty value = record { targets = record { local = 0; name = 0; pos = here; ty = ty } ∷ []; sources = Single ty value ∷ [] }
+takes ty value = record { targets = targets ty; sources = Single ty value ∷ [] }
 
 -- var i: TY := 0;
 abbrev pub declare : Ty → Stmt
@@ -51,9 +54,21 @@ print ty = Print here (Value ty counter ∷ [])
 abbrev pub count : Ty → Stmt
 count ty = Assign here (takes ty (one_more ty))
 
+-- invariant i <= 3
+abbrev pub invariants : Ty → List Clause
+invariants ty = record { pos = here; condition = against_three ty comparisons.AtMost } ∷ []
+
+-- print i; i := i + 1;
+abbrev pub body : Ty → Stmts
+body ty = next (print ty) (next (count ty) done)
+
+-- while i < 3 INVARIANTS { print i; i := i + 1; }
+abbrev pub repeated : Ty → List Clause → Stmt
+repeated ty all = While here (against_three ty comparisons.Less) all None (body ty)
+
 -- while i < 3 invariant i <= 3 { print i; i := i + 1; }
 abbrev pub repeat : Ty → Stmt
-repeat ty = While here (against_three ty comparisons.Less) (record { pos = here; condition = against_three ty comparisons.AtMost } ∷ []) None (next (print ty) (next (count ty) done))
+repeat ty = repeated ty (invariants ty)
 
 abbrev pub method : List ℕ → Stmts → Decl
 method text body = MethodDecl (record { declared = named text; parameters = []; results = []; preconditions = []; postconditions = []; decreases = None; pos = here; body = body })

@@ -3,7 +3,7 @@
 ghost use Rattle.std.specs.Prelude.{◌≡◌, true, map, IfOk};
 ghost use Rattle.df_lang.specs.declared.ty.Ty.TheVariants as types;
 ghost use Rattle.df_lang.specs.ExprView.{expr_of};
-ghost use Rattle.df_lang.specs.StmtView.{update_of, stmt_of, stmts_of};
+ghost use Rattle.df_lang.specs.StmtView.{target_of, clause_of, update_of, stmt_of, stmts_of};
 ghost use Rattle.df_lang.specs.DeclView.{declared_of, decl_of};
 ghost use Rattle.df_lang.specs.View.{program_of};
 ghost use Rattle.df_lang.specs.Typing.{is_well_typed};
@@ -103,9 +103,9 @@ fn one_more(alloc: Global, ty: Ty) -> Result<Expr, AllocError>
     Ok(Expr::Sum { ty, first, rest })
 }
 
-/// The local takes the value.
-fn takes(alloc: Global, ty: Ty, value: Expr) -> Result<Update, AllocError>
-    ensures { IfOk result (λ update. update_of update ≡ pure.takes ty (expr_of value)) }
+/// The local alone.
+fn targets(alloc: Global, ty: Ty) -> Result<Vec<Target>, AllocError>
+    ensures { IfOk result (λ targets. map target_of targets.items ≡ pure.targets ty) }
 {
     let target = Target {
         local: 0,
@@ -114,8 +114,18 @@ fn takes(alloc: Global, ty: Ty, value: Expr) -> Result<Update, AllocError>
         ty,
     };
     let targets = vec![in alloc; target]?;
+    Ok(targets)
+}
+
+/// The local takes the value.
+fn takes(alloc: Global, ty: Ty, value: Expr) -> Result<Update, AllocError>
+    ensures { IfOk result (λ update. update_of update ≡ pure.takes ty (expr_of value)) }
+{
     let sources = vec![in alloc; Source::Value { ty, value }]?;
-    Ok(Update { targets, sources })
+    match targets(alloc, ty) {
+        Ok(targets) => Ok(Update { targets, sources }),
+        Err(error) => Err(error),
+    }
 }
 
 /// `var i: TY := 0;`
@@ -159,27 +169,53 @@ fn count(alloc: Global, ty: Ty) -> Result<Stmt, AllocError>
     Ok(Stmt::Assign { pos: HERE, update })
 }
 
-/// `while i < 3 invariant i <= 3 { print i; i := i + 1; }`
-fn repeat(alloc: Global, ty: Ty) -> Result<Stmt, AllocError>
-    ensures { IfOk result (λ stmt. stmt_of stmt ≡ pure.repeat ty) }
+/// `invariant i <= 3`
+fn invariants(alloc: Global, ty: Ty) -> Result<Vec<Clause>, AllocError>
+    ensures { IfOk result (λ invariants. map clause_of invariants.items ≡ pure.invariants ty) }
 {
-    let guard = against_three(alloc, ty, Comparison::Less)?;
     let condition = against_three(alloc, ty, Comparison::AtMost)?;
     let invariant = Clause {
         pos: HERE,
         condition,
     };
     let invariants = vec![in alloc; invariant]?;
+    Ok(invariants)
+}
+
+/// `print i; i := i + 1;`
+fn body(alloc: Global, ty: Ty) -> Result<Vec<Stmt>, AllocError>
+    ensures { IfOk result (λ body. stmts_of (map stmt_of body.items) ≡ pure.body ty) }
+{
     let first = print(alloc, ty)?;
-    let second = count(alloc, ty)?;
-    let body = vec![in alloc; first, second]?;
-    Ok(Stmt::While {
-        pos: HERE,
-        guard,
-        invariants,
-        decreases: None,
-        body,
-    })
+    match count(alloc, ty) {
+        Ok(second) => Ok(vec![in alloc; first, second]?),
+        Err(error) => Err(error),
+    }
+}
+
+/// `while i < 3 INVARIANTS { print i; i := i + 1; }`
+fn repeated(alloc: Global, ty: Ty, invariants: Vec<Clause>) -> Result<Stmt, AllocError>
+    ensures { IfOk result (λ stmt. stmt_of stmt ≡ pure.repeated ty (map clause_of invariants.items)) }
+{
+    let guard = against_three(alloc, ty, Comparison::Less)?;
+    match body(alloc, ty) {
+        Ok(body) => Ok(Stmt::While {
+            pos: HERE,
+            guard,
+            invariants,
+            decreases: None,
+            body,
+        }),
+        Err(error) => Err(error),
+    }
+}
+
+/// `while i < 3 invariant i <= 3 { print i; i := i + 1; }`
+fn repeat(alloc: Global, ty: Ty) -> Result<Stmt, AllocError>
+    ensures { IfOk result (λ stmt. stmt_of stmt ≡ pure.repeat ty) }
+{
+    let invariants = invariants(alloc, ty)?;
+    repeated(alloc, ty, invariants)
 }
 
 fn method(alloc: Global, text: &str, body: Vec<Stmt>) -> Result<Decl, AllocError>
@@ -203,9 +239,13 @@ fn printing(alloc: Global, ty: Ty) -> Result<Decl, AllocError>
     ensures { IfOk result (λ decl. decl_of decl ≡ pure.printing ty) }
 {
     let first = declare(alloc, ty)?;
-    let second = repeat(alloc, ty)?;
-    let body = vec![in alloc; first, second]?;
-    method(alloc, "Loop", body)
+    match repeat(alloc, ty) {
+        Ok(second) => {
+            let body = vec![in alloc; first, second]?;
+            method(alloc, "Loop", body)
+        }
+        Err(error) => Err(error),
+    }
 }
 
 fn entry(alloc: Global) -> Result<Decl, AllocError>
@@ -305,13 +345,27 @@ fn runs(alloc: Global, program: &Program, fuel: u64, ends: bool, sink: &mut Sure
     }
 }
 
+/// Whether the code spends one step less than it takes, and ends in as many as it takes.
+fn runs_both(alloc: Global, program: &Program, sink: &mut SureSink) -> bool
+    requires program { program_of program.now ≡ pure.program (types.Newtype 0) }
+    requires names { has_names (program_of program.now) ≡ true }
+{
+    runs(alloc, program, STEPS - 1, false, &mut *sink) && runs(alloc, program, STEPS, true, sink)
+}
+
+/// Whether both runs print 0 to 2.
+fn prints(alloc: Global, program: &Program) -> bool
+    requires program { program_of program.now ≡ pure.program (types.Newtype 0) }
+    requires names { has_names (program_of program.now) ≡ true }
+{
+    let mut sink = SureSink::new(alloc);
+    runs_both(alloc, program, &mut sink) && sink.taken() == b"012012".as_slice()
+}
+
 #[test]
 fn its_code_runs(rt: HostRuntime) -> Result<(), Fail> {
     let program = digits_program(rt.alloc(), Ty::Newtype(0))?;
-    let mut sink = SureSink::new(rt.alloc());
-    assert!(rt; runs(rt.alloc(), &program, STEPS - 1, false, &mut sink));
-    assert!(rt; runs(rt.alloc(), &program, STEPS, true, &mut sink));
-    assert!(rt; sink.taken() == b"012012".as_slice());
+    assert!(rt; prints(rt.alloc(), &program));
     Ok(())
 }
 

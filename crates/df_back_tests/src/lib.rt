@@ -1,5 +1,5 @@
-//! Tests of the back end in its next shape, against the calls that other crates make: a program that is
-//! compiled, codes by hand on the machine, and their texts.
+//! Tests of the back end, against the calls that other crates make: a program that is compiled, codes by hand on the
+//! machine, their texts, and reports.
 #![tactic(auto)]
 
 #[cfg(test)]

@@ -53,18 +53,39 @@ fn timed(rt: &HostRuntime, layer: Layer, size: u32) -> Result<(String, Duration)
     }
 }
 
-fn main(rt: HostRuntime) -> Result<()> {
-    let Some(name) = env::args(&rt)?.nth(1) else {
-        for (name, layer, size) in BENCHES {
-            let (result, _) = timed(&rt, layer, size)?;
-            println!(rt; "{name} {size}: {result}")?;
-        }
-        return Ok(());
-    };
-    let layer = named(name.as_str()).context("count, fib, deep, write or emit")?;
-    let size = env::args(&rt)?.nth(2).context("a size")?.parse::<u32>()?;
-    let (result, time) = timed(&rt, layer, size)?;
+/// Runs each at its small size, and tells what it came to.
+fn run_all(rt: &HostRuntime) -> Result<()> {
+    for (name, layer, size) in BENCHES {
+        let (result, _) = timed(rt, layer, size)?;
+        println!(rt; "{name} {size}: {result}")?;
+    }
+    Ok(())
+}
+
+/// The size that the second word says.
+fn wanted_size(rt: &HostRuntime) -> Result<u32> {
+    let size = env::args(rt)?.nth(2).context("a size")?.parse::<u32>()?;
+    Ok(size)
+}
+
+/// Runs the layer of a name at a size, and tells what it came to and how long it took.
+fn run_at(rt: &HostRuntime, name: &str, size: u32) -> Result<()> {
+    let layer = named(name).context("count, fib, deep, write or emit")?;
+    let (result, time) = timed(rt, layer, size)?;
     let micros = time.as_micros();
     println!(rt; "{name} {size}: {result}, {micros} microseconds")?;
     Ok(())
+}
+
+/// Runs the layer of a name at the size that the second word says.
+fn run_one(rt: &HostRuntime, name: &str) -> Result<()> {
+    let size = wanted_size(rt)?;
+    run_at(rt, name, size)
+}
+
+fn main(rt: HostRuntime) -> Result<()> {
+    match env::args(&rt)?.nth(1) {
+        Some(name) => run_one(&rt, name.as_str()),
+        None => run_all(&rt),
+    }
 }

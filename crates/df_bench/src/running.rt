@@ -49,13 +49,24 @@ fn told(alloc: Global, ran: &Ran) -> Result<String, AllocError> {
     }
 }
 
+/// Runs a machine to the end.
+fn ran(alloc: Global, vm: Vm) -> Ran {
+    let mut sink = SureSink::new(alloc);
+    vm.run(u64::MAX, &mut sink)
+}
+
+/// What a run came to, and how long ago it began.
+fn told_since(rt: &HostRuntime, begun: Instant, ran: &Ran) -> Result<(String, Duration)> {
+    let time = begun.elapsed(rt)?;
+    let text = told(rt.alloc(), ran)?;
+    Ok((text, time))
+}
+
 /// Runs a machine to the end: what it came to, and how long it took.
 fn timed(rt: &HostRuntime, vm: Vm) -> Result<(String, Duration)> {
-    let mut sink = SureSink::new(rt.alloc());
     let begun = Instant::now(rt)?;
-    let ran = vm.run(u64::MAX, &mut sink);
-    let time = begun.elapsed(rt)?;
-    Ok((told(rt.alloc(), &ran)?, time))
+    let ran = ran(rt.alloc(), vm);
+    told_since(rt, begun, &ran)
 }
 
 /// Runs to the end: what it came to, and how long it took.

@@ -1,48 +1,9 @@
 //! Clauses, with what derives each.
 
 use crate::literal::Literal;
-use df_form::{Combination, Pair};
+use crate::origin::Origin;
+use df_form::Combination;
 use std::alloc::{AllocError, Global};
-
-/// A clause of a schema by their numbers.
-#[derive(Clone, Copy, PartialEq, Eq, Hash)]
-pub struct Instance {
-    pub schema: u8,
-    pub clause: u32,
-}
-
-/// What derives a clause.
-#[derive(Drop)]
-pub enum Origin {
-    Hypothesis(usize),
-    Goal,
-    /// A defining clause of a node.
-    Connective {
-        node: usize,
-        clause: usize,
-    },
-    /// A clause on what it is to be of a type.
-    Type {
-        node: usize,
-        clause: u32,
-    },
-    /// A clause of a schema for terms, and the nodes that it needs, in the order in which it makes them.
-    Schema {
-        instance: Instance,
-        terms: Vec<usize>,
-        needed: Vec<usize>,
-    },
-    /// Classes of the negated literals' equalities, closed by pairs of congruent nodes.
-    Congruence(Vec<Pair>),
-    Split {
-        node: usize,
-        bound: i128,
-    },
-    /// Combinations of the rows of its negated literals.
-    Linear(Vec<Combination>),
-    /// Unit propagation through clauses, in this order.
-    Learned(Vec<usize>),
-}
 
 /// A clause. Propagation watches its first two literals, and may move them.
 #[derive(Drop)]

@@ -8,13 +8,15 @@ mod book;
 mod instances;
 mod literal;
 mod order;
+mod origin;
 mod trail;
 mod watching;
 
 pub use analysis::Analysis;
-pub use book::{Book, Clause, Instance, Origin};
+pub use book::{Book, Clause};
 pub use instances::{Asked, Instances};
-pub use literal::Literal;
+pub use literal::{Literal, negations, with_last};
 pub use order::Order;
+pub use origin::{Instance, Origin};
 pub use trail::{Assignment, GROUND, Reason, Trail};
 pub use watching::Solver;

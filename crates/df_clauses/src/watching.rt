@@ -1,8 +1,9 @@
 //! Clauses that watch two of their literals each, and what they do where one of these becomes false.
 
-use crate::book::{Book, Origin};
+use crate::book::Book;
 use crate::literal::Literal;
 use crate::order::Order;
+use crate::origin::Origin;
 use crate::trail::{Reason, Trail};
 use std::alloc::{AllocError, Global};
 

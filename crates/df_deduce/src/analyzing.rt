@@ -2,11 +2,11 @@
 //! clause to learn.
 
 use crate::state::State;
-use df_clauses::{Analysis, GROUND, Literal, Origin, Reason};
+use df_clauses::{Analysis, GROUND, Literal, Origin, Reason, with_last};
 use std::alloc::AllocError;
 
 /// What a conflict comes to.
-#[derive(Clone, Copy, PartialEq, Eq)]
+#[derive(Clone, Copy)]
 pub enum Lesson {
     /// A clause is learned, which gives a literal now.
     Learned,
@@ -22,15 +22,20 @@ impl<'a> State<'a> {
         let level = self.solver.level_of(conflict);
         self.cancel(level)?;
         let mut analysis = Analysis::new(self.alloc, level);
-        let asserting = self.analyze(&mut analysis, conflict)?;
-        self.solver.forget(&analysis);
+        self.learn_by(&mut analysis, conflict)
+    }
+
+    /// Learns by an analysis that has met nothing yet.
+    fn learn_by(&mut self, analysis: &mut Analysis, conflict: usize) -> Result<Lesson, AllocError> {
+        let asserting = self.analyze(analysis, conflict)?;
+        self.solver.forget(analysis);
         self.solver.order.decay()?;
         if self.is_lost {
             return Ok(Lesson::Lost);
         }
         match asserting {
             Some(literal) => self.learn_clause(analysis, literal),
-            None if level <= GROUND => self.learn_empty(analysis),
+            None if analysis.level <= GROUND => self.learn_empty(analysis),
             None => Ok(Lesson::Lost),
         }
     }
@@ -106,8 +111,8 @@ impl<'a> State<'a> {
         Ok(antecedents)
     }
 
-    fn learn_empty(&mut self, analysis: Analysis) -> Result<Lesson, AllocError> {
-        let antecedents = self.antecedents(&analysis)?;
+    fn learn_empty(&mut self, analysis: &Analysis) -> Result<Lesson, AllocError> {
+        let antecedents = self.antecedents(analysis)?;
         if self.is_lost {
             return Ok(Lesson::Lost);
         }
@@ -123,20 +128,33 @@ impl<'a> State<'a> {
     /// are.
     fn learn_clause(
         &mut self,
-        analysis: Analysis,
+        analysis: &Analysis,
         asserting: Literal,
     ) -> Result<Lesson, AllocError> {
-        let antecedents = self.antecedents(&analysis)?;
+        let antecedents = self.antecedents(analysis)?;
         if self.is_lost {
             return Ok(Lesson::Lost);
         }
         let level = self.solver.highest_level(&analysis.kept);
-        let mut literals = analysis.kept;
-        literals.push(asserting)?;
-        self.cancel(level)?;
-        match self.add_clause(literals, Origin::Learned(antecedents))? {
-            None => Ok(Lesson::Learned),
-            Some(_) => Ok(Lesson::Lost),
+        match self.cancel(level) {
+            Ok(()) => self.add_learned(&analysis.kept, asserting, antecedents),
+            Err(error) => Err(error),
+        }
+    }
+
+    /// Adds what is learned: the last literal is true where the others are false.
+    fn add_learned(
+        &mut self,
+        kept: &[Literal],
+        asserting: Literal,
+        antecedents: Vec<usize>,
+    ) -> Result<Lesson, AllocError> {
+        match with_last(self.alloc, kept, asserting) {
+            Ok(literals) => match self.add_clause(literals, Origin::Learned(antecedents))? {
+                None => Ok(Lesson::Learned),
+                Some(_) => Ok(Lesson::Lost),
+            },
+            Err(error) => Err(error),
         }
     }
 }

@@ -1,8 +1,8 @@
 //! Classes of equal terms: which terms are in them, what follows of them, and why.
 
 use crate::state::State;
-use df_clauses::{Literal, Origin, Reason};
-use df_egraph::{Application, Event};
+use df_clauses::{Literal, Origin, Reason, negations};
+use df_egraph::{Application, Event, Explanation};
 use df_form::{Op, Pair};
 use df_theory::Shape;
 use std::alloc::AllocError;
@@ -195,17 +195,22 @@ impl<'a> State<'a> {
         equal: &[Pair],
         conclusion: Option<Literal>,
     ) -> Result<Option<usize>, AllocError> {
-        let explanation = self.graph.explain(self.alloc, equal)?;
-        let mut literals = Vec::with_capacity(self.alloc, explanation.literals.len())?;
-        for literal in explanation.literals.iter() {
-            literals.push(literal.negation())?;
+        let Explanation { literals, pairs } = self.graph.explain(self.alloc, equal)?;
+        match negations(self.alloc, &literals, conclusion) {
+            Ok(clause) => self.add_congruence(clause, pairs),
+            Err(error) => Err(error),
         }
-        if let Some(literal) = conclusion {
-            literals.push(literal)?;
-        }
+    }
+
+    /// Adds a clause that holds by congruence. Its number.
+    fn add_congruence(
+        &mut self,
+        literals: Vec<Literal>,
+        pairs: Vec<Pair>,
+    ) -> Result<Option<usize>, AllocError> {
         self.spend(literals.len());
-        self.spend(explanation.pairs.len());
-        let origin = Origin::Congruence(explanation.pairs);
-        Ok(Some(self.solver.book.add(literals, origin)?))
+        self.spend(pairs.len());
+        let number = self.solver.book.add(literals, Origin::Congruence(pairs))?;
+        Ok(Some(number))
     }
 }

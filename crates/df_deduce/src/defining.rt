@@ -2,7 +2,7 @@
 
 use crate::state::State;
 use df_clauses::{Literal, Origin};
-use df_theory::{Ends, Shape};
+use df_theory::{Ends, Shape, definition, definitions};
 use std::alloc::AllocError;
 
 impl<'a> State<'a> {
@@ -15,7 +15,7 @@ impl<'a> State<'a> {
             return Ok(None);
         };
         let shape = self.terms.shape(node);
-        let clauses = self.clauses_of(node, shape, literal.positive);
+        let clauses = definitions(shape, self.terms.part_count(node), literal.positive);
         let mut conflict = None;
         for clause in clauses.first..clauses.end {
             let found = self.add_definition(node, shape, clause)?;
@@ -24,26 +24,6 @@ impl<'a> State<'a> {
             }
         }
         Ok(conflict)
-    }
-
-    /// The defining clauses of a formula for where it has a value.
-    fn clauses_of(&self, node: usize, shape: Shape, positive: bool) -> Clauses {
-        let count = self.terms.part_count(node);
-        let (first, middle, end) = match shape {
-            Shape::Not(_) => (0, 1, 2),
-            Shape::And => (0, count, count.saturating_add(1)),
-            Shape::Or => (0, 1, count.saturating_add(1)),
-            Shape::Implies(..) => (0, 1, 3),
-            Shape::Iff(..) => (0, 2, 4),
-            Shape::Equal(..) => (0, 2, 3),
-            Shape::Is { ends, .. } => (0, ends.count(), ends.count().saturating_add(1)),
-            _ => (0, 0, 0),
-        };
-        if positive {
-            Clauses { first, end: middle }
-        } else {
-            Clauses { first: middle, end }
-        }
     }
 
     /// Adds a defining clause. Its number, where it is false.
@@ -133,21 +113,34 @@ impl<'a> State<'a> {
         clause: usize,
     ) -> Result<Option<usize>, AllocError> {
         let literals = match clause {
-            0 => {
-                let up = self.terms.at_most_node(a, b)?;
-                self.with_literals(node, false, &[(up, true)])?
-            }
-            1 => {
-                let down = self.terms.at_most_node(b, a)?;
-                self.with_literals(node, false, &[(down, true)])?
-            }
-            _ => {
-                let up = self.terms.at_most_node(a, b)?;
-                let down = self.terms.at_most_node(b, a)?;
-                self.with_literals(node, true, &[(up, false), (down, false)])?
-            }
+            0 => self.with_comparison(node, a, b)?,
+            1 => self.with_comparison(node, b, a)?,
+            _ => self.with_comparisons(node, a, b)?,
         };
         self.add_connective(literals, node, clause)
+    }
+
+    /// That an equality is false, or its first side is at most its second.
+    fn with_comparison(
+        &mut self,
+        node: usize,
+        a: usize,
+        b: usize,
+    ) -> Result<Vec<Literal>, AllocError> {
+        let up = self.terms.at_most_node(a, b)?;
+        self.with_literals(node, false, &[(up, true)])
+    }
+
+    /// That an equality is true, or one of its comparisons is false.
+    fn with_comparisons(
+        &mut self,
+        node: usize,
+        a: usize,
+        b: usize,
+    ) -> Result<Vec<Literal>, AllocError> {
+        let up = self.terms.at_most_node(a, b)?;
+        let down = self.terms.at_most_node(b, a)?;
+        self.with_literals(node, true, &[(up, false), (down, false)])
     }
 
     /// Adds a clause of a connective of one or two parts.
@@ -157,19 +150,12 @@ impl<'a> State<'a> {
         shape: Shape,
         clause: usize,
     ) -> Result<Option<usize>, AllocError> {
-        let literals = match (shape, clause) {
-            (Shape::Not(p), 0) => self.with_literals(node, false, &[(p, false)])?,
-            (Shape::Not(p), _) => self.with_literals(node, true, &[(p, true)])?,
-            (Shape::Implies(a, b), 0) => {
-                self.with_literals(node, false, &[(a, false), (b, true)])?
-            }
-            (Shape::Implies(a, _), 1) => self.with_literals(node, true, &[(a, true)])?,
-            (Shape::Implies(_, b), _) => self.with_literals(node, true, &[(b, false)])?,
-            (Shape::Iff(a, b), 0) => self.with_literals(node, false, &[(a, false), (b, true)])?,
-            (Shape::Iff(a, b), 1) => self.with_literals(node, false, &[(a, true), (b, false)])?,
-            (Shape::Iff(a, b), 2) => self.with_literals(node, true, &[(a, true), (b, true)])?,
-            (Shape::Iff(a, b), _) => self.with_literals(node, true, &[(a, false), (b, false)])?,
-            _ => return Ok(None),
+        let Some(parts) = definition(shape, clause) else {
+            return Ok(None);
+        };
+        let literals = match parts.second {
+            Some(second) => self.with_literals(node, parts.positive, &[parts.first, second])?,
+            None => self.with_literals(node, parts.positive, &[parts.first])?,
         };
         self.add_connective(literals, node, clause)
     }
@@ -183,22 +169,34 @@ impl<'a> State<'a> {
         clause: usize,
     ) -> Result<Option<usize>, AllocError> {
         let is_last = clause >= ends.count();
-        let mut others = Vec::new(self.alloc);
-        if let Some(low) = ends.low_in(clause) {
-            others.push((self.terms.at_least(low, part)?, !is_last))?;
-        }
-        if let Some(high) = ends.high_in(clause) {
-            others.push((self.terms.at_most(part, high)?, !is_last))?;
-        }
-        let literals = self.with_literals(node, is_last, &others)?;
+        let low = match ends.low_in(clause) {
+            Some(low) => Some(self.terms.at_least(low, part)?),
+            None => None,
+        };
+        let high = match ends.high_in(clause) {
+            Some(high) => Some(self.terms.at_most(part, high)?),
+            None => None,
+        };
+        let literals = self.with_ends(node, is_last, low, high)?;
         let clause = u32::try_from(clause).unwrap_or(u32::MAX);
         self.add_clause(literals, Origin::Type { node, clause })
     }
-}
 
-/// Defining clauses by their numbers, from the first one up to the end.
-#[derive(Clone, Copy)]
-struct Clauses {
-    first: usize,
-    end: usize,
+    /// The literal of a node, and those of the tests of ends that are there.
+    fn with_ends(
+        &mut self,
+        node: usize,
+        positive: bool,
+        low: Option<usize>,
+        high: Option<usize>,
+    ) -> Result<Vec<Literal>, AllocError> {
+        match (low, high) {
+            (Some(low), Some(high)) => {
+                self.with_literals(node, positive, &[(low, !positive), (high, !positive)])
+            }
+            (Some(low), None) => self.with_literals(node, positive, &[(low, !positive)]),
+            (None, Some(high)) => self.with_literals(node, positive, &[(high, !positive)]),
+            (None, None) => self.with_literals(node, positive, &[]),
+        }
+    }
 }

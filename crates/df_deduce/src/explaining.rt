@@ -2,7 +2,6 @@
 
 use crate::state::State;
 use df_clauses::{Literal, Origin};
-use df_form::{Combination, Multiple};
 use df_simplex::{Derivation, Need};
 use df_theory::{Explained, Facts};
 use std::alloc::AllocError;
@@ -73,14 +72,10 @@ impl<'a> State<'a> {
         &mut self,
         literal: Literal,
     ) -> Result<Option<usize>, AllocError> {
-        let members = vec![in self.alloc; Multiple { factor: 1, row: 0 }]?;
-        let combination = Combination {
-            divisor: 1,
-            members,
-        };
-        let literals = vec![in self.alloc; literal]?;
-        let combinations = vec![in self.alloc; combination]?;
-        let origin = Origin::Linear(combinations);
-        Ok(Some(self.solver.book.add(literals, origin)?))
+        let origin = Origin::of_first_row(self.alloc)?;
+        match vec![in self.alloc; literal] {
+            Ok(literals) => Ok(Some(self.solver.book.add(literals, origin)?)),
+            Err(_) => Err(AllocError),
+        }
     }
 }

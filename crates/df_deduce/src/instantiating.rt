@@ -1,12 +1,10 @@
-//! Instances of schemas come into the book: their patterns and clauses are templates.
+//! Instances of schemas come into the book: their patterns and clauses are rows of a table.
 
-use crate::state::State;
-use df_axiom::{
-    CODE_OF_CHARACTER, FACTOR_GOES_IN, FACTORS_CHANGE, FACTORS_JOIN, LITERAL_COMES_FIRST, Need,
-    PARTS_OF_REMAINDER, PRODUCT_AT_LEAST, PRODUCTS_COMPARE, REMAINDER_BELOW,
-    REMAINDER_BELOW_OPPOSITE, SchemaRow, Source, Template, Test, begins_with, rows,
-    schema_template,
+use crate::schemas::{
+    AT_LEAST, BELOW, BELOW_OPPOSITE, CHANGE, CHARACTER, COMPARE, GO_IN, JOIN, LITERAL_FIRST, PARTS,
 };
+use crate::state::State;
+use df_axiom::{Need, SchemaRow, Source, Test, begins_with, rows};
 use df_clauses::{Asked, Instance, Literal, Origin};
 use df_form::Op;
 use df_theory::{Made, Shape};
@@ -14,17 +12,24 @@ use std::alloc::AllocError;
 
 /// Whether instances of a schema only write products in another way.
 fn is_rewriting(schema: u8) -> bool {
-    schema == FACTORS_CHANGE.schema
-        || schema == FACTORS_JOIN.schema
-        || schema == FACTOR_GOES_IN.schema
-        || schema == LITERAL_COMES_FIRST.schema
+    matches!(schema, CHANGE | JOIN | GO_IN | LITERAL_FIRST)
 }
 
 /// Whether the instances of a schema for one term are made where its operation is met. Those that write
 /// products in another way are made where a product comes into its normal form, and comparing products
 /// says what the other one does.
 fn is_asked_for(row: &SchemaRow) -> bool {
-    row.terms == 1 && !is_rewriting(row.schema) && row.schema != PRODUCT_AT_LEAST.schema
+    row.terms == 1 && !is_rewriting(row.schema) && row.schema != AT_LEAST
+}
+
+/// The row of a clause of a schema, for instances whose first term is of the operation.
+fn row_of(op: Op, schema: u8, clause: u32) -> Option<&'static SchemaRow> {
+    for row in rows() {
+        if row.schema == schema && row.clause == clause && begins_with(op, row) {
+            return Some(row);
+        }
+    }
+    None
 }
 
 /// The node of a place.
@@ -45,14 +50,10 @@ impl<'a> State<'a> {
         }
     }
 
-    /// The nodes of a template's pieces, where the named terms are as it wants them.
-    fn places(
-        &self,
-        terms: &[usize],
-        template: &Template,
-    ) -> Result<Option<Vec<usize>>, AllocError> {
+    /// The nodes of a row's pieces, where the named terms are as it wants them.
+    fn places(&self, terms: &[usize], row: &SchemaRow) -> Result<Option<Vec<usize>>, AllocError> {
         let mut places: Vec<usize> = Vec::new(self.alloc);
-        for piece in template.pieces.iter() {
+        for piece in row.pieces.iter() {
             let node = match piece.source {
                 Source::Named(term) => terms.get(term).copied(),
                 Source::Part(place, part) => match places.get(place) {
@@ -65,7 +66,7 @@ impl<'a> State<'a> {
                 _ => return Ok(None),
             }
         }
-        for pair in template.same.iter() {
+        for pair in row.same.iter() {
             if node_at(&places, pair.left) != node_at(&places, pair.right) {
                 return Ok(None);
             }
@@ -117,10 +118,10 @@ impl<'a> State<'a> {
         let Some(op) = self.terms.op(first) else {
             return Ok(false);
         };
-        match schema_template(self.alloc, self.terms.world(), op, schema, clause)? {
-            Some(template) => {
+        match row_of(op, schema, clause) {
+            Some(row) => {
                 let instance = Instance { schema, clause };
-                self.add_instance(instance, terms, &template, round)
+                self.add_instance(instance, terms, row, round)
             }
             None => Ok(false),
         }
@@ -130,45 +131,80 @@ impl<'a> State<'a> {
         &mut self,
         instance: Instance,
         terms: &[usize],
-        template: &Template,
+        row: &SchemaRow,
         round: u32,
     ) -> Result<bool, AllocError> {
-        let Some(mut places) = self.places(terms, template)? else {
-            return Ok(false);
-        };
-        self.spend(64);
         let next = if is_rewriting(instance.schema) {
             round
         } else {
             round.saturating_add(1)
         };
-        let mut needed = Vec::new(self.alloc);
-        for need in template.needed.iter() {
+        match self.places(terms, row)? {
+            Some(places) => self.add_instance_at(instance, terms, row, places, next),
+            None => Ok(false),
+        }
+    }
+
+    /// Adds an instance, the nodes of whose pieces are these. The nodes that it needs are of a round, where they are new.
+    fn add_instance_at(
+        &mut self,
+        instance: Instance,
+        terms: &[usize],
+        row: &SchemaRow,
+        places: Vec<usize>,
+        round: u32,
+    ) -> Result<bool, AllocError> {
+        self.spend(64);
+        let mut places = places;
+        let count = places.len();
+        self.add_needed(row, &mut places, round)?;
+        match Origin::of_instance(self.alloc, instance, terms, &places, count) {
+            Ok(origin) => self.add_clause_at(&places, row, origin),
+            Err(error) => Err(error),
+        }
+    }
+
+    /// Adds the nodes that a clause needs to those of its places.
+    fn add_needed(
+        &mut self,
+        row: &SchemaRow,
+        places: &mut Vec<usize>,
+        round: u32,
+    ) -> Result<(), AllocError> {
+        for need in row.needed.iter() {
             let before = self.terms.len();
-            let node = self.needed(&places, *need)?;
+            let node = self.needed(places, *need)?;
             if before < self.terms.len() {
-                self.instances.set_round(node, next)?;
+                self.instances.set_round(node, round)?;
             }
             places.push(node)?;
-            needed.push(node)?;
         }
-        let literals = self.literals_at(&places, template)?;
-        let origin = Origin::Schema {
-            instance,
-            terms: Vec::from_slice(self.alloc, terms)?,
-            needed,
-        };
-        self.add_and_define(literals, origin)?;
-        Ok(true)
+        Ok(())
+    }
+
+    /// Adds the clause of a row whose places have these nodes. Always true.
+    fn add_clause_at(
+        &mut self,
+        places: &[usize],
+        row: &SchemaRow,
+        origin: Origin,
+    ) -> Result<bool, AllocError> {
+        match self.literals_at(places, row) {
+            Ok(literals) => {
+                self.add_and_define(literals, origin)?;
+                Ok(true)
+            }
+            Err(error) => Err(error),
+        }
     }
 
     fn literals_at(
         &mut self,
         places: &[usize],
-        template: &Template,
+        row: &SchemaRow,
     ) -> Result<Vec<Literal>, AllocError> {
         let mut literals = Vec::new(self.alloc);
-        for literal in template.clause.iter() {
+        for literal in row.literals.iter() {
             let node = node_at(places, literal.node);
             literals.push(self.literal(node, literal.positive)?)?;
         }
@@ -177,10 +213,19 @@ impl<'a> State<'a> {
 
     /// Adds a clause, and has it be known what its equalities mean.
     fn add_and_define(&mut self, literals: Vec<Literal>, origin: Origin) -> Result<(), AllocError> {
-        let copies = Vec::from_slice(self.alloc, literals.as_slice())?;
-        let conflict = self.add_clause(literals, origin)?;
-        self.note(conflict);
-        for literal in copies.iter() {
+        match Vec::from_slice(self.alloc, literals.as_slice()) {
+            Ok(copies) => {
+                let conflict = self.add_clause(literals, origin)?;
+                self.note(conflict);
+                self.define_all(&copies)
+            }
+            Err(_) => Err(AllocError),
+        }
+    }
+
+    /// Has it be known what equalities mean.
+    fn define_all(&mut self, literals: &[Literal]) -> Result<(), AllocError> {
+        for literal in literals {
             self.define_both(*literal)?;
         }
         Ok(())
@@ -270,15 +315,15 @@ impl<'a> State<'a> {
         let second = second.unwrap_or(0);
         let divisor = self.terms.number(second);
         let schema = row.schema;
-        if op == Op::Mod && schema == PARTS_OF_REMAINDER.schema {
+        if op == Op::Mod && schema == PARTS {
             // The quotient says the same.
             let quotient = Made::Two(Op::Div, first, second);
             self.terms.find(quotient).is_none()
-        } else if schema == REMAINDER_BELOW.schema {
+        } else if schema == BELOW {
             divisor.unwrap_or(1) > 0
-        } else if schema == REMAINDER_BELOW_OPPOSITE.schema {
+        } else if schema == BELOW_OPPOSITE {
             divisor.unwrap_or(-1) < 0
-        } else if schema == CODE_OF_CHARACTER.schema {
+        } else if schema == CHARACTER {
             self.terms.op(first) != Some(Op::Code)
         } else {
             true
@@ -287,10 +332,6 @@ impl<'a> State<'a> {
 
     /// Compares two products of one second factor. Whether the clause is new.
     pub fn compare_products(&mut self, low: usize, high: usize) -> Result<bool, AllocError> {
-        self.instantiate(
-            PRODUCTS_COMPARE.schema,
-            PRODUCTS_COMPARE.clause,
-            &[low, high],
-        )
+        self.instantiate(COMPARE.schema, COMPARE.clause, &[low, high])
     }
 }

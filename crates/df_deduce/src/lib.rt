@@ -8,12 +8,12 @@ mod classing;
 mod defining;
 mod explaining;
 mod instantiating;
-mod kept;
 mod normalizing;
 mod propagating;
+mod schemas;
 mod state;
 mod units;
 
 pub use analyzing::Lesson;
-pub use kept::Kept;
+pub use df_theory::Kept;
 pub use state::State;

@@ -1,8 +1,8 @@
 //! Products as sums of multiples of products of terms that are neither: each is right-nested, and its
 //! factors ascend.
 
+use crate::schemas::{CHANGE, GO_IN, JOIN, LITERAL_FIRST};
 use crate::state::State;
-use df_axiom::{FACTOR_GOES_IN, FACTORS_CHANGE, FACTORS_JOIN, LITERAL_COMES_FIRST};
 use df_form::Op;
 use df_theory::Shape;
 use std::alloc::AllocError;
@@ -106,19 +106,19 @@ impl<'a> State<'a> {
     /// The plan of a product of normal forms, of which the first is no literal.
     fn plan_product(&mut self, node: usize, a: usize, b: usize) -> Result<Plan, AllocError> {
         if self.terms.number(b).is_some() {
-            self.instantiate(LITERAL_COMES_FIRST.schema, 0, &[node])?;
+            self.instantiate(LITERAL_FIRST, 0, &[node])?;
             return Ok(Plan::Is(self.two(Op::Times, b, a)?));
         }
         match (self.terms.shape(a), self.terms.shape(b)) {
             (_, Shape::Sum(c, d)) => {
-                self.instantiate(FACTOR_GOES_IN.schema, 0, &[node])?;
+                self.instantiate(GO_IN, 0, &[node])?;
                 let left = self.two(Op::Times, a, c)?;
                 let right = self.two(Op::Times, a, d)?;
                 Ok(Plan::IsThatOf(self.two(Op::Plus, left, right)?))
             }
             (_, Shape::Multiple(factor, c)) => {
                 let turned = self.turn(node, a, b)?;
-                self.instantiate(FACTORS_JOIN.schema, 0, &[turned])?;
+                self.instantiate(JOIN, 0, &[turned])?;
                 let inner = self.two(Op::Times, c, a)?;
                 let factor = self.terms.add_number(factor)?;
                 Ok(Plan::IsThatOf(self.two(Op::Times, factor, inner)?))
@@ -134,7 +134,7 @@ impl<'a> State<'a> {
     fn turn(&mut self, node: usize, a: usize, b: usize) -> Result<usize, AllocError> {
         let turned = self.two(Op::Times, b, a)?;
         if a != b {
-            self.instantiate(FACTORS_CHANGE.schema, 0, &[node])?;
+            self.instantiate(CHANGE, 0, &[node])?;
         }
         Ok(turned)
     }
@@ -167,7 +167,7 @@ impl<'a> State<'a> {
 
     /// The plan of a product whose first factor is a product.
     fn join(&mut self, node: usize, factors: Factors, b: usize) -> Result<Plan, AllocError> {
-        self.instantiate(FACTORS_JOIN.schema, 0, &[node])?;
+        self.instantiate(JOIN, 0, &[node])?;
         let inner = self.two(Op::Times, factors.second, b)?;
         Ok(Plan::IsThatOf(self.two(Op::Times, factors.first, inner)?))
     }

@@ -1,12 +1,12 @@
 //! The state of the engine, its variables and its clauses.
 
-use crate::kept::Kept;
 use df_clauses::{GROUND, Instances, Literal, Origin, Reason, Solver};
 use df_egraph::Graph;
-use df_form::Sequent;
+use df_form::Nodes;
 use df_simplex::{Cause, Check, Need, Side};
-use df_theory::{Atom, Index, Meaning, Shape, Terms, Theory, Variables};
+use df_theory::{Atom, Index, Kept, Meaning, Shape, Terms, Theory, Variables};
 use std::alloc::{AllocError, Global};
+use std::mem::replace;
 
 /// How many pivots a check of the tableau may take.
 const PIVOTS: usize = 2_000;
@@ -36,12 +36,12 @@ pub struct State<'a> {
 impl<'a> State<'a> {
     pub fn new(
         alloc: Global,
-        sequent: &'a Sequent<'a>,
+        nodes: &'a Nodes,
         index: &'a Index,
         fuel: u64,
         rounds: u32,
     ) -> State<'a> {
-        let terms = Terms::new(alloc, sequent, index);
+        let terms = Terms::new(alloc, nodes, index);
         let has_classes = terms.has_operations;
         State {
             alloc,
@@ -59,23 +59,28 @@ impl<'a> State<'a> {
         }
     }
 
-    /// An engine for the sequent, with what is known by a sequent without operations, of whose hypotheses and nodes this
-    /// one has all.
+    /// An engine for a sequent of these nodes, with what is known by a sequent without operations, of whose hypotheses and
+    /// nodes this one has all. It is to begin.
     pub fn again(
         alloc: Global,
-        sequent: &'a Sequent<'a>,
+        nodes: &'a Nodes,
         index: &'a Index,
         kept: Kept,
         fuel: u64,
-    ) -> Result<State<'a>, AllocError> {
-        let terms = Terms::again(sequent, index, kept.made)?;
-        let rows = kept.theory.rows.len();
-        let mut state = State {
+    ) -> State<'a> {
+        let Kept {
+            made,
+            variables,
+            solver,
+            theory,
+        } = kept;
+        let rows = theory.rows.len();
+        State {
             alloc,
-            terms,
-            variables: kept.variables,
-            solver: kept.solver,
-            theory: kept.theory,
+            terms: Terms::again(nodes, index, made),
+            variables,
+            solver,
+            theory,
             has_classes: false,
             graph: Graph::new(alloc),
             instances: Instances::new(alloc, 0),
@@ -83,28 +88,32 @@ impl<'a> State<'a> {
             is_lost: false,
             late: Vec::new(alloc),
             rows,
-        };
-        state.cancel(0)?;
-        Ok(state)
+        }
     }
 
-    /// What stays for further sequents, if it may: where there are no operations, and there is room left.
-    pub fn into_kept(self) -> Option<Kept> {
-        if self.has_classes
-            || self.solver.book.is_half_full()
-            || self.theory.forms.are_half_full()
-        {
+    /// Begins: what was known before is so of the nodes of the sequent, at the lowest level.
+    pub fn begin(&mut self) -> Result<(), AllocError> {
+        self.terms.compare()?;
+        self.cancel(0)
+    }
+
+    /// Whether what is known may stay for further sequents: where there are no operations, and there is room left.
+    fn may_stay(&self) -> bool {
+        !self.has_classes && !self.solver.book.is_half_full() && !self.theory.forms.are_half_full()
+    }
+
+    /// What stays for further sequents, if it may. The engine knows none of it from here on.
+    pub fn take_kept(&mut self) -> Option<Kept> {
+        if !self.may_stay() {
             return None;
         }
-        let State {
-            terms,
-            variables,
-            solver,
-            theory,
-            ..
-        } = self;
+        let alloc = self.alloc;
+        let made = self.terms.take_made(alloc);
+        let variables = replace(&mut self.variables, Variables::new(alloc));
+        let solver = replace(&mut self.solver, Solver::new(alloc));
+        let theory = replace(&mut self.theory, Theory::new(alloc));
         Some(Kept {
-            made: terms.into_made(),
+            made,
             variables,
             solver,
             theory,
@@ -146,25 +155,36 @@ impl<'a> State<'a> {
 
     fn add_variable(&mut self, node: usize) -> Result<usize, AllocError> {
         self.spend(8);
-        let meaning = match self.terms.shape(node) {
+        let meaning = self.meaning_of(node)?;
+        let variable = self.enroll(node, meaning)?;
+        self.give_value(variable, meaning)?;
+        if self.solver.trail.level() > 0 && self.solver.trail.assignment(variable).is_some() {
+            self.late.push(variable)?;
+        }
+        Ok(variable)
+    }
+
+    /// What a formula says to arithmetic. Classes meet its parts.
+    fn meaning_of(&mut self, node: usize) -> Result<Meaning, AllocError> {
+        match self.terms.shape(node) {
             Shape::AtMost(a, b) => {
                 self.meet_all(&[a, b])?;
-                self.theory.comparison(&self.terms, a, b)?
+                self.theory.comparison(&self.terms, a, b)
             }
             Shape::Equal(a, b) | Shape::Same(a, b) => {
                 self.meet_equality(node, a, b)?;
-                Meaning::Nothing
+                Ok(Meaning::Nothing)
             }
-            _ => Meaning::Nothing,
-        };
+            _ => Ok(Meaning::Nothing),
+        }
+    }
+
+    /// A variable without a value for a formula of a meaning.
+    fn enroll(&mut self, node: usize, meaning: Meaning) -> Result<usize, AllocError> {
         let variable = self.variables.add(node, meaning)?;
         self.solver.add_variable()?;
         if let Meaning::Atom(atom) = meaning {
             self.theory.hear(atom.column, variable)?;
-        }
-        self.give_value(variable, meaning)?;
-        if self.solver.trail.level() > 0 && self.solver.trail.assignment(variable).is_some() {
-            self.late.push(variable)?;
         }
         Ok(variable)
     }
@@ -253,17 +273,7 @@ impl<'a> State<'a> {
 
     /// The clause that is false where a column's bounds exclude each other.
     fn collision(&mut self, column: usize) -> Result<Option<usize>, AllocError> {
-        let lower = Need {
-            factor: 1,
-            column,
-            side: Side::Lower,
-        };
-        let upper = Need {
-            factor: 1,
-            column,
-            side: Side::Upper,
-        };
-        let needs = vec![in self.alloc; lower, upper]?;
+        let needs = Need::of_both(self.alloc, column)?;
         self.explain_conflict(needs)
     }
 

@@ -5,7 +5,7 @@ use df_cases::{Z, assume, conclude, program};
 use df_form::{Draft, Free, Op, Sequent, Sort, World};
 use df_kern::check;
 use df_lang::Program;
-use df_solve::{Engine, Proposal, propose_counted};
+use df_solve::{Counted, Engine, Proposal, propose_counted};
 use std::alloc::{AllocError, Global};
 use std::test::Fail;
 
@@ -31,17 +31,27 @@ fn is_proof(alloc: Global, sequent: &Sequent, proposal: &Proposal) -> bool {
     }
 }
 
-/// How many conflicts come before a log that the kernel takes, without rounds of instances.
-fn conflicts(alloc: Global, sequent: &Sequent) -> Option<u64> {
-    let mut engine = Engine::new(alloc);
-    let Ok(counted) = propose_counted(alloc, &mut engine, sequent, 1000, 0) else {
-        return None;
-    };
+/// How many conflicts came before what is proposed, if it is a log that the kernel takes.
+fn conflicts_before(alloc: Global, sequent: &Sequent, counted: &Counted) -> Option<u64> {
     if is_proof(alloc, sequent, &counted.proposal) {
         Some(counted.conflicts)
     } else {
         None
     }
+}
+
+/// How many conflicts an engine comes to before such a log, without rounds of instances.
+fn conflicts_of(alloc: Global, engine: &mut Engine, sequent: &Sequent) -> Option<u64> {
+    match propose_counted(alloc, engine, sequent, 1000, 0) {
+        Ok(counted) => conflicts_before(alloc, sequent, &counted),
+        Err(_) => None,
+    }
+}
+
+/// How many conflicts come before a log that the kernel takes, without rounds of instances.
+fn conflicts(alloc: Global, sequent: &Sequent) -> Option<u64> {
+    let mut engine = Engine::new(alloc);
+    conflicts_of(alloc, &mut engine, sequent)
 }
 
 /// Whether a log that the kernel takes comes after at most so many conflicts.

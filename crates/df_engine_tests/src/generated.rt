@@ -212,11 +212,16 @@ fn answer_to(alloc: Global, sequent: &Sequent, proposal: &Proposal) -> Answer {
     }
 }
 
-fn answer_of(alloc: Global, sequent: &Sequent) -> Answer {
-    match propose(alloc, &mut Engine::new(alloc), sequent, 1_000, ROUNDS) {
+fn answer_by(alloc: Global, engine: &mut Engine, sequent: &Sequent) -> Answer {
+    match propose(alloc, engine, sequent, 1_000, ROUNDS) {
         Ok(proposal) => answer_to(alloc, sequent, &proposal),
         Err(_) => Answer::Nothing,
     }
+}
+
+fn answer_of(alloc: Global, sequent: &Sequent) -> Answer {
+    let mut engine = Engine::new(alloc);
+    answer_by(alloc, &mut engine, sequent)
 }
 
 fn concluded_answer(alloc: Global, draft: &mut Draft, goal: Terms) -> Answer {

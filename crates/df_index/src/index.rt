@@ -1,9 +1,10 @@
 //! Where the nodes of sequents stand.
 
+use crate::ends::{Ends, ends_at};
 use crate::made::{Made, is_operation, made_like};
 use crate::offset::{Offset, offset_at, offset_of};
 use crate::width::{width_at, width_of};
-use df_form::Nodes;
+use df_form::{Nodes, Sequent, World};
 use std::alloc::{AllocError, Global};
 use std::collections::HashMap;
 
@@ -16,6 +17,8 @@ pub struct Index {
     offsets: Vec<Offset>,
     /// By node.
     widths: Vec<usize>,
+    /// The ends of types, by the nodes that test for them.
+    ends: HashMap<usize, Ends>,
     /// How many nodes were met.
     count: usize,
     /// The first product, quotient, remainder or character.
@@ -28,16 +31,27 @@ impl Index {
             places: HashMap::new(alloc),
             offsets: Vec::new(alloc),
             widths: Vec::new(alloc),
+            ends: HashMap::new(alloc),
             count: 0,
             first_operation: None,
         }
     }
 
-    /// Meets the nodes that were not met yet.
-    pub fn meet(&mut self, nodes: &Nodes) -> Result<(), AllocError> {
+    /// Meets the nodes of a sequent that were not met yet.
+    pub fn meet(&mut self, sequent: &Sequent) -> Result<(), AllocError> {
+        let nodes = &sequent.nodes;
         for number in self.count..nodes.len() {
+            self.meet_test(sequent.world, nodes, number)?;
             self.meet_node(nodes, number)?;
             self.count = number.saturating_add(1);
+        }
+        Ok(())
+    }
+
+    /// Meets a node as a test for a type, if it is one.
+    fn meet_test(&mut self, world: World, nodes: &Nodes, number: usize) -> Result<(), AllocError> {
+        if let Some(ends) = ends_at(world, nodes, number) {
+            self.ends.insert(number, ends)?;
         }
         Ok(())
     }
@@ -58,6 +72,11 @@ impl Index {
             self.widths.push(width)?;
         }
         Ok(())
+    }
+
+    /// The ends of the type for which a node tests, if it is declared.
+    pub fn ends(&self, node: usize) -> Option<Ends> {
+        self.ends.get(&node).copied()
     }
 
     /// What a node is as the sum of another one and a number.

@@ -1,53 +1,16 @@
 //! The nodes of a sequent, and those that clauses make.
 
+use crate::ends::Ends;
 use crate::index::Index;
 use crate::made::Made;
 use crate::made_nodes::MadeNodes;
 use crate::offset::Offset;
-use df_form::{Op, Sequent, Sort, World};
-use df_lang::Ty;
+use df_form::{Nodes, Op, Sort};
 use std::alloc::{AllocError, Global};
-
-/// The ends of the numbers that are values of a type, where it has any: an end on one side, on both, or on
-/// none. A type of other values has none.
-#[derive(Clone, Copy, PartialEq, Eq)]
-pub struct Ends {
-    pub low: Option<i128>,
-    pub high: Option<i128>,
-}
-
-impl Ends {
-    /// How many there are. So many clauses say that a value of the type is within one of them, and one
-    /// more that what is within all of them is a value.
-    pub fn count(&self) -> usize {
-        match (self.low, self.high) {
-            (None, None) => 0,
-            (Some(_), None) | (None, Some(_)) => 1,
-            (Some(_), Some(_)) => 2,
-        }
-    }
-
-    /// The low end, if the clause of this number speaks of it.
-    pub fn low_in(&self, clause: usize) -> Option<i128> {
-        if clause == 0 || clause >= self.count() {
-            self.low
-        } else {
-            None
-        }
-    }
-
-    /// The high end, if the clause of this number speaks of it.
-    pub fn high_in(&self, clause: usize) -> Option<i128> {
-        if clause.saturating_add(1) >= self.count() {
-            self.high
-        } else {
-            None
-        }
-    }
-}
+use std::mem::replace;
 
 /// What a node is to the engine.
-#[derive(Clone, Copy, PartialEq, Eq)]
+#[derive(Clone, Copy)]
 pub enum Shape {
     Number(i128),
     Sum(usize, usize),
@@ -78,41 +41,13 @@ fn free(sort: Sort) -> Shape {
     }
 }
 
-/// The ends of a type, if it is no newtype that is not declared.
-fn ends_of(world: World, ty: Ty) -> Option<Ends> {
-    match ty {
-        Ty::Newtype(number) => {
-            let interval = world.interval(number)?;
-            Some(Ends {
-                low: Some(interval.low),
-                high: Some(interval.high),
-            })
-        }
-        Ty::Nat => Some(Ends {
-            low: Some(0),
-            high: None,
-        }),
-        Ty::Int | Ty::Bool | Ty::Char => Some(Ends {
-            low: None,
-            high: None,
-        }),
-    }
-}
-
-fn type_test(world: World, ty: Ty, part: usize) -> Shape {
-    match ends_of(world, ty) {
-        Some(ends) => Shape::Is { ends, part },
-        None => Shape::Atom,
-    }
-}
-
 /// Where no operations stand, made nodes have numbers past all that sequents' nodes have.
 const FAR: usize = usize::MAX / 2;
 
 /// The nodes of a sequent by their numbers, and past them those that clauses make.
 #[derive(Drop)]
 pub struct Terms<'a> {
-    sequent: &'a Sequent<'a>,
+    nodes: &'a Nodes,
     index: &'a Index,
     made: MadeNodes,
     /// Whether the sequent has products, quotients, remainders or characters.
@@ -121,47 +56,49 @@ pub struct Terms<'a> {
 
 impl<'a> Terms<'a> {
     /// The nodes of a sequent that the index has met.
-    pub fn new(alloc: Global, sequent: &'a Sequent<'a>, index: &'a Index) -> Terms<'a> {
-        let count = sequent.nodes.len();
+    pub fn new(alloc: Global, nodes: &'a Nodes, index: &'a Index) -> Terms<'a> {
+        let count = nodes.len();
         let has_operations = index.has_operations(count);
         let first = if has_operations { count } else { FAR };
         Terms {
-            sequent,
+            nodes,
             index,
             made: MadeNodes::new(alloc, first, count),
             has_operations,
         }
     }
 
-    /// The same, with nodes that clauses made for a sequent without operations, all whose nodes this one has.
-    pub fn again(
-        sequent: &'a Sequent<'a>,
-        index: &'a Index,
-        made: MadeNodes,
-    ) -> Result<Terms<'a>, AllocError> {
-        let mut made = made;
-        made.compare(&sequent.nodes)?;
-        Ok(Terms {
-            sequent,
+    /// The same, with nodes that clauses made for a sequent without operations, all whose nodes this one has: they are to
+    /// be compared.
+    pub fn again(nodes: &'a Nodes, index: &'a Index, made: MadeNodes) -> Terms<'a> {
+        Terms {
+            nodes,
             index,
             made,
             has_operations: false,
-        })
+        }
     }
 
-    /// The nodes that clauses made.
-    pub fn into_made(self) -> MadeNodes {
-        let Terms { made, .. } = self;
-        made
+    /// Compares the nodes of the sequent with those that clauses made before.
+    pub fn compare(&mut self) -> Result<(), AllocError> {
+        let nodes = self.nodes;
+        self.made.compare(nodes)
     }
 
-    pub fn world(&self) -> World<'a> {
-        self.sequent.world
+    /// The nodes that clauses made, of which there are none from here on.
+    pub fn take_made(&mut self, alloc: Global) -> MadeNodes {
+        let count = self.nodes.len();
+        replace(&mut self.made, MadeNodes::new(alloc, count, count))
+    }
+
+    /// How many nodes the sequent has.
+    pub fn own_count(&self) -> usize {
+        self.nodes.len()
     }
 
     /// How many nodes there are.
     pub fn len(&self) -> usize {
-        self.sequent.nodes.len().saturating_add(self.made.len())
+        self.nodes.len().saturating_add(self.made.len())
     }
 
     /// The made node that a node of the sequent is like, or else the node: what is known of either is known of this one.
@@ -176,7 +113,7 @@ impl<'a> Terms<'a> {
 
     /// What the node does with its parts.
     pub fn op(&self, node: usize) -> Option<Op> {
-        match self.sequent.nodes.get(node) {
+        match self.nodes.get(node) {
             Some(found) => Some(found.op),
             None => Some(self.made(node)?.op()),
         }
@@ -206,15 +143,27 @@ impl<'a> Terms<'a> {
     }
 
     pub fn shape(&self, node: usize) -> Shape {
-        match self.sequent.nodes.get(node) {
+        match self.nodes.get(node) {
             Some(found) => {
                 let parts = found.parts.as_slice();
-                self.shape_of(found.op, parts.first().copied(), parts.get(1).copied())
+                let (first, second) = (parts.first().copied(), parts.get(1).copied());
+                match (found.op, first) {
+                    (Op::Is(_), Some(part)) => self.type_test(node, part),
+                    (op, _) => self.shape_of(op, first, second),
+                }
             }
             None => match self.made(node) {
                 Some(made) => self.shape_of(made.op(), made.part(0), made.part(1)),
                 None => Shape::Unknown,
             },
+        }
+    }
+
+    /// What a test for a type is; no clause makes one.
+    fn type_test(&self, node: usize, part: usize) -> Shape {
+        match self.index.ends(node) {
+            Some(ends) => Shape::Is { ends, part },
+            None => Shape::Atom,
         }
     }
 
@@ -227,7 +176,6 @@ impl<'a> Terms<'a> {
             (Op::Plus | Op::Times | Op::Div | Op::Mod | Op::Code | Op::Chr, _, _) => Shape::Unknown,
             (Op::AtMost, Some(a), Some(b)) => Shape::AtMost(a, b),
             (Op::Equal, Some(a), Some(b)) => self.equality(a, b),
-            (Op::Is(ty), Some(part), _) => type_test(self.sequent.world, ty, part),
             (Op::Not, Some(part), _) => Shape::Not(part),
             (Op::And, _, _) => Shape::And,
             (Op::Or, _, _) => Shape::Or,
@@ -259,7 +207,7 @@ impl<'a> Terms<'a> {
 
     /// What a node is as the sum of another one and a number; itself, where a clause made it.
     pub fn offset(&self, node: usize) -> Offset {
-        if node < self.sequent.nodes.len() {
+        if node < self.nodes.len() {
             return self.index.offset(node);
         }
         Offset {
@@ -275,7 +223,7 @@ impl<'a> Terms<'a> {
 
     /// How many parts a node has.
     pub fn part_count(&self, node: usize) -> usize {
-        match self.sequent.nodes.get(node) {
+        match self.nodes.get(node) {
             Some(found) => found.parts.len(),
             None => match self.made(node) {
                 Some(made) => made.part_count(),
@@ -286,7 +234,7 @@ impl<'a> Terms<'a> {
 
     /// A part of a node.
     pub fn part(&self, node: usize, place: usize) -> Option<usize> {
-        match self.sequent.nodes.get(node) {
+        match self.nodes.get(node) {
             Some(found) => found.parts.get(place).copied(),
             None => self.made(node)?.part(place),
         }
@@ -297,7 +245,7 @@ impl<'a> Terms<'a> {
         match self.made.find(made) {
             Some(node) => Some(node),
             None => {
-                let count = self.sequent.nodes.len();
+                let count = self.nodes.len();
                 self.index.find(self.made.with_own(made), count)
             }
         }

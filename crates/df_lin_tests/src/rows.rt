@@ -5,6 +5,7 @@ use df_cases::{P, Plain, Signed, Sum, X, combinations, literals, nodes};
 use df_form::{Nodes, Op};
 use df_row::{Row, RowFault, is_linear, rows_of_literals};
 use std::alloc::Global;
+use std::process::Abort;
 use std::test::Fail;
 
 const MAX: i128 = i128::MAX;
@@ -39,7 +40,9 @@ const NODES: [Plain; 20] = [
 
 /// Literals, and their rows: the coefficient of x, where there is one, and the constant. Or a number of
 /// one is past 128 bits.
-const ROWS: [(&[Signed], Option<&[(Option<i128>, i128)]>); 11] = [
+type Given<'a> = (&'a [Signed], Option<&'a [(Option<i128>, i128)]>);
+
+const ROWS: [Given; 11] = [
     (&[], Some(&[])),
     (&[(true, 3)], Some(&[(Some(-2), 1)])),
     (&[(true, 4)], Some(&[(Some(2), -1)])),
@@ -70,7 +73,9 @@ const BOTH: Sum = (1, &[(1, 2), (1, 3)]);
 const APART: &[Signed] = &[(false, 3), (false, 4)];
 
 /// A clause, combinations of the rows of its negated literals, and whether these refute them.
-const COMBINATIONS: [(&[Signed], &[Sum], bool); 23] = [
+type Combined<'a> = (&'a [Signed], &'a [Sum<'a>], bool);
+
+const COMBINATIONS: [Combined; 23] = [
     (APART, &[HALF, OTHER_HALF, BOTH], true),
     (APART, &[HALF, BOTH, OTHER_HALF], false),
     (APART, &[HALF, OTHER_HALF, (1, &[(1, 5)])], false),
@@ -124,13 +129,27 @@ fn refute(alloc: Global, nodes: &Nodes, clause: &[Signed], sums: &[Sum]) -> Opti
     is_linear(alloc, nodes, &literals, &combinations).ok()
 }
 
+/// Whether the combinations refute the clause or not, as is said.
+fn is_told(alloc: Global, nodes: &Nodes, combined: Combined) -> bool {
+    let (clause, sums, wanted) = combined;
+    refute(alloc, nodes, clause, sums) == Some(wanted)
+}
+
+fn tells_each(rt: &impl Abort, alloc: Global, nodes: &Nodes, table: &[Combined]) {
+    for (number, combined) in table.iter().enumerate() {
+        expect(rt, number, is_told(alloc, nodes, *combined));
+    }
+}
+
+/// What is said of each combination: here and below a function names a table alone, since it carries it.
+fn tells_of_combinations(rt: &impl Abort, alloc: Global, nodes: &Nodes) {
+    tells_each(rt, alloc, nodes, &COMBINATIONS);
+}
+
 #[test]
 fn refutes_by_combinations(rt: HostRuntime) -> Result<(), Fail> {
     let nodes = all_nodes(rt.alloc())?;
-    for (number, (clause, sums, wanted)) in COMBINATIONS.iter().enumerate() {
-        let found = refute(rt.alloc(), &nodes, *clause, *sums);
-        expect(&rt, number, found == Some(*wanted));
-    }
+    tells_of_combinations(&rt, rt.alloc(), &nodes);
     Ok(())
 }
 
@@ -175,11 +194,20 @@ fn have_rows(
     }
 }
 
+fn finds_each(rt: &impl Abort, alloc: Global, nodes: &Nodes, table: &[Given]) {
+    for (number, given) in table.iter().enumerate() {
+        let (signed, wanted) = *given;
+        expect(rt, number, have_rows(alloc, nodes, signed, wanted));
+    }
+}
+
+fn finds_rows(rt: &impl Abort, alloc: Global, nodes: &Nodes) {
+    finds_each(rt, alloc, nodes, &ROWS);
+}
+
 #[test]
 fn finds_rows_of_literals(rt: HostRuntime) -> Result<(), Fail> {
     let nodes = all_nodes(rt.alloc())?;
-    for (number, (signed, wanted)) in ROWS.iter().enumerate() {
-        expect(&rt, number, have_rows(rt.alloc(), &nodes, *signed, *wanted));
-    }
+    finds_rows(&rt, rt.alloc(), &nodes);
     Ok(())
 }

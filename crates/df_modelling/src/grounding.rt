@@ -150,24 +150,46 @@ impl<'a> Candidate<'a> {
         terms: &[Option<usize>],
     ) -> Result<Grounding, AllocError> {
         let mut grounding = self.known_operations()?;
-        for number in 0..nodes.len() {
-            let term = term_at(terms, number);
-            let value = match self.known_number(term) {
-                Some(value) => value,
-                None => grounding.number_of_next(nodes)?,
-            };
-            let own = match term {
-                Some(term) => term,
-                None => self.terms.len().saturating_add(number),
-            };
-            let label = match self.known_label(term) {
-                Some(label) => label,
-                None => grounding.label_of_next(nodes, own)?,
-            };
-            grounding.numbers.push(value)?;
-            grounding.labels.push(label)?;
-        }
+        self.ground_all(&mut grounding, nodes, terms)?;
         Ok(grounding)
+    }
+
+    /// Gives all nodes their numbers and labels.
+    fn ground_all(
+        &self,
+        grounding: &mut Grounding,
+        nodes: &Nodes,
+        terms: &[Option<usize>],
+    ) -> Result<(), AllocError> {
+        for number in 0..nodes.len() {
+            self.ground_next(grounding, nodes, number, term_at(terms, number))?;
+        }
+        Ok(())
+    }
+
+    /// Gives the next node, which has this number and is like this term, its number and its label.
+    fn ground_next(
+        &self,
+        grounding: &mut Grounding,
+        nodes: &Nodes,
+        number: usize,
+        term: Option<usize>,
+    ) -> Result<(), AllocError> {
+        let value = match self.known_number(term) {
+            Some(value) => value,
+            None => grounding.number_of_next(nodes)?,
+        };
+        let own = match term {
+            Some(term) => term,
+            None => self.terms.len().saturating_add(number),
+        };
+        let label = match self.known_label(term) {
+            Some(label) => label,
+            None => grounding.label_of_next(nodes, own)?,
+        };
+        grounding.numbers.push(value)?;
+        grounding.labels.push(label)?;
+        Ok(())
     }
 }
 

@@ -6,7 +6,7 @@ use crate::codes::{Codes, is_code};
 use crate::grounding::term_at;
 use df_axiom::Written;
 use df_clause::Ground;
-use df_form::{Lit, Nodes, Op, Pair, Sequent, Sort};
+use df_form::{Lit, Nodes, Op, Pair, Sequent, Sort, World};
 use df_model::{Tabulation, Valuation, tabulate, valuation};
 use df_rules::Known;
 use df_table::Table;
@@ -54,18 +54,43 @@ pub(crate) fn counterexample_of(
     numbers: &[i128],
     known: &Known,
 ) -> Result<Option<Table>, AllocError> {
-    let world = sequent.world;
-    let own = match valuation(alloc, world, &sequent.nodes, numbers, known)? {
-        Valuation::Table(table) => table,
-        Valuation::Wide => return Ok(None),
-    };
-    if !is_counterexample(sequent, &own) {
-        return Ok(None);
+    match valued_table(alloc, sequent.world, &sequent.nodes, numbers, known)? {
+        Some(own) => {
+            if is_counterexample(sequent, &own) {
+                with_instances(alloc, sequent, rounds, numbers, known, own)
+            } else {
+                Ok(None)
+            }
+        }
+        None => Ok(None),
     }
-    let Some(ground) = ground_of(alloc, sequent, rounds)? else {
-        return Ok(Some(own));
-    };
-    match valuation(alloc, world, &ground.nodes, numbers, known)? {
+}
+
+/// The table of the nodes of instances, unless these are too many; then the one of the sequent's own nodes.
+fn with_instances(
+    alloc: Global,
+    sequent: &Sequent,
+    rounds: u32,
+    numbers: &[i128],
+    known: &Known,
+    own: Table,
+) -> Result<Option<Table>, AllocError> {
+    match ground_of(alloc, sequent, rounds) {
+        Ok(Some(ground)) => valued_table(alloc, sequent.world, &ground.nodes, numbers, known),
+        Ok(None) => Ok(Some(own)),
+        Err(error) => Err(error),
+    }
+}
+
+/// The table of nodes by these free terms, if its numbers are not too wide.
+fn valued_table(
+    alloc: Global,
+    world: World,
+    nodes: &Nodes,
+    numbers: &[i128],
+    known: &Known,
+) -> Result<Option<Table>, AllocError> {
+    match valuation(alloc, world, nodes, numbers, known)? {
         Valuation::Table(table) => Ok(Some(table)),
         Valuation::Wide => Ok(None),
     }
@@ -122,20 +147,25 @@ impl<'a> Candidate<'a> {
         }
     }
 
-    /// The same, with the codes of free characters.
-    fn numbers_and_codes(&self, sequent: &Sequent) -> Result<Vec<i128>, AllocError> {
-        let mut numbers = self.numbers(sequent.nodes.len())?;
-        if !self.terms.has_operations {
-            return Ok(numbers);
-        }
+    /// Gives free characters their codes.
+    fn give_codes(&self, numbers: &mut Vec<i128>) -> Result<(), AllocError> {
         let mut codes = self.codes()?;
-        for node in 0..sequent.nodes.len() {
+        for node in 0..numbers.len() {
             if self.is_free_character(node) {
                 let code = codes.code(self.label(node))?;
                 if let Some(slot) = numbers.get_mut(node) {
                     *slot = code;
                 }
             }
+        }
+        Ok(())
+    }
+
+    /// The same, with the codes of free characters.
+    fn numbers_and_codes(&self, nodes: usize) -> Result<Vec<i128>, AllocError> {
+        let mut numbers = self.numbers(nodes)?;
+        if self.terms.has_operations {
+            self.give_codes(&mut numbers)?;
         }
         Ok(numbers)
     }
@@ -169,9 +199,11 @@ impl<'a> Candidate<'a> {
 
     /// The table of the engine's free terms, if it is a counterexample.
     pub fn counterexample(&self, sequent: &Sequent) -> Result<Option<Table>, AllocError> {
-        let numbers = self.numbers_and_codes(sequent)?;
-        let known = self.known()?;
-        counterexample_of(self.alloc, sequent, self.rounds, &numbers, &known)
+        let numbers = self.numbers_and_codes(sequent.nodes.len())?;
+        match self.known() {
+            Ok(known) => counterexample_of(self.alloc, sequent, self.rounds, &numbers, &known),
+            Err(error) => Err(error),
+        }
     }
 
     /// The formulas of the sequent that have a value.
@@ -186,20 +218,33 @@ impl<'a> Candidate<'a> {
         Ok(facts)
     }
 
+    /// What the numbers that the engine gave operations come to for these nodes, of which so many first ones are the
+    /// sequent's, and which are like these terms.
+    fn tabulated(
+        &self,
+        nodes: &Nodes,
+        terms: &[Option<usize>],
+        own: usize,
+    ) -> Result<Tabulation, AllocError> {
+        let facts = self.valued_in(own)?;
+        match self.grounded(nodes, terms) {
+            Ok(grounding) => tabulate(
+                self.alloc,
+                nodes,
+                &grounding.numbers,
+                &grounding.labels,
+                &facts,
+            ),
+            Err(error) => Err(error),
+        }
+    }
+
     /// The table of these nodes, of which the sequent's are the first, where operations have the numbers
     /// that the engine gave them.
     fn table_of(&self, sequent: &Sequent, nodes: &Nodes) -> Result<Tabled, AllocError> {
         let own = sequent.nodes.len();
         let terms = self.terms_like(nodes, own)?;
-        let grounding = self.grounded(nodes, &terms)?;
-        let facts = self.valued_in(own)?;
-        match tabulate(
-            self.alloc,
-            nodes,
-            &grounding.numbers,
-            &grounding.labels,
-            &facts,
-        )? {
+        match self.tabulated(nodes, &terms, own)? {
             Tabulation::Table(table) if is_counterexample(sequent, &table) => {
                 Ok(Tabled::Table(table))
             }
@@ -217,10 +262,14 @@ impl<'a> Candidate<'a> {
     /// those that their parts give: first of the sequent's own nodes.
     pub fn tabled(&self, sequent: &Sequent) -> Result<Tabled, AllocError> {
         match self.table_of(sequent, &sequent.nodes)? {
-            Tabled::Table(_) => {}
-            Tabled::Apart(pair) => return Ok(Tabled::Apart(pair)),
-            Tabled::Nothing => return Ok(Tabled::Nothing),
+            Tabled::Table(_) => self.tabled_in_ground(sequent),
+            Tabled::Apart(pair) => Ok(Tabled::Apart(pair)),
+            Tabled::Nothing => Ok(Tabled::Nothing),
         }
+    }
+
+    /// The same, of all nodes of the ground set.
+    fn tabled_in_ground(&self, sequent: &Sequent) -> Result<Tabled, AllocError> {
         match ground_of(self.alloc, sequent, self.rounds)? {
             Some(ground) => self.table_of(sequent, &ground.nodes),
             None => Ok(Tabled::Nothing),

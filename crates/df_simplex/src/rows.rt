@@ -13,6 +13,23 @@ pub struct Need {
     pub side: Side,
 }
 
+impl Need {
+    /// Both bounds of a column, each once.
+    pub fn of_both(alloc: Global, column: usize) -> Result<Vec<Need>, AllocError> {
+        let lower = Need {
+            factor: 1,
+            column,
+            side: Side::Lower,
+        };
+        let upper = Need {
+            factor: 1,
+            column,
+            side: Side::Upper,
+        };
+        Ok(vec![in alloc; lower, upper]?)
+    }
+}
+
 /// A bound that a row gives.
 #[derive(Clone, Copy)]
 pub struct Given {

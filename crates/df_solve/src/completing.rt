@@ -26,7 +26,7 @@ impl<'a> Search<'a> {
         self.state.spend(size);
         let level = self.state.solver.trail.level();
         let Some((node, bound)) = self.fractional() else {
-            return self.conclude(level);
+            return Ok(Turn::Whole(level));
         };
         let work = self.state.theory.dividing_work();
         self.state.spend(work);
@@ -35,7 +35,7 @@ impl<'a> Search<'a> {
             return self.after(conflict);
         }
         if self.is_rounded()? {
-            return self.conclude(level);
+            return Ok(Turn::Whole(level));
         }
         self.split(node, bound)
     }

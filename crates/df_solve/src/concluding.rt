@@ -2,49 +2,72 @@
 
 use crate::candidate::candidate_of;
 use crate::searching::{Search, Turn};
-use df_form::{Op, Pair};
+use df_form::{Op, Pair, Sequent};
 use df_modelling::{Comparison, Tabled};
 use std::alloc::AllocError;
 
 impl<'a> Search<'a> {
-    /// Has a counterexample, or learns of operations. The levels after this one only looked for numbers.
-    pub fn conclude(&mut self, level: usize) -> Result<Turn, AllocError> {
+    /// Has a counterexample of the sequent, or learns of operations. The levels after this one only looked for numbers.
+    pub fn conclude(&mut self, sequent: &Sequent, level: usize) -> Result<Turn, AllocError> {
         if self.is_for_proof {
             return Ok(Turn::GaveUp);
         }
-        self.table = candidate_of(&self.state).counterexample(self.sequent)?;
+        self.table = candidate_of(&self.state).counterexample(sequent)?;
         if self.table.is_some() {
             return Ok(Turn::Complete);
         }
         if !self.state.has_classes {
             return Ok(Turn::GaveUp);
         }
+        match self.break_numbers(level)? {
+            Some(turn) => Ok(turn),
+            None => self.tabulate(sequent, level),
+        }
+    }
+
+    /// Learns of operations whose numbers are not what their parts make them; nothing, where all that is said of them
+    /// is known.
+    fn break_numbers(&mut self, level: usize) -> Result<Option<Turn>, AllocError> {
         if self.state.has_unseen_operations() {
             self.state.cancel(0)?;
-            return Ok(Turn::On);
+            return Ok(Some(Turn::On));
         }
         let cost = self.state.terms.len().saturating_mul(4);
         self.state.spend(cost);
         if let Some(pair) = candidate_of(&self.state).unequal_operations()? {
             if self.equate(level, pair)? {
-                return Ok(Turn::On);
+                return Ok(Some(Turn::On));
             }
         }
-        let signs = self.comparisons_of_signs()?;
-        if !signs.is_empty() {
-            return self.refine(&signs);
+        self.break_products()
+    }
+
+    /// Learns of products whose numbers are not what their factors make them.
+    fn break_products(&mut self) -> Result<Option<Turn>, AllocError> {
+        let turn = self.refine_signs()?;
+        if turn.is_some() {
+            return Ok(turn);
         }
+        let turn = self.multiply_sums()?;
+        if turn.is_some() {
+            return Ok(turn);
+        }
+        self.refine_numbers()
+    }
+
+    fn refine_signs(&mut self) -> Result<Option<Turn>, AllocError> {
+        let comparisons = self.comparisons_of_signs()?;
+        self.refine(&comparisons)
+    }
+
+    fn multiply_sums(&mut self) -> Result<Option<Turn>, AllocError> {
         let substitutions = self.substitutions()?;
-        if !substitutions.is_empty() {
-            if let Some(turn) = self.multiply_all(&substitutions)? {
-                return Ok(turn);
-            }
-        }
+        self.multiply_all(&substitutions)
+    }
+
+    fn refine_numbers(&mut self) -> Result<Option<Turn>, AllocError> {
         let comparisons = self.comparisons()?;
-        if !comparisons.is_empty() {
-            return self.refine(&comparisons);
-        }
-        self.tabulate(level)
+        self.refine(&comparisons)
     }
 
     /// Has products with sums in place of factors be known, if they may be.
@@ -67,8 +90,11 @@ impl<'a> Search<'a> {
         Ok(Some(self.after(conflict)?))
     }
 
-    /// Has comparisons of products be known.
-    fn refine(&mut self, comparisons: &[Comparison]) -> Result<Turn, AllocError> {
+    /// Has comparisons of products be known, if there are any.
+    fn refine(&mut self, comparisons: &[Comparison]) -> Result<Option<Turn>, AllocError> {
+        if comparisons.is_empty() {
+            return Ok(None);
+        }
         self.state.cancel(0)?;
         let mut is_new = false;
         for comparison in comparisons {
@@ -78,9 +104,9 @@ impl<'a> Search<'a> {
         }
         let conflict = self.state.ask_for_operations()?;
         if conflict.is_none() && !is_new {
-            return Ok(Turn::GaveUp);
+            return Ok(Some(Turn::GaveUp));
         }
-        self.after(conflict)
+        Ok(Some(self.after(conflict)?))
     }
 
     /// Decides that two numbers are equal. Whether that was open.
@@ -97,8 +123,8 @@ impl<'a> Search<'a> {
     }
 
     /// Has a table of what operations are, or decides an equality.
-    fn tabulate(&mut self, level: usize) -> Result<Turn, AllocError> {
-        match candidate_of(&self.state).tabled(self.sequent)? {
+    fn tabulate(&mut self, sequent: &Sequent, level: usize) -> Result<Turn, AllocError> {
+        match candidate_of(&self.state).tabled(sequent)? {
             Tabled::Table(table) => {
                 self.table = Some(table);
                 Ok(Turn::Complete)

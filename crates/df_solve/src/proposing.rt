@@ -9,6 +9,7 @@ use df_record::{Recorder, log_of};
 use df_table::Table;
 use df_theory::Index;
 use std::alloc::{AllocError, Global};
+use std::mem::replace;
 
 /// A proof or a counterexample, to be checked.
 #[derive(Drop)]
@@ -67,17 +68,25 @@ impl Engine {
         }
     }
 
-    /// What stayed, if it serves the sequent.
-    fn take_stay(&mut self, sequent: &Sequent) -> Option<Stay> {
-        let stay = self.stay.take()?;
+    /// Whether what stayed serves the sequent.
+    fn serves(&self, sequent: &Sequent) -> bool {
         let count = sequent.nodes.len();
-        if self.index.has_operations(count)
-            || !stay.kept.fits(count)
-            || sequent.hypotheses.as_slice().len() < stay.intake.len()
-        {
-            return None;
+        match &self.stay {
+            Some(stay) => {
+                !self.index.has_operations(count)
+                    && stay.kept.fits(count)
+                    && stay.intake.len() <= sequent.hypotheses.as_slice().len()
+            }
+            None => false,
         }
-        Some(stay)
+    }
+
+    /// What stayed, if it serves the sequent; nothing stays from here on.
+    fn take_stay(&mut self, sequent: &Sequent) -> Option<Stay> {
+        if !self.serves(sequent) {
+            self.stay = None;
+        }
+        self.stay.take()
     }
 
     /// Keeps what stays. What was found.
@@ -108,7 +117,7 @@ pub fn propose_counted(
     steps: u64,
     rounds: u32,
 ) -> Result<Counted, AllocError> {
-    engine.index.meet(&sequent.nodes)?;
+    engine.index.meet(sequent)?;
     let fuel = steps.saturating_mul(WORK).saturating_add(BASE);
     if let Some(stay) = engine.take_stay(sequent) {
         let ended = look_again(alloc, &engine.index, &*sequent, stay, fuel / SHARE)?;
@@ -129,12 +138,23 @@ fn look_again<'a>(
     stay: Stay,
     fuel: u64,
 ) -> Result<Option<Ended>, AllocError> {
-    let state = State::again(alloc, sequent, index, stay.kept, fuel)?;
-    let mut search = Search::new(state, stay.intake, sequent)?;
+    let Stay { kept, intake } = stay;
+    let state = State::again(alloc, &sequent.nodes, index, kept, fuel);
+    let formulas = sequent.hypotheses.as_slice();
+    let mut search = Search::new(state, intake, formulas, sequent.goal);
     search.is_for_proof = true;
-    match run(&mut search, fuel)? {
+    log_alone(&mut search, sequent, fuel)
+}
+
+/// The log that a search finds.
+fn log_alone(
+    search: &mut Search,
+    sequent: &Sequent,
+    fuel: u64,
+) -> Result<Option<Ended>, AllocError> {
+    match run(search, sequent, fuel)? {
         Turn::Refuted(clause) => Ok(Some(proved(search, clause)?)),
-        Turn::On | Turn::Complete | Turn::GaveUp => Ok(None),
+        Turn::On | Turn::Whole(_) | Turn::Complete | Turn::GaveUp => Ok(None),
     }
 }
 
@@ -146,62 +166,91 @@ fn look<'a>(
     fuel: u64,
     rounds: u32,
 ) -> Result<Ended, AllocError> {
-    let state = State::new(alloc, sequent, index, fuel, rounds);
-    let mut search = Search::new(state, Intake::new(alloc), sequent)?;
-    match run(&mut search, fuel)? {
+    let state = State::new(alloc, &sequent.nodes, index, fuel, rounds);
+    let formulas = sequent.hypotheses.as_slice();
+    let mut search = Search::new(state, Intake::new(alloc), formulas, sequent.goal);
+    log_or_table(&mut search, sequent, fuel, rounds)
+}
+
+/// The log or the table that a search finds.
+fn log_or_table(
+    search: &mut Search,
+    sequent: &Sequent,
+    fuel: u64,
+    rounds: u32,
+) -> Result<Ended, AllocError> {
+    match run(search, sequent, fuel)? {
         Turn::Refuted(clause) => proved(search, clause),
-        Turn::Complete => {
-            let table = search.table.take();
-            Ok(tabled(&search, table))
+        Turn::Complete => Ok(tabled(search.learned, search.table.take())),
+        Turn::On | Turn::Whole(_) | Turn::GaveUp => {
+            let table = sampled(search.state.alloc, sequent, rounds)?;
+            Ok(tabled(search.learned, table))
         }
-        Turn::On | Turn::GaveUp => Ok(tabled(&search, sampled(alloc, sequent, rounds)?)),
     }
 }
 
-/// Goes on with a search as long as there is fuel. What it comes to.
-fn run(search: &mut Search, fuel: u64) -> Result<Turn, AllocError> {
+/// A search begins, and goes on as long as there is fuel. What it comes to.
+fn run(search: &mut Search, sequent: &Sequent, fuel: u64) -> Result<Turn, AllocError> {
+    search.begin()?;
     let mut turn = Turn::On;
     for _ in 0..fuel {
         if turn != Turn::On {
             break;
         }
-        turn = search.turn()?;
+        turn = next_turn(search, sequent)?;
     }
     Ok(turn)
 }
 
-/// The log of a search that has the empty clause by this number.
-fn proved(search: Search, clause: usize) -> Result<Ended, AllocError> {
-    let Search {
-        state,
-        sequent,
-        intake,
-        learned,
-        ..
-    } = search;
-    let nodes = sequent.nodes.len();
-    let recorder = Recorder::new(state.alloc, &state.terms, &state.variables, nodes);
-    let log = log_of(recorder, &state.solver.book, clause)?;
-    let stay = match state.into_kept() {
-        Some(kept) => Some(Stay { kept, intake }),
-        None => None,
-    };
-    let proposal = Proposal::Proved(log);
-    let conflicts = learned;
-    let counted = Counted {
-        proposal,
-        conflicts,
-    };
-    Ok(Ended { counted, stay })
+/// One step of a search.
+fn next_turn(search: &mut Search, sequent: &Sequent) -> Result<Turn, AllocError> {
+    match search.turn()? {
+        Turn::Whole(level) => search.conclude(sequent, level),
+        turn => Ok(turn),
+    }
 }
 
-/// What a search without a log found.
-fn tabled(search: &Search, table: Option<Table>) -> Ended {
+/// The log of a search that has the empty clause by this number.
+fn proved(search: &mut Search, clause: usize) -> Result<Ended, AllocError> {
+    let log = log_with(&*search, clause)?;
+    let counted = Counted {
+        proposal: Proposal::Proved(log),
+        conflicts: search.learned,
+    };
+    Ok(Ended {
+        counted,
+        stay: stay_of(search),
+    })
+}
+
+/// The log that has this clause last.
+fn log_with(search: &Search, clause: usize) -> Result<Vec<Step>, AllocError> {
+    let state = &search.state;
+    let nodes = state.terms.own_count();
+    let recorder = Recorder::new(state.alloc, &state.terms, &state.variables, nodes);
+    log_of(recorder, &state.solver.book, clause)
+}
+
+/// What a search leaves, if it may.
+fn stay_of(search: &mut Search) -> Option<Stay> {
+    match search.state.take_kept() {
+        Some(kept) => {
+            let none = Intake::new(search.state.alloc);
+            Some(Stay {
+                kept,
+                intake: replace(&mut search.intake, none),
+            })
+        }
+        None => None,
+    }
+}
+
+/// What a search without a log found, after so many conflicts.
+fn tabled(conflicts: u64, table: Option<Table>) -> Ended {
     let proposal = match table {
         Some(table) => Proposal::Modelled(table),
         None => Proposal::GaveUp,
     };
-    let conflicts = search.learned;
     let counted = Counted {
         proposal,
         conflicts,

@@ -4,7 +4,6 @@ use crate::intake::Intake;
 use crate::probing::Reach;
 use df_clauses::{GROUND, Literal};
 use df_deduce::{Lesson, State};
-use df_form::Sequent;
 use df_simplex::Check;
 use df_table::Table;
 use df_theory::Meaning;
@@ -23,7 +22,10 @@ const RESTART: u64 = 100;
 #[derive(Drop)]
 pub(crate) struct Search<'a> {
     pub state: State<'a>,
-    pub sequent: &'a Sequent<'a>,
+    /// The formulas of the hypotheses,
+    formulas: &'a [usize],
+    /// and of the goal.
+    conclusion: usize,
     /// Whether it is for a log alone.
     pub is_for_proof: bool,
     /// The table of a counterexample.
@@ -51,7 +53,9 @@ pub(crate) enum Turn {
     On,
     /// The empty clause has this number.
     Refuted(usize),
-    /// Each variable has a value, and no theory objects.
+    /// Each column is whole. The levels after this one only looked for numbers.
+    Whole(usize),
+    /// There is a counterexample.
     Complete,
     GaveUp,
 }
@@ -73,22 +77,21 @@ fn luby(place: u64) -> u64 {
 }
 
 impl<'a> Search<'a> {
-    /// A search by an engine for the sequent, which knows those hypotheses that are taken in.
+    /// A search by an engine for a sequent of these hypotheses and this goal, which knows those hypotheses that are taken
+    /// in. It is to begin.
     pub fn new(
         state: State<'a>,
         intake: Intake,
-        sequent: &'a Sequent<'a>,
-    ) -> Result<Search<'a>, AllocError> {
-        let mut state = state;
-        let mut intake = intake;
-        intake.begin(sequent.hypotheses.as_slice().len())?;
-        let goal = state.goal_clause(sequent.goal)?;
-        Ok(Search {
+        formulas: &'a [usize],
+        conclusion: usize,
+    ) -> Search<'a> {
+        Search {
             state,
-            sequent,
+            formulas,
+            conclusion,
             is_for_proof: false,
             table: None,
-            goal,
+            goal: 0,
             intake,
             reach: Reach::Clauses,
             reserve: 0,
@@ -96,7 +99,15 @@ impl<'a> Search<'a> {
             learned: 0,
             restarts: 1,
             conflicts: RESTART,
-        })
+        }
+    }
+
+    /// Begins: the hypotheses are there to be taken in, and the clause of the negated goal is there.
+    pub fn begin(&mut self) -> Result<(), AllocError> {
+        self.state.begin()?;
+        self.intake.begin(self.formulas.len())?;
+        self.goal = self.state.goal_clause(self.conclusion)?;
+        Ok(())
     }
 
     /// Goes on after a conflict, if there is one.
@@ -214,7 +225,7 @@ impl<'a> Search<'a> {
 
     /// Takes a hypothesis in, where its turn is now. Its clause, where that is false.
     fn assume(&mut self, number: usize) -> Result<Option<usize>, AllocError> {
-        let Some(formula) = self.sequent.hypotheses.as_slice().get(number).copied() else {
+        let Some(formula) = self.formulas.get(number).copied() else {
             return Ok(None);
         };
         if self.is_wide(formula) && !self.intake.takes_wide {

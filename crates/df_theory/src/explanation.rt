@@ -37,7 +37,7 @@ struct Derived {
 }
 
 /// Which row of a literal is used: a comparison has one, and an equality has one for each way of `<=`.
-#[derive(Clone, Copy, PartialEq, Eq)]
+#[derive(Clone, Copy)]
 pub(crate) enum Row {
     Only,
     Up,

@@ -8,12 +8,14 @@ mod dividing;
 mod explaining;
 mod explanation;
 mod forms;
+mod kept;
 mod theory;
 mod variables;
 
 pub use choosing::Facts;
-pub use df_index::{Ends, Index, Made, MadeNodes, Shape, Terms};
+pub use df_index::{Ends, Index, Made, MadeNodes, Shape, Terms, definition, definitions};
 pub use explanation::Explained;
 pub use forms::{Atom, Column, Forms, Meaning};
+pub use kept::Kept;
 pub use theory::Theory;
 pub use variables::Variables;

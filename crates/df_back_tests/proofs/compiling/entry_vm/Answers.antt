@@ -1,5 +1,5 @@
 use Rattle.std.proofs.Common.{[], ap, ◌∙◌}
-use Rattle.df_nback.specs.Compiled.{code_for}
+use Rattle.df_nback.specs.Run.{code_for}
 use Rattle.df_nmach.specs.View.{values_of, code_of, heap_of}
 use Rattle.df_codes.proofs.Running.{starts}
 use Rattle.df_back_tests.proofs.Sampled.{code, compiles_to, code_never}

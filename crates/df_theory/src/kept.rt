@@ -1,16 +1,18 @@
 //! What stays of an engine for further sequents.
 
+use crate::theory::Theory;
+use crate::variables::Variables;
 use df_clauses::Solver;
-use df_theory::{MadeNodes, Theory, Variables};
+use df_index::MadeNodes;
 
 /// What an engine knows at the lowest level by the hypotheses of a sequent without operations, and what it has learned
 /// from them. The goal is in none of it.
 #[derive(Drop)]
 pub struct Kept {
-    pub(crate) made: MadeNodes,
-    pub(crate) variables: Variables,
-    pub(crate) solver: Solver,
-    pub(crate) theory: Theory,
+    pub made: MadeNodes,
+    pub variables: Variables,
+    pub solver: Solver,
+    pub theory: Theory,
 }
 
 impl Kept {
