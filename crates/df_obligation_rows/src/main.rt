@@ -1,7 +1,7 @@
 //! Makes the obligations of the sources of a folder, and tells where they are not those that stand beside a source.
 //! With the word `count` before the folder it tells how many there are, and compares nothing. With the word `sequents`
 //! before a source, without its ending, it prints its newtypes and its sequents. With the word `proposals` before the
-//! folder it tells what the engine proposes for the obligations, and fails where a check refuses some of it.
+//! folder it tells how much a check refuses of what the engine proposes for the obligations, and fails where it is some.
 #![tactic(auto)]
 
 mod assignment;
@@ -20,7 +20,7 @@ mod verdict;
 use crate::count::print_counts;
 use crate::folder::sources;
 use crate::printing::print_sequents;
-use crate::proposing::{Proposals, count_proposals};
+use crate::proposing::refused_of_source;
 use crate::row::play;
 use anyhow::{Context, Result, ensure};
 use std::{env, io};
@@ -84,34 +84,24 @@ fn count_all(rt: &HostRuntime, folder: &str) -> Result<()> {
     Ok(())
 }
 
-/// Counts what the engine proposes for the sources of these paths.
-fn propose_each(rt: &HostRuntime, names: &[String], proposals: &mut Proposals) -> Result<()> {
+/// How many proposals of the engine are refused for the sources of these paths.
+fn refused_of_each(rt: &HostRuntime, names: &[String]) -> Result<u64> {
+    let mut count: u64 = 0;
     for name in names {
         let name = name.as_str();
-        count_proposals(rt, name, proposals).context(format_args!("{name}"))?;
+        let refused = refused_of_source(rt, name).context(format_args!("{name}"))?;
+        count = count.saturating_add(refused);
     }
-    Ok(())
+    Ok(count)
 }
 
-/// Tells how many logs and tables the engine proposes, and fails where some are refused.
-fn tell_proposals(rt: &HostRuntime, proposals: Proposals) -> Result<()> {
-    let Proposals {
-        logs,
-        tables,
-        nothing,
-        refused,
-    } = proposals;
-    println!(rt; "{logs} logs, {tables} tables, {nothing} times nothing, {refused} refused")?;
+/// Tells how many proposals of the engine are refused for the sources of a folder, and fails where some are.
+fn propose_all(rt: &HostRuntime, folder: &str) -> Result<()> {
+    let names = sources(rt, folder)?;
+    let refused = refused_of_each(rt, &names)?;
+    println!(rt; "{refused} refused")?;
     ensure!(refused == 0, "some of what the engine proposes is refused");
     Ok(())
-}
-
-/// Tells what the engine proposes for the sources of a folder.
-fn propose_all(rt: &HostRuntime, folder: &str) -> Result<()> {
-    let mut proposals = Proposals::default();
-    let names = sources(rt, folder)?;
-    propose_each(rt, &names, &mut proposals)?;
-    tell_proposals(rt, proposals)
 }
 
 /// Runs what the first word says.

@@ -2,7 +2,7 @@
 
 use crate::listing::listing;
 use crate::made::{Made, made_of};
-use crate::proposing::are_proposals_taken;
+use crate::proposing::refused;
 use crate::sequents::sequents;
 use crate::verdict::have_verdicts;
 use anyhow::Result;
@@ -99,12 +99,23 @@ fn are_judged(rt: &HostRuntime, row: Row) -> Result<bool> {
     are_judged_at(rt, row, path.as_str())
 }
 
+/// Whether each log and each table passes its check that engines propose for the obligations.
+fn are_proposals_taken(rt: &HostRuntime, row: Row) -> Result<bool> {
+    let refused = refused(rt.alloc(), row.program, row.obligations)?;
+    if refused == 0 {
+        return Ok(true);
+    }
+    let name = row.name;
+    println!(rt; "{name}: of what the engine proposes {refused} are refused")?;
+    Ok(false)
+}
+
 /// Compares the obligations of a program with the files of its row, and checks what the engine proposes for them.
 fn is_same(rt: &HostRuntime, row: Row) -> Result<bool> {
     let is_listed = is_listed(rt, row)?;
     let are_sequents = are_sequents(rt, row)?;
     let are_judged = are_judged(rt, row)?;
-    let are_taken = are_proposals_taken(rt, row.program, row.obligations)?;
+    let are_taken = are_proposals_taken(rt, row)?;
     Ok(is_listed && are_sequents && are_judged && are_taken)
 }
 

@@ -6,14 +6,16 @@ ghost use Rattle.df_form.specs.SequentView.{sequent_of};
 ghost use Rattle.df_rules.specs.Derivation.{Derives};
 ghost use Rattle.df_search.specs.Found.{Finds};
 
+use crate::engine::Engine;
 use crate::found::Found;
 use df_form::{Sequent, Step};
 use df_kern::{KernFault, check, logs_derive_or_are_refused};
 use std::alloc::{AllocError, Global};
 
-/// The log, if the kernel takes it.
+/// The log, if the kernel takes it. One that is refused is counted.
 pub(crate) fn taken(
     alloc: Global,
+    engine: &mut Engine,
     sequent: &Sequent,
     log: Vec<Step>,
 ) -> Result<Option<Found>, AllocError>
@@ -21,7 +23,10 @@ pub(crate) fn taken(
 {
     match check(alloc, sequent, log.as_slice()) {
         Ok(accepted) => Ok(Some(Found::Proved { accepted, log })),
-        Err(KernFault::Refused { .. }) => Ok(None),
+        Err(KernFault::Refused { .. }) => {
+            engine.refuse();
+            Ok(None)
+        }
         Err(KernFault::Memory) => Err(AllocError),
     }
 }

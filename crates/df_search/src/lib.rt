@@ -2,11 +2,12 @@
 #![tactic(auto)]
 
 mod confirming;
+mod engine;
 mod exhausting;
 mod found;
 mod proposed;
 mod searching;
 
-pub use df_solve::Engine;
+pub use engine::Engine;
 pub use found::{Budget, Found, What};
-pub use proposed::{search, search_with};
+pub use proposed::{look, search, search_with};

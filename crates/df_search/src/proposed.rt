@@ -8,11 +8,12 @@ ghost use Rattle.df_trig.specs.Rounds.{Instantiates};
 ghost use Rattle.df_search.specs.Found.{Finds};
 
 use crate::confirming::taken;
+use crate::engine::Engine;
 use crate::exhausting::exhaust;
 use crate::found::{Budget, Found, What};
 use df_axiom::Written;
 use df_form::Sequent;
-use df_solve::{Engine, Proposal, propose};
+use df_solve::Proposal;
 use df_table::{Table, is_model};
 use df_trig::{TrigFault, instances};
 use std::alloc::{AllocError, Global};
@@ -28,9 +29,10 @@ fn without_model(fault: TrigFault) -> Result<Option<Found>, AllocError>
 }
 
 /// The table, if it is a model of the ground set with so many rounds of instances; or that there are too
-/// many of them.
+/// many of them. One that is none is counted.
 fn tested(
     alloc: Global,
+    engine: &mut Engine,
     sequent: &Sequent,
     table: Table,
     rounds: u32,
@@ -44,12 +46,14 @@ fn tested(
     if is_model(&set, &table) {
         Ok(Some(Found::Modelled(table)))
     } else {
+        engine.refuse();
         Ok(None)
     }
 }
 
-/// What the engine proposes, if it passes its check.
-fn proposed(
+/// What the engine proposes, where it passes its check; or that there are too many instances to check a table. Nothing
+/// where it gives up, and where its log or its table is refused, which is counted.
+pub fn look(
     alloc: Global,
     engine: &mut Engine,
     sequent: &Sequent,
@@ -57,9 +61,9 @@ fn proposed(
 ) -> Result<Option<Found>, AllocError>
     ensures { (steps : ℕ) → IfOk result (λ found. IfSome found (Finds (sequent_of sequent.now) steps budget.rounds)) }
 {
-    match propose(alloc, engine, sequent, budget.steps, budget.rounds)? {
-        Proposal::Proved(log) => taken(alloc, sequent, log),
-        Proposal::Modelled(table) => tested(alloc, sequent, table, budget.rounds),
+    match engine.propose(alloc, sequent, budget)? {
+        Proposal::Proved(log) => taken(alloc, engine, sequent, log),
+        Proposal::Modelled(table) => tested(alloc, engine, sequent, table, budget.rounds),
         Proposal::GaveUp => Ok(None),
     }
 }
@@ -85,7 +89,7 @@ pub fn search_with(
     requires steps { 1 ≤ budget.steps }
     ensures { IfOk result (Finds (sequent_of sequent.now) budget.steps budget.rounds) }
 {
-    match proposed(alloc, engine, sequent, budget)? {
+    match look(alloc, engine, sequent, budget)? {
         Some(found) => Ok(found),
         None => exhaust(alloc, sequent, budget),
     }

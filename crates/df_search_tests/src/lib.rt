@@ -15,6 +15,8 @@ mod expecting;
 #[cfg(test)]
 mod grounds;
 #[cfg(test)]
+mod large;
+#[cfg(test)]
 mod operations;
 #[cfg(test)]
 mod rounds;
