@@ -4,7 +4,7 @@ use Rattle.std.specs.Option.{option_map_or}
 use Rattle.std.specs.List.{list_all}
 use Rattle.df_lang.specs.declared.ty.Ty.{Ty}
 use Rattle.df_lang.specs.Program.{Program}
-use Rattle.df_lang.specs.Typing.{same_type}
+use Rattle.df_lang.specs.Newtype.{same_type}
 use Rattle.df_meaning.specs.Value.{Value}
 use Rattle.df_meaning.specs.Outcome.{Outcome, Gives, Dismissed, after}
 use Rattle.df_meaning.specs.State.{Handed, Turned, Locals, State, set_local, with_locals}

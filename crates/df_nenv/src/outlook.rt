@@ -6,7 +6,7 @@ ghost use Rattle.df_ntyping.specs.Types.{arithmetic};
 ghost use Rattle.df_ntyping.specs.ExprTypes as shapes;
 ghost use Rattle.df_ntyping.specs.ExprTypes.{type_in, type_of_meaning};
 ghost use Rattle.df_ntyping.specs.Meaning.{meaning_of, called_signature};
-ghost use Rattle.df_ntyping.specs.Sides.{results_of_call};
+ghost use Rattle.df_ntyping.specs.LocalTypes.{results_of_call};
 ghost use Rattle.df_nenv.specs.Outlooks.{outlook_of, negated, joined, joined_all};
 
 use crate::environment::{Environment, called};

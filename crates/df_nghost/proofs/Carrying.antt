@@ -9,7 +9,8 @@ use Rattle.df_lang.specs.declared.ty.Ty.{Ty}
 use Rattle.df_lang.specs.declared.ty.Ty.TheVariants as types
 use Rattle.df_lang.specs.Stmt.{Target, Update, Variable, Stmt, Block, Var, Assign, CallOf, If, While, Break, Return, Assert, Print, Stmts, done, next, Branches, no_branch, branch}
 use Rattle.df_lang.specs.Program.{Method, Program}
-use Rattle.df_lang.specs.Typing.{same_type, are_same_types, is_type, is_expr, are_clauses, Setting, is_source, source_types, is_target, may_update, are_numbered, variable_numbers, variable_types, locals_after, locals_after_all, locals_after_branches, is_measured, is_stmt, are_stmts, are_branches}
+use Rattle.df_lang.specs.Newtype.{same_type}
+use Rattle.df_lang.specs.Typing.{are_same_types, is_type, is_expr, are_clauses, Setting, is_source, source_types, is_target, may_update, are_numbered, variable_numbers, variable_types, locals_after, locals_after_all, locals_after_branches, is_measured, is_stmt, are_stmts, are_branches}
 use Rattle.df_lang.specs.Assignment.{Use, Assigned, Unreached, Reached, has_value, join, mark, declare, assign, assign_all, Flowing, goes_to, flow, flow_all, flow_branches}
 
 -- ---- what is assigned

@@ -16,7 +16,8 @@ pub use Rattle.df_lang.specs.Groups.{group_at, AreGroups}
 pub use Rattle.df_lang.specs.Measures.{method_measure, loop_measure, distance, comparison_measure, guard_measure, measure_of_number, parameters_from}
 pub use Rattle.df_lang.specs.Program.{Program, Param, types_of, Method, method_at, as_method, Decl, NewtypeDecl, MethodDecl, as_newtype, newtype_at}
 pub use Rattle.df_lang.specs.Stmt.{Stmts, Branches, no_branch, branch, Measure, Call, Clause, Target, Update, Variable, Stmt, Block, Var, Assign, If, While, Break, Return, done, next, CallOf, Assert, Print, Conversion, Source, Single, Results, Operand, Text, Value as Shown}
-pub use Rattle.df_lang.specs.Typing.{same_type, is_type, are_same_types, is_method, is_well_typed, is_expr, are_clauses, are_measures, are_stmts, locals_after_all, locals_after_branches, are_branches, is_measured, may_update, are_numbered, variable_numbers, variable_types, locals_after, is_stmt, is_operand, is_integer, compares, are_members, are_links, are_exprs, is_newtype, is_decl, converts, is_call, are_results, is_source, source_types, is_target, is_update}
+pub use Rattle.df_lang.specs.Newtype.{same_type}
+pub use Rattle.df_lang.specs.Typing.{is_type, are_same_types, is_method, is_well_typed, is_expr, are_clauses, are_measures, are_stmts, locals_after_all, locals_after_branches, are_branches, is_measured, may_update, are_numbered, variable_numbers, variable_types, locals_after, is_stmt, is_operand, is_integer, compares, are_members, are_links, are_exprs, is_newtype, is_decl, converts, is_call, are_results, is_source, source_types, is_target, is_update}
 pub use Rattle.df_lang.specs.declared.expr.Comparison.{Comparison}
 pub use Rattle.df_lang.specs.declared.ty.Ty.{Ty}
 pub use Rattle.df_meaning.proofs.Assigning.{all_carry, place, clauses_read, method_measure_reads, all_grow, branches_grow, grows, carries, declared_more}

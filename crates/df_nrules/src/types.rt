@@ -1,7 +1,7 @@
 //! What types go together.
 
 ghost use Rattle.std.specs.Prelude.{◌≡◌, Option};
-ghost use Rattle.df_lang.specs.Typing.{same_type};
+ghost use Rattle.df_lang.specs.Newtype.{same_type};
 ghost use Rattle.df_ntyping.specs.Types as types;
 ghost use Rattle.df_ntyping.specs.Types.{is_integer, counted, casts, fits, fits_or_narrows, are_one_integer, literal_type};
 ghost use Rattle.df_ntyping.specs.ExprTypes.{counted_of};

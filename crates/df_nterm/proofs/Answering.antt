@@ -16,7 +16,8 @@ use Rattle.df_lang.specs.declared.expr.Junction.TheVariants as junctions
 use Rattle.df_lang.specs.declared.expr.Comparison.{Comparison}
 use Rattle.df_lang.specs.declared.expr.Comparison.TheVariants as comparisons
 use Rattle.df_lang.specs.Expr.{Expr, Number, Truth, Character, Local, Negate, Not, Sum, Product, Junction, Implies, Iff, Chain, As, Convert, Addends, no_addend, addend, Factors, no_factor, factor, Members, no_member, member, Links, no_link, link}
-use Rattle.df_lang.specs.Typing.{same_type, is_integer, is_arithmetic, casts, converts, compares, is_expr, are_addends, are_factors, are_members, are_links}
+use Rattle.df_lang.specs.Newtype.{same_type}
+use Rattle.df_lang.specs.Typing.{is_integer, is_arithmetic, casts, converts, compares, is_expr, are_addends, are_factors, are_members, are_links}
 use Rattle.df_lang.specs.Assignment.{reads, reads_of_addends, reads_of_factors, reads_of_members, reads_of_links}
 use Rattle.df_meaning.specs.declared.kind.Kind.TheVariants as kinds
 use Rattle.df_meaning.specs.Value.{Value, number_of, truth_of, same_truth, same_value}

@@ -3,7 +3,7 @@ use Rattle.std.proofs.Common.{◌≡◌, ℕ, ℤ, ◌==◌, true, [], ◌∷◌
 use Rattle.std.proofs.lemmas.Bool.{eqb-true}
 use Rattle.std.proofs.lemmas.Bool.Decides.{Decides-int_eq}
 use Rattle.df_lang.specs.declared.ty.Ty.{Ty}
-use Rattle.df_lang.specs.Typing.{same_type}
+use Rattle.df_lang.specs.Newtype.{same_type}
 use Rattle.df_meaning.proofs.Cases.{both, four}
 use Rattle.df_meaning.proofs.Types.{same_type_equal}
 use Rattle.df_nterm.specs.Term.{Sort, Numbers, Truths, Characters, Free, Op, Number, FreeTerm, Plus, Times, Div, Mod, Code, Chr, Is, Equal, AtMost, Not, And, Or, Implies, Iff, Term, node, Terms, no_term, term}

@@ -14,7 +14,8 @@ use Rattle.df_lang.specs.declared.expr.Comparison.{Comparison}
 use Rattle.df_lang.specs.declared.expr.Comparison.TheVariants as comparisons
 use Rattle.df_lang.specs.Expr.{Expr, Number, Truth, Character, Local, Negate, Not, Sum, Product, Junction, Implies, Iff, Chain, As, Convert, Addends, no_addend, addend, Factors, no_factor, factor, Members, no_member, member, Links, no_link, link}
 use Rattle.df_lang.specs.Program.{Program}
-use Rattle.df_lang.specs.Typing.{same_type, is_integer, is_arithmetic, casts, converts, is_expr, are_addends, are_factors, are_members, are_links}
+use Rattle.df_lang.specs.Newtype.{same_type}
+use Rattle.df_lang.specs.Typing.{is_integer, is_arithmetic, casts, converts, is_expr, are_addends, are_factors, are_members, are_links}
 use Rattle.df_lang.specs.Assignment.{Use, reads}
 use Rattle.df_meaning.specs.Value.{Value, truth_of}
 use Rattle.df_meaning.specs.Value as values

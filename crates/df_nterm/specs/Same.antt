@@ -3,7 +3,7 @@ use Rattle.std.specs.Prelude.{ℕ, ℤ, pos, Bool, true, false, ◌==◌, ◌&&�
 use Rattle.std.specs.Ordering.{int_eq}
 use Rattle.df_lang.specs.declared.ty.Ty.{Ty}
 use Rattle.df_lang.specs.declared.ty.Ty.TheVariants as types
-use Rattle.df_lang.specs.Typing.{same_type}
+use Rattle.df_lang.specs.Newtype.{same_type}
 use Rattle.df_nterm.specs.Term.{Sort, Numbers, Truths, Characters, Free, Op, Number, FreeTerm, Plus, Times, Div, Mod, Code, Chr, Is, Equal, AtMost, Not, And, Or, Implies, Iff, Term, node, Terms, no_term, term}
 
 abbrev pub same_sort : Sort → Sort → Bool

@@ -3,8 +3,8 @@ use Rattle.std.proofs.Common.{◌≡◌, inl, inr, ℕ, ◌≤◌, Bool, true, f
 use Rattle.df_base.specs.Outside.{Appends}
 use Rattle.df_lang.specs.Program.{Program}
 use Rattle.df_nproof.specs.Laws.{OutcomesAre}
-use Rattle.df_nproof.specs.Verified.{verified_outcomes}
 use Rattle.df_report.specs.Report.{summary}
+use Rattle.df_nproof.specs.Verified.{verified_outcomes}
 use Rattle.df_search.specs.declared.found.Budget as search
 use Rattle.df_ncmd.specs.Line.{Budget, Command, Verify, Prove, Check, Build, Run, Bulk}
 use Rattle.df_nmach.specs.State.{Code}
@@ -12,8 +12,8 @@ use Rattle.df_ntop.specs.declared.machine.Ran.{Ran}
 use Rattle.df_ntop.specs.declared.machine.Ran.TheVariants as rans
 use Rattle.df_ntop.specs.declared.ending.End.{End}
 use Rattle.df_ntop.specs.declared.ending.End.TheVariants as ends
-use Rattle.df_ntop.specs.Call.{Streams, IsSilent, Rose}
-use Rattle.df_ntop.specs.Command.{usual, most_fuel, compiles, runs, is_bulk}
+use Rattle.df_ntop.specs.Call.{Streams, IsSilent, Rose, most_fuel}
+use Rattle.df_ntop.specs.Command.{usual, compiles, runs, is_bulk}
 use Rattle.df_ntop.specs.Loaded.{LogFile}
 use Rattle.df_ntop.specs.Run.{IsRunOf, RunsMain}
 use Rattle.df_ntop.specs.Running.{end_of, IsCutLine}

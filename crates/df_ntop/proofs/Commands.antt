@@ -7,8 +7,8 @@ use Rattle.df_lang.specs.Program.{Program}
 use Rattle.df_ncmd.specs.Line.{Command}
 use Rattle.df_ntop.specs.declared.ending.End.{End}
 use Rattle.df_ntop.specs.declared.ending.End.TheVariants as ends
-use Rattle.df_ntop.specs.Call.{Store, Stream, Streams, Call}
-use Rattle.df_ntop.specs.Command.{IsLine, IsNoLine}
+use Rattle.df_ntop.specs.Call.{Store, Stream, Streams, Call, IsLine}
+use Rattle.df_ntop.specs.Command.{IsNoLine}
 use Rattle.df_ntop.specs.Lines.{usage_line, memory_line, fuel_line}
 use Rattle.df_ntop.specs.Loaded.{LogFile}
 use Rattle.df_ntop.specs.Answer.{IsSpent, IsPartOnOut, ProgramTells, not_native, no_main, too_large, not_a_log, bad_part, SourceTells, refused, lawful, FilesTell, unread, large, loaded, PutSoFar, nothing, on_out, on_err, IsCutOnErr, Answers}

@@ -15,16 +15,17 @@ use Rattle.df_nmach.specs.State as states
 use Rattle.df_nmach.specs.State.{Code}
 use Rattle.df_nerase.specs.Erasing.{method_number}
 use Rattle.df_nerase.specs.First.{IsFirst, BrokenIsNotNative}
-use Rattle.df_nfront.specs.Source.{IsLawful, IsUnlawful, byte_limit}
+use Rattle.df_nfront.specs.Source.{IsLawful, IsUnlawful}
+use Rattle.df_tok.specs.Limits.{byte_limit}
 use Rattle.df_nfront.specs.Refused.{IsRefused}
 use Rattle.df_npass.specs.Laws.{OneListOfObligations}
 use Rattle.df_nproof.specs.Laws.{DerivedIsNotRefused}
-use Rattle.df_nproof.specs.Verified.{verified_outcomes}
 use Rattle.df_report.specs.Report.{summary}
-use Rattle.df_ntop.specs.Call.{Call}
-use Rattle.df_ntop.specs.Command.{IsLine, IsNoLine, IsFileOf, file_of, log_of, usual, most_fuel, compiles, runs}
+use Rattle.df_nproof.specs.Verified.{verified_outcomes}
+use Rattle.df_ntop.specs.Call.{Call, IsLine, most_fuel, IsSourceOf}
+use Rattle.df_ntop.specs.Command.{IsNoLine, IsFileOf, file_of, log_of, usual, compiles, runs}
 use Rattle.df_ntop.specs.Entry.{HasNoEntry}
-use Rattle.df_ntop.specs.Loaded.{IsSourceOf, IsLonger, LogFile, NoLog, IsLogFile}
+use Rattle.df_ntop.specs.Loaded.{IsLonger, LogFile, NoLog, IsLogFile}
 use Rattle.df_ntop.specs.Headline.{Share, Whole, Spent, EntryRun}
 use Rattle.df_ntop.specs.Answer.{ProvesBy, IsReady, IsBuilt, IsAccepted, OfLine, IsDone, IsSpent, IsUnproved, ProgramTells, not_native, no_main, too_large, not_a_log, bad_part, SourceTells, refused, lawful, FilesTell, unread, large, loaded, Tells, Answers}
 use Rattle.df_ntop.specs.Complete.{HoldsSource, HoldsLog, IsCutShort, HasRun, IsDueOn, IsDue, IsComplete}

@@ -5,10 +5,9 @@ use Rattle.df_base.specs.declared.status.Status.TheVariants as statuses
 use Rattle.df_lang.specs.Program.{Program}
 use Rattle.df_ncmd.specs.Line.{Command, Verify, Prove, Check, Build, Run, Bulk}
 use Rattle.df_nmach.specs.State.{Code}
-use Rattle.df_nproof.specs.Verified.{verified_outcomes}
 use Rattle.df_report.specs.Report.{summary}
-use Rattle.df_ntop.specs.Call.{Call, Takes, TakesPrefix, IsSilent}
-use Rattle.df_ntop.specs.Command.{IsLine, most_fuel}
+use Rattle.df_nproof.specs.Verified.{verified_outcomes}
+use Rattle.df_ntop.specs.Call.{Call, Takes, TakesPrefix, IsSilent, IsLine, most_fuel}
 use Rattle.df_ntop.specs.Headline.{Share, Whole, Spent, Part, HasPassedLine, EntryRun, IsPut, share_at, Accepts, Accepted, CorrectSource, judges}
 use Rattle.df_ntop.specs.Answer.{OfLine, Proved, IsDone, IsSpent, IsUnproved, IsPartOnOut, IsPartOnErr, PutSoFar, nothing, on_out, on_err, IsCutOnErr, Answers}
 use Rattle.df_ntop.specs.Answer as answers

@@ -15,17 +15,18 @@ use Rattle.df_lang.specs.Program.{Program}
 use Rattle.df_logtext.specs.BadLog.{IsBad}
 use Rattle.df_ncmd.specs.Line.{Command}
 use Rattle.df_nerase.specs.First.{IsFirst}
-use Rattle.df_nfront.specs.Source.{IsLawful, byte_limit}
+use Rattle.df_nfront.specs.Source.{IsLawful}
+use Rattle.df_tok.specs.Limits.{byte_limit}
 use Rattle.df_nfront.specs.Refused.{IsRefused}
 use Rattle.df_nfront.specs.Line.{refusal_line}
 use Rattle.df_nproof.specs.Names.{names_in}
 use Rattle.df_nproof.specs.Checking.{HasBadPart}
 use Rattle.df_ntop.specs.declared.ending.End.{End}
 use Rattle.df_ntop.specs.declared.ending.End.TheVariants as ends
-use Rattle.df_ntop.specs.Call.{Store, Streams}
+use Rattle.df_ntop.specs.Call.{Store, Streams, IsSourceOf}
 use Rattle.df_ntop.specs.Command.{IsFileOf, file_of, log_of, log_name_of, compiles, runs}
 use Rattle.df_ntop.specs.Entry.{HasNoEntry}
-use Rattle.df_ntop.specs.Loaded.{IsSourceOf, IsLonger, LogFile, TooLong, Log, IsLogFile}
+use Rattle.df_ntop.specs.Loaded.{IsLonger, LogFile, TooLong, Log, IsLogFile}
 use Rattle.df_ntop.specs.Lines.{native_line, no_main_line, large_line, too_large_line, not_a_log_line, bad_part_line}
 use Rattle.df_ntop.specs.Answer.{IsReady, IsWithoutSource, ProgramTells, not_native, no_main, too_large, not_a_log, bad_part, SourceTells, refused, lawful, FilesTell, large, loaded}
 use Rattle.df_ntop.specs.Ending.{Known, IsToldBy, IsQuiet, Ends, of_program, of_source, of_files}

@@ -7,7 +7,8 @@ use Rattle.df_ncmd.specs.declared.command.LineFault.{LineFault}
 use Rattle.df_ncmd.specs.declared.command.LineFault.TheVariants as faults
 use Rattle.df_ncmd.specs.View.{ReadsLine}
 use Rattle.df_ncmd.specs.Line.{Budget, Command, Verify, Prove, Check, Build, Run, Bulk, IsBudget, IsInLimits, line_of}
-use Rattle.df_ntop.specs.Command.{IsLine, IsNoLine, IsFileOf, usual, file_of, log_of, log_name_of, budget_of, fuel_of, is_bulk}
+use Rattle.df_ntop.specs.Call.{IsLine}
+use Rattle.df_ntop.specs.Command.{IsNoLine, IsFileOf, usual, file_of, log_of, log_name_of, budget_of, fuel_of, is_bulk}
 use Rattle.df_ntop.specs.Answer.{search_budget}
 
 -- the words ask for one command

@@ -9,11 +9,11 @@ use Rattle.df_gen.specs.GeneratedSource.{generated_source}
 use Rattle.df_ncmd.specs.Line.{Command, Verify, Prove, Check, Build, Run, Bulk}
 use Rattle.df_ntop.specs.declared.ending.End.{End}
 use Rattle.df_ntop.specs.declared.ending.End.TheVariants as ends
-use Rattle.df_ntop.specs.Call.{Store, Streams, Rose}
+use Rattle.df_ntop.specs.Call.{Store, Streams, Rose, IsLoaded, IsSourceOf}
 use Rattle.df_ntop.specs.Command.{IsFileOf, file_of, log_of}
 use Rattle.df_ntop.specs.Lines.{unread_line}
-use Rattle.df_ntop.specs.Loaded.{IsLoaded, IsSourceOf, IsLonger, log_limit, LogFile, NoLog, TooLong, Log, is_absent, IsLogFile, IsNamed}
-use Rattle.df_nfront.specs.Source.{byte_limit}
+use Rattle.df_ntop.specs.Loaded.{IsLonger, log_limit, LogFile, NoLog, TooLong, Log, is_absent, IsLogFile, IsNamed}
+use Rattle.df_tok.specs.Limits.{byte_limit}
 use Rattle.df_ntop.specs.Answer.{IsBehindSource, IsWithoutSource, IsUnread, unread_source, unread_log, unread}
 use Rattle.df_ntop.specs.Ending.{IsToldBy, IsQuiet, Ends, of_files, LoadsSource, LoadsLog, IsSourceFault, IsLogFault, FailsToLoad}
 use Rattle.df_ntop.proofs.Bulk.{later}

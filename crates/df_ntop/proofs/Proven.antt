@@ -11,9 +11,8 @@ use Rattle.df_nproof.specs.Laws.{LogsOfVerdictsDerive}
 use Rattle.df_nproof.specs.Proofs.{logs_in}
 use Rattle.df_report.specs.Report.{Outcome}
 use Rattle.df_nverdict.specs.Verdict.{are_verified}
-use Rattle.df_ntop.specs.Call.{Call}
-use Rattle.df_ntop.specs.Command.{IsLine, budget_of}
-use Rattle.df_ntop.specs.Loaded.{IsSourceOf}
+use Rattle.df_ntop.specs.Call.{Call, IsLine, IsSourceOf}
+use Rattle.df_ntop.specs.Command.{budget_of}
 use Rattle.df_ntop.specs.Headline.{Share, Whole, Spent}
 use Rattle.df_ntop.specs.Proved.{IsAccepting, ProvedByLogs, DerivesAll}
 use Rattle.df_ntop.specs.Answer.{search_budget, OfLine, IsVerdict, Proved, ProvedSource, IsDone, IsSpent, Answers}

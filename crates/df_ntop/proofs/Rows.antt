@@ -7,11 +7,11 @@ use Rattle.df_meaning.specs.Correct.{AreCorrect}
 use Rattle.df_nmach.specs.State.{Code}
 use Rattle.df_nerase.specs.Erasing.{method_number}
 use Rattle.df_nfront.specs.Source.{IsLawful}
-use Rattle.df_nproof.specs.Verified.{verified_outcomes}
 use Rattle.df_report.specs.Report.{summary}
-use Rattle.df_ntop.specs.Call.{Store, Stream, Streams, Call, Takes, TakesPrefix}
-use Rattle.df_ntop.specs.Command.{log_of, budget_of, usual, most_fuel}
-use Rattle.df_ntop.specs.Loaded.{IsSourceOf, LogFile, NoLog, TooLong, Log, IsLogFile}
+use Rattle.df_nproof.specs.Verified.{verified_outcomes}
+use Rattle.df_ntop.specs.Call.{Store, Stream, Streams, Call, Takes, TakesPrefix, most_fuel, IsSourceOf}
+use Rattle.df_ntop.specs.Command.{log_of, budget_of, usual}
+use Rattle.df_ntop.specs.Loaded.{LogFile, NoLog, TooLong, Log, IsLogFile}
 use Rattle.df_ntop.specs.Headline.{Share, Whole, Spent, Part, HasPut, EntryRun, IsPut, CorrectSource}
 use Rattle.df_ntop.specs.Answer.{ProvesBy, IsByLog, IsBuilt, IsAccepted, Proved, Puts, IsDone, IsSpent, IsUnproved, IsPartOnOut, IsPartOnErr}
 use Rattle.df_ntop.specs.Ending.{IsDoneText, IsSpentText, IsOutReport, IsErrReport, IsOutText, of_files}

@@ -12,7 +12,7 @@ use Rattle.df_nerase.specs.Erasing.{method_number}
 use Rattle.df_nback.specs.Run.{IsCompiled, RunsAsEntry}
 use Rattle.df_ntop.specs.Entry.{IsEntryAt}
 use Rattle.df_ntop.specs.Run.{IsRunOf, IsCutOff, IsStopped}
-use Rattle.df_ntop.specs.Steps.{HasEnded, IsUnended}
+use Rattle.df_ntop.specs.Call.{HasEnded, IsUnended}
 use Rattle.df_ntop.proofs.Steps.{text_so_far, one_end, one_more}
 use Rattle.df_ntop.proofs.Texts.{part_of_whole, part_of_part}
 

@@ -5,7 +5,7 @@ use Rattle.df_nmach.specs.Step.{Stepped, On, Ended, Fault, Huge, machine_step}
 use Rattle.df_nmach.specs.Run.{and_then, machine_run, start_of}
 use Rattle.df_nmach.specs.Front.{with_front, all_with_front}
 use Rattle.df_nmach.proofs.Runs.{run_add, run_front, ends_for_good}
-use Rattle.df_ntop.specs.Steps.{HasEnded, IsUnended}
+use Rattle.df_ntop.specs.Call.{HasEnded, IsUnended}
 
 later_from : (code : Code) (start : Stepped) (k m : ℕ) (final : Final) → and_then start (machine_run code k) ≡ Ended final → k ≤ m → and_then start (machine_run code m) ≡ Ended final
 later_from code (On s) k m final e le = ends_for_good code k m s final e le

@@ -22,14 +22,15 @@ use Rattle.df_nproof.specs.Checking.{HasBadPart}
 use Rattle.df_nmach.specs.State.{Code}
 use Rattle.df_nerase.specs.First.{IsFirst}
 use Rattle.df_nback.specs.Run.{IsCompiled}
-use Rattle.df_nfront.specs.Source.{IsLawful, byte_limit}
+use Rattle.df_nfront.specs.Source.{IsLawful}
+use Rattle.df_tok.specs.Limits.{byte_limit}
 use Rattle.df_nfront.specs.Refused.{IsRefused}
 use Rattle.df_nfront.specs.Line.{refusal_line}
-use Rattle.df_ntop.specs.Call.{Store, Call, Takes, TakesPrefix, IsSilent, Rose}
-use Rattle.df_ntop.specs.Command.{IsLine, IsNoLine, IsFileOf, file_of, log_of, log_name_of, usual, budget_of, compiles, runs}
+use Rattle.df_ntop.specs.Call.{Store, Call, Takes, TakesPrefix, IsSilent, Rose, IsLine, IsSourceOf}
+use Rattle.df_ntop.specs.Command.{IsNoLine, IsFileOf, file_of, log_of, log_name_of, usual, budget_of, compiles, runs}
 use Rattle.df_ntop.specs.Entry.{IsEntryAt, HasNoEntry}
 use Rattle.df_ntop.specs.Run.{IsRunOf}
-use Rattle.df_ntop.specs.Loaded.{IsSourceOf, IsLonger, LogFile, NoLog, TooLong, Log, IsLogFile}
+use Rattle.df_ntop.specs.Loaded.{IsLonger, LogFile, NoLog, TooLong, Log, IsLogFile}
 use Rattle.df_ntop.specs.Headline.{Share, Whole, Spent, Part, Accepted, CorrectSource}
 use Rattle.df_ntop.specs.Lines.{usage_line, memory_line, fuel_line, unread_line, large_line, native_line, no_main_line, too_large_line, not_a_log_line, bad_part_line}
 

@@ -1,9 +1,14 @@
--- One call of the program: its words, and what the files and the sinks had before it and have after it. A count of
--- faults is how many reads or writes failed.
-use Rattle.std.specs.Prelude.{◌≡◌, ◌<◌, ◌-◌, ◌^◌, ◌⊎◌, ℕ, List, Option}
-use Rattle.df_base.specs.Outside.{Contents, Appends, AppendsPrefix}
-use Rattle.df_base.specs.declared.files.Files as files
-use Rattle.df_base.specs.declared.sink.Sink as sinks
+-- One call of the program: its words and the command that they ask for, what the files and the sinks had before it and
+-- have after it, the source, and how far the machine comes. A count of faults is how many reads or writes failed.
+use Rattle.std.specs.Prelude.{◌≡◌, ◌<◌, ◌-◌, ◌^◌, ◌⊎◌, ℕ, List, [], ◌∷◌, ◌++◌, Option, Some, IfSome}
+use Rattle.df_base.specs.Outside.{Contents, Appends, AppendsPrefix, bytes_of}
+use Rattle.df_base.specs.declared.files.Files as file_members
+use Rattle.df_base.specs.declared.sink.Sink as sink_members
+use Rattle.df_ncmd.specs.Line.{Command, Verify, Prove, Check, Build, Run, Bulk, line_of}
+use Rattle.df_gen.specs.GeneratedSource.{generated_source}
+use Rattle.df_nmach.specs.State.{Code, State}
+use Rattle.df_nmach.specs.Step as step
+use Rattle.df_nmach.specs.Run.{and_then, machine_run, start_of}
 
 -- the files: what they hold, where they tell, the names and the bytes of the files that they had given and have given,
 -- the last one first, and their count of faults before and after
@@ -34,7 +39,7 @@ pub record Call : Type 0 where
 
 -- ---- the records, of the members of traits at what there was and what there is
 
-abbrev pub store : {F : Type 0} → files.Ghosts F → F → F → Store
+abbrev pub store : {F : Type 0} → file_members.Ghosts F → F → F → Store
 store members old new = record {
   held = members.holds old;
   had = members.given old;
@@ -43,13 +48,13 @@ store members old new = record {
   after = members.fault_count new;
 }
 
-abbrev pub stream : {S : Type 0} → sinks.Ghosts S → S → S → Stream
+abbrev pub stream : {S : Type 0} → sink_members.Ghosts S → S → S → Stream
 stream members old new = record { old = members.taken old; new = members.taken new; before = members.fault_count old; after = members.fault_count new }
 
-abbrev pub streams : {O E : Type 0} → sinks.Ghosts O → O → O → sinks.Ghosts E → E → E → Streams
+abbrev pub streams : {O E : Type 0} → sink_members.Ghosts O → O → O → sink_members.Ghosts E → E → E → Streams
 streams out old_out new_out err old_err new_err = record { out = stream out old_out new_out; err = stream err old_err new_err }
 
-abbrev pub call_of : {F O E : Type 0} → List (List ℕ) → files.Ghosts F → F → F → sinks.Ghosts O → O → O → sinks.Ghosts E → E → E → Call
+abbrev pub call_of : {F O E : Type 0} → List (List ℕ) → file_members.Ghosts F → F → F → sink_members.Ghosts O → O → O → sink_members.Ghosts E → E → E → Call
 call_of words members old new out old_out new_out err old_err new_err = record {
   words = words;
   files = store members old new;
@@ -74,3 +79,45 @@ IsSilent s = s.new ≡ s.old
 -- a count of faults rose, or stands at its last value
 abbrev pub Rose : ℕ → ℕ → Type 0
 Rose before after = (before < after) ⊎ (after ≡ 2 ^ 64 - 1)
+
+-- ---- the command
+
+-- the words ask for the command
+pub record IsLine (words : List (List ℕ)) (command : Command) : Type 0 where
+  pub asks : line_of words ≡ Some command
+
+-- the greatest fuel that they may say
+abbrev pub most_fuel : ℕ
+most_fuel = 9223372036854775807
+
+-- ---- the source
+
+-- the files gave these bytes as those of the file, before any others of the call, and they are, where the files tell what
+-- they hold
+pub record IsLoaded (files : Store) (name source : List ℕ) : Type 0 where
+  pub others : List (List ℕ × List ℕ)
+  pub given : files.given ≡ others ++ (name, source) ∷ files.had
+  pub held : IfSome files.held (λ held. bytes_of held name ≡ Some source)
+
+-- the source of a command is that of its file, and of bulk the generated one
+abbrev pub IsSourceOf : Store → Command → List ℕ → Type 0
+IsSourceOf files (Verify file budget) source = IsLoaded files file source
+IsSourceOf files (Prove file budget) source = IsLoaded files file source
+IsSourceOf files (Check file log) source = IsLoaded files file source
+IsSourceOf files (Build file proof budget) source = IsLoaded files file source
+IsSourceOf files (Run file proof budget fuel) source = IsLoaded files file source
+IsSourceOf files (Bulk seed count) source = source ≡ generated_source seed count
+
+-- ---- how far the machine comes in so many steps of a method without arguments
+
+-- within so many steps the machine ends with this text
+pub record HasEnded (code : Code) (number fuel : ℕ) (text : List ℕ) : Type 0 where
+  pub within : and_then (start_of code number [] []) (machine_run code fuel) ≡ step.Ended (record { results = []; heap = []; text = text })
+
+-- after so many steps the machine has not ended, and has printed so much of the whole
+pub record IsUnended (code : Code) (number fuel : ℕ) (whole text : List ℕ) : Type 0 where
+  pub state : State
+  pub on : and_then (start_of code number [] []) (machine_run code fuel) ≡ step.On state
+  pub so_far : state.text ≡ text
+  pub more : List ℕ
+  pub is_part : whole ≡ text ++ more

@@ -1,10 +1,7 @@
 -- Commands, and what they name.
 use Rattle.std.specs.Prelude.{◌≡◌, ◌⊎◌, ℕ, Bool, true, false, List, [], Option, None, Some, codes, unwrap_or}
-use Rattle.df_ncmd.specs.Line.{Budget, Command, Verify, Prove, Check, Build, Run, Bulk, line_of}
-
--- the words ask for the command
-pub record IsLine (words : List (List ℕ)) (command : Command) : Type 0 where
-  pub asks : line_of words ≡ Some command
+use Rattle.df_ncmd.specs.Line.{Budget, Command, Verify, Prove, Check, Build, Run, Bulk}
+use Rattle.df_ntop.specs.Call.{IsLine, most_fuel}
 
 -- the words are no line of any command
 abbrev pub IsNoLine : List (List ℕ) → Type 0
@@ -40,9 +37,6 @@ IsFileOf command name = (name ≡ file_of command) ⊎ (log_of command ≡ Some 
 -- where the words may not say it
 abbrev pub usual : Budget
 usual = record { steps = 20000; rounds = 4 }
-
-abbrev pub most_fuel : ℕ
-most_fuel = 9223372036854775807
 
 -- how far a search may go
 abbrev pub budget_of : Command → Budget

@@ -13,18 +13,18 @@ use Rattle.df_ncmd.specs.Line.{Budget, Command, Verify, Prove, Check, Build, Run
 use Rattle.df_nmach.specs.State.{Code}
 use Rattle.df_listing.specs.Listing.{listing_text}
 use Rattle.df_nerase.specs.Erasing.{method_number}
-use Rattle.df_nfront.specs.Source.{IsLawful, byte_limit}
+use Rattle.df_nfront.specs.Source.{IsLawful}
+use Rattle.df_tok.specs.Limits.{byte_limit}
 use Rattle.df_nfront.specs.Refused.{IsRefused}
 use Rattle.df_gen.specs.GeneratedSource.{generated_source}
 use Rattle.df_nproof.specs.Names.{names_in}
 use Rattle.df_nproof.specs.Derived.{AreProofs}
-use Rattle.df_nproof.specs.Verified.{verified_outcomes}
 use Rattle.df_report.specs.Report.{summary}
-use Rattle.df_ntop.specs.Call.{Stream, Call, Takes}
-use Rattle.df_ntop.specs.Command.{IsLine, IsNoLine, log_of, usual, most_fuel}
+use Rattle.df_nproof.specs.Verified.{verified_outcomes}
+use Rattle.df_ntop.specs.Call.{Stream, Call, Takes, IsLine, most_fuel, HasEnded}
+use Rattle.df_ntop.specs.Command.{IsNoLine, log_of, usual}
 use Rattle.df_ntop.specs.Entry.{IsEntryAt, HasNoEntry}
 use Rattle.df_ntop.specs.Loaded.{log_limit, LogFile, NoLog, TooLong, Log}
-use Rattle.df_ntop.specs.Steps.{HasEnded}
 use Rattle.df_ntop.specs.Answer.{IsBuilt, IsAccepted}
 
 -- the files tell that these are the bytes of the file

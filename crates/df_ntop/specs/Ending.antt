@@ -11,16 +11,16 @@ use Rattle.df_nmach.specs.State.{Code}
 use Rattle.df_listing.specs.Listing.{listing_text}
 use Rattle.df_listing.specs.Ordinary.{IsOrdinary}
 use Rattle.df_nerase.specs.Erasing.{method_number}
-use Rattle.df_nfront.specs.Source.{IsLawful, byte_limit}
-use Rattle.df_nproof.specs.Verified.{verified_outcomes}
+use Rattle.df_nfront.specs.Source.{IsLawful}
+use Rattle.df_tok.specs.Limits.{byte_limit}
 use Rattle.df_report.specs.Report.{summary}
+use Rattle.df_nproof.specs.Verified.{verified_outcomes}
 use Rattle.df_ntop.specs.declared.ending.End.{End}
 use Rattle.df_ntop.specs.declared.ending.End.TheVariants as ends
-use Rattle.df_ntop.specs.Call.{Store, Stream, Streams, Takes, TakesPrefix, IsSilent, Rose}
-use Rattle.df_ntop.specs.Command.{file_of, log_of, usual, most_fuel}
+use Rattle.df_ntop.specs.Call.{Store, Stream, Streams, Takes, TakesPrefix, IsSilent, Rose, most_fuel, IsSourceOf, HasEnded, IsUnended}
+use Rattle.df_ntop.specs.Command.{file_of, log_of, usual}
 use Rattle.df_ntop.specs.Lines.{unread_line}
-use Rattle.df_ntop.specs.Loaded.{IsSourceOf, IsLonger, log_limit, LogFile, NoLog, TooLong, Log, IsLogFile}
-use Rattle.df_ntop.specs.Steps.{HasEnded, IsUnended}
+use Rattle.df_ntop.specs.Loaded.{IsLonger, log_limit, LogFile, NoLog, TooLong, Log, IsLogFile}
 use Rattle.df_ntop.specs.Headline.{IsListed}
 use Rattle.df_ntop.specs.Answer.{IsReport, IsLastLine, IsProofText, ProvesBy, IsFailing, IsFailingBriefly, IsBuilt, IsAccepted, ProgramTells, SourceTells, FilesTell}
 

@@ -3,8 +3,7 @@ use Rattle.std.specs.Prelude.{◌≡◌, ◌⊎◌, ◌≤◌, ℕ, List, [], So
 use Rattle.df_base.specs.declared.status.Status.{Status}
 use Rattle.df_base.specs.declared.status.Status.TheVariants as statuses
 use Rattle.df_ncmd.specs.Line.{Budget, Prove, Check}
-use Rattle.df_ntop.specs.Call.{Call}
-use Rattle.df_ntop.specs.Command.{IsLine}
+use Rattle.df_ntop.specs.Call.{Call, IsLine}
 use Rattle.df_ntop.specs.Loaded.{log_limit}
 use Rattle.df_ntop.specs.Answer.{Answers}
 use Rattle.df_ntop.specs.Complete.{Holds, IsCutShort, IsComplete}

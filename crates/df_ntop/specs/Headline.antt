@@ -11,15 +11,11 @@ use Rattle.df_nmach.specs.State.{Code}
 use Rattle.df_listing.specs.Listing.{listing_text}
 use Rattle.df_listing.specs.Ordinary.{IsOrdinary}
 use Rattle.df_nerase.specs.Erasing.{method_number}
-use Rattle.df_nback.specs.Compiled.{code_for}
-use Rattle.df_nback.specs.Run.{nothing_yet, RunsAs, RunsAsEntry}
+use Rattle.df_nback.specs.Run.{nothing_yet, RunsAs, RunsAsEntry, code_for}
 use Rattle.df_nfront.specs.Source.{IsLawful}
 use Rattle.df_report.specs.Report.{Outcome, summary}
 use Rattle.df_nproof.specs.Verified.{verified_outcomes}
-use Rattle.df_ntop.specs.Call.{Stream, Call, Takes, TakesPrefix}
-use Rattle.df_ntop.specs.Command.{IsLine, most_fuel}
-use Rattle.df_ntop.specs.Loaded.{IsSourceOf}
-use Rattle.df_ntop.specs.Steps.{HasEnded, IsUnended}
+use Rattle.df_ntop.specs.Call.{Stream, Call, Takes, TakesPrefix, IsLine, most_fuel, IsSourceOf, HasEnded, IsUnended}
 
 -- out has taken more than a part of the last line of a report
 abbrev pub HasPassedLine : Stream → Type 0

@@ -5,7 +5,6 @@ pub mod Keeps
 pub mod Lines
 pub mod Loaded
 pub mod View
-pub mod Steps
 pub mod Entry
 pub mod Run
 pub mod Headline

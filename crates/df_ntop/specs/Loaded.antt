@@ -1,29 +1,7 @@
--- The source and the log of a call.
-use Rattle.std.specs.Prelude.{◌≡◌, ◌<◌, ◌≤◌, ℕ, Bool, true, false, List, ◌∷◌, ◌++◌, length, Option, None, Some, IfSome}
+-- The log of a call.
+use Rattle.std.specs.Prelude.{◌≡◌, ◌<◌, ◌≤◌, ℕ, Bool, true, false, List, ◌∷◌, length, Option, None, Some, IfSome}
 use Rattle.df_base.specs.Outside.{Contents, bytes_of}
-use Rattle.df_gen.specs.GeneratedSource.{generated_source}
-use Rattle.df_ncmd.specs.Line.{Command, Verify, Prove, Check, Build, Run, Bulk}
 use Rattle.df_ntop.specs.Call.{Store}
-
--- ---- the source
-
--- the files gave these bytes as those of the file, before any others of the call, and they are, where the files tell what
--- they hold
-pub record IsLoaded (files : Store) (name source : List ℕ) : Type 0 where
-  pub others : List (List ℕ × List ℕ)
-  pub given : files.given ≡ others ++ (name, source) ∷ files.had
-  pub held : IfSome files.held (λ held. bytes_of held name ≡ Some source)
-
--- the source of a command is that of its file, and of bulk the generated one
-abbrev pub IsSourceOf : Store → Command → List ℕ → Type 0
-IsSourceOf files (Verify file budget) source = IsLoaded files file source
-IsSourceOf files (Prove file budget) source = IsLoaded files file source
-IsSourceOf files (Check file log) source = IsLoaded files file source
-IsSourceOf files (Build file proof budget) source = IsLoaded files file source
-IsSourceOf files (Run file proof budget fuel) source = IsLoaded files file source
-IsSourceOf files (Bulk seed count) source = source ≡ generated_source seed count
-
--- ---- the log
 
 -- a log has at most this many bytes
 abbrev pub log_limit : ℕ

@@ -7,9 +7,7 @@ use Rattle.df_form.specs.Log.{Step}
 use Rattle.df_ncmd.specs.Line.{Command}
 use Rattle.df_nfront.specs.Source.{IsLawful}
 use Rattle.df_nproof.specs.Derived.{AreProofs}
-use Rattle.df_ntop.specs.Call.{Call}
-use Rattle.df_ntop.specs.Command.{IsLine}
-use Rattle.df_ntop.specs.Loaded.{IsSourceOf}
+use Rattle.df_ntop.specs.Call.{Call, IsLine, IsSourceOf}
 
 -- status 0, or 7
 abbrev pub IsAccepting : Status → Type 0

@@ -6,7 +6,7 @@ use Rattle.df_meaning.specs.Correct.{IsEntry}
 use Rattle.df_nmach.specs.State.{Code}
 use Rattle.df_nerase.specs.Erasing.{method_number}
 use Rattle.df_nback.specs.Run.{IsCompiled, RunsAsEntry}
-use Rattle.df_ntop.specs.Steps.{HasEnded, IsUnended}
+use Rattle.df_ntop.specs.Call.{HasEnded, IsUnended}
 use Rattle.df_ntop.specs.declared.machine.Ran.{Ran}
 use Rattle.df_ntop.specs.declared.machine.Ran.TheVariants as rans
 

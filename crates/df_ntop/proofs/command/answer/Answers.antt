@@ -1,7 +1,6 @@
 use Rattle.std.proofs.Common.{Err, refl, map, string_bytes, arith}
 use Rattle.df_ncmd.specs.View.{command_of}
-use Rattle.df_ntop.specs.Call.{store, streams}
-use Rattle.df_ntop.specs.Command.{IsLine}
+use Rattle.df_ntop.specs.Call.{store, streams, IsLine}
 use Rattle.df_ntop.proofs.Commands.{usage_end, nothing_read}
 use Rattle.df_ntop.proofs.Limits.{no_line_read}
 use Rattle.df_ntop.proofs.command.answer.Goals as goal
