@@ -29,6 +29,7 @@ use Rattle.df_branch.proofs.Solutions.{formulas, labels_are}
 use Rattle.df_branch.proofs.Gaps.{known_at_most, known_at_least, first_at_most, first_at_least}
 use Rattle.df_branch.proofs.Points.{between_zero, others_zero, truth_is_no_number, character_is_no_number, atoms_zero}
 use Rattle.df_branch.proofs.Zeros.{AllZero, first_zero}
+use Rattle.df_branch.proofs.Unrefuted.{eliminated_unrefuted}
 
 pub told : (count less : ℕ) (first : List Row) (variables others_variables : List ℕ) (levels others : List Level) (answer other : Back) → count ≡ less → variables ≡ others_variables → levels ≡ others → answer ≡ other
     → TellsBack count first variables (map level_rows levels) answer → TellsBack less first others_variables (map level_rows others) other
@@ -109,12 +110,13 @@ module _ (set : List Node) (clauses : List GroundClause) (nodes : List Node) (br
       quiet = (labels_are set clauses nodes branch levels labels facts p).quiet;
       rows = p.rows;
       rows_are = p.rows_are;
-      first = first;
-      variables = levels.variables.items;
-      levels = others;
-      elimination = p.whole.elimination;
+      unrefuted = eliminated_unrefuted p.rows first levels.variables.items others p.whole.elimination;
     };
     filled = p.filled;
+    first = first;
+    variables = levels.variables.items;
+    levels = others;
+    elimination = p.whole.elimination;
     count = length nodes;
     within = within;
     between = gap.between;

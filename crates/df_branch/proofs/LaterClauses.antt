@@ -9,6 +9,7 @@ use Rattle.df_clause.specs.Among.{Among}
 use Rattle.df_closure.specs.Closure.{GroundClause, counts_for, Teaches, Refutes, Taught, nothing, more, after, IsClosed, IsRefuted}
 use Rattle.df_closure.specs.Filled.{IsOpenClause, IsFilled}
 use Rattle.df_branch.specs.Evidence.{IsShut, by_clauses, by_congruence, by_rows, IsUnshut, IsDecision, of_clause, of_equality, of_split, MayFollow, IsBranchAfter}
+use Rattle.df_branch.specs.Next.{IsQuiet, ComesNext}
 use Rattle.df_branch.proofs.Formulas.{get_joined, formula_below}
 
 -- each is bound to a node from a number on
@@ -87,11 +88,11 @@ module _ (clauses added : List GroundClause) where
       quiet = is.quiet;
       rows = is.rows;
       rows_are = is.rows_are;
-      first = is.first;
-      variables = is.variables;
-      levels = is.levels;
-      elimination = is.elimination;
+      unrefuted = is.unrefuted;
     }
+
+    pub quiet_more : (list learned : List Lit) → IsQuiet nodes clauses list learned → IsQuiet nodes all list learned
+    quiet_more list learned is = record { reasons = is.reasons; closed = closed_more list is.reasons learned is.formulas is.closed; formulas = is.formulas; quiet = is.quiet }
 
     pub decision_more : (set : List Node) (list learned : List Lit) (l : Lit) → are_literals nodes (after list learned) ≡ true → IsDecision set nodes clauses list learned l → IsDecision set nodes all list learned l
     decision_more set list learned l formulas (of_clause clause is_open there) = of_clause clause (open_more (after list learned) clause is_open) there
@@ -105,6 +106,15 @@ module _ (clauses added : List GroundClause) where
       not_true = is.not_true;
       not_false = is.not_false;
       decision = ⊎_elim (λ d. inl (decision_more set list is.learned l is.unshut.formulas d)) (λ d. inr (decision_more set list is.learned _ is.unshut.formulas d)) is.decision;
+    }
+
+    pub next_more : (set : List Node) (list : List Lit) (l : Lit) → ComesNext set nodes clauses list l → ComesNext set nodes all list l
+    next_more set list l is = record {
+      learned = is.learned;
+      quiet = quiet_more list is.learned is.quiet;
+      not_true = is.not_true;
+      not_false = is.not_false;
+      decision = ⊎_elim (λ d. inl (decision_more set list is.learned l is.quiet.formulas d)) (λ d. inr (decision_more set list is.learned _ is.quiet.formulas d)) is.decision;
     }
 
     pub branch_more : (set : List Node) (earlier branch : List Lit) → IsBranchAfter set nodes clauses earlier branch → IsBranchAfter set nodes all earlier branch

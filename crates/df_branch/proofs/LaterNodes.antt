@@ -15,6 +15,7 @@ use Rattle.df_closure.proofs.LaterRows.{rows_later}
 use Rattle.df_branch.specs.Splits.{IsSplit}
 use Rattle.df_branch.specs.TermPair.{IsTermEquality}
 use Rattle.df_branch.specs.Evidence.{IsShut, by_clauses, by_congruence, by_rows, IsUnshut, IsDecision, of_clause, of_equality, of_split, MayFollow, IsBranchAfter}
+use Rattle.df_branch.specs.Next.{IsQuiet, ComesNext}
 
 module _ (nodes more : List Node) (table : IsTable more) (begins : take (length nodes) more ≡ nodes) where
   grows : Grows nodes more
@@ -63,10 +64,15 @@ module _ (nodes more : List Node) (table : IsTable more) (begins : take (length 
       quiet = quiet_later (after list learned) is.formulas is.quiet;
       rows = is.rows;
       rows_are = rows_later nodes more table begins (after list learned) is.formulas ∙ is.rows_are;
-      first = is.first;
-      variables = is.variables;
-      levels = is.levels;
-      elimination = is.elimination;
+      unrefuted = is.unrefuted;
+    }
+
+    pub quiet_list_later : (list learned : List Lit) → IsQuiet nodes clauses list learned → IsQuiet more clauses list learned
+    quiet_list_later list learned is = record {
+      reasons = is.reasons;
+      closed = is.closed;
+      formulas = formulas_later (after list learned) is.formulas;
+      quiet = quiet_later (after list learned) is.formulas is.quiet;
     }
 
     pub decision_later : (set : List Node) (list learned : List Lit) (l : Lit) → are_literals nodes (after list learned) ≡ true → IsDecision set nodes clauses list learned l → IsDecision set more clauses list learned l
@@ -81,6 +87,15 @@ module _ (nodes more : List Node) (table : IsTable more) (begins : take (length 
       not_true = is.not_true;
       not_false = is.not_false;
       decision = ⊎_elim (λ d. inl (decision_later set list is.learned l is.unshut.formulas d)) (λ d. inr (decision_later set list is.learned _ is.unshut.formulas d)) is.decision;
+    }
+
+    pub next_later : (set : List Node) (list : List Lit) (l : Lit) → ComesNext set nodes clauses list l → ComesNext set more clauses list l
+    next_later set list l is = record {
+      learned = is.learned;
+      quiet = quiet_list_later list is.learned is.quiet;
+      not_true = is.not_true;
+      not_false = is.not_false;
+      decision = ⊎_elim (λ d. inl (decision_later set list is.learned l is.quiet.formulas d)) (λ d. inr (decision_later set list is.learned _ is.quiet.formulas d)) is.decision;
     }
 
     pub branch_later : (set : List Node) (earlier branch : List Lit) → IsBranchAfter set nodes clauses earlier branch → IsBranchAfter set more clauses earlier branch

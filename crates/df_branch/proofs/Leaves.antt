@@ -1,5 +1,5 @@
 -- What the closed list at a place leads to.
-use Rattle.std.proofs.Common.{◌≡◌, ℕ, suc, true, List, [], ◌∷◌, map, length, Option, Some, None, refl, sym, ap, ◌∙◌, subst, Vec, Result, Ok, Err, IfOk, inl, inr}
+use Rattle.std.proofs.Common.{◌≡◌, ℕ, suc, true, List, [], ◌∷◌, length, Option, Some, None, refl, sym, ap, ◌∙◌, subst, Vec, Result, Ok, Err, IfOk, inl, inr}
 use Rattle.std.specs.declared.alloc.Global.{Global}
 use Rattle.std.specs.List.{list_all}
 use Rattle.std.proofs.lemmas.Bool.{and_from}
@@ -38,8 +38,8 @@ use Rattle.df_branch.specs.Filling.{TellsOpen, IsOpenMember}
 use Rattle.df_branch.specs.Overflow.{at_row, at_level}
 use Rattle.df_branch.specs.Place.{IsPlace}
 use Rattle.df_branch.specs.Leaf.{IsUnsolvable, IsIncongruent, IsWideLeaf, IsManyLeaf, IsOpenLeaf}
-use Rattle.df_branch.specs.ClosedPlace.{IsClosedPlace}
-use Rattle.df_branch.specs.FilledPlace.{IsFilledPlace}
+use Rattle.df_branch.specs.ClosedPlace.{IsClosedPlace, IsClosedAt}
+use Rattle.df_branch.specs.FilledPlace.{IsFullPlace, IsFilledPlace}
 use Rattle.df_branch.proofs.Formulas.{all_at, formula_of}
 use Rattle.df_branch.proofs.Zeros.{first_within}
 
@@ -90,15 +90,30 @@ closed_list set clauses nodes branch place closure known learned reasons closes 
       set_is = subst (λ (l : List Lit). IsSetOf l known) (sym same) closed.1;
     }
 
--- rows of a table's literals have no nodes past its end
-module _ (nodes : List Node) (table : IsTable nodes) (facts : List Lit) (rows : List Row) (rows_are : rows_of nodes facts ≡ Some rows) (levels : Levels) (whole : IsWhole rows levels) where
-  each_within : (count : ℕ) (rows : List Row) → AreWithin count rows → (row : Row) → Stands row rows → IsWithin count row
-  each_within count [] all row stands = absurd stands
-  each_within count (r ∷ rows) all row (inl is) = subst (IsWithin count) (sym is) (all.each 0 r refl)
-  each_within count (r ∷ rows) all row (inr later) = each_within count rows (record { each = λ i x at. all.each (suc i) x at }) row later
+pub closed_at : (clauses : List GroundClause) (nodes : List Node) → list_all (λ (clause : GroundClause). are_literals nodes clause.literals) clauses ≡ true → (list : List Lit) → are_literals nodes list ≡ true
+    → (closure : Closure) (known : Known) (learned : Vec Lit Global) (reasons : Vec ℕ Global) → Closes clauses list closure → closure ≡ Closed known learned reasons
+    → (lent facts : List Lit) → lent ≡ learned.items → facts ≡ after list lent → IsClosedAt clauses nodes list reasons.items facts
+closed_at clauses nodes clause_formulas list formulas closure known learned reasons closes is lent facts lent_is facts_are =
+    let closed = subst (Closes clauses list) is closes in
+    let same = facts_are ∙ ap (after list) lent_is in
+    record {
+      learned = learned.items;
+      closed = closed.0;
+      facts_are = same;
+      formulas = subst (λ (l : List Lit). are_literals nodes l ≡ true) (sym same) (taught_formulas clauses nodes clause_formulas list reasons.items learned.items closed.0.taught formulas);
+    }
 
-  pub rows_within : (row : Row) → Stands row (level_rows levels.first) → IsWithin (length nodes) row
-  rows_within = first_within (length nodes) rows (level_rows levels.first) whole.elimination.is_first (each_within (length nodes) rows (table_within nodes facts rows table rows_are))
+-- rows of a table's literals have no nodes past its end
+each_within : (count : ℕ) (rows : List Row) → AreWithin count rows → (row : Row) → Stands row rows → IsWithin count row
+each_within count [] all row stands = absurd stands
+each_within count (r ∷ rows) all row (inl is) = subst (IsWithin count) (sym is) (all.each 0 r refl)
+each_within count (r ∷ rows) all row (inr later) = each_within count rows (record { each = λ i x at. all.each (suc i) x at }) row later
+
+pub rows_inside : (nodes : List Node) (facts : List Lit) (rows : List Row) → IsTable nodes → rows_of nodes facts ≡ Some rows → (row : Row) → Stands row rows → IsWithin (length nodes) row
+rows_inside nodes facts rows table e = each_within (length nodes) rows (table_within nodes facts rows table e)
+
+pub rows_within : (nodes : List Node) (table : IsTable nodes) (facts : List Lit) (rows : List Row) → rows_of nodes facts ≡ Some rows → (levels : Levels) → IsWhole rows levels → (row : Row) → Stands row (level_rows levels.first) → IsWithin (length nodes) row
+rows_within nodes table facts rows rows_are levels whole = first_within (length nodes) rows (level_rows levels.first) whole.elimination.is_first (rows_inside nodes facts rows table rows_are)
 
 module _ (set : List Node) (clauses : List GroundClause) (nodes : List Node) (branch : List Lit) (reasons : List ℕ) (facts : List Lit) (at : IsClosedPlace set clauses nodes branch reasons facts) (formulas : are_literals nodes facts ≡ true) where
   pub incongruent : (reason : Reason) → IsReason nodes facts reason → IsIncongruent clauses nodes branch reasons facts reason
@@ -114,6 +129,16 @@ module _ (set : List Node) (clauses : List GroundClause) (nodes : List Node) (br
   module _ (labels : List ℕ) (labels_are : HasLabels nodes facts labels) where
     labels_of : HasLabels nodes known labels
     labels_of = subst (λ (l : List Lit). HasLabels nodes l labels) at.facts_are labels_are
+
+    pub open_leaf : (l : Lit) → IsOpenMember clauses facts l → IsOpenLeaf clauses nodes branch l
+    open_leaf l member = record {
+      learned = at.learned;
+      quiet = record { reasons = reasons; closed = at.closed; formulas = formulas_of; quiet = labels_of.quiet };
+      member = subst (λ (k : List Lit). IsOpenMember clauses k l) at.facts_are member;
+    }
+
+    pub full_place : TellsOpen clauses facts None → IsFullPlace set clauses nodes branch labels reasons facts
+    full_place tells = record { at = at; labels_are = labels_are; filled = none_open clauses branch reasons at.learned at.closed (subst (λ (k : List Lit). TellsOpen clauses k None) at.facts_are tells) }
 
     pub wide_row : rows_of nodes facts ≡ None → IsWideLeaf set clauses nodes branch
     wide_row none = record {
@@ -144,42 +169,24 @@ module _ (set : List Node) (clauses : List GroundClause) (nodes : List Node) (br
       pub many : (count : ℕ) → TellsElimination rows (answers.Many count) → IsManyLeaf clauses nodes branch count
       many count tells = record { is = tells.0; reasons = reasons; learned = at.learned; closed = at.closed; formulas = formulas_of; quiet = labels_of.quiet; rows = rows; rows_are = rows_of_known; many = tells.1 }
 
-      module _ (levels : Levels) (whole : IsWhole rows levels) where
-        pub open_leaf : (l : Lit) → IsOpenMember clauses facts l → IsOpenLeaf clauses nodes branch l
-        open_leaf l member = record {
-          learned = at.learned;
-          unshut = record {
-            reasons = reasons;
-            closed = at.closed;
-            formulas = formulas_of;
-            quiet = labels_of.quiet;
-            rows = rows;
-            rows_are = rows_of_known;
-            first = level_rows levels.first;
-            variables = levels.variables.items;
-            levels = map level_rows levels.others.items;
-            elimination = whole.elimination;
-          };
-          member = subst (λ (k : List Lit). IsOpenMember clauses k l) at.facts_are member;
-        }
-
-        pub filled_place : TellsOpen clauses facts None → IsFilledPlace set clauses nodes branch levels labels facts
-        filled_place tells = record {
-          place = at.place;
-          reasons = reasons;
-          learned = at.learned;
-          closed = at.closed;
-          facts_are = at.facts_are;
-          formulas = formulas;
-          labels_are = labels_are;
-          rows = rows;
-          rows_are = rows_of_known;
-          whole = whole;
-          filled = none_open clauses branch reasons at.learned at.closed (subst (λ (k : List Lit). TellsOpen clauses k None) at.facts_are tells);
-        }
+      pub filled_place : (levels : Levels) → IsWhole rows levels → IsFilled clauses known → IsFilledPlace set clauses nodes branch levels labels facts
+      filled_place levels whole filled = record {
+        place = at.place;
+        reasons = reasons;
+        learned = at.learned;
+        closed = at.closed;
+        facts_are = at.facts_are;
+        formulas = formulas;
+        labels_are = labels_are;
+        rows = rows;
+        rows_are = rows_of_known;
+        whole = whole;
+        filled = filled;
+      }
 
 -- the same for lists that are lent
-pub lent_place : (set : List Node) (clauses : List GroundClause) (nodes : List Node) (branch : List Lit) (levels : Levels) (labels lent_labels : List ℕ) (facts lent_facts : List Lit) → lent_labels ≡ labels → lent_facts ≡ facts
-    → IsFilledPlace set clauses nodes branch levels labels facts → IsFilledPlace set clauses nodes branch levels lent_labels lent_facts
-lent_place set clauses nodes branch levels labels lent_labels facts lent_facts labels_is facts_is place =
-    subst (λ (l : List ℕ). IsFilledPlace set clauses nodes branch levels l lent_facts) (sym labels_is) (subst (λ (l : List Lit). IsFilledPlace set clauses nodes branch levels labels l) (sym facts_is) place)
+pub lent_full : (set : List Node) (clauses : List GroundClause) (nodes : List Node) (branch : List Lit) (labels lent_labels reasons : List ℕ) (facts : List Lit) → lent_labels ≡ labels → IsFullPlace set clauses nodes branch labels reasons facts → IsFullPlace set clauses nodes branch lent_labels reasons facts
+lent_full set clauses nodes branch labels lent_labels reasons facts labels_is place = subst (λ (l : List ℕ). IsFullPlace set clauses nodes branch l reasons facts) (sym labels_is) place
+
+pub lent_place : (set : List Node) (clauses : List GroundClause) (nodes : List Node) (branch : List Lit) (levels : Levels) (labels : List ℕ) (facts lent_facts : List Lit) → lent_facts ≡ facts → IsFilledPlace set clauses nodes branch levels labels facts → IsFilledPlace set clauses nodes branch levels labels lent_facts
+lent_place set clauses nodes branch levels labels facts lent_facts facts_is place = subst (λ (l : List Lit). IsFilledPlace set clauses nodes branch levels labels l) (sym facts_is) place

@@ -11,6 +11,8 @@ pub mod GroundPlaces
 pub mod LaterMeanings
 pub mod Equalities
 pub mod Leaves
+pub mod Holding
+pub mod Unrefuted
 pub mod Consistency
 pub mod Points
 pub mod Solutions

@@ -33,6 +33,7 @@ use Rattle.df_branch.specs.Overflow.{at_node}
 use Rattle.df_branch.specs.Leaf.{IsApartLeaf, IsModelOf, IsWideLeaf}
 use Rattle.df_branch.specs.FilledPlace.{IsFilledPlace}
 use Rattle.df_branch.proofs.Solutions.{labels_are, formulas, solution}
+use Rattle.df_branch.proofs.Unrefuted.{eliminated_unrefuted}
 
 -- terms that are apart stand at one place of one operation, or are terms of one that are numbers
 pair_of : (set nodes : List Node) (label : ℕ → ℕ) (table : List ℤ) (left right : ℕ) → take (length set) nodes ≡ set → sort_at nodes left ≡ sorts.Number → IsApart set label table left right → IsTermPair set left right
@@ -94,10 +95,7 @@ module _ (set : List Node) (clauses : List GroundClause) (nodes : List Node) (br
           quiet = (labels_are set clauses nodes branch levels labels facts p).quiet;
           rows = p.rows;
           rows_are = p.rows_are;
-          first = level_rows levels.first;
-          variables = levels.variables.items;
-          levels = map level_rows levels.others.items;
-          elimination = p.whole.elimination;
+          unrefuted = eliminated_unrefuted p.rows (level_rows levels.first) levels.variables.items (map level_rows levels.others.items) p.whole.elimination;
         };
         filled = p.filled;
         different = found.different;

@@ -15,7 +15,8 @@ use Rattle.df_trig.specs.Instances.{IsInstances}
 use Rattle.df_clause.specs.Among.{Among}
 use Rattle.df_closure.specs.Closure.{GroundClause, after, IsClosed, IsRefuted}
 use Rattle.df_closure.specs.Filled.{IsOpenClause, IsFilled}
-use Rattle.df_level.specs.Elimination.{AreRefuted, IsElimination}
+use Rattle.df_level.specs.Elimination.{AreRefuted}
+use Rattle.df_elim.specs.Elimination.{AreAmong}
 use Rattle.df_rules.specs.Connective.{Added, connective_line}
 use Rattle.df_classes.specs.Equal.{IsContradicted}
 use Rattle.df_branch.specs.Splits.{IsSplit}
@@ -57,7 +58,11 @@ pub data IsShut (nodes : List Node) (clauses : List GroundClause) (list : List L
   by_congruence : (reasons : List ℕ) (learned : List Lit) → IsClosed clauses list reasons learned → are_literals nodes (after list learned) ≡ true → IsContradicted nodes (map negation (after list learned)) → IsShut nodes clauses list
   by_rows : (reasons : List ℕ) (learned : List Lit) (rows : List Row) → IsClosed clauses list reasons learned → are_literals nodes (after list learned) ≡ true → rows_of nodes (after list learned) ≡ Some rows → AreRefuted rows → IsShut nodes clauses list
 
--- It is not: its closed list stands, congruence doesn't contradict it, and no level of its rows is false.
+-- rows that aren't refuted, and of which no others are
+abbrev pub AreUnrefuted : List Row → Type 0
+AreUnrefuted rows = (some : List Row) → AreAmong some rows → AreRefuted some → ⊥
+
+-- It is not: its closed list stands, congruence doesn't contradict it, and its rows aren't refuted.
 pub record IsUnshut (nodes : List Node) (clauses : List GroundClause) (list : List Lit) (learned : List Lit) : Type 0 where
   pub reasons : List ℕ
   pub closed : IsClosed clauses list reasons learned
@@ -65,10 +70,7 @@ pub record IsUnshut (nodes : List Node) (clauses : List GroundClause) (list : Li
   pub quiet : IsContradicted nodes (map negation (after list learned)) → ⊥
   pub rows : List Row
   pub rows_are : rows_of nodes (after list learned) ≡ Some rows
-  pub first : List Row
-  pub variables : List ℕ
-  pub levels : List (List Row)
-  pub elimination : IsElimination rows first variables levels
+  pub unrefuted : AreUnrefuted rows
 
 -- one of two sides of a decision
 abbrev pub IsSideOf : (Lit → Type 0) → Lit → Type 0

@@ -11,8 +11,15 @@ use Rattle.df_elim.specs.declared.elimination.Levels.{Levels}
 use Rattle.df_elim.specs.Elimination.{IsWhole}
 use Rattle.df_closure.specs.Filled.{IsFilled}
 use Rattle.df_branch.specs.Place.{IsPlace}
+use Rattle.df_branch.specs.ClosedPlace.{IsClosedPlace}
 
--- No clause is open beside the closed list, whose rows have all these levels.
+-- No clause is open beside the closed list, and it has these labels.
+pub record IsFullPlace (set : List Node) (clauses : List GroundClause) (nodes : List Node) (branch : List Lit) (labels reasons : List ℕ) (facts : List Lit) : Type 0 where
+  pub at : IsClosedPlace set clauses nodes branch reasons facts
+  pub labels_are : HasLabels nodes facts labels
+  pub filled : IsFilled clauses (after branch at.learned)
+
+-- Its rows have all these levels too.
 pub record IsFilledPlace (set : List Node) (clauses : List GroundClause) (nodes : List Node) (branch : List Lit) (levels : Levels) (labels : List ℕ) (facts : List Lit) : Type 0 where
   pub place : IsPlace set clauses nodes branch
   pub reasons : List ℕ

@@ -19,12 +19,13 @@ use Rattle.df_cong.specs.Theory.{IsReason}
 use Rattle.df_closure.specs.Closure.{GroundClause, after, IsClosed, IsRefuted}
 use Rattle.df_closure.specs.Filled.{IsFilled}
 use Rattle.df_level.specs.Levels.{Stands, row_limit}
-use Rattle.df_level.specs.Elimination.{AreRefuted, AreMany}
+use Rattle.df_level.specs.Elimination.{AreRefuted, IsElimination, AreMany}
 use Rattle.df_back.specs.BackSubstitution.{IsBetween}
 use Rattle.df_branch.specs.declared.leaf.Leaf.{Leaf}
 use Rattle.df_branch.specs.declared.leaf.Leaf.TheVariants as leaves
 use Rattle.df_branch.specs.TermPair.{IsTermPair, equal}
 use Rattle.df_branch.specs.Evidence.{IsUnshut}
+use Rattle.df_branch.specs.Next.{IsQuiet}
 use Rattle.df_branch.specs.Filling.{IsOpenMember}
 use Rattle.df_branch.specs.Overflow.{Overflows}
 
@@ -45,10 +46,10 @@ pub record IsIncongruent (clauses : List GroundClause) (nodes : List Node) (bran
   pub formulas : are_literals nodes facts ≡ true
   pub is_reason : IsReason nodes facts reason
 
--- an undecided literal of an open clause, beside a list that is not shut
+-- an undecided literal of an open clause, whatever the rows say
 pub record IsOpenLeaf (clauses : List GroundClause) (nodes : List Node) (branch : List Lit) (literal : Lit) : Type 0 where
   pub learned : List Lit
-  pub unshut : IsUnshut nodes clauses branch learned
+  pub quiet : IsQuiet nodes clauses branch learned
   pub member : IsOpenMember clauses (after branch learned) literal
 
 -- No clause is open, and the rows put a number strictly between a bound and the next number; no comparison that is known says more.
@@ -56,9 +57,13 @@ pub record IsBetweenLeaf (clauses : List GroundClause) (nodes : List Node) (bran
   pub learned : List Lit
   pub unshut : IsUnshut nodes clauses branch learned
   pub filled : IsFilled clauses (after branch learned)
+  pub first : List Row
+  pub variables : List ℕ
+  pub levels : List (List Row)
+  pub elimination : IsElimination unshut.rows first variables levels
   pub count : ℕ
-  pub within : (row : Row) → Stands row unshut.first → IsWithin count row
-  pub between : IsBetween count unshut.first unshut.variables unshut.levels term bound
+  pub within : (row : Row) → Stands row first → IsWithin count row
+  pub between : IsBetween count first variables levels term bound
   pub next_fits : fits (bound +ℤ pos 1) ≡ true
   pub of_number : is_number nodes term ≡ true
   pub not_true : (place m : ℕ) → slice_get nodes place ≡ Some (number bound) → slice_get nodes m ≡ Some (at_most term place) → is_among (after branch learned) (yes m) ≡ false

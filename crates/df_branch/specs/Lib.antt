@@ -1,11 +1,13 @@
 pub mod Splits
 pub mod TermPair
 pub mod Evidence
+pub mod Next
 pub mod Overflow
 pub mod Facts
 pub mod Filling
 pub mod Place
 pub mod Leaf
+pub mod Standing
 pub mod ClosedPlace
 pub mod FilledPlace
 pub mod Laws

@@ -14,7 +14,7 @@ ghost use Rattle.df_level.specs.Elimination.{Eliminates, last_level};
 ghost use Rattle.df_elim.specs.Elimination.{IsRefutation};
 ghost use Rattle.df_closure.specs.Closure.{ground_of, GroundClause as Clause};
 ghost use Rattle.df_branch.specs.ClosedPlace.{IsClosedPlace};
-ghost use Rattle.df_branch.specs.FilledPlace.{IsFilledPlace};
+ghost use Rattle.df_branch.specs.FilledPlace.{IsFilledPlace, IsFullPlace};
 ghost use Rattle.df_branch.specs.Place.{IsPlace};
 ghost use Rattle.df_branch.specs.Leaf.{TellsLeaf};
 
@@ -107,7 +107,7 @@ fn filled_leaf(
 }
 
 /// The combinations by which levels refute the rows.
-fn combinations(
+pub(crate) fn combinations(
     alloc: Global,
     rows: &[Row],
     levels: &[Level],
@@ -121,7 +121,35 @@ fn combinations(
     }
 }
 
-/// What comes next where a list is closed.
+/// What comes next where a list is closed and no clause is open beside it.
+fn full_leaf(
+    alloc: Global,
+    set: &Nodes,
+    nodes: &Nodes,
+    labels: &[usize],
+    reasons: Vec<usize>,
+    facts: Vec<Lit>,
+) -> Result<Leaf, AllocError>
+    requires table { IsTable nodes.now }
+    requires formulas { are_literals nodes.now facts.items ≡ true }
+    ensures { IfOk result (λ leaf. (clauses : List Clause) (branch : List Lit) → IsFullPlace set.now clauses nodes.now branch labels.now reasons.items facts.items → TellsLeaf set.now clauses nodes.now branch leaf) }
+{
+    let Some(rows) = rows(alloc, nodes, &facts)? else {
+        return Ok(Leaf::Wide);
+    };
+    match eliminate(alloc, &rows)? {
+        Elimination::Refuted(levels) => Ok(Leaf::Unsolvable {
+            reasons,
+            facts,
+            combinations: combinations(alloc, &rows, &levels)?,
+        }),
+        Elimination::Open(levels) => filled_leaf(alloc, set, nodes, &levels, labels, &facts),
+        Elimination::Wide => Ok(Leaf::Wide),
+        Elimination::Many(count) => Ok(Leaf::Many(count)),
+    }
+}
+
+/// What comes next where a list is closed: an open clause comes before any row.
 fn closed_leaf(
     alloc: Global,
     set: &Nodes,
@@ -146,21 +174,9 @@ fn closed_leaf(
         }
         Congruence::Labels(labels) => labels,
     };
-    let Some(rows) = rows(alloc, nodes, &facts)? else {
-        return Ok(Leaf::Wide);
-    };
-    match eliminate(alloc, &rows)? {
-        Elimination::Refuted(levels) => Ok(Leaf::Unsolvable {
-            reasons,
-            facts,
-            combinations: combinations(alloc, &rows, &levels)?,
-        }),
-        Elimination::Open(levels) => match open_member(clauses, known) {
-            Some(literal) => Ok(Leaf::Open(literal)),
-            None => filled_leaf(alloc, set, nodes, &levels, &labels, &facts),
-        },
-        Elimination::Wide => Ok(Leaf::Wide),
-        Elimination::Many(count) => Ok(Leaf::Many(count)),
+    match open_member(clauses, known) {
+        Some(literal) => Ok(Leaf::Open(literal)),
+        None => full_leaf(alloc, set, nodes, &labels, reasons, facts),
     }
 }
 

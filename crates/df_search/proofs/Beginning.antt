@@ -20,12 +20,11 @@ use Rattle.df_closure.specs.Closure.{GroundClause}
 use Rattle.df_closure.specs.Full.{IsConsistent}
 use Rattle.df_trail.specs.declared.decision.Decision.{Decision}
 use Rattle.df_trail.specs.Trail.{literals_of, branch_of, AreDecided}
-use Rattle.df_branch.specs.Evidence.{IsBranch}
 use Rattle.df_branch.specs.Place.{HaveMeanings, IsPlace}
 use Rattle.df_branch.proofs.GroundMeanings.{have_meanings}
 use Rattle.df_search.specs.Places.{place_in}
 use Rattle.df_search.specs.declared.searching.State.{State}
-use Rattle.df_search.specs.Searching.{clauses_of, AreCounted, AllLeave, Searches}
+use Rattle.df_search.specs.Searching.{clauses_of, AreCounted, AllLeave, IsPathAfter, Searches}
 use Rattle.df_search.proofs.Consistent.{none_consistent}
 use Rattle.std.proofs.lemmas.List.FromFn.{length-range_with_len, get_or-range_with_len}
 use Rattle.df_closure.proofs.Rounds.{length_mapped}
@@ -45,7 +44,7 @@ begins s rounds g state valid own is set_is clauses_are places_are nodes_are lin
       lines = record { long = long; at = λ n clause there. at_place n clause there };
       place = place;
       trail = subst (AreDecided all []) (sym trail_is) tt;
-      branch = subst (λ (ds : List Decision). IsBranch state.set state.derivation.nodes (clauses_of state) (literals_of ds)) (sym trail_is) tt;
+      path = subst (IsPathAfter state.set state.derivation.nodes (clauses_of state) []) (sym trail_is) tt;
       counted = subst (λ (vs : List (Vec Lit Global)). AreCounted s state.set state.derivation.nodes (clauses_of state) (map (λ (v : Vec Lit Global). v.items) vs)) (sym closed_is) tt;
     };
     runs = record {

@@ -1,5 +1,5 @@
 -- What comes at a leaf.
-use Rattle.std.proofs.Common.{◌≡◌, inl, ⊎_elim, ℕ, zero, suc, true, false, List, [], ◌∷◌, ◌++◌, Some, slice_get, refl, sym, ap, ◌∙◌, subst, append_assoc, append-nil}
+use Rattle.std.proofs.Common.{◌≡◌, inl, ⊎_elim, ℕ, zero, suc, true, false, List, [], ◌∷◌, ◌++◌, Some, slice_get, refl, sym, ap, ◌∙◌, subst}
 use Rattle.std.specs.List.{list_all, list_any}
 use Rattle.std.proofs.lemmas.Option.{same_Some}
 use Rattle.std.proofs.lemmas.Bool.{and_from, or_cases, or_parts, cases_Bool, and_parts}
@@ -15,14 +15,16 @@ use Rattle.df_closure.specs.Full.{IsConsistent}
 use Rattle.df_trail.specs.declared.decision.Decision.{Decision}
 use Rattle.df_trail.specs.declared.trail.Trail.{Trail}
 use Rattle.df_trail.specs.Trail.{literals_of, branch_of, decided, IsUndecided, AreDecided}
-use Rattle.df_branch.specs.Evidence.{of_clause, MayFollow, IsBranchAfter, IsBranch, AreClosedBranches}
+use Rattle.df_branch.specs.Evidence.{of_clause, IsBranch, AreClosedBranches}
+use Rattle.df_branch.specs.Next.{ComesNext}
 use Rattle.df_branch.specs.Leaf.{IsOpenLeaf, IsWideLeaf, IsManyLeaf, IsModelOf}
 use Rattle.df_search.specs.declared.searching.State.{State}
 use Rattle.df_search.specs.Found.{HasModel, AllExclude, IsStop, IsTooWide, HasManyRows}
-use Rattle.df_search.specs.Searching.{clauses_of, branches_of, AllLeave, IsSearching}
+use Rattle.df_search.specs.Searching.{clauses_of, branches_of, AllLeave, HasBranch, IsSearching}
 use Rattle.df_rules.proofs.SoundClauses.{same_literal_is}
 use Rattle.df_trail.proofs.Retreated.{put_last}
-use Rattle.df_search.proofs.Apart.{Covers, covers_after}
+use Rattle.df_search.proofs.Covering.{Covers, covers_after}
+use Rattle.df_search.proofs.Paths.{path_decided}
 use Rattle.df_search.proofs.Consistent.{consistent_more}
 use Rattle.df_branch.proofs.Consistency.{consistent_after}
 use Rattle.df_search.proofs.Leaving.{literals_split, all_leave_decided, incompatible, closed_of}
@@ -32,10 +34,6 @@ use Rattle.df_search.proofs.Turning.{place_for, ground_in}
 uncovered : (wide known : List Lit) (l : Lit) → Covers wide known → is_among wide l ≡ false → is_among known l ≡ false
 uncovered wide known l covers e = ⊎_elim (λ there. absurd (true_is_not_false (is_among wide l) (covers.has l there) e)) (λ not_there. not_there) (cases_Bool (is_among known l))
 
-branch_more : (set nodes : List Node) (clauses : List GroundClause) (earlier first : List Lit) (l : Lit) → IsBranchAfter set nodes clauses earlier first → MayFollow set nodes clauses (earlier ++ first) l → IsBranchAfter set nodes clauses earlier (first ++ l ∷ [])
-branch_more set nodes clauses earlier [] l is follows = (subst (λ (ls : List Lit). MayFollow set nodes clauses ls l) (append-nil earlier) follows, tt)
-branch_more set nodes clauses earlier (m ∷ first) l is follows = (is.0, branch_more set nodes clauses (earlier ++ m ∷ []) first l is.1 (subst (λ (ls : List Lit). MayFollow set nodes clauses ls l) (sym (append_assoc earlier (m ∷ []) first)) follows))
-
 formulas_more : (nodes : List Node) (literals : List Lit) (l : Lit) → are_literals nodes literals ≡ true → is_formula nodes l.node ≡ true → are_literals nodes (literals ++ l ∷ []) ≡ true
 formulas_more nodes [] l e f = and_from (is_formula nodes l.node) true f refl
 formulas_more nodes (m ∷ literals) l e f =
@@ -43,7 +41,7 @@ formulas_more nodes (m ∷ literals) l e f =
     and_from (is_formula nodes m.node) (are_literals nodes (literals ++ l ∷ [])) parts.0 (formulas_more nodes literals l parts.1 f)
 
 -- a further decision
-pub decides : (s : Sequent) (rounds : ℕ) (all : List Clause) (old : State) → IsSearching s rounds all old → (l : Lit) → MayFollow old.set old.derivation.nodes (clauses_of old) (branch_of old.trail) l → is_formula old.derivation.nodes l.node ≡ true
+pub decides : (s : Sequent) (rounds : ℕ) (all : List Clause) (old : State) → IsSearching s rounds all old → (l : Lit) → ComesNext old.set old.derivation.nodes (clauses_of old) (branch_of old.trail) l → is_formula old.derivation.nodes l.node ≡ true
     → (trail : Trail) → trail.decisions.items ≡ old.trail.decisions.items ++ decided l ∷ [] → IsSearching s rounds all (record old { trail = trail })
 decides s rounds all old is l follows formula trail trail_is = record {
   standing = record {
@@ -58,7 +56,7 @@ decides s rounds all old is l follows formula trail trail_is = record {
         (ap (are_literals old.derivation.nodes) branch_is ∙ formulas_more old.derivation.nodes branch l is.standing.place.formulas formula)
         (subst IsConsistent (sym branch_is) (consistent_more branch l undecided is.standing.place.consistent));
     trail = subst (AreDecided all []) (sym trail_is) (put_last all [] old.trail.decisions.items (decided l) (record { others = is.standing.trail; undecided = undecided; closed = tt }));
-    branch = subst (IsBranch old.set old.derivation.nodes (clauses_of old)) (sym branch_is) (branch_more old.set old.derivation.nodes (clauses_of old) [] branch l is.standing.branch follows);
+    path = path_decided old.set old.derivation.nodes (clauses_of old) old.trail.decisions.items trail.decisions.items l trail_is is.standing.path follows;
     counted = is.standing.counted;
   };
   runs = is.runs;
@@ -96,10 +94,10 @@ clause_formulas nodes (c ∷ others) zero clause e there =
     subst (λ (g : GroundClause). are_literals nodes g.literals ≡ true) (same_Some c clause there) (and_parts (are_literals nodes c.literals) (list_all (λ (c : GroundClause). are_literals nodes c.literals) others) e).0
 clause_formulas nodes (c ∷ others) (suc n) clause e there = clause_formulas nodes others n clause (and_parts (are_literals nodes c.literals) (list_all (λ (c : GroundClause). are_literals nodes c.literals) others) e).1 there
 
-pub open_follows : (clauses : List GroundClause) (set nodes : List Node) (branch : List Lit) (l : Lit) → IsOpenLeaf clauses nodes branch l → MayFollow set nodes clauses branch l
+pub open_follows : (clauses : List GroundClause) (set nodes : List Node) (branch : List Lit) (l : Lit) → IsOpenLeaf clauses nodes branch l → ComesNext set nodes clauses branch l
 open_follows clauses set nodes branch l leaf = record {
   learned = leaf.learned;
-  unshut = leaf.unshut;
+  quiet = leaf.quiet;
   not_true = none_among (after branch leaf.learned) leaf.member.clause.literals l leaf.member.is_open.none leaf.member.in_clause;
   not_false = leaf.member.not_false;
   decision = inl (of_clause leaf.member.clause leaf.member.is_open leaf.member.in_clause);
@@ -127,31 +125,33 @@ module _ (s : Sequent) (rounds : ℕ) (all : List Clause) (state : State) (is : 
     model = model s is.standing.ground_set is.standing.more sequent (instances_ground s rounds is.standing.ground_set sequent is.standing.is_of) (sym is.standing.set_is) (sym is.standing.clauses_are);
   }
 
-  abbrev pub stop : IsStop s rounds state.derivation.nodes (clauses_of state) (branches_of state) (branch_of state.trail)
-  stop = record {
-    of_sequent = ground_in s rounds all state is.standing;
-    are_closed = subst (λ (set : List Node). AreClosedBranches s set state.derivation.nodes (clauses_of state) (branches_of state)) is.standing.set_is (closed_of s state.set state.derivation.nodes (clauses_of state) (branches_of state) is.standing.counted);
-    excluded = all_exclude state.trail.decisions.items (branches_of state) is.leave;
-    is_branch = subst (λ (set : List Node). IsBranch set state.derivation.nodes (clauses_of state) (branch_of state.trail)) is.standing.set_is is.standing.branch;
-  }
+  -- where no list of the first decisions is shut
+  module _ (branch : HasBranch state) where
+    abbrev pub stop : IsStop s rounds state.derivation.nodes (clauses_of state) (branches_of state) (branch_of state.trail)
+    stop = record {
+      of_sequent = ground_in s rounds all state is.standing;
+      are_closed = subst (λ (set : List Node). AreClosedBranches s set state.derivation.nodes (clauses_of state) (branches_of state)) is.standing.set_is (closed_of s state.set state.derivation.nodes (clauses_of state) (branches_of state) is.standing.counted);
+      excluded = all_exclude state.trail.decisions.items (branches_of state) is.leave;
+      is_branch = subst (λ (set : List Node). IsBranch set state.derivation.nodes (clauses_of state) (branch_of state.trail)) is.standing.set_is branch;
+    }
 
-  pub too_wide : IsWideLeaf state.set (clauses_of state) state.derivation.nodes (branch_of state.trail) → IsTooWide s rounds (branches_of state) (branch_of state.trail)
-  too_wide wide = there (subst (λ (ns : List Node). IsWideLeaf ns (clauses_of state) state.derivation.nodes (branch_of state.trail)) is.standing.set_is wide)
-    where
-      there : IsWideLeaf is.standing.ground_set.nodes (clauses_of state) state.derivation.nodes (branch_of state.trail) → IsTooWide s rounds (branches_of state) (branch_of state.trail)
-      there here = record {
-        nodes = state.derivation.nodes;
-        clauses = clauses_of state;
-        stop = stop;
-        wide = here;
-        consistent = consistent_after (clauses_of state) (branch_of state.trail) here.reasons here.learned here.closed.taught is.standing.place.consistent;
-      }
+    pub too_wide : IsWideLeaf state.set (clauses_of state) state.derivation.nodes (branch_of state.trail) → IsTooWide s rounds (branches_of state) (branch_of state.trail)
+    too_wide wide = there (subst (λ (ns : List Node). IsWideLeaf ns (clauses_of state) state.derivation.nodes (branch_of state.trail)) is.standing.set_is wide)
+      where
+        there : IsWideLeaf is.standing.ground_set.nodes (clauses_of state) state.derivation.nodes (branch_of state.trail) → IsTooWide s rounds (branches_of state) (branch_of state.trail)
+        there here = record {
+          nodes = state.derivation.nodes;
+          clauses = clauses_of state;
+          stop = stop;
+          wide = here;
+          consistent = consistent_after (clauses_of state) (branch_of state.trail) here.reasons here.learned here.closed.taught is.standing.place.consistent;
+        }
 
-  pub many_rows : (count : ℕ) → IsManyLeaf (clauses_of state) state.derivation.nodes (branch_of state.trail) count → HasManyRows s rounds (branches_of state) (branch_of state.trail) count
-  many_rows count many = record {
-    nodes = state.derivation.nodes;
-    clauses = clauses_of state;
-    stop = stop;
-    many = many;
-    consistent = consistent_after (clauses_of state) (branch_of state.trail) many.reasons many.learned many.closed.taught is.standing.place.consistent;
-  }
+    pub many_rows : (count : ℕ) → IsManyLeaf (clauses_of state) state.derivation.nodes (branch_of state.trail) count → HasManyRows s rounds (branches_of state) (branch_of state.trail) count
+    many_rows count many = record {
+      nodes = state.derivation.nodes;
+      clauses = clauses_of state;
+      stop = stop;
+      many = many;
+      consistent = consistent_after (clauses_of state) (branch_of state.trail) many.reasons many.learned many.closed.taught is.standing.place.consistent;
+    }

@@ -16,7 +16,7 @@ use Rattle.df_logbuild.specs.Runs.{Runs}
 use Rattle.df_logbuild.proofs.Added.{length_more}
 use Rattle.df_trail.specs.Trail.{branch_of}
 use Rattle.df_branch.specs.TermPair.{equal}
-use Rattle.df_branch.specs.Evidence.{MayFollow}
+use Rattle.df_branch.specs.Next.{ComesNext}
 use Rattle.df_branch.specs.Leaf.{IsApartLeaf}
 use Rattle.df_search.specs.declared.searching.State.{State}
 use Rattle.df_search.specs.Searching.{clauses_of, IsSearching, Searches}
@@ -118,7 +118,7 @@ module _ (s : Sequent) (rounds : ℕ) (old : State) (searches : Searches s round
       record {
         searches = record { all = all; is = with_log s rounds all (record old { derivation = second }) two third same (runs_n s all two.runs) };
         follows =
-            subst (λ (cs : List GroundClause). MayFollow old.set third.nodes cs (branch_of old.trail) (yes n)) (append-nil (clauses_of old))
+            subst (λ (cs : List GroundClause). ComesNext old.set third.nodes cs (branch_of old.trail) (yes n)) (append-nil (clauses_of old))
             (equality_follows old.set (clauses_of old) [] nodes third.nodes (subst IsTable (sym same) two.standing.place.table) (ap (take (length nodes)) same ∙ begins) (none_later (length nodes)) (branch_of old.trail) left right n leaf at);
         formula = truth_formula third.nodes n (equal left right) at refl;
       }

@@ -30,17 +30,20 @@ use Rattle.df_trail.specs.declared.trail.Trail.{Trail}
 use Rattle.df_trail.specs.Trail.{branch_of, IsTrail}
 use Rattle.df_trail.proofs.Retreated.{decided_grown}
 use Rattle.df_branch.specs.TermPair.{equal}
-use Rattle.df_branch.specs.Evidence.{of_equality, IsOfEquality, IsBranch, MayFollow}
+use Rattle.df_branch.specs.Evidence.{of_equality, IsOfEquality}
+use Rattle.df_branch.specs.Next.{ComesNext}
 use Rattle.df_branch.specs.Place.{IsPlace, equality_clauses}
 use Rattle.df_branch.specs.Leaf.{IsApartLeaf}
 use Rattle.df_branch.proofs.Formulas.{get_joined, formula_below}
 use Rattle.df_branch.proofs.LaterClauses.{AreLater}
 use Rattle.df_branch.proofs.LaterMeanings.{HaveMeaningsFrom, meanings_grow}
 use Rattle.df_branch.proofs.Equalities.{of_equality_later, equality_clauses_later, first_line, second_line, third_line, each_of_equality, equality_meanings}
-use Rattle.df_branch.proofs.Growing.{unshut_later, filled_later, branch_later}
+use Rattle.df_branch.proofs.Growing.{quiet_list_later, filled_later}
 use Rattle.df_search.specs.declared.searching.State.{State}
 use Rattle.df_search.specs.Places.{AreIn}
-use Rattle.df_search.specs.Searching.{clauses_of, branches_of, AreCounted, AllLeave, IsSearching}
+use Rattle.df_search.specs.Searching.{clauses_of, branches_of, AreCounted, AllLeave, IsPath, IsSearching}
+use Rattle.df_search.proofs.Covering.{quiet_of}
+use Rattle.df_search.proofs.Paths.{path_later}
 use Rattle.df_search.specs.Moves.{literals_in, AreLines, IsDefined}
 use Rattle.df_search.proofs.Growing.{Makes, stood, added, log_more, counted_later, begins_more, table_more, set_begins, clause_formulas_later}
 use Rattle.df_search.proofs.Splitting.{truth_formula}
@@ -68,10 +71,10 @@ module _ (set : List Node) (clauses more_clauses : List GroundClause) (nodes mor
           let low : n < length nodes = subst (λ (k : ℕ). k < length nodes) is (formula_below nodes (after branch leaf.learned) l there leaf.unshut.formulas) in
           none (sym (get-grows nodes more n begins low) ∙ at)
 
-  pub equality_follows : MayFollow set more (clauses ++ more_clauses) branch (yes n)
+  pub equality_follows : ComesNext set more (clauses ++ more_clauses) branch (yes n)
   equality_follows = record {
     learned = leaf.learned;
-    unshut = unshut_later clauses more_clauses nodes more table begins later branch leaf.learned leaf.unshut;
+    quiet = quiet_list_later clauses more_clauses nodes more table begins later branch leaf.learned (quiet_of leaf.unshut);
     not_true = unknown (yes n) refl (leaf.not_true n);
     not_false = unknown (no n) refl (leaf.not_false n);
     decision = inl (of_equality (filled_later clauses more_clauses nodes more table begins later (after branch leaf.learned) leaf.unshut.formulas leaf.filled) (record {
@@ -182,7 +185,7 @@ module _ (s : Sequent) (rounds : ℕ) (all : List Clause) (old : State) (is : Is
       lines = adds.1;
       place = moved (λ set cs ns t bs. IsPlace set cs ns (branch_of t)) place;
       trail = moved (λ set cs ns t bs. IsTrail (all ++ map literals_in extra) t) (decided_grown all (map literals_in extra) [] old.trail.decisions.items is.standing.trail);
-      branch = moved (λ set cs ns t bs. IsBranch set ns cs (branch_of t)) (branch_later (clauses_of old) extra nodes more table begins later old.set [] (branch_of old.trail) is.standing.branch);
+      path = moved (λ set cs ns t bs. IsPath set ns cs t) (path_later (clauses_of old) extra nodes more table begins later old.set [] old.trail.decisions.items is.standing.path);
       counted = moved (λ set cs ns t bs. AreCounted s set ns cs bs) (counted_later (clauses_of old) extra nodes more table begins later old.set s (λ branch has. log_more s nodes more (equal left right) branch makes_it sorted refl has) (branches_of old) is.standing.counted);
     };
     runs = adds.0;
@@ -190,11 +193,11 @@ module _ (s : Sequent) (rounds : ℕ) (all : List Clause) (old : State) (is : Is
   }
 
   -- and it may be decided, where it was apart among fewer nodes
-  pub equality_decided : (first : List Node) → take (length first) nodes ≡ first → IsApartLeaf old.set (clauses_of old) first (branch_of old.trail) left right → MayFollow new.set new.derivation.nodes (clauses_of new) (branch_of new.trail) (yes n)
+  pub equality_decided : (first : List Node) → take (length first) nodes ≡ first → IsApartLeaf old.set (clauses_of old) first (branch_of old.trail) left right → ComesNext new.set new.derivation.nodes (clauses_of new) (branch_of new.trail) (yes n)
   equality_decided first front leaf =
       let from = grows-trans first nodes more front begins in
       let shorter = length-grows first nodes front in
-      moved (λ set cs ns t bs. MayFollow set ns cs (branch_of t) (yes n))
+      moved (λ set cs ns t bs. ComesNext set ns cs (branch_of t) (yes n))
       (equality_follows old.set (clauses_of old) extra first more table from (equality_clauses_later (length first) n up down (omega (arith, is_last, shorter))) (branch_of old.trail) left right n leaf at)
 
   pub equality_is_formula : is_formula new.derivation.nodes n ≡ true

@@ -20,13 +20,14 @@ use Rattle.df_closure.specs.Filled.{is_comparing, AreComparing}
 use Rattle.df_logbuild.specs.declared.derivation.Derivation.{Derivation}
 use Rattle.df_logbuild.specs.Runs.{Runs}
 use Rattle.df_trail.specs.Trail.{branch_of}
-use Rattle.df_branch.specs.Evidence.{IsBranch, HasLog}
+use Rattle.df_branch.specs.Evidence.{HasLog}
 use Rattle.df_branch.proofs.LaterClauses.{AreLater}
 use Rattle.df_branch.proofs.LaterMeanings.{meanings_stay}
 use Rattle.df_branch.proofs.Equalities.{of_equality_later}
 use Rattle.df_branch.proofs.Growing.{shut_later, branch_later}
 use Rattle.df_search.specs.declared.searching.State as declared
-use Rattle.df_search.specs.Searching.{clauses_of, branches_of, AreCounted, IsSearching}
+use Rattle.df_search.specs.Searching.{clauses_of, branches_of, AreCounted, IsPath, IsSearching}
+use Rattle.df_search.proofs.Paths.{path_later}
 use Rattle.df_form.proofs.Tables.{table_next}
 use Rattle.df_form.proofs.Values.{grown_length}
 use Rattle.df_clause.proofs.Running.{grown_from}
@@ -132,7 +133,7 @@ makes_node s rounds all old is node sorted bound compares derivation makes_it ru
           meanings = meanings_stay nodes more table begins (clauses_of old) is.standing.place.meanings (comparing_more nodes more node makes_it compares);
         };
         trail = is.standing.trail;
-        branch = subst (λ (cs : List GroundClause). IsBranch old.set more cs (branch_of old.trail)) same (branch_later (clauses_of old) [] nodes more table begins none old.set [] (branch_of old.trail) is.standing.branch);
+        path = subst (λ (cs : List GroundClause). IsPath old.set more cs old.trail) same (path_later (clauses_of old) [] nodes more table begins none old.set [] old.trail.decisions.items is.standing.path);
         counted =
             subst (λ (cs : List GroundClause). AreCounted s old.set more cs (branches_of old)) same
             (counted_later (clauses_of old) [] nodes more table begins none old.set s (λ branch has. log_more s nodes more node branch makes_it sorted bound has) (branches_of old) is.standing.counted);

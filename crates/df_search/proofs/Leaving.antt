@@ -1,5 +1,5 @@
 -- Closed branches leave the decisions, before and after a turn.
-use Rattle.std.proofs.Common.{◌≡◌, inl, inr, ⊎_elim, ℕ, true, List, [], ◌∷◌, ◌++◌, None, Some, refl, sym, ap, ◌∙◌, subst, append_assoc}
+use Rattle.std.proofs.Common.{◌≡◌, inl, inr, ⊎_elim, true, List, [], ◌∷◌, ◌++◌, None, Some, refl, sym, ap, ◌∙◌, subst, append_assoc}
 use Rattle.std.proofs.lemmas.Bool.{or_left, or_right}
 use Rattle.df_form.proofs.Literals.{negated_twice, same_self}
 use Rattle.df_lemmas.proofs.Lists.{head_same, tail_same}
@@ -7,11 +7,11 @@ use Rattle.df_form.specs.declared.log.Lit.{Lit}
 use Rattle.df_form.specs.Node.{Node}
 use Rattle.df_form.specs.Clause.{negation, same_literal, is_among}
 use Rattle.df_form.specs.Sequent.{Sequent}
-use Rattle.df_closure.specs.Closure.{GroundClause, after}
+use Rattle.df_closure.specs.Closure.{GroundClause}
+use Rattle.df_trail.specs.declared.decision.Conflict.{Conflict}
 use Rattle.df_trail.specs.declared.decision.Decision.{Decision}
-use Rattle.df_trail.specs.declared.trail.Trail.{Trail}
-use Rattle.df_trail.specs.Trail.{literals_of, branch_of, turned, IsTurned}
-use Rattle.df_branch.specs.Evidence.{IsSideOf, IsDecision, MayFollow, IsBranchAfter, IsBranch, AreIncompatible, IsClosedBranch, IsApart, AreClosedBranches}
+use Rattle.df_trail.specs.Trail.{literals_of, turned}
+use Rattle.df_branch.specs.Evidence.{IsBranch, AreIncompatible, IsClosedBranch, IsApart, AreClosedBranches}
 use Rattle.df_search.specs.Searching.{Leaves, AllLeave, AllLeaveOr, AreApart, AllApart, AllDiffer, AreCounted}
 
 -- where a decision stands in a list that is taken apart at another
@@ -36,11 +36,11 @@ literals_split [] ys = refl
 literals_split (x ∷ xs) ys = ap (λ (ls : List Lit). x.literal ∷ ls) (literals_split xs ys)
 
 -- what leaves decisions leaves them after a turn, and so does what they were
-module _ (old new : List Decision) (kept : List Decision) (decision : Decision) (taken : List Decision) (number : ℕ) (old_is : old ≡ kept ++ decision ∷ taken) (side_open : decision.closed ≡ None) (new_is : new ≡ kept ++ turned decision.literal number ∷ []) where
+module _ (old new : List Decision) (kept : List Decision) (decision : Decision) (taken : List Decision) (conflict : Conflict) (old_is : old ≡ kept ++ decision ∷ taken) (side_open : decision.closed ≡ None) (new_is : new ≡ kept ++ turned decision.literal conflict ∷ []) where
   leaves_turned : (tail : List Lit) (branch : List Lit) → branch ≡ literals_of kept ++ decision.literal ∷ tail → Leaves new branch
   leaves_turned tail branch is = record {
     kept = kept;
-    decision = turned decision.literal number;
+    decision = turned decision.literal conflict;
     rest = [];
     tail = tail;
     is = new_is;
@@ -48,7 +48,7 @@ module _ (old new : List Decision) (kept : List Decision) (decision : Decision) 
     branch_is = is ∙ ap (λ (l : Lit). literals_of kept ++ l ∷ tail) (sym (negated_twice decision.literal));
   }
     where
-      some_is_not : Some number ≡ None → ⊥
+      some_is_not : Some conflict ≡ None → ⊥
       some_is_not e = cc
 
   pub old_leaves : (branch : List Lit) → branch ≡ literals_of old → Leaves new branch
@@ -61,9 +61,9 @@ module _ (old new : List Decision) (kept : List Decision) (decision : Decision) 
       by (before others is) = record {
         kept = leaves.kept;
         decision = leaves.decision;
-        rest = others ++ turned decision.literal number ∷ [];
+        rest = others ++ turned decision.literal conflict ∷ [];
         tail = leaves.tail;
-        is = new_is ∙ ap (λ (ds : List Decision). ds ++ turned decision.literal number ∷ []) is ∙ append_assoc leaves.kept (leaves.decision ∷ others) (turned decision.literal number ∷ []);
+        is = new_is ∙ ap (λ (ds : List Decision). ds ++ turned decision.literal conflict ∷ []) is ∙ append_assoc leaves.kept (leaves.decision ∷ others) (turned decision.literal conflict ∷ []);
         side_closed = leaves.side_closed;
         branch_is = leaves.branch_is;
       }
@@ -145,27 +145,19 @@ module _ (s : Sequent) (set nodes : List Node) (clauses : List GroundClause) whe
   closed_of [] all = tt
   closed_of (branch ∷ others) all = (all.0, apart_of branch all.0.branch_is others all.1 all.2, closed_of others all.2)
 
--- the branch after a turn is one
-side_turned : (decides : Lit → Type 0) (l : Lit) → IsSideOf decides l → IsSideOf decides (negation l)
-side_turned decides l (inl d) = inr (subst decides (sym (negated_twice l)) d)
-side_turned decides l (inr d) = inl d
+-- what leaves decisions at one whose other side is closed leaves those before a last one whose other side is open
+pub leaves_shorter : (old kept : List Decision) (d : Decision) (branch : List Lit) → old ≡ kept ++ d ∷ [] → d.closed ≡ None → Leaves old branch → Leaves kept branch
+leaves_shorter old kept d branch is side_open leaves = by (place_of kept d [] leaves.kept leaves.decision leaves.rest (sym is ∙ leaves.is))
+  where
+    none_behind : (front : List Decision) → [] ≡ front ++ leaves.decision ∷ leaves.rest → ⊥
+    none_behind [] e = absurd cc
+    none_behind (x ∷ front) e = absurd cc
 
-module _ (set nodes : List Node) (clauses : List GroundClause) where
-  follows_turned : (list : List Lit) (l : Lit) → MayFollow set nodes clauses list l → MayFollow set nodes clauses list (negation l)
-  follows_turned list l is = record {
-    learned = is.learned;
-    unshut = is.unshut;
-    not_true = is.not_false;
-    not_false = ap (is_among (after list is.learned)) (negated_twice l) ∙ is.not_true;
-    decision = side_turned (IsDecision set nodes clauses list is.learned) l is.decision;
-  }
+    by : Place kept d [] leaves.kept leaves.decision leaves.rest → Leaves kept branch
+    by (before others kept_is) = record { kept = leaves.kept; decision = leaves.decision; rest = others; tail = leaves.tail; is = kept_is; side_closed = leaves.side_closed; branch_is = leaves.branch_is }
+    by (here kept_is same) = absurd (leaves.side_closed (ap (λ (x : Decision). x.closed) (sym same) ∙ side_open))
+    by (behind front kept_is taken_is) = absurd (none_behind front taken_is)
 
-  turned_after : (earlier first : List Lit) (l : Lit) (rest : List Lit) → IsBranchAfter set nodes clauses earlier (first ++ l ∷ rest) → IsBranchAfter set nodes clauses earlier (first ++ negation l ∷ [])
-  turned_after earlier [] l rest is = (follows_turned earlier l is.0, tt)
-  turned_after earlier (m ∷ first) l rest is = (is.0, turned_after (earlier ++ m ∷ []) first l rest is.1)
-
-  pub branch_turned : (old new : Trail) → IsTurned old new → IsBranch set nodes clauses (branch_of old) → IsBranch set nodes clauses (branch_of new)
-  branch_turned old new turned_it is =
-      subst (IsBranchAfter set nodes clauses []) (sym (ap literals_of turned_it.new_is ∙ literals_split turned_it.kept (turned turned_it.decision.literal turned_it.number ∷ [])))
-      (turned_after [] (literals_of turned_it.kept) turned_it.decision.literal (literals_of turned_it.taken)
-      (subst (IsBranchAfter set nodes clauses []) (ap literals_of turned_it.old_is ∙ literals_split turned_it.kept (turned_it.decision ∷ turned_it.taken)) is))
+pub all_leave_shorter : (old kept : List Decision) (d : Decision) (branches : List (List Lit)) → old ≡ kept ++ d ∷ [] → d.closed ≡ None → AllLeave old branches → AllLeave kept branches
+all_leave_shorter old kept d [] is side_open all = tt
+all_leave_shorter old kept d (branch ∷ others) is side_open all = (leaves_shorter old kept d branch is side_open all.0, all_leave_shorter old kept d others is side_open all.1)

@@ -1,6 +1,9 @@
 pub mod Consistent
 pub mod Members
+pub mod Covering
 pub mod Apart
+pub mod Paths
+pub mod Same
 pub mod Leaving
 pub mod Turning
 pub mod Lines
@@ -14,3 +17,6 @@ pub mod Equating
 pub mod Compared
 pub mod Widening
 pub mod TakenLogs
+pub mod Needs
+pub mod Settling
+pub mod Ending

@@ -1,40 +1,38 @@
 -- Lines that say that a branch is not.
-use Rattle.std.proofs.Common.{◌≡◌, ℕ, Bool, true, false, not, cond, if◌then◌else◌, Result, Ok, Err, OnOk, IfOk, List, [], ◌∷◌, ◌++◌, map, length, Contains, Some, None, slice_get, refl, sym, ap, ◌∙◌, subst}
+use Rattle.std.proofs.Common.{◌≡◌, ℕ, Bool, true, if◌then◌else◌, List, [], ◌∷◌, ◌++◌, map, length, Some, None, slice_get, sym, ap, ◌∙◌, subst}
 use Rattle.std.specs.Option.{option_and_then}
-use Rattle.std.proofs.lemmas.Bool.{or_left, or_right}
 use Rattle.df_trail.proofs.Retreated.{decided_grown}
-use Rattle.df_trail.proofs.Joined.{negations_are_literals}
-use Rattle.df_form.proofs.Literals.{negated_twice, all_negated_twice, same_self}
+use Rattle.df_trail.proofs.Joined.{left_none, negations_are_literals}
+use Rattle.df_form.proofs.Literals.{all_negated_twice}
 use Rattle.df_form.specs.declared.log.Lit.{Lit}
 use Rattle.df_form.specs.Node.{Node}
-use Rattle.df_form.specs.Clause.{Clause, negation, same_literal, is_among, are_literals}
+use Rattle.df_form.specs.Clause.{Clause, negation, is_among, are_literals}
 use Rattle.df_form.specs.Log.{Combination}
 use Rattle.df_form.specs.Sequent.{Sequent}
 use Rattle.df_row.specs.Row.{Row}
 use Rattle.df_row.specs.Linear.{rows_of, refutes, linear_of, linear_line}
 use Rattle.df_rules.specs.Propagation.{left, is_empty, propagation_line}
-use Rattle.df_closure.specs.Closure.{GroundClause, after, IsClosed, IsRefuted}
+use Rattle.df_clause.specs.declared.clause.GroundClause as declared
+use Rattle.df_closure.specs.Closure.{GroundClause, ground_of, Taught, after, IsRefuted}
+use Rattle.df_closure.specs.Closes.{Closes}
+use Rattle.df_closure.specs.declared.closure.Closure.{Closure}
 use Rattle.df_logbuild.specs.declared.derivation.Derivation.{Derivation}
 use Rattle.df_logbuild.specs.Runs.{Runs}
-use Rattle.df_trail.specs.Trail.{branch_of}
+use Rattle.df_trail.specs.declared.decision.Conflict.{Conflict}
+use Rattle.df_trail.specs.Trail.{branch_of, HasAll}
 use Rattle.df_clause.specs.Among.{Among}
 use Rattle.df_cong.specs.declared.answer.Reason.{Reason}
 use Rattle.df_classes.specs.Equal.{IsContradicted}
 use Rattle.df_cong.proofs.Growing.{reason_contradicts}
-use Rattle.df_branch.specs.Evidence.{IsOfEquality, IsShut, by_congruence, by_rows, IsBranch}
+use Rattle.df_branch.specs.Evidence.{IsOfEquality, IsShut, by_congruence, by_rows}
 use Rattle.df_branch.specs.Place.{IsPlace}
 use Rattle.df_branch.specs.Leaf.{IsUnsolvable, IsIncongruent}
 use Rattle.df_search.specs.declared.searching.State.{State}
-use Rattle.df_search.specs.Searching.{clauses_of, branches_of, AreCounted, IsSearching, IsFinished}
+use Rattle.df_search.specs.Searching.{clauses_of, branches_of, AreCounted, IsPath, IsSearching, IsFinished}
 use Rattle.df_search.specs.Places.{place_in, AreIn}
 use Rattle.df_search.proofs.Lines.{refuted_is_line, closed_is_line}
 use Rattle.df_search.proofs.Members.{contained_among, among_contained}
-use Rattle.df_search.proofs.Apart.{Covers}
 use Rattle.df_search.proofs.Turning.{in_longer}
-
-pub both_ok : {X E : Type 0} (r : Result X E) (A : Type 0) (N Q : X → Type 0) → OnOk r A → IfOk r N → (A → (x : X) → N x → Q x) → IfOk r Q
-both_ok (Ok x) A N Q a n f = f a x n
-both_ok (Err e) A N Q a n f = tt
 
 module _ (s : Sequent) (rounds : ℕ) (all : List Clause) (old : State) (is : IsSearching s rounds all old) (derivation : Derivation) (nodes : derivation.nodes ≡ old.derivation.nodes) where
   place_there : IsPlace old.set (clauses_of old) derivation.nodes (branch_of old.trail)
@@ -56,7 +54,7 @@ module _ (s : Sequent) (rounds : ℕ) (all : List Clause) (old : State) (is : Is
       lines = is.standing.lines;
       place = place_there;
       trail = is.standing.trail;
-      branch = subst (λ (ns : List Node). IsBranch old.set ns (clauses_of old) (branch_of old.trail)) (sym nodes) is.standing.branch;
+      path = subst (λ (ns : List Node). IsPath old.set ns (clauses_of old) old.trail) (sym nodes) is.standing.path;
       counted = subst (λ (ns : List Node). AreCounted s old.set ns (clauses_of old) (branches_of old)) (sym nodes) is.standing.counted;
     };
     runs = runs;
@@ -76,16 +74,17 @@ module _ (s : Sequent) (rounds : ℕ) (all : List Clause) (old : State) (is : Is
       lines = in_longer (clauses_of old) old.places.items all (clause ∷ []) is.standing.lines;
       place = place_there;
       trail = decided_grown all (clause ∷ []) [] old.trail.decisions.items is.standing.trail;
-      branch = subst (λ (ns : List Node). IsBranch old.set ns (clauses_of old) (branch_of old.trail)) (sym nodes) is.standing.branch;
+      path = subst (λ (ns : List Node). IsPath old.set ns (clauses_of old) old.trail) (sym nodes) is.standing.path;
       counted = subst (λ (ns : List Node). AreCounted s old.set ns (clauses_of old) (branches_of old)) (sym nodes) is.standing.counted;
     };
     runs = runs;
     leave = is.leave;
   }
 
-  -- the clause that the branch is not
-  pub branch_refuted : (number : ℕ) → IsShut old.derivation.nodes (clauses_of old) (branch_of old.trail) → Runs s derivation (all ++ map negation (branch_of old.trail) ∷ []) → number ≡ old.derivation.clauses → IsFinished s rounds all (record old { derivation = derivation }) number
-  branch_refuted number shut runs number_is = record {
+  -- a clause that literals of the branch are not all true
+  pub list_refuted : (list : List Lit) (conflict : Conflict) → HasAll (branch_of old.trail) list → IsShut old.derivation.nodes (clauses_of old) (branch_of old.trail) → Runs s derivation (all ++ map negation list ∷ []) → conflict.number ≡ old.derivation.clauses → conflict.needed.items ≡ list
+      → IsFinished s rounds all (record old { derivation = derivation }) conflict
+  list_refuted list conflict held shut runs number_is needed_is = record {
     standing = record {
       ground_set = is.standing.ground_set;
       is_of = is.standing.is_of;
@@ -96,10 +95,16 @@ module _ (s : Sequent) (rounds : ℕ) (all : List Clause) (old : State) (is : Is
       lines = is.standing.lines;
       place = place_there;
       trail = is.standing.trail;
-      branch = subst (λ (ns : List Node). IsBranch old.set ns (clauses_of old) (branch_of old.trail)) (sym nodes) is.standing.branch;
+      path = subst (λ (ns : List Node). IsPath old.set ns (clauses_of old) old.trail) (sym nodes) is.standing.path;
       counted = subst (λ (ns : List Node). AreCounted s old.set ns (clauses_of old) (branches_of old)) (sym nodes) is.standing.counted;
     };
-    closed = record { runs = runs; number_is = number_is ∙ sym is.runs.count; trail = is.standing.trail; formulas = place_there.formulas };
+    closed = record {
+      runs = subst (λ (ls : List Lit). Runs s derivation (all ++ map negation ls ∷ [])) (sym needed_is) runs;
+      number_is = number_is ∙ sym is.runs.count;
+      held = subst (HasAll (branch_of old.trail)) (sym needed_is) held;
+      trail = is.standing.trail;
+      formulas = place_there.formulas;
+    };
     shut = subst (λ (ns : List Node). IsShut ns (clauses_of old) (branch_of old.trail)) (sym nodes) shut;
     leave = is.leave;
   }
@@ -111,26 +116,13 @@ linear_is nodes facts rows combinations formulas rows_are refuted =
     ∙ ap (option_and_then (linear_of nodes (map negation facts) combinations)) (ap (rows_of nodes) (all_negated_twice facts) ∙ rows_are)
     ∙ ap (λ (b : Bool). if b then Some (map negation facts) else None) refuted
 
-none_left : (known facts : List Lit) → Covers known facts → is_empty (left known (map negation facts)) ≡ true
-none_left known [] covers = refl
-none_left known (l ∷ others) covers =
-    by (is_among known (negation (negation l))) (ap (is_among known) (negated_twice l) ∙ covers.has l (or_left (same_literal l l) (is_among others l) (same_self l)))
-    (none_left known others (record { has = λ q e. covers.has q (or_right (same_literal q l) (is_among others q) e) }))
-  where
-    by : (b : Bool) → b ≡ true → is_empty (left known (map negation others)) ≡ true → is_empty (cond (not b) (negation l ∷ left known (map negation others)) (left known (map negation others))) ≡ true
-    by true e rest = rest
-    by false e rest = absurd cc
-
 pub unsolvable_shut : (clauses : List GroundClause) (nodes : List Node) (branch reasons_facts : List Lit) (reasons : List ℕ) (rows : List Row) → IsUnsolvable clauses nodes branch reasons reasons_facts rows → IsShut nodes clauses branch
 unsolvable_shut clauses nodes branch facts reasons rows is =
     by_rows reasons is.learned rows is.closed (subst (λ (ls : List Lit). are_literals nodes ls ≡ true) is.facts_are is.formulas) (subst (λ (ls : List Lit). rows_of nodes ls ≡ Some rows) is.facts_are is.rows_are) is.refuted
 
--- nothing is left of the clause that literals of the closed list are not all true
-pub none_left_of : (known literals : List Lit) → ((l : Lit) → Contains literals l → is_among known l ≡ true) → is_empty (left known (map negation literals)) ≡ true
-none_left_of known literals has = none_left known literals (record { has = λ l e. has l (among_contained literals l e) })
-
-pub unsolvable_left : (clauses : List GroundClause) (nodes : List Node) (branch facts : List Lit) (reasons : List ℕ) (rows : List Row) → (is : IsUnsolvable clauses nodes branch reasons facts rows) → is_empty (left (after branch is.learned) (map negation facts)) ≡ true
-unsolvable_left clauses nodes branch facts reasons rows is = none_left (after branch is.learned) facts (record { has = λ l e. subst (λ (ls : List Lit). is_among ls l ≡ true) is.facts_are e })
+-- nothing is left of the clause that some facts are not all true
+pub unsolvable_left : (clauses : List GroundClause) (nodes : List Node) (branch facts some : List Lit) (reasons : List ℕ) (rows : List Row) → (is : IsUnsolvable clauses nodes branch reasons facts rows) → HasAll facts some → is_empty (left (after branch is.learned) (map negation some)) ≡ true
+unsolvable_left clauses nodes branch facts some reasons rows is held = ap is_empty (left_none (after branch is.learned) some (subst (λ (ls : List Lit). HasAll ls some) is.facts_are held))
 
 -- congruence contradicts the closed list
 module _ (clauses : List GroundClause) (nodes : List Node) (branch facts : List Lit) (reasons : List ℕ) (reason : Reason) (is : IsIncongruent clauses nodes branch reasons facts reason) where
@@ -140,12 +132,20 @@ module _ (clauses : List GroundClause) (nodes : List Node) (branch facts : List 
       (subst (λ (ls : List Lit). IsContradicted nodes (map negation ls)) is.facts_are (reason_contradicts nodes facts reason is.is_reason))
 
   pub incongruent_left : is_empty (left (after branch is.learned) (map negation reason.literals.items)) ≡ true
-  incongruent_left = none_left_of (after branch is.learned) reason.literals.items (λ l there. subst (λ (ls : List Lit). is_among ls l ≡ true) is.facts_are (contained_among facts l (is.is_reason.from_held l there)))
+  incongruent_left =
+      ap is_empty (left_none (after branch is.learned) reason.literals.items (record {
+        has = λ l there. subst (λ (ls : List Lit). is_among ls l ≡ true) is.facts_are (contained_among facts l (is.is_reason.from_held l (among_contained reason.literals.items l there)));
+      }))
 
 pub refuted_line : (nodes : List Node) (clauses : List GroundClause) (places : List ℕ) (all : List Clause) (branch : List Lit) (numbers : List ℕ) → AreIn clauses places all → are_literals nodes branch ≡ true → IsRefuted clauses branch numbers
     → propagation_line nodes all (map (place_in places) numbers) (map negation branch) ≡ Some (map negation branch)
 refuted_line nodes clauses places all branch numbers are formulas is = refuted_is_line nodes clauses places all are branch (negations_are_literals nodes branch formulas) numbers is
 
-pub closed_line : (nodes : List Node) (clauses : List GroundClause) (places : List ℕ) (all : List Clause) (branch : List Lit) (reasons : List ℕ) (learned : List Lit) (last : ℕ) (clause : Clause) → AreIn clauses places all → are_literals nodes branch ≡ true
-    → IsClosed clauses branch reasons learned → slice_get all last ≡ Some clause → is_empty (left (after branch learned) clause) ≡ true → propagation_line nodes all (map (place_in places) reasons ++ last ∷ []) (map negation branch) ≡ Some (map negation branch)
-closed_line nodes clauses places all branch reasons learned last clause are formulas closed there empty = closed_is_line nodes clauses places all are branch (negations_are_literals nodes branch formulas) reasons learned last clause closed.taught there empty
+pub taught_line : (nodes : List Node) (clauses : List GroundClause) (places : List ℕ) (all : List Clause) (list : List Lit) (reasons : List ℕ) (learned : List Lit) (last : ℕ) (clause : Clause) → AreIn clauses places all → are_literals nodes list ≡ true
+    → Taught clauses list reasons learned → slice_get all last ≡ Some clause → is_empty (left (after list learned) clause) ≡ true → propagation_line nodes all (map (place_in places) reasons ++ last ∷ []) (map negation list) ≡ Some (map negation list)
+taught_line nodes clauses places all list reasons learned last clause are formulas taught there empty = closed_is_line nodes clauses places all are list (negations_are_literals nodes list formulas) reasons learned last clause taught there empty
+
+-- what closing a lent list answers
+pub lent_closes : (lent clauses : List declared.GroundClause) (lent_list list : List Lit) (answer other : Closure) → Closes (map ground_of lent) lent_list answer → lent ≡ clauses → lent_list ≡ list → answer ≡ other → Closes (map ground_of clauses) list other
+lent_closes lent clauses lent_list list answer other closes clauses_are list_is is =
+    subst (λ (cs : List declared.GroundClause). Closes (map ground_of cs) list other) clauses_are (subst (λ (ls : List Lit). Closes (map ground_of lent) ls other) list_is (subst (Closes (map ground_of lent) lent_list) is closes))

@@ -20,7 +20,8 @@ use Rattle.df_logbuild.specs.declared.derivation.Derivation.{Derivation}
 use Rattle.df_logbuild.specs.Runs.{Runs}
 use Rattle.df_trail.specs.declared.trail.Trail.{Trail}
 use Rattle.df_trail.specs.Trail.{branch_of, decided}
-use Rattle.df_branch.specs.Evidence.{of_split, MayFollow}
+use Rattle.df_branch.specs.Evidence.{of_split}
+use Rattle.df_branch.specs.Next.{ComesNext}
 use Rattle.df_branch.specs.Leaf.{IsBetweenLeaf}
 use Rattle.df_search.specs.declared.searching.State.{State}
 use Rattle.df_search.specs.Searching.{clauses_of, Searches}
@@ -29,7 +30,8 @@ use Rattle.df_form.proofs.Values.{parts_below}
 use Rattle.df_rules.proofs.Growth.{get-grows, number-grows, made-grows, made-at, number-made, sorted-comparison, grows-trans}
 use Rattle.df_closure.proofs.LaterRows.{rows_later}
 use Rattle.df_search.proofs.Coming.{decides, literal_formula}
-use Rattle.df_branch.proofs.LaterNodes.{unshut_later}
+use Rattle.df_branch.proofs.LaterNodes.{quiet_list_later}
+use Rattle.df_search.proofs.Covering.{quiet_of}
 use Rattle.df_search.proofs.Growing.{makes, makes_node}
 
 pub is_of_number : (nodes : List Node) (n : ℕ) → is_number nodes n ≡ true → IsNumber nodes n
@@ -63,20 +65,20 @@ module _ (set : List Node) (clauses : List GroundClause) (nodes middle more : Li
   facts : List Lit
   facts = after branch leaf.learned
 
-  pub bound_follows : MayFollow set more clauses branch (yes m)
+  pub bound_follows : ComesNext set more clauses branch (yes m)
   unfolding facts
   bound_follows = record {
     learned = leaf.learned;
-    unshut = unshut_later nodes more more_table grows clauses branch leaf.learned leaf.unshut;
+    quiet = quiet_list_later nodes more more_table grows clauses branch leaf.learned (quiet_of leaf.unshut);
     not_true = unknown nodes more table grows facts leaf.unshut.formulas term place m bound place_is m_is (yes m) refl (λ p q. leaf.not_true place m p q);
     not_false = unknown nodes more table grows facts leaf.unshut.formulas term place m bound place_is m_is (no m) refl (λ p q. leaf.not_false place m p q);
     decision = inl (of_split leaf.filled (record {
       rows = leaf.unshut.rows;
       rows_are = rows_later nodes more more_table grows facts leaf.unshut.formulas ∙ leaf.unshut.rows_are;
-      first = leaf.unshut.first;
-      variables = leaf.unshut.variables;
-      levels = leaf.unshut.levels;
-      elimination = leaf.unshut.elimination;
+      first = leaf.first;
+      variables = leaf.variables;
+      levels = leaf.levels;
+      elimination = leaf.elimination;
       count = leaf.count;
       within = leaf.within;
       term = term;

@@ -2,3 +2,4 @@ pub mod Found
 pub mod Places
 pub mod Searching
 pub mod Moves
+pub mod Lessening

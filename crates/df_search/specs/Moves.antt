@@ -12,42 +12,55 @@ use Rattle.df_row.specs.Linear.{refutes}
 use Rattle.df_rules.specs.Connective.{connective_line}
 use Rattle.df_rules.specs.Propagation.{left, is_empty, propagation_line}
 use Rattle.df_cong.specs.declared.answer.Reason.{Reason}
-use Rattle.df_closure.specs.Closure.{GroundClause, after, IsClosed, IsRefuted}
+use Rattle.df_closure.specs.Closure.{GroundClause, Taught, after, IsClosed, IsRefuted}
 use Rattle.df_logbuild.specs.Runs.{Runs}
-use Rattle.df_trail.specs.Trail.{branch_of}
-use Rattle.df_branch.specs.Evidence.{IsShut, MayFollow}
+use Rattle.df_trail.specs.declared.decision.Conflict.{Conflict}
+use Rattle.df_trail.specs.Trail.{branch_of, HasAll}
+use Rattle.df_branch.specs.Evidence.{IsShut}
+use Rattle.df_branch.specs.Next.{ComesNext}
 use Rattle.df_branch.specs.Place.{equality_clauses}
 use Rattle.df_branch.specs.Leaf.{IsUnsolvable, IsIncongruent, IsBetweenLeaf, IsApartLeaf}
 use Rattle.df_search.specs.Places.{AreIn}
 use Rattle.df_search.specs.declared.searching.State.{State}
 use Rattle.df_search.specs.Searching.{clauses_of, IsSearching, Searches, IsFinished, Finishes}
 
--- Whatever sequent the search is for: clauses of the log say that the branch is not, which is shut.
-abbrev pub Propagates : State → List ℕ → State → ℕ → Type 0
-Propagates old numbers new number =
-    (s : Sequent) (rounds : ℕ) (all : List Clause) → IsSearching s rounds all old → IsShut old.derivation.nodes (clauses_of old) (branch_of old.trail)
-    → propagation_line old.derivation.nodes all numbers (map negation (branch_of old.trail)) ≡ Some (map negation (branch_of old.trail)) → IsFinished s rounds all new number
+-- Whatever sequent the search is for: clauses of the log say that literals of the branch, which is shut, are not all true.
+abbrev pub Propagates : State → List ℕ → List Lit → State → Conflict → Type 0
+Propagates old numbers list new conflict =
+    (s : Sequent) (rounds : ℕ) (all : List Clause) → IsSearching s rounds all old → IsShut old.derivation.nodes (clauses_of old) (branch_of old.trail) → HasAll (branch_of old.trail) list
+    → propagation_line old.derivation.nodes all numbers (map negation list) ≡ Some (map negation list) → IsFinished s rounds all new conflict
+
+-- a clause is false beside the list
+abbrev pub RefutesList : State → List Lit → List ℕ → State → Conflict → Type 0
+RefutesList old list numbers new conflict =
+    (s : Sequent) (rounds : ℕ) (all : List Clause) → IsSearching s rounds all old → IsShut old.derivation.nodes (clauses_of old) (branch_of old.trail) → HasAll (branch_of old.trail) list → IsRefuted (clauses_of old) list numbers → IsFinished s rounds all new conflict
+
+-- a clause of the log is false beside what is taught beside the list
+abbrev pub RefutesListBy : State → List Lit → List ℕ → ℕ → State → Conflict → Type 0
+RefutesListBy old list reasons last new conflict =
+    (s : Sequent) (rounds : ℕ) (all : List Clause) (learned : List Lit) (clause : Clause) → IsSearching s rounds all old → IsShut old.derivation.nodes (clauses_of old) (branch_of old.trail) → HasAll (branch_of old.trail) list
+    → Taught (clauses_of old) list reasons learned → slice_get all last ≡ Some clause → is_empty (left (after list learned) clause) ≡ true → IsFinished s rounds all new conflict
 
 -- a clause is false beside the branch
-abbrev pub Refutes : State → List ℕ → State → ℕ → Type 0
-Refutes old numbers new number = (s : Sequent) (rounds : ℕ) → Searches s rounds old → IsRefuted (clauses_of old) (branch_of old.trail) numbers → Finishes s rounds new number
+abbrev pub Refutes : State → List ℕ → State → Conflict → Type 0
+Refutes old numbers new conflict = (s : Sequent) (rounds : ℕ) → Searches s rounds old → IsRefuted (clauses_of old) (branch_of old.trail) numbers → Finishes s rounds new conflict
 
 -- a clause of the log is false beside the closed list
-abbrev pub RefutesBy : State → List ℕ → ℕ → State → ℕ → Type 0
-RefutesBy old reasons last new number =
-    (s : Sequent) (rounds : ℕ) (all : List Clause) (learned : List Lit) (clause : Clause) → IsSearching s rounds all old → IsShut old.derivation.nodes (clauses_of old) (branch_of old.trail)
-    → IsClosed (clauses_of old) (branch_of old.trail) reasons learned → slice_get all last ≡ Some clause → is_empty (left (after (branch_of old.trail) learned) clause) ≡ true → IsFinished s rounds all new number
+abbrev pub RefutesBy : State → List ℕ → Clause → ℕ → State → Conflict → Type 0
+RefutesBy old reasons clause last new conflict =
+    (s : Sequent) (rounds : ℕ) (all : List Clause) (learned : List Lit) → IsSearching s rounds all old → IsShut old.derivation.nodes (clauses_of old) (branch_of old.trail) → IsClosed (clauses_of old) (branch_of old.trail) reasons learned
+    → slice_get all last ≡ Some clause → is_empty (left (after (branch_of old.trail) learned) clause) ≡ true → IsFinished s rounds all new conflict
 
 -- the rows of the closed list are refuted
-abbrev pub Solves : State → List ℕ → List Lit → List Combination → State → ℕ → Type 0
-Solves old reasons facts combinations new number =
+abbrev pub Solves : State → List ℕ → List Lit → List Combination → State → Conflict → Type 0
+Solves old reasons facts combinations new conflict =
     (s : Sequent) (rounds : ℕ) (rows : List Row) → Searches s rounds old → IsUnsolvable (clauses_of old) old.derivation.nodes (branch_of old.trail) reasons facts rows
-    → ((count : ℕ) → refutes count rows (map combination_of combinations) ≡ true) → Finishes s rounds new number
+    → ((count : ℕ) → refutes count rows (map combination_of combinations) ≡ true) → Finishes s rounds new conflict
 
 -- congruence contradicts the closed list
-abbrev pub Contradicts : State → List ℕ → Reason → State → ℕ → Type 0
-Contradicts old reasons reason new number =
-    (s : Sequent) (rounds : ℕ) (facts : List Lit) → Searches s rounds old → IsIncongruent (clauses_of old) old.derivation.nodes (branch_of old.trail) reasons facts reason → Finishes s rounds new number
+abbrev pub Contradicts : State → List ℕ → Reason → State → Conflict → Type 0
+Contradicts old reasons reason new conflict =
+    (s : Sequent) (rounds : ℕ) (facts : List Lit) → Searches s rounds old → IsIncongruent (clauses_of old) old.derivation.nodes (branch_of old.trail) reasons facts reason → Finishes s rounds new conflict
 
 -- a further decision, at a bound
 abbrev pub SplitsAt : State → ℕ → ℤ → State → Type 0
@@ -85,7 +98,7 @@ IsDefined old equality up down new = AreBound old (equality_clauses equality up 
 -- The search goes on, and the number names an equality that may be decided.
 pub record HasEquality (s : Sequent) (rounds : ℕ) (state : State) (number : ℕ) : Type 0 where
   pub searches : Searches s rounds state
-  pub follows : MayFollow state.set state.derivation.nodes (clauses_of state) (branch_of state.trail) (yes number)
+  pub follows : ComesNext state.set state.derivation.nodes (clauses_of state) (branch_of state.trail) (yes number)
   pub formula : is_formula state.derivation.nodes number ≡ true
 
 abbrev pub MakesEquality : State → ℕ → ℕ → State → ℕ → Type 0

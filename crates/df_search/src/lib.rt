@@ -5,6 +5,8 @@ mod confirming;
 mod engine;
 mod exhausting;
 mod found;
+mod lessening;
+mod needing;
 mod proposed;
 mod searching;
 

@@ -1,9 +1,11 @@
-//! The search.
+//! The exhaustive search, one branch of decisions at a time. An open clause is split before any row is eliminated. A
+//! branch that ends is settled first: its last decisions are taken back as long as the list before the last one may be
+//! shut. The line that closes it names the decisions that it needs, and the search goes back over the others.
 
-ghost use Rattle.std.specs.Prelude.{◌≡◌, ◌<◌, ◌≤◌, ◌++◌, ◌∷◌, [], suc, ℕ, Err, map, length, true, false, IfOk, OnOk, IsTrue, List};
+ghost use Rattle.std.specs.Prelude.{◌≡◌, ◌<◌, ◌≤◌, ◌∷◌, [], suc, ℕ, Err, map, length, true, false, IfOk, OnOk, IsTrue, List};
 ghost use Rattle.std.specs.List.{range_with_len};
 ghost use Rattle.df_form.specs.Clause as clauses;
-ghost use Rattle.df_form.specs.Clause.{Clause, negation, is_among};
+ghost use Rattle.df_form.specs.Clause.{Clause, are_literals};
 ghost use Rattle.df_form.specs.Log.{step_of};
 ghost use Rattle.df_form.specs.Made.{made};
 ghost use Rattle.df_form.specs.Sequent.{Sequent as Claim, IsSequent};
@@ -14,23 +16,27 @@ ghost use Rattle.df_trig.specs.Rounds.{Instantiates};
 ghost use Rattle.df_form.specs.World.{World};
 ghost use Rattle.df_rules.specs.Derivation.{Derives, is_foreign, is_number};
 ghost use Rattle.df_logbuild.specs.Runs.{Runs};
-ghost use Rattle.df_trail.specs.Trail.{branch_of};
+ghost use Rattle.df_trail.specs.Trail.{branch_of, HasAll};
 ghost use Rattle.df_branch.specs.Place.{IsPlace};
+ghost use Rattle.df_branch.specs.Standing.{TellsStanding};
 ghost use Rattle.df_search.specs.Found.{IsTooWide, HasManyRows, Finds};
-ghost use Rattle.df_search.specs.Searching.{clauses_of, branches_of, Searches, Counts, Closes, TurnsTo, Tells, GoesOn, Lacks, AreApart, AllApart};
-ghost use Rattle.df_search.specs.Moves.{Propagates, Refutes, RefutesBy, Solves, Contradicts, SplitsAt, IsBound, IsDefined, MakesEquality, Equates};
+ghost use Rattle.df_search.specs.Searching.{clauses_of, branches_of, Searches, Counts, Closes, Ends, Settles, Shortens, IsPlaced, IsSame, HasBefore, Grown, Lessens, lines_at, GoesFrom, TurnsTo, Tells, GoesOn, Lacks, AreApart, AllApart};
+ghost use Rattle.df_search.specs.Moves.{Propagates, RefutesList, RefutesListBy, Refutes, RefutesBy, Solves, Contradicts, SplitsAt, IsBound, IsDefined, MakesEquality, Equates};
 ghost use Rattle.df_search.specs.Places.{AreWithin, place_in};
 
 use crate::confirming::confirmed;
 use crate::found::{Found, What};
+use crate::lessening::lessened;
+use crate::needing::needed;
 use df_axiom::Written;
-use df_branch::{Leaf, leaf_at};
+use df_branch::{Leaf, Standing, leaf_at, standing_at};
 use df_clause::{Ground, GroundClause};
+use df_closure::{Closure, close};
 use df_cong::Reason;
 use df_form::{Combination, Lit, Node, Nodes, Op, Sequent};
 use df_logbuild::Derivation;
 use df_table::Table;
-use df_trail::{Retreat, Trail};
+use df_trail::{Conflict, Retreat, Trail, holds, negations};
 use df_trig::{TrigFault, instances};
 use std::alloc::{AllocError, Global};
 
@@ -49,17 +55,8 @@ struct State {
     trail: Trail,
     /// The closed branches that count.
     closed: Vec<Vec<Lit>>,
-}
-
-/// The clause that the literals are not all true.
-fn negations(alloc: Global, literals: &[Lit]) -> Result<Vec<Lit>, AllocError>
-    ensures { IfOk result (λ clause. clause.items ≡ map negation literals.now) }
-{
-    let mut negations = Vec::new(alloc);
-    for literal in literals {
-        negations.push(literal.negation())?;
-    }
-    Ok(negations)
+    /// Numbers that were a point of rows once: they are tried before elimination.
+    point: Vec<i128>,
 }
 
 fn yes(node: usize) -> Lit
@@ -78,18 +75,6 @@ fn no(node: usize) -> Lit
         positive: false,
         node,
     }
-}
-
-/// Whether the literal is one of the list.
-fn holds(literals: &[Lit], literal: Lit) -> bool
-    ensures { result ≡ is_among literals.now literal }
-{
-    for other in literals {
-        if *other == literal {
-            return true;
-        }
-    }
-    false
 }
 
 /// Whether the branch has a last literal that the other one lacks.
@@ -166,6 +151,7 @@ impl State {
             derivation: Derivation::new(nodes, ground.lines, count),
             trail: Trail::new(alloc),
             closed: Vec::new(alloc),
+            point: Vec::new(alloc),
         })
     }
 
@@ -181,68 +167,154 @@ impl State {
         Ok(placed)
     }
 
-    /// Adds a line that the branch is not, by propagation through clauses of the log.
-    fn propagate(&mut self, numbers: Vec<usize>) -> Result<usize, AllocError>
-        ensures propagates { IfOk result (Propagates self.old numbers.items self.new) }
+    /// Adds a line that the literals of the list are not all true, by propagation through clauses of the log.
+    #[tactic(auto, using(crate::proofs::Same::same_not, crate::proofs::Same::same_log, crate::proofs::Same::same_then))]
+    fn propagate(&mut self, numbers: Vec<usize>, list: Vec<Lit>) -> Result<Conflict, AllocError>
+        ensures propagates { IfOk result (Propagates self.old numbers.items list.items self.new) }
+        ensures same { IsSame self.old self.new }
         ensures longer { OnOk result (length self.old.derivation.lines.items < length self.new.derivation.lines.items) }
         ensures closed { self.new.closed.items ≡ self.old.closed.items }
     {
-        let conclusion = self.trail.negations(self.alloc)?;
-        self.derivation.propagate(numbers, conclusion)
+        let conclusion = negations(self.alloc, &list)?;
+        let number = self.derivation.propagate(numbers, conclusion)?;
+        Ok(Conflict {
+            number,
+            needed: list,
+        })
     }
 
-    /// Adds a line that the branch is not: propagation through clauses leaves nothing of the last one.
-    fn refute(&mut self, numbers: &[usize]) -> Result<usize, AllocError>
+    /// Adds such a line: propagation through clauses leaves nothing of the last one.
+    #[tactic(auto, using(crate::proofs::Same::same_not, crate::proofs::Same::same_log, crate::proofs::Same::same_then))]
+    fn refute_list(&mut self, list: Vec<Lit>, numbers: &[usize]) -> Result<Conflict, AllocError>
         requires { AreWithin (length self.old.places.items) numbers.now }
-        ensures refutes { IfOk result (Refutes self.old numbers.now self.new) }
+        ensures refutes { IfOk result (RefutesList self.old list.items numbers.now self.new) }
+        ensures same { IsSame self.old self.new }
         ensures longer { OnOk result (length self.old.derivation.lines.items < length self.new.derivation.lines.items) }
         ensures closed { self.new.closed.items ≡ self.old.closed.items }
     {
         let placed = self.placed(numbers)?;
-        self.propagate(placed)
+        self.propagate(placed, list)
     }
 
-    /// Adds a line that the branch is not: nothing is left of the clause of the log of this number, beside
-    /// what the clauses give.
-    fn refute_by(&mut self, reasons: &[usize], last: usize) -> Result<usize, AllocError>
+    /// Adds such a line: nothing is left of the clause of the log of this number, beside what the clauses
+    /// give.
+    #[tactic(auto, using(crate::proofs::Same::same_not, crate::proofs::Same::same_log, crate::proofs::Same::same_then))]
+    fn refute_list_by(
+        &mut self,
+        list: Vec<Lit>,
+        reasons: &[usize],
+        last: usize,
+    ) -> Result<Conflict, AllocError>
         requires { AreWithin (length self.old.places.items) reasons.now }
-        ensures refutes { IfOk result (RefutesBy self.old reasons.now last self.new) }
+        ensures refutes { IfOk result (RefutesListBy self.old list.items reasons.now last self.new) }
+        ensures same { IsSame self.old self.new }
         ensures longer { OnOk result (length self.old.derivation.lines.items < length self.new.derivation.lines.items) }
         ensures closed { self.new.closed.items ≡ self.old.closed.items }
     {
         let mut numbers = self.placed(reasons)?;
         numbers.push(last)?;
-        self.propagate(numbers)
+        self.propagate(numbers, list)
     }
 
-    /// Adds lines that the branch is not: the facts are not all true, and the clauses give them.
+    /// The literals of the branch that are needed where clauses of these numbers teach one after another, and
+    /// then the last one is false, or all of the literals are.
+    fn needed(&self, numbers: &[usize], literals: &[Lit]) -> Result<Vec<Lit>, AllocError>
+        ensures { IfOk result (λ needed. HasAll (branch_of self.now.trail) needed.items) }
+    {
+        let branch = self.trail.branch(self.alloc)?;
+        needed(self.alloc, &self.clauses, &branch, numbers, literals)
+    }
+
+    /// Adds a line that literals of the branch are not all true: propagation through clauses leaves nothing of
+    /// the last one. They are those that are needed, where the clauses refute these alone.
+    #[tactic(auto, using(crate::proofs::Same::same_not, crate::proofs::Same::same_log, crate::proofs::Same::same_then))]
+    fn refute(&mut self, numbers: &[usize]) -> Result<Conflict, AllocError>
+        requires within { AreWithin (length self.old.places.items) numbers.now }
+        requires places { length self.old.places.items ≡ length self.old.clauses.items }
+        ensures refutes { IfOk result (Refutes self.old numbers.now self.new) }
+        ensures same { IsSame self.old self.new }
+        ensures longer { OnOk result (length self.old.derivation.lines.items < length self.new.derivation.lines.items) }
+        ensures closed { self.new.closed.items ≡ self.old.closed.items }
+    {
+        let needed = self.needed(numbers, &[])?;
+        match close(self.alloc, &self.clauses, &needed)? {
+            Closure::Refuted(fewer) => self.refute_list(needed, &fewer),
+            Closure::Closed { .. } => {
+                let branch = self.trail.branch(self.alloc)?;
+                self.refute_list(branch, numbers)
+            }
+        }
+    }
+
+    /// Adds such a line: nothing is left of a clause of the log, of this number, beside what clauses give.
+    #[tactic(auto, using(crate::proofs::Same::same_not, crate::proofs::Same::same_log, crate::proofs::Same::same_then))]
+    fn refute_by(
+        &mut self,
+        reasons: &[usize],
+        clause: &[Lit],
+        last: usize,
+    ) -> Result<Conflict, AllocError>
+        requires within { AreWithin (length self.old.places.items) reasons.now }
+        requires places { length self.old.places.items ≡ length self.old.clauses.items }
+        ensures refutes { IfOk result (RefutesBy self.old reasons.now clause.now last self.new) }
+        ensures same { IsSame self.old self.new }
+        ensures longer { OnOk result (length self.old.derivation.lines.items < length self.new.derivation.lines.items) }
+        ensures closed { self.new.closed.items ≡ self.old.closed.items }
+    {
+        let needed = self.needed(reasons, clause)?;
+        match close(self.alloc, &self.clauses, &needed)? {
+            Closure::Refuted(fewer) => self.refute_list(needed, &fewer),
+            Closure::Closed {
+                known,
+                reasons: fewer,
+                ..
+            } => {
+                if known.refutes(clause) {
+                    return self.refute_list_by(needed, &fewer, last);
+                }
+                let branch = self.trail.branch(self.alloc)?;
+                self.refute_list_by(branch, reasons, last)
+            }
+        }
+    }
+
+    /// Adds lines that literals of the branch are not all true: facts are not, and the clauses give them.
+    #[tactic(auto, using(crate::proofs::Same::same_not, crate::proofs::Same::same_log, crate::proofs::Same::same_then))]
     fn solve(
         &mut self,
         reasons: &[usize],
-        facts: &[Lit],
+        facts: Vec<Lit>,
         combinations: Vec<Combination>,
-    ) -> Result<usize, AllocError>
-        requires { AreWithin (length self.old.places.items) reasons.now }
-        ensures solves { IfOk result (Solves self.old reasons.now facts.now combinations.items self.new) }
+    ) -> Result<Conflict, AllocError>
+        requires within { AreWithin (length self.old.places.items) reasons.now }
+        requires places { length self.old.places.items ≡ length self.old.clauses.items }
+        ensures solves { IfOk result (Solves self.old reasons.now facts.items combinations.items self.new) }
+        ensures same { IsSame self.old self.new }
         ensures longer { OnOk result (length self.old.derivation.lines.items < length self.new.derivation.lines.items) }
         ensures closed { self.new.closed.items ≡ self.old.closed.items }
     {
-        let conclusion = negations(self.alloc, facts)?;
-        let number = self.derivation.refute(conclusion, combinations)?;
-        self.refute_by(reasons, number)
+        let linear = lessened(self.alloc, &self.derivation.nodes, facts, combinations)?;
+        let clause = negations(self.alloc, &linear.facts)?;
+        let conclusion = negations(self.alloc, &linear.facts)?;
+        let number = self.derivation.refute(conclusion, linear.combinations)?;
+        self.refute_by(reasons, &clause, number)
     }
 
-    /// Adds lines that the branch is not: congruence has it that some literals are not all true, and the
-    /// clauses give them.
-    fn contradict(&mut self, reasons: &[usize], reason: Reason) -> Result<usize, AllocError>
-        requires { AreWithin (length self.old.places.items) reasons.now }
+    /// Adds lines that literals of the branch are not all true: congruence has it that some literals are not,
+    /// and the clauses give them.
+    #[tactic(auto, using(crate::proofs::Same::same_not, crate::proofs::Same::same_log, crate::proofs::Same::same_then))]
+    fn contradict(&mut self, reasons: &[usize], reason: Reason) -> Result<Conflict, AllocError>
+        requires within { AreWithin (length self.old.places.items) reasons.now }
+        requires places { length self.old.places.items ≡ length self.old.clauses.items }
         ensures contradicts { IfOk result (Contradicts self.old reasons.now reason self.new) }
+        ensures same { IsSame self.old self.new }
         ensures longer { OnOk result (length self.old.derivation.lines.items < length self.new.derivation.lines.items) }
         ensures closed { self.new.closed.items ≡ self.old.closed.items }
     {
+        let clause = negations(self.alloc, &reason.literals)?;
         let conclusion = negations(self.alloc, &reason.literals)?;
         let number = self.derivation.congruence(conclusion, reason.pairs)?;
-        self.refute_by(reasons, number)
+        self.refute_by(reasons, &clause, number)
     }
 
     /// Decides that the number is at most the bound.
@@ -354,16 +426,28 @@ enum Turn {
     Many(u64),
 }
 
+/// How a branch ends.
+#[derive(Drop)]
+enum End {
+    /// The log says that literals of it are not all true.
+    Closed(Conflict),
+    /// A number on the way is past 128 bits.
+    Wide,
+    /// A level of its rows comes to so many rows.
+    Many(u64),
+}
+
+/// What comes of a branch that ends.
 impl State {
-    /// Closes the branch by the clause of the log of this number, which says that it is not.
-    fn close(&mut self, number: usize, steps: u64) -> Result<Turn, AllocError>
-        ensures closes { IfOk result (Closes self.old number steps self.new) }
+    /// Closes the branch by the log's last clause, which says that literals of it are not all true.
+    fn close(&mut self, conflict: Conflict, steps: u64) -> Result<Turn, AllocError>
+        ensures closes { IfOk result (Closes self.old conflict steps self.new) }
         ensures longer { length self.old.derivation.lines.items ≤ length self.new.derivation.lines.items }
     {
         self.count()?;
         match self
             .trail
-            .retreat(self.alloc, &mut self.derivation, number)?
+            .retreat(self.alloc, &mut self.derivation, conflict)?
         {
             Retreat::Ended => Ok(Turn::Proved),
             Retreat::Turned => {
@@ -372,6 +456,105 @@ impl State {
                 } else {
                     Ok(Turn::On)
                 }
+            }
+        }
+    }
+
+    /// What comes of the end of a branch of which no first literals, but all, are shut.
+    fn finish(&mut self, end: End, steps: u64) -> Result<Turn, AllocError>
+        ensures ends { IfOk result (Ends self.old end steps self.new) }
+        ensures longer { IfOk result (GoesFrom (lines_at self.old end) self.new) }
+    {
+        match end {
+            End::Closed(conflict) => self.close(conflict, steps),
+            End::Wide => Ok(Turn::Wide),
+            End::Many(count) => Ok(Turn::Many(count)),
+        }
+    }
+
+    /// What the rows of first literals of the branch come to.
+    fn standing(&self, before: &[Lit]) -> Result<Standing, AllocError>
+        requires place { IsPlace self.now.set (clauses_of self.now) self.now.derivation.nodes (branch_of self.now.trail) }
+        requires formulas { are_literals self.now.derivation.nodes before.now ≡ true }
+        ensures { IfOk result (TellsStanding (clauses_of self.now) self.now.derivation.nodes before.now) }
+    {
+        standing_at(
+            self.alloc,
+            &self.clauses,
+            &self.derivation.nodes,
+            before,
+            &self.point,
+        )
+    }
+
+    /// How the branch ends without its last decision, where the list before that may be shut.
+    fn end_before(&mut self, before: &[Lit]) -> Result<Option<End>, AllocError>
+        requires placed { IsPlaced self.old }
+        requires fresh { HasBefore self.old before.now }
+        ensures shortens { IfOk result (Shortens self.old self.new) }
+        ensures placed { OnOk result (IsPlaced self.new) }
+        ensures closed { self.new.closed.items ≡ self.old.closed.items }
+        ensures grown { IfOk result (Grown self.old self.new) }
+        ensures less { IfOk result (Lessens self.old self.new) }
+    {
+        match self.standing(before)? {
+            Standing::Stands(None) => Ok(None),
+            Standing::Stands(Some(point)) => {
+                self.point = point;
+                Ok(None)
+            }
+            Standing::Refuted(numbers) => {
+                self.trail.take_back();
+                let conflict = self.refute(&numbers)?;
+                Ok(Some(End::Closed(conflict)))
+            }
+            Standing::Unsolvable {
+                reasons,
+                facts,
+                combinations,
+            } => {
+                self.trail.take_back();
+                let conflict = self.solve(&reasons, facts, combinations)?;
+                Ok(Some(End::Closed(conflict)))
+            }
+            Standing::Wide => {
+                self.trail.take_back();
+                Ok(Some(End::Wide))
+            }
+            Standing::Many(count) => {
+                self.trail.take_back();
+                Ok(Some(End::Many(count)))
+            }
+        }
+    }
+
+    /// The same, where the other side of the last decision is open: else the list before it is not shut.
+    fn shortened(&mut self) -> Result<Option<End>, AllocError>
+        requires { IsPlaced self.old }
+        ensures shortens { IfOk result (Shortens self.old self.new) }
+        ensures placed { OnOk result (IsPlaced self.new) }
+        ensures closed { self.new.closed.items ≡ self.old.closed.items }
+        ensures grown { IfOk result (Grown self.old self.new) }
+        ensures less { IfOk result (Lessens self.old self.new) }
+    {
+        match self.trail.before(self.alloc)? {
+            Some(before) => self.end_before(&before),
+            None => Ok(None),
+        }
+    }
+
+    /// What comes of the end of a branch. Its last decisions are taken back as long as the list before
+    /// the last one may be shut: so no first literals of what is closed, but all, are shut.
+    fn settle(&mut self, first: End, steps: u64) -> Result<Turn, AllocError>
+        requires { IsPlaced self.old }
+        ensures settles { IfOk result (Settles self.old first steps self.new) }
+        ensures longer { IfOk result (GoesFrom (lines_at self.old first) self.new) }
+    {
+        let mut end = first;
+        loop {
+            match self.shortened()? {
+                Some(shorter) => end = shorter,
+                None => return self.finish(end, steps),
             }
         }
     }
@@ -400,24 +583,24 @@ impl State {
     {
         match self.leaf()? {
             Leaf::Refuted(numbers) => {
-                let number = self.refute(&numbers)?;
-                self.close(number, steps)
+                let conflict = self.refute(&numbers)?;
+                self.settle(End::Closed(conflict), steps)
             }
             Leaf::Unsolvable {
                 reasons,
                 facts,
                 combinations,
             } => {
-                let number = self.solve(&reasons, &facts, combinations)?;
-                self.close(number, steps)
+                let conflict = self.solve(&reasons, facts, combinations)?;
+                self.settle(End::Closed(conflict), steps)
             }
             Leaf::Incongruent {
                 reasons,
                 reason,
                 ..
             } => {
-                let number = self.contradict(&reasons, reason)?;
-                self.close(number, steps)
+                let conflict = self.contradict(&reasons, reason)?;
+                self.settle(End::Closed(conflict), steps)
             }
             Leaf::Open(literal) => {
                 self.trail.decide(literal)?;
@@ -432,8 +615,8 @@ impl State {
                 Ok(Turn::On)
             }
             Leaf::Modelled(table) => Ok(Turn::Modelled(table)),
-            Leaf::Wide => Ok(Turn::Wide),
-            Leaf::Many(count) => Ok(Turn::Many(count)),
+            Leaf::Wide => self.settle(End::Wide, steps),
+            Leaf::Many(count) => self.settle(End::Many(count), steps),
         }
     }
 }

@@ -1,5 +1,5 @@
 -- Trails shorter by one decision, and turned ones.
-use Rattle.std.proofs.Common.{◌≡◌, ℕ, Bool, true, ◌&&◌, List, [], ◌∷◌, ◌++◌, map, length, Option, Some, None, slice_get, refl, sym, ap, ◌∙◌, subst, append_assoc, append-nil}
+use Rattle.std.proofs.Common.{◌≡◌, Bool, true, false, ◌&&◌, List, [], ◌∷◌, ◌++◌, map, length, Option, Some, None, slice_get, refl, sym, ap, ◌∙◌, subst, append_assoc, append-nil}
 use Rattle.std.specs.List.{list_all}
 use Rattle.std.proofs.lemmas.Bool.{and_from, and_parts}
 use Rattle.df_form.proofs.Literals.{negated_twice}
@@ -11,10 +11,12 @@ use Rattle.df_form.specs.Sequent.{Sequent}
 use Rattle.df_form.specs.Clause.{Clause, negation, is_among, are_literals}
 use Rattle.df_logbuild.specs.declared.derivation.Derivation.{Derivation}
 use Rattle.df_logbuild.specs.Runs.{Runs}
+use Rattle.df_trail.specs.declared.decision.Conflict.{Conflict}
 use Rattle.df_trail.specs.declared.decision.Decision.{Decision}
 use Rattle.df_trail.specs.declared.trail.Trail.{Trail}
-use Rattle.df_trail.specs.Trail.{literal_of, literals_of, branch_of, turned, IsUndecided, IsClosedBy, AreDecided, IsTrail, IsClosed, HasTurned, HasEnded, JoinsSides}
+use Rattle.df_trail.specs.Trail.{literal_of, literals_of, branch_of, turned, IsUndecided, HasAll, IsClosedBy, AreDecided, IsTrail, IsClosed, HasTurned, HasEnded, JoinsSides}
 use Rattle.df_logbuild.proofs.Added.{mapped_append}
+use Rattle.df_trail.proofs.Held.{all_but_last, all_of_none}
 
 -- the last decision, after those before it
 pub record IsLast (clauses : List Clause) (before : List Lit) (decisions : List Decision) (last : Decision) : Type 0 where
@@ -49,9 +51,9 @@ put_last clauses before (d ∷ others) last is =
     } in
     (is.others.0, is.others.1, put_last clauses (before ++ d.literal ∷ []) others last rest)
 
-pub closed_grown : (clauses more : List Clause) (before : List Lit) (l : Lit) (closed : Option ℕ) → IsClosedBy clauses before l closed → IsClosedBy (clauses ++ more) before l closed
+pub closed_grown : (clauses more : List Clause) (before : List Lit) (l : Lit) (closed : Option Conflict) → IsClosedBy clauses before l closed → IsClosedBy (clauses ++ more) before l closed
 closed_grown clauses more before l None is = tt
-closed_grown clauses more before l (Some number) is = get_grown clauses more number (map negation (before ++ negation l ∷ [])) is
+closed_grown clauses more before l (Some conflict) is = (record { there = get_grown clauses more conflict.number (map negation conflict.needed.items) is.0.there; held = is.0.held }, is.1)
 
 pub decided_grown : (clauses more : List Clause) (before : List Lit) (decisions : List Decision) → AreDecided clauses before decisions → AreDecided (clauses ++ more) before decisions
 decided_grown clauses more before [] all = tt
@@ -66,29 +68,34 @@ turned_undecided : (before : List Lit) (l : Lit) → IsUndecided before l → Is
 turned_undecided before l is = record { not_true = is.not_false; not_false = ap (is_among before) (negated_twice l) ∙ is.not_true }
 
 -- the branch is closed still, by a later clause
-pub record StillClosed (s : Sequent) (d : Derivation) (t : Trail) (front : List Clause) (number : ℕ) : Type 0 where
+pub record StillClosed (s : Sequent) (d : Derivation) (t : Trail) (front : List Clause) (conflict : Conflict) : Type 0 where
   pub more : List Clause
-  pub is : IsClosed s d t (front ++ more) number
+  pub is : IsClosed s d t (front ++ more) conflict
 
-pub begins_closed : (s : Sequent) (d : Derivation) (t : Trail) (front : List Clause) (number : ℕ) → IsClosed s d t front number → StillClosed s d t front number
-begins_closed s d t front number is = record { more = []; is = subst (λ (cs : List Clause). IsClosed s d t cs number) (sym (append-nil front)) is }
+pub begins_closed : (s : Sequent) (d : Derivation) (t : Trail) (front : List Clause) (conflict : Conflict) → IsClosed s d t front conflict → StillClosed s d t front conflict
+begins_closed s d t front conflict is = record { more = []; is = subst (λ (cs : List Clause). IsClosed s d t cs conflict) (sym (append-nil front)) is }
 
-module _ (s : Sequent) (d : Derivation) (t : Trail) (front : List Clause) (number : ℕ) (still : StillClosed s d t front number) where
+module _ (s : Sequent) (d : Derivation) (t : Trail) (front : List Clause) (conflict : Conflict) (still : StillClosed s d t front conflict) where
   abbrev all_now : List Clause
   all_now = front ++ still.more
 
+  abbrev needed : List Lit
+  needed = conflict.needed.items
+
+  abbrev clause_now : Clause
+  clause_now = map negation needed
+
   pub ends_closed : t.decisions.items ≡ [] → HasEnded s d front
-  ends_closed none = record { more = still.more; runs = subst (λ (ds : List Decision). Runs s d (all_now ++ map negation (literals_of ds) ∷ [])) none still.is.runs }
+  ends_closed none =
+      let nothing : needed ≡ [] = all_of_none needed (subst (λ (ds : List Decision). HasAll (literals_of ds) needed) none still.is.held) in
+      record { more = still.more; runs = subst (λ (ls : List Lit). Runs s d (all_now ++ map negation ls ∷ [])) nothing still.is.runs }
 
   module _ (decisions : List Decision) (last : Decision) (split : t.decisions.items ≡ decisions ++ last ∷ []) where
-    abbrev clause_now : Clause
-    clause_now = map negation (literals_of decisions ++ last.literal ∷ [])
+    branch_is : branch_of t ≡ literals_of decisions ++ last.literal ∷ []
+    branch_is = ap literals_of split ∙ mapped_append literal_of decisions last
 
-    clause_is : map negation (branch_of t) ≡ clause_now
-    clause_is = ap (λ (ds : List Decision). map negation (literals_of ds)) split ∙ ap (map negation) (mapped_append literal_of decisions last)
-
-    runs_now : Runs s d (all_now ++ clause_now ∷ [])
-    runs_now = subst (λ (c : Clause). Runs s d (all_now ++ c ∷ [])) clause_is still.is.runs
+    held_now : HasAll (literals_of decisions ++ last.literal ∷ []) needed
+    held_now = subst (λ (ls : List Lit). HasAll ls needed) branch_is still.is.held
 
     last_now : IsLast all_now [] decisions last
     last_now = take_last all_now [] decisions last (subst (AreDecided all_now []) split still.is.trail)
@@ -97,49 +104,66 @@ module _ (s : Sequent) (d : Derivation) (t : Trail) (front : List Clause) (numbe
     same_now = append_assoc front still.more (clause_now ∷ [])
 
     formulas_now : are_literals d.nodes (literals_of decisions ++ last.literal ∷ []) ≡ true
-    formulas_now = ap (are_literals d.nodes) (sym (ap literals_of split ∙ mapped_append literal_of decisions last)) ∙ still.is.formulas
+    formulas_now = ap (are_literals d.nodes) (sym branch_is) ∙ still.is.formulas
 
-    at_end : slice_get (all_now ++ clause_now ∷ []) number ≡ Some clause_now
+    formulas_before : are_literals d.nodes (literals_of decisions) ≡ true
+    formulas_before = all_front (λ (l : Lit). is_formula d.nodes l.node) (literals_of decisions) (last.literal ∷ []) formulas_now
+
+    at_end : slice_get (all_now ++ clause_now ∷ []) conflict.number ≡ Some clause_now
     at_end = ap (slice_get (all_now ++ clause_now ∷ [])) still.is.number_is ∙ get_last all_now clause_now
 
-    pub turns : (new : Trail) → new.decisions.items ≡ decisions ++ turned last.literal number ∷ [] → HasTurned s d new front
-    turns new is =
+    -- a decision that is not needed
+    pub skips : (new : Trail) → is_among needed last.literal ≡ false → new.decisions.items ≡ decisions → StillClosed s d new front conflict
+    skips new none is = record {
+      more = still.more;
+      is = record {
+        runs = still.is.runs;
+        number_is = still.is.number_is;
+        held = subst (λ (ds : List Decision). HasAll (literals_of ds) needed) (sym is) (all_but_last (literals_of decisions) needed last.literal held_now none);
+        trail = subst (AreDecided all_now []) (sym is) last_now.others;
+        formulas = ap (λ (ds : List Decision). are_literals d.nodes (literals_of ds)) is ∙ formulas_before;
+      };
+    }
+
+    pub turns : (new : Trail) → is_among needed last.literal ≡ true → new.decisions.items ≡ decisions ++ turned last.literal conflict ∷ [] → HasTurned s d new front
+    turns new needs is =
         let before = literals_of decisions in
         let other = negation last.literal in
-        let closed : IsClosedBy (all_now ++ clause_now ∷ []) before other (Some number) = at_end ∙ ap (λ (l : Lit). Some (map negation (before ++ l ∷ []))) (sym (negated_twice last.literal)) in
-        let decided = put_last (all_now ++ clause_now ∷ []) [] decisions (turned last.literal number) (record {
+        let closed : IsClosedBy (all_now ++ clause_now ∷ []) before other (Some conflict) =
+        (record { there = at_end; held = subst (λ (l : Lit). HasAll (before ++ l ∷ []) needed) (sym (negated_twice last.literal)) held_now }, ap (is_among needed) (negated_twice last.literal) ∙ needs) in
+        let decided = put_last (all_now ++ clause_now ∷ []) [] decisions (turned last.literal conflict) (record {
           others = decided_grown all_now (clause_now ∷ []) [] decisions last_now.others;
           undecided = turned_undecided before last.literal last_now.undecided;
           closed = closed;
         }) in
         record {
           more = still.more ++ clause_now ∷ [];
-          runs = subst (Runs s d) same_now runs_now;
+          runs = subst (Runs s d) same_now still.is.runs;
           trail = subst (λ (cs : List Clause). IsTrail cs new) same_now (subst (AreDecided (all_now ++ clause_now ∷ []) []) (sym is) decided);
-          formulas = ap (λ (ds : List Decision). are_literals d.nodes (literals_of ds)) is ∙ ap (are_literals d.nodes) (mapped_append literal_of decisions (turned last.literal number)) ∙ same_formulas d.nodes before last.literal ∙ formulas_now;
+          formulas = ap (λ (ds : List Decision). are_literals d.nodes (literals_of ds)) is ∙ ap (are_literals d.nodes) (mapped_append literal_of decisions (turned last.literal conflict)) ∙ same_formulas d.nodes before last.literal ∙ formulas_now;
         }
       where
         same_formulas : (nodes : List Node) (before : List Lit) (l : Lit) → are_literals nodes (before ++ negation l ∷ []) ≡ are_literals nodes (before ++ l ∷ [])
         same_formulas nodes [] l = refl
         same_formulas nodes (m ∷ others) l = ap (λ (b : Bool). is_formula nodes m.node && b) (same_formulas nodes others l)
 
-    pub joins_on : (other : ℕ) (new_log : Derivation) (new : Trail) (next : ℕ) → last.closed ≡ Some other → new.decisions.items ≡ decisions → new_log.nodes ≡ d.nodes → next ≡ d.clauses → JoinsSides (literals_of decisions) other number d new_log
-        → StillClosed s new_log new front next
-    joins_on other new_log new next other_is is nodes next_is joins =
+    pub joins_on : (other : Conflict) (new_log : Derivation) (new : Trail) (joined : Conflict) → last.closed ≡ Some other → new.decisions.items ≡ decisions → new_log.nodes ≡ d.nodes → joined.number ≡ d.clauses → JoinsSides last.literal other conflict d new_log joined
+        → StillClosed s new_log new front joined
+    joins_on other new_log new joined other_is is nodes number_is joins =
         let before = literals_of decisions in
-        let formulas = all_front (λ (l : Lit). is_formula d.nodes l.node) before (last.literal ∷ []) formulas_now in
         let first = closed_grown all_now (clause_now ∷ []) before last.literal (Some other) (subst (IsClosedBy all_now before last.literal) other_is last_now.closed) in
-        let runs = joins s (all_now ++ clause_now ∷ []) last.literal runs_now formulas last_now.undecided first at_end in
+        let both = joins s (all_now ++ clause_now ∷ []) before still.is.runs formulas_before (record { undecided = last_now.undecided; first = first.0; needs = first.1; second = record { there = at_end; held = held_now } }) in
         record {
           more = still.more ++ clause_now ∷ [];
           is = record {
-            runs = subst (λ (ds : List Decision). Runs s new_log ((front ++ (still.more ++ clause_now ∷ [])) ++ map negation (literals_of ds) ∷ [])) (sym is) (subst (λ (cs : List Clause). Runs s new_log (cs ++ map negation before ∷ [])) same_now runs);
-            number_is = next_is ∙ sym runs_now.count ∙ ap length same_now;
+            runs = subst (λ (cs : List Clause). Runs s new_log (cs ++ map negation joined.needed.items ∷ [])) same_now both.0;
+            number_is = number_is ∙ sym still.is.runs.count ∙ ap length same_now;
+            held = subst (λ (ds : List Decision). HasAll (literals_of ds) joined.needed.items) (sym is) both.1;
             trail = subst (λ (cs : List Clause). IsTrail cs new) same_now (subst (AreDecided (all_now ++ clause_now ∷ []) []) (sym is) (decided_grown all_now (clause_now ∷ []) [] decisions last_now.others));
-            formulas = ap (λ (ns : List Node). are_literals ns (branch_of new)) nodes ∙ ap (λ (ds : List Decision). are_literals d.nodes (literals_of ds)) is ∙ formulas;
+            formulas = ap (λ (ns : List Node). are_literals ns (branch_of new)) nodes ∙ ap (λ (ds : List Decision). are_literals d.nodes (literals_of ds)) is ∙ formulas_before;
           };
         }
 
 -- whatever log it began with
-pub record IsRetreating (old_log : Derivation) (old : Trail) (closed : ℕ) (d : Derivation) (t : Trail) (number : ℕ) : Type 0 where
-  pub so_far : (s : Sequent) (front : List Clause) → IsClosed s old_log old front closed → StillClosed s d t front number
+pub record IsRetreating (old_log : Derivation) (old : Trail) (first : Conflict) (d : Derivation) (t : Trail) (conflict : Conflict) : Type 0 where
+  pub so_far : (s : Sequent) (front : List Clause) → IsClosed s old_log old front first → StillClosed s d t front conflict

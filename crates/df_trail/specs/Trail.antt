@@ -1,10 +1,12 @@
 -- Trails of decisions, and the clauses that close their other sides.
-use Rattle.std.specs.Prelude.{◌≡◌, ℕ, true, false, List, [], ◌∷◌, ◌++◌, map, length, slice_get, Option, None, Some}
+use Rattle.std.specs.Prelude.{◌≡◌, Bool, true, false, not, List, [], ◌∷◌, ◌++◌, map, filter, length, slice_get, Option, None, Some, Vec}
+use Rattle.std.specs.declared.alloc.Global.{Global}
 use Rattle.df_form.specs.declared.log.Lit.{Lit}
 use Rattle.df_form.specs.Sequent.{Sequent}
-use Rattle.df_form.specs.Clause.{Clause, negation, is_among, are_literals}
+use Rattle.df_form.specs.Clause.{Clause, negation, same_literal, is_among, are_literals}
 use Rattle.df_logbuild.specs.declared.derivation.Derivation.{Derivation}
 use Rattle.df_logbuild.specs.Runs.{Runs}
+use Rattle.df_trail.specs.declared.decision.Conflict.{Conflict}
 use Rattle.df_trail.specs.declared.decision.Decision.{Decision}
 use Rattle.df_trail.specs.declared.trail.Trail.{Trail}
 use Rattle.df_trail.specs.declared.trail.Retreat.{Retreat}
@@ -24,19 +26,28 @@ branch_of t = literals_of t.decisions.items
 abbrev pub decided : Lit → Decision
 decided literal = record { literal = literal; closed = None }
 
--- the other side of a literal that the clause of this number closes
-abbrev pub turned : Lit → ℕ → Decision
-turned literal number = record { literal = negation literal; closed = Some number }
+-- the other side of a literal that the conflict closes
+abbrev pub turned : Lit → Conflict → Decision
+turned literal conflict = record { literal = negation literal; closed = Some conflict }
 
 -- neither the literal nor its negation is among those before
 pub record IsUndecided (before : List Lit) (literal : Lit) : Type 0 where
   pub not_true : is_among before literal ≡ false
   pub not_false : is_among before (negation literal) ≡ false
 
--- where the other side came first, the clause of this number says that it is not, after the literals before
-abbrev pub IsClosedBy : List Clause → List Lit → Lit → Option ℕ → Type 0
+-- the list has all these literals
+pub record HasAll (list some : List Lit) : Type 0 where
+  pub has : (l : Lit) → is_among some l ≡ true → is_among list l ≡ true
+
+-- what the conflict needs is among the literals, and its clause says that this is not all true
+pub record IsConflict (clauses : List Clause) (list : List Lit) (conflict : Conflict) : Type 0 where
+  pub there : slice_get clauses conflict.number ≡ Some (map negation conflict.needed.items)
+  pub held : HasAll list conflict.needed.items
+
+-- where the other side came first, a conflict needs it, and else literals before
+abbrev pub IsClosedBy : List Clause → List Lit → Lit → Option Conflict → Type 0
 IsClosedBy clauses before literal None = Unit {0}
-IsClosedBy clauses before literal (Some number) = slice_get clauses number ≡ Some (map negation (before ++ negation literal ∷ []))
+IsClosedBy clauses before literal (Some conflict) = IsConflict clauses (before ++ negation literal ∷ []) conflict × (is_among conflict.needed.items (negation literal) ≡ true)
 
 -- each decision was open, and so it is for those after it
 abbrev pub AreDecided : List Clause → List Lit → List Decision → Type 0
@@ -47,10 +58,11 @@ AreDecided clauses before (d ∷ others) = IsUndecided before d.literal × IsClo
 abbrev pub IsTrail : List Clause → Trail → Type 0
 IsTrail clauses t = AreDecided clauses [] t.decisions.items
 
--- The log's last clause says that the branch is not.
-pub record IsClosed (s : Sequent) (d : Derivation) (t : Trail) (front : List Clause) (number : ℕ) : Type 0 where
-  pub runs : Runs s d (front ++ map negation (branch_of t) ∷ [])
-  pub number_is : number ≡ length front
+-- The log's last clause says that literals of the branch are not all true.
+pub record IsClosed (s : Sequent) (d : Derivation) (t : Trail) (front : List Clause) (conflict : Conflict) : Type 0 where
+  pub runs : Runs s d (front ++ map negation conflict.needed.items ∷ [])
+  pub number_is : conflict.number ≡ length front
+  pub held : HasAll (branch_of t) conflict.needed.items
   pub trail : IsTrail front t
   pub formulas : are_literals d.nodes (branch_of t) ≡ true
 
@@ -71,31 +83,56 @@ Retreats s d t front retreats.Turned = HasTurned s d t front
 Retreats s d t front retreats.Ended = HasEnded s d front
 
 -- whatever sequent the log is of
-abbrev pub RetreatsFrom : Derivation → Trail → ℕ → Derivation → Trail → Retreat → Type 0
-RetreatsFrom old_log old closed new_log new retreat = (s : Sequent) (front : List Clause) → IsClosed s old_log old front closed → Retreats s new_log new front retreat
+abbrev pub RetreatsFrom : Derivation → Trail → Conflict → Derivation → Trail → Retreat → Type 0
+RetreatsFrom old_log old conflict new_log new retreat = (s : Sequent) (front : List Clause) → IsClosed s old_log old front conflict → Retreats s new_log new front retreat
 
--- Where clauses say that the branch is not with a literal, and not with its negation, the log then says that it is not.
-abbrev pub JoinsSides : List Lit → ℕ → ℕ → Derivation → Derivation → Type 0
-JoinsSides branch other closed old new =
-    (s : Sequent) (all : List Clause) (literal : Lit) → Runs s old all → are_literals old.nodes branch ≡ true → IsUndecided branch literal → slice_get all other ≡ Some (map negation (branch ++ negation literal ∷ []))
-    → slice_get all closed ≡ Some (map negation (branch ++ literal ∷ [])) → Runs s new (all ++ map negation branch ∷ [])
+-- the literals but the one
+abbrev pub others_of : Lit → List Lit → List Lit
+others_of literal literals = filter (λ l. not (same_literal l literal)) literals
 
--- the other side of each of these decisions is closed
-abbrev pub AreTurned : List Decision → Type 0
-AreTurned [] = Unit {0}
-AreTurned (d ∷ others) = (d.closed ≡ None → ⊥) × AreTurned others
+-- A conflict needs the negation of a literal, another one the literal, and else both need literals of a list. The log then
+-- says that what they need else is not all true.
+pub record AreSides (all : List Clause) (branch : List Lit) (literal : Lit) (other conflict : Conflict) : Type 0 where
+  pub undecided : IsUndecided branch literal
+  pub first : IsConflict all (branch ++ negation literal ∷ []) other
+  pub needs : is_among other.needed.items (negation literal) ≡ true
+  pub second : IsConflict all (branch ++ literal ∷ []) conflict
 
--- Decisions from the end on, whose other sides are closed, are taken back, and the one before them is turned, whose other side was open.
+abbrev pub JoinsSides : Lit → Conflict → Conflict → Derivation → Derivation → Conflict → Type 0
+JoinsSides literal other conflict old new joined =
+    (s : Sequent) (all : List Clause) (branch : List Lit) → Runs s old all → are_literals old.nodes branch ≡ true → AreSides all branch literal other conflict
+    → Runs s new (all ++ map negation joined.needed.items ∷ []) × HasAll branch joined.needed.items
+
+-- Decisions from the end on are taken back, and the one before them is turned, whose other side was open.
 pub record IsTurned (old new : Trail) : Type 0 where
   pub kept : List Decision
   pub decision : Decision
   pub taken : List Decision
-  pub number : ℕ
+  pub conflict : Conflict
   pub old_is : old.decisions.items ≡ kept ++ decision ∷ taken
   pub side_open : decision.closed ≡ None
-  pub others_closed : AreTurned taken
-  pub new_is : new.decisions.items ≡ kept ++ turned decision.literal number ∷ []
+  pub new_is : new.decisions.items ≡ kept ++ turned decision.literal conflict ∷ []
 
 abbrev pub Turns : Trail → Trail → Retreat → Type 0
 Turns old new retreats.Turned = IsTurned old new
-Turns old new retreats.Ended = AreTurned old.decisions.items
+Turns old new retreats.Ended = Unit {0}
+
+-- there is no decision, or the other side of the last one is closed
+pub data IsKept (t : Trail) : Type 0 where
+  none_there : t.decisions.items ≡ [] → IsKept t
+  last_turned : (kept : List Decision) (last : Decision) → t.decisions.items ≡ kept ++ last ∷ [] → (last.closed ≡ None → ⊥) → IsKept t
+
+-- the other side of the last decision is open
+pub record IsFresh (t : Trail) : Type 0 where
+  pub kept : List Decision
+  pub literal : Lit
+  pub is : t.decisions.items ≡ kept ++ decided literal ∷ []
+
+abbrev pub TellsFresh : Trail → Bool → Type 0
+TellsFresh t true = IsFresh t
+TellsFresh t false = IsKept t
+
+-- the literals before the last decision, where its other side is open
+abbrev pub TellsBefore : Trail → Option (Vec Lit Global) → Type 0
+TellsBefore t (Some before) = (fresh : IsFresh t) × (before.items ≡ literals_of fresh.kept)
+TellsBefore t None = IsKept t

@@ -3,7 +3,9 @@
 #![tactic(auto)]
 
 mod decision;
+mod join;
 mod trail;
 
-pub use decision::Decision;
+pub use decision::{Conflict, Decision};
+pub use join::{holds, negations};
 pub use trail::{Retreat, Trail};

@@ -3,11 +3,13 @@ use Rattle.df_lemmas.proofs.Lists.{get_last}
 use Rattle.df_form.specs.Clause.{Clause, negation}
 use Rattle.df_form.specs.Log.{combination_of}
 use Rattle.df_row.specs.Linear.{linear_line}
+use Rattle.df_rules.specs.Propagation.{left, is_empty}
+use Rattle.df_rules.proofs.Results.{if_ok}
+use Rattle.df_closure.specs.Closure.{after}
 use Rattle.df_logbuild.specs.Runs.{Runs}
 use Rattle.df_trail.specs.Trail.{branch_of}
 use Rattle.df_branch.specs.Evidence.{IsShut}
 use Rattle.df_search.specs.Searching.{clauses_of}
-use Rattle.df_rules.proofs.Results.{if_ok}
 use Rattle.df_search.proofs.Refuting.{one_more_clause, linear_is, unsolvable_shut, unsolvable_left}
 use Rattle.df_search.proofs.searching.State.solve.Goals as goal
 
@@ -15,22 +17,27 @@ pub returns-clause-solves : goal.returns-clause-solves
 returns-clause-solves c =
     let old = c.args.self.now in
     let nodes = old.derivation.nodes in
-    let facts = c.args.facts.now in
+    let facts = c.args.facts.items in
     let branch = branch_of old.trail in
-    let conclusion = c.in_ok-conclusion.ensures in
+    let linear = c.in_ok-linear.linear in
+    let less = linear.facts.items in
     let log = c.refute.new.self in
-    let combinations = map combination_of c.args.combinations.items in
-    let clause = map negation facts in
+    let combinations = map combination_of linear.combinations.items in
+    let clause = map negation less in
+    let lent : c.deref-3.result.now ≡ clause = c.deref-3.ensures.value ∙ c.in_ok-clause.ensures ∙ ap (map negation) c.deref.ensures.value in
+    let conclusion : c.in_ok-conclusion.conclusion.items ≡ clause = c.in_ok-conclusion.ensures ∙ ap (map negation) c.deref-2.ensures.value in
     if_ok c.refute_by.result _ _ c.refute_by.ensures.refutes
-    (λ number refutes s rounds rows searches is refuted.
+    (λ conflict refutes s rounds rows searches is refuted.
     let all = searches.all in
+    let given = linear_is nodes facts rows (map combination_of c.args.combinations.items) is.formulas is.rows_are (refuted (length nodes)) in
     let line : linear_line nodes c.in_ok-conclusion.conclusion.items combinations ≡ Some c.in_ok-conclusion.conclusion.items =
-    ap (λ (ls : Clause). linear_line nodes ls combinations) conclusion ∙ linear_is nodes facts rows combinations is.formulas is.rows_are (refuted (length nodes)) ∙ ap (λ (ls : Clause). Some ls) (sym conclusion) in
+    ap (λ (ls : Clause). linear_line nodes ls combinations) conclusion ∙ c.in_ok-linear.ensures.1 given ∙ ap (λ (ls : Clause). Some ls) (sym conclusion) in
     let runs : Runs s log (all ++ clause ∷ []) = subst (λ (ls : Clause). Runs s log (all ++ ls ∷ [])) conclusion (c.in_ok-number.ensures.added s all searches.is.runs line) in
     let number_is : c.in_ok-number.number ≡ length all = c.in_ok-number.ensures.number ∙ sym searches.is.runs.count in
+    let there = ap (slice_get (all ++ clause ∷ [])) number_is ∙ get_last all clause ∙ ap (λ (ls : Clause). Some ls) (sym lent) in
     record {
       front = all ++ clause ∷ [];
-      is = refutes s rounds (all ++ clause ∷ []) is.learned clause (one_more_clause s rounds all old searches.is log c.refute.ensures.nodes clause runs)
+      is = refutes s rounds (all ++ clause ∷ []) is.learned (one_more_clause s rounds all old searches.is log c.refute.ensures.nodes clause runs)
           (subst (λ ns. IsShut ns (clauses_of old) branch) (sym c.refute.ensures.nodes) (unsolvable_shut (clauses_of old) nodes branch facts c.args.reasons.now rows is))
-          is.closed (ap (slice_get (all ++ clause ∷ [])) number_is ∙ get_last all clause) (unsolvable_left (clauses_of old) nodes branch facts c.args.reasons.now rows is);
+          is.closed there (ap (λ (ls : Clause). is_empty (left (after branch is.learned) ls)) lent ∙ unsolvable_left (clauses_of old) nodes branch facts less c.args.reasons.now rows is c.in_ok-linear.ensures.0);
     })

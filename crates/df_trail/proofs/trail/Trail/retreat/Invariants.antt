@@ -6,7 +6,7 @@ use Rattle.df_trail.proofs.trail.Trail.retreat.Given as goal
 
 abbrev pub invariant-loop-decision : goal.invariant-loop-decision
 invariant-loop-decision l = record {
-  retreating : IsRetreating l.initial.derivation l.initial.self l.closed l.derivation l.self l.number;
+  retreating : IsRetreating l.initial.derivation l.initial.self l.fn.first l.derivation l.self l.conflict;
   nodes : l.derivation.nodes ≡ l.initial.derivation.nodes;
   shorter : IsShorter l.initial.self l.self;
   longer : length l.initial.derivation.lines.items ≤ length l.derivation.lines.items;
