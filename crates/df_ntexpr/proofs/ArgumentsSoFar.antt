@@ -1,29 +1,16 @@
 -- The steps of the loop over the arguments of a call.
-use Rattle.std.proofs.Common.{◌≡◌, ℕ, zero, suc, ◌+◌, ◌<◌, ◌≤◌, List, [], ◌∷◌, length, map, drop, get_or, slice_get, Option, Some, Ok, Err, refl, sym, ap, ◌∙◌}
-use Rattle.std.proofs.lemmas.List.{drop_all, drop-drop, drop_more}
+use Rattle.std.proofs.Common.{◌≡◌, ℕ, ◌+◌, ◌<◌, ◌≤◌, List, ◌∷◌, length, map, drop, get_or, slice_get, Option, Some, Ok, Err, refl, sym, ap, ◌∙◌}
+use Rattle.std.proofs.lemmas.List.{drop_all, drop_more}
 use Rattle.df_lang.specs.declared.ty.Ty.{Ty}
 use Rattle.df_ntree.specs.Expr as tree
 use Rattle.df_ntree.specs.declared.expr.Expr.{Expr}
 use Rattle.df_ntyping.specs.Environment.{Environment}
-use Rattle.df_ntyping.specs.ExprNodes.{first_place, other_places}
 use Rattle.df_ntyping.specs.mirror.Parts.{Answer, and_then, inside, void}
 use Rattle.df_ntyping.specs.mirror.Looking.{given, look, look_arguments}
+use Rattle.df_ntyping.proofs.ArgumentPlaces.{first_at, others_at}
 use Rattle.df_ntexpr.specs.declared.broken.Halt.{Halt}
 use Rattle.df_ntexpr.specs.declared.broken.Halt.TheVariants as halts
 use Rattle.df_ntexpr.specs.Parts.{Gives}
-
-first_at : (places : List Ty) (i : ℕ) → first_place (map Some (drop i places)) ≡ slice_get places i
-first_at [] zero = refl
-first_at [] (suc i) = refl
-first_at (ty ∷ others) zero = refl
-first_at (ty ∷ others) (suc i) = first_at others i
-
-others_of : (types : List Ty) → other_places (map Some types) ≡ map Some (drop 1 types)
-others_of [] = refl
-others_of (ty ∷ others) = refl
-
-others_at : (places : List Ty) (i : ℕ) → other_places (map Some (drop i places)) ≡ map Some (drop (i + 1) places)
-others_at places i = others_of (drop i places) ∙ ap (map Some) (drop-drop 1 i places)
 
 module _ (env : Environment) (places : List Ty) (items : List Expr) where
   -- of the arguments from a number on

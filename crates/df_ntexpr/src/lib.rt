@@ -29,6 +29,7 @@ use broken::Halt;
 use df_base::{Global, Stop};
 use df_nenv::Environment;
 use df_ntree::Expr;
+pub use looking::{argument_count, place_at};
 pub use part::Typed;
 
 /// The type and the typed expression of an expression: at a place it is converted to its type. The least rule

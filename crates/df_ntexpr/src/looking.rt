@@ -472,7 +472,7 @@ fn argument(alloc: Global, env: &Environment<'_>, place: Option<Ty>, e: &Expr) -
 }
 
 /// The type of the place of a number, if there is one.
-fn place_at(places: &[Ty], i: usize) -> Option<Ty>
+pub fn place_at(places: &[Ty], i: usize) -> Option<Ty>
     ensures { result ≡ slice_get places.now i }
 {
     match places.get(i) {
@@ -494,7 +494,7 @@ fn arguments(alloc: Global, env: &Environment<'_>, places: &[Ty], all: &[Expr]) 
 }
 
 /// The number of arguments.
-fn count(all: &[Expr]) -> usize
+pub fn argument_count(all: &[Expr]) -> usize
     ensures { result ≡ count (tree.arguments_of (map tree.expr_of all.now)) }
 {
     all.len()
@@ -512,7 +512,7 @@ fn call(
 {
     let signature = called(env, callee);
     arguments(alloc, env, places_of(signature), all)?;
-    let rule = call_rule(signature, count(all));
+    let rule = call_rule(signature, argument_count(all));
     Err(breach(rule, beginning_of(callee), true))
 }
 

@@ -3,7 +3,7 @@
 ghost use Rattle.std.specs.Prelude.{◌≡◌, ◌<◌, ◌+◌, length, drop, ◌&&◌, ◌||◌, not, true, map, Some, None, if◌then◌else◌, IfOk, option_map};
 ghost use Rattle.df_lang.specs.ExprView as typed;
 ghost use Rattle.df_ntree.specs.Expr as tree;
-ghost use Rattle.df_ntyping.specs.Types as comparisons;
+ghost use Rattle.df_ntyping.specs.Types as types;
 ghost use Rattle.df_ntyping.specs.ExprTypes as shapes;
 ghost use Rattle.df_ntyping.specs.mirror.Parts.{type_of_operand, breach, or_start};
 ghost use Rattle.df_ntyping.specs.Rule as rules;
@@ -176,7 +176,7 @@ fn wrong_at(mut left: Option<Ty>, rows: &[Row<'_>]) -> Option<Broken>
 }
 
 fn rises(operator: BinaryOperator) -> bool
-    ensures { result ≡ comparisons.rises operator }
+    ensures { result ≡ types.rises operator }
 {
     match operator {
         BinaryOperator::Less | BinaryOperator::AtMost | BinaryOperator::Equal => true,
@@ -185,7 +185,7 @@ fn rises(operator: BinaryOperator) -> bool
 }
 
 fn falls(operator: BinaryOperator) -> bool
-    ensures { result ≡ comparisons.falls operator }
+    ensures { result ≡ types.falls operator }
 {
     match operator {
         BinaryOperator::Greater | BinaryOperator::AtLeast | BinaryOperator::Equal => true,
@@ -194,7 +194,7 @@ fn falls(operator: BinaryOperator) -> bool
 }
 
 fn all_rise(rest: &[Operation]) -> bool
-    ensures { result ≡ comparisons.all_of comparisons.rises (tree.members_of (map tree.operation_of rest.now)) }
+    ensures { result ≡ types.all_of types.rises (tree.members_of (map tree.operation_of rest.now)) }
 {
     for operation in rest {
         if !rises(operation.operator) {
@@ -205,7 +205,7 @@ fn all_rise(rest: &[Operation]) -> bool
 }
 
 fn all_fall(rest: &[Operation]) -> bool
-    ensures { result ≡ comparisons.all_of comparisons.falls (tree.members_of (map tree.operation_of rest.now)) }
+    ensures { result ≡ types.all_of types.falls (tree.members_of (map tree.operation_of rest.now)) }
 {
     for operation in rest {
         if !falls(operation.operator) {
@@ -216,14 +216,14 @@ fn all_fall(rest: &[Operation]) -> bool
 }
 
 fn is_single(rest: &[Operation]) -> bool
-    ensures { result ≡ comparisons.is_single (tree.members_of (map tree.operation_of rest.now)) }
+    ensures { result ≡ types.is_single (tree.members_of (map tree.operation_of rest.now)) }
 {
     rest.len() == 1
 }
 
 /// Whether a chain keeps its direction.
 fn keeps_direction(rest: &[Operation]) -> bool
-    ensures { result ≡ comparisons.keeps_direction (tree.members_of (map tree.operation_of rest.now)) }
+    ensures { result ≡ types.keeps_direction (tree.members_of (map tree.operation_of rest.now)) }
 {
     is_single(rest) || all_rise(rest) || all_fall(rest)
 }

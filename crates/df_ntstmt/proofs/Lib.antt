@@ -15,7 +15,6 @@ pub mod StatementsTold
 pub mod Looping
 mod LoopedSides
 mod Blocks
-mod Saying
 mod Listed
 mod LoopedStatements
 mod LoopedArguments

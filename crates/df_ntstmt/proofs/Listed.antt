@@ -1,11 +1,8 @@
 -- The steps of loops over places and results.
-use Rattle.std.proofs.Common.{◌≡◌, ℕ, zero, suc, ◌+◌, ◌<◌, ◌≤◌, Bool, true, false, ◌&&◌, List, [], ◌∷◌, ◌++◌, length, map, drop, get_or, slice_get, Option, Some, None, refl, sym, ap, ◌∙◌, arith, append_assoc, append-nil}
+use Rattle.std.proofs.Common.{◌≡◌, ℕ, zero, suc, ◌+◌, ◌<◌, ◌≤◌, Bool, true, ◌&&◌, List, [], ◌∷◌, ◌++◌, length, map, drop, get_or, slice_get, Option, Some, None, refl, sym, ap, ◌∙◌, arith, append_assoc, append-nil}
 use Rattle.std.proofs.lemmas.List.{drop_all, get_or_default}
 use Rattle.df_lang.specs.declared.ty.Ty.{Ty}
 use Rattle.df_lang.specs.Stmt as typed
-use Rattle.df_ntree.specs.declared.expr.Expr as declared
-use Rattle.df_ntree.specs.Expr as tree
-use Rattle.df_ntyping.specs.ExprNodes.{count}
 use Rattle.df_ntyping.specs.rules.Values.{are_given}
 use Rattle.df_ntstmt.specs.mirror.Steps.{or_int}
 use Rattle.df_ntstmt.specs.mirror.Sides.{conversions, is_given}
@@ -20,11 +17,6 @@ map_step f items i item before total one lt is made so_far =
 
 pub copy_step : {T W : Type 0} (f : T → W) (items : List T) (i : ℕ) (d : T) (before total : List W) (one : W) → i < length items → one ≡ f (get_or items i d) → before ++ map f (drop i items) ≡ total → (before ++ one ∷ []) ++ map f (drop (i + 1) items) ≡ total
 copy_step f items i d before total one lt made so_far = map_step f items i (get_or items i d) before total one lt (get_or_default items i d (get_or items i d) lt) made so_far
-
--- as many arguments as expressions
-pub counted : (all : List declared.Expr) → length all ≡ count (tree.arguments_of (map tree.expr_of all))
-counted [] = refl
-counted (x ∷ all) = ap suc (counted all)
 
 -- ---- places one after another
 
@@ -60,18 +52,9 @@ given_goes places results i d place total lt here holds so_far =
     sym (ap (λ (b : Bool). b && are_given (drop (i + 1) places) (map Some (drop (i + 1) results))) holds)
     ∙ sym (λ j. are_given (place_next i places place here j) (known_next results i d lt j)) ∙ so_far
 
-pub given_stops : (places : List (Option Ty)) (results : List Ty) (i : ℕ) (d : Ty) (place : Option Ty) (total : Bool) → i < length results → slice_get places i ≡ Some place → is_given place (Some (get_or results i d)) ≡ false
-    → are_given (drop i places) (map Some (drop i results)) ≡ total → false ≡ total
-given_stops places results i d place total lt here fails so_far =
-    sym (ap (λ (b : Bool). b && are_given (drop (i + 1) places) (map Some (drop (i + 1) results))) fails)
-    ∙ sym (λ j. are_given (place_next i places place here j) (known_next results i d lt j)) ∙ so_far
-
 given_none : (places : List (Option Ty)) → are_given places [] ≡ true
 given_none [] = refl
 given_none (place ∷ places) = refl
-
-pub given_past : (places : List (Option Ty)) (results : List Ty) (i : ℕ) (total : Bool) → slice_get places i ≡ None → are_given (drop i places) (map Some (drop i results)) ≡ total → true ≡ total
-given_past places results i total none so_far = sym (ap (λ (all : List (Option Ty)). are_given all (map Some (drop i results))) (no_more_places i places none)) ∙ so_far
 
 pub given_done : (places : List (Option Ty)) (results : List Ty) (i : ℕ) (total : Bool) → length results ≤ i → are_given (drop i places) (map Some (drop i results)) ≡ total → true ≡ total
 given_done places results i total le so_far = sym (ap (λ (all : List Ty). are_given (drop i places) (map Some all)) (drop_all i results le) ∙ given_none (drop i places)) ∙ so_far

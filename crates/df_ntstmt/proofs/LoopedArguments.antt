@@ -1,31 +1,18 @@
 -- The steps of the loop over the arguments of a call.
-use Rattle.std.proofs.Common.{◌≡◌, ℕ, zero, suc, ◌+◌, ◌<◌, ◌≤◌, List, [], ◌∷◌, ◌++◌, length, map, drop, get_or, append-nil, slice_get, Option, Some, Ok, Err, refl, sym, ap, ◌∙◌}
-use Rattle.std.proofs.lemmas.List.{drop_all, drop-drop}
+use Rattle.std.proofs.Common.{◌≡◌, ℕ, ◌+◌, ◌<◌, ◌≤◌, List, [], ◌∷◌, ◌++◌, length, map, drop, get_or, append-nil, slice_get, Option, Some, Ok, Err, refl, sym, ap, ◌∙◌}
+use Rattle.std.proofs.lemmas.List.{drop_all}
 use Rattle.df_base.specs.declared.refusal.Stop.{Stop}
 use Rattle.df_lang.specs.Expr as typed
 use Rattle.df_lang.specs.declared.ty.Ty.{Ty}
 use Rattle.df_ntree.specs.Expr.{expr_of, arguments_of}
 use Rattle.df_ntree.specs.declared.expr.Expr.{Expr}
 use Rattle.df_ntyping.specs.Environment.{Environment}
-use Rattle.df_ntyping.specs.ExprNodes.{first_place, other_places}
 use Rattle.df_ntyping.specs.mirror.Parts.{Typed}
+use Rattle.df_ntyping.proofs.ArgumentPlaces.{first_at, others_at}
 use Rattle.df_ntexpr.specs.Replies.{Reply, Replies}
 use Rattle.df_ntstmt.specs.mirror.Steps.{and_then, in_front, typed_in, wanted_at}
 use Rattle.df_ntstmt.specs.mirror.Sides.{arguments_in}
 use Rattle.df_ntstmt.proofs.Looping.{cut, front_goes, front_stops}
-
-first_at : (places : List Ty) (i : ℕ) → first_place (map Some (drop i places)) ≡ slice_get places i
-first_at [] zero = refl
-first_at [] (suc i) = refl
-first_at (ty ∷ others) zero = refl
-first_at (ty ∷ others) (suc i) = first_at others i
-
-others_of : (types : List Ty) → other_places (map Some types) ≡ map Some (drop 1 types)
-others_of [] = refl
-others_of (ty ∷ others) = refl
-
-others_at : (places : List Ty) (i : ℕ) → other_places (map Some (drop i places)) ≡ map Some (drop (i + 1) places)
-others_at places i = others_of (drop i places) ∙ ap (map Some) (drop-drop 1 i places)
 
 no_front : {A : Type 0} (answer : Reply (List A)) → in_front [] answer ≡ answer
 no_front (Ok others) = refl

@@ -1,31 +1,19 @@
--- The steps of loops over arguments, right sides, left sides and declared locals.
-use Rattle.std.proofs.Common.{◌≡◌, ℕ, zero, suc, ◌+◌, ◌<◌, ◌≤◌, Bool, true, false, List, [], ◌∷◌, ◌++◌, length, map, drop, get_or, slice_get, Option, Some, None, Ok, Err, refl, sym, ap, subst, ◌∙◌, arith}
-use Rattle.std.proofs.lemmas.List.{drop_more}
+-- The steps of loops over right sides and left sides.
+use Rattle.std.proofs.Common.{◌≡◌, ℕ, zero, suc, ◌+◌, ◌<◌, ◌≤◌, List, [], ◌∷◌, ◌++◌, length, map, drop, get_or, Option, Ok, Err, refl, sym, ap, subst, ◌∙◌, arith}
 use Rattle.df_base.specs.declared.refusal.Stop.{Stop}
 use Rattle.df_lang.specs.declared.ty.Ty.{Ty}
-use Rattle.df_lang.specs.Expr as typed_expr
 use Rattle.df_lang.specs.Stmt as typed
 use Rattle.df_ntree.specs.declared.expr.Expr as declared
-use Rattle.df_ntree.specs.declared.file.Local as declared_local
 use Rattle.df_ntree.specs.Expr as tree
-use Rattle.df_ntree.specs.Expr.{Expr, arguments_of}
 use Rattle.df_ntyping.specs.Environment.{Environment}
 use Rattle.df_ntyping.specs.ExprNodes.{first_place, other_places}
-use Rattle.df_ntyping.specs.mirror.Parts.{Typed}
 use Rattle.df_ntexpr.specs.Replies.{Reply, Replies}
 use Rattle.df_ntstmt.specs.declared.places.Place.{Place}
-use Rattle.df_ntstmt.specs.mirror.Steps as steps
-use Rattle.df_ntstmt.specs.mirror.Steps.{and_then, in_front, typed_in, wanted_at, unless}
-use Rattle.df_ntstmt.specs.mirror.Sides.{arguments_in, source_in, apart_in, sources_in, place_in, places_in, is_settled, is_unfixed_at, variable_place, variables_in}
+use Rattle.df_ntstmt.specs.mirror.Steps.{and_then, in_front}
+use Rattle.df_ntstmt.specs.mirror.Sides.{source_in, apart_in, sources_in, place_in, places_in}
 use Rattle.df_ntstmt.proofs.Looping.{cut, front_goes, front_stops}
 
 -- ---- places
-
-pub first_behind : (i : ℕ) (places : List Ty) → first_place (map Some (drop i places)) ≡ slice_get places i
-first_behind zero [] = refl
-first_behind zero (ty ∷ places) = refl
-first_behind (suc i) [] = refl
-first_behind (suc i) (ty ∷ places) = first_behind i places
 
 others_after : (i : ℕ) (places : List (Option Ty)) → other_places (drop i places) ≡ drop (suc i) places
 others_after zero [] = refl
@@ -33,35 +21,8 @@ others_after zero (ty ∷ places) = refl
 others_after (suc i) [] = refl
 others_after (suc i) (ty ∷ places) = others_after i places
 
-pub others_behind : (i : ℕ) (places : List (Option Ty)) → other_places (drop i places) ≡ drop (i + 1) places
+others_behind : (i : ℕ) (places : List (Option Ty)) → other_places (drop i places) ≡ drop (i + 1) places
 others_behind i places = let next : suc i ≡ i + 1 = omega arith in others_after i places ∙ ap (λ (n : ℕ). drop n places) next
-
-known_after : (i : ℕ) (places : List Ty) → other_places (map Some (drop i places)) ≡ map Some (drop (suc i) places)
-known_after zero [] = refl
-known_after zero (ty ∷ places) = refl
-known_after (suc i) [] = refl
-known_after (suc i) (ty ∷ places) = known_after i places
-
-known_behind : (i : ℕ) (places : List Ty) → other_places (map Some (drop i places)) ≡ map Some (drop (i + 1) places)
-known_behind i places = let next : suc i ≡ i + 1 = omega arith in known_after i places ∙ ap (λ (n : ℕ). map Some (drop n places)) next
-
--- ---- arguments
-
-argument_first : (env : Environment) (places : List Ty) (all : List declared.Expr) (i : ℕ) (e : declared.Expr) → i < length all → e ≡ get_or all i e
-    → arguments_in env (map Some (drop i places)) (arguments_of (map tree.expr_of (drop i all))) ≡ and_then (typed_in env (wanted_at (slice_get places i)) (tree.expr_of e)) (λ (one : Typed). and_then (arguments_in env (map Some (drop (i + 1) places)) (arguments_of (map tree.expr_of (drop (i + 1) all)))) (λ (others : List typed_expr.Expr). Ok (one.expr ∷ others)))
-argument_first env places all i e lt is =
-    let rest = arguments_of (map tree.expr_of (drop (i + 1) all)) in
-    ap (λ (es : List Expr). arguments_in env (map Some (drop i places)) (arguments_of es)) (cut tree.expr_of all i e lt is)
-    ∙ λ j. and_then (typed_in env (wanted_at (first_behind i places j)) (tree.expr_of e)) (λ (one : Typed). and_then (arguments_in env (known_behind i places j) rest) (λ (others : List typed_expr.Expr). Ok (one.expr ∷ others)))
-
-pub argument_goes : (env : Environment) (places : List Ty) (all : List declared.Expr) (i : ℕ) (e : declared.Expr) (before : List typed_expr.Expr) (one : Typed) (total : Reply (List typed_expr.Expr)) → i < length all → e ≡ get_or all i e
-    → typed_in env (wanted_at (slice_get places i)) (tree.expr_of e) ≡ Ok one → in_front before (arguments_in env (map Some (drop i places)) (arguments_of (map tree.expr_of (drop i all)))) ≡ total
-    → in_front (before ++ one.expr ∷ []) (arguments_in env (map Some (drop (i + 1) places)) (arguments_of (map tree.expr_of (drop (i + 1) all)))) ≡ total
-argument_goes env places all i e before one total lt is made so_far = front_goes (λ (t : Typed). t.expr) before _ one _ _ total (argument_first env places all i e lt is) made so_far
-
-pub argument_stops : {X Z : Type 0} (v : X → Typed) (w : Z → List typed_expr.Expr) (stop : Stop) (env : Environment) (places : List Ty) (all : List declared.Expr) (i : ℕ) (e : declared.Expr) (before : List typed_expr.Expr) (total : Reply (List typed_expr.Expr)) → i < length all → e ≡ get_or all i e
-    → Replies v (Err stop) (typed_in env (wanted_at (slice_get places i)) (tree.expr_of e)) → in_front before (arguments_in env (map Some (drop i places)) (arguments_of (map tree.expr_of (drop i all)))) ≡ total → Replies w (Err stop) total
-argument_stops v w stop env places all i e before total lt is told so_far = front_stops v w stop before _ _ _ total (argument_first env places all i e lt is) told so_far
 
 -- ---- right sides
 
@@ -104,23 +65,3 @@ place_goes env all i e before one total lt is made so_far = front_goes (λ (x : 
 pub place_stops : {X Z : Type 0} (v : X → Place) (w : Z → List Place) (stop : Stop) (env : Environment) (all : List declared.Expr) (i : ℕ) (e : declared.Expr) (before : List Place) (total : Reply (List Place)) → i < length all → e ≡ get_or all i e
     → Replies v (Err stop) (place_in env (tree.expr_of e)) → in_front before (places_in env (map tree.expr_of (drop i all))) ≡ total → Replies w (Err stop) total
 place_stops v w stop env all i e before total lt is told so_far = front_stops v w stop before _ _ _ total (place_first env all i e lt is) told so_far
-
--- ---- declared locals
-
-variable_first : (env : Environment) (n : ℕ) (values : List Expr) (all : List declared_local.Local) (i : ℕ) (local : declared_local.Local) → i < length all → local ≡ get_or all i local
-    → variables_in env (n + i) values (drop i all) ≡ and_then (unless (is_settled local.ty values (is_unfixed_at env (n + i))) (steps.uninferred local.name)) (λ (held : Unit {0}). and_then (variables_in env (n + (i + 1)) values (drop (i + 1) all)) (λ (others : List Place). Ok (variable_place env (n + i) local.name ∷ others)))
-variable_first env n values all i local lt is =
-    let next : suc (n + i) ≡ n + (i + 1) = omega arith in
-    ap (variables_in env (n + i) values) (drop_more all i local lt ∙ ap (λ (x : declared_local.Local). x ∷ drop (i + 1) all) (sym is))
-    ∙ ap (λ (number : ℕ). and_then (unless (is_settled local.ty values (is_unfixed_at env (n + i))) (steps.uninferred local.name)) (λ (held : Unit {0}). and_then (variables_in env number values (drop (i + 1) all)) (λ (others : List Place). Ok (variable_place env (n + i) local.name ∷ others)))) next
-
-pub variable_goes : (env : Environment) (n : ℕ) (values : List Expr) (all : List declared_local.Local) (i : ℕ) (local : declared_local.Local) (before : List Place) (total : Reply (List Place)) → i < length all → local ≡ get_or all i local
-    → is_settled local.ty values (is_unfixed_at env (n + i)) ≡ true → in_front before (variables_in env (n + i) values (drop i all)) ≡ total → in_front (before ++ variable_place env (n + i) local.name ∷ []) (variables_in env (n + (i + 1)) values (drop (i + 1) all)) ≡ total
-variable_goes env n values all i local before total lt is settled so_far =
-    let held = ap (λ (b : Bool). unless b (steps.uninferred local.name)) settled in
-    front_goes (λ (done : Unit {0}). variable_place env (n + i) local.name) before _ tt _ _ total (variable_first env n values all i local lt is) held so_far
-
-pub variable_stops : (env : Environment) (n : ℕ) (values : List Expr) (all : List declared_local.Local) (i : ℕ) (local : declared_local.Local) (before : List Place) (total : Reply (List Place)) → i < length all → local ≡ get_or all i local
-    → is_settled local.ty values (is_unfixed_at env (n + i)) ≡ false → in_front before (variables_in env (n + i) values (drop i all)) ≡ total → total ≡ Err (steps.uninferred local.name)
-variable_stops env n values all i local before total lt is settled so_far =
-    sym so_far ∙ ap (in_front before) (variable_first env n values all i local lt is ∙ ap (λ (b : Bool). and_then (unless b (steps.uninferred local.name)) (λ (held : Unit {0}). and_then (variables_in env (n + (i + 1)) values (drop (i + 1) all)) (λ (others : List Place). Ok (variable_place env (n + i) local.name ∷ others)))) settled)

@@ -47,10 +47,6 @@ pub clauses_stop : {X Z : Type 0} (v : X → Clauses) (w : Z → Clauses) (stop 
 clauses_stop v w stops.Memory before answer go all total is h so_far = tt
 clauses_stop v w (stops.Refused refusal) before answer go all total is h so_far = sym so_far ∙ ap (behind_clauses before) (is ∙ ap (λ (reply : Reply Clauses). and_then reply go) h)
 
-pub none_before : (all : Reply Clauses) → behind_clauses (record { preconditions = []; postconditions = []; invariants = []; decreases = None }) all ≡ all
-none_before (Ok all) = refl
-none_before (Err refusal) = refl
-
 clause_first : (parameters results : Environment) (owner : Owner) (all : List declared_clause.Clause) (i : ℕ) (item : declared_clause.Clause) → i < length all → item ≡ get_or all i item
     → clauses_in parameters results owner (map clause_of (drop i all)) ≡ and_then (clause_in (over_kind parameters results (clause_of item)) owner (clause_of item)) (λ (one : Clauses). and_then (clauses_in parameters results owner (map clause_of (drop (i + 1) all))) (λ (rest : Clauses). Ok (both one rest)))
 clause_first parameters results owner all i item lt is = ap (clauses_in parameters results owner) (cut clause_of all i item lt is)

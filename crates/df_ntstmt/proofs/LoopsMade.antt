@@ -37,15 +37,19 @@ module _ (env : Environment) (at : Pos) (guard : Expr) (clauses : List Clause) (
   abbrev behind : Heading → Reply typed.Stmt
   behind heading = and_then inner (ends heading)
 
-  loop_is : and_then (heading_in env guard clauses) behind ≡ statement_in env (While at guard clauses opens body)
-  loop_is = apart (typed_in env wanteds.Truth guard) (clauses_in env env OfLoop clauses) behind
+  -- the guard, and then the clauses
+  abbrev pub in_parts : Reply typed.Stmt
+  in_parts = and_then (typed_in env wanteds.Truth guard) (λ (condition : Typed). and_then (clauses_in env env OfLoop clauses) (λ (all : Clauses). behind (record { guard = condition; clauses = all })))
+
+  pub loop_is : in_parts ≡ statement_in env (While at guard clauses opens body)
+  loop_is = sym (apart (typed_in env wanteds.Truth guard) (clauses_in env env OfLoop clauses) behind)
 
   pub heading_stops : {X Z : Type 0} (v : X → Heading) (w : Z → typed.Stmt) (stop : Stop) → Replies v (Err stop) (heading_in env guard clauses) → Replies w (Err stop) (statement_in env (While at guard clauses opens body))
-  heading_stops v w stop told = stops_there v w stop (heading_in env guard clauses) behind (statement_in env (While at guard clauses opens body)) told loop_is
+  heading_stops v w stop told = stops_there v w stop (heading_in env guard clauses) behind (statement_in env (While at guard clauses opens body)) told refl
 
   module _ (heading : Heading) (made : heading_in env guard clauses ≡ Ok heading) where
     headed : behind heading ≡ statement_in env (While at guard clauses opens body)
-    headed = sym (ap (λ (reply : Reply Heading). and_then reply behind) made) ∙ loop_is
+    headed = sym (ap (λ (reply : Reply Heading). and_then reply behind) made)
 
     pub body_stops : {X Z : Type 0} (v : X → typed.Stmts) (w : Z → typed.Stmt) (stop : Stop) → Replies v (Err stop) inner → Replies w (Err stop) (statement_in env (While at guard clauses opens body))
     body_stops v w stop told = stops_there v w stop inner (ends heading) (statement_in env (While at guard clauses opens body)) told headed

@@ -22,9 +22,10 @@ use Rattle.df_ntyping.proofs.FirstFault.{NoNames}
 use Rattle.df_ntyping.proofs.SoundNodes as kinds
 use Rattle.df_ntyping.proofs.SoundNodes.{sound}
 use Rattle.df_ntyping.proofs.Verdict.{HaveTypes, types_left, types_right}
+use Rattle.df_ntexpr.specs.Replies.{Reply}
 use Rattle.df_ntstmt.specs.mirror.Steps.{and_then, broken, unless}
 use Rattle.df_ntstmt.specs.mirror.Clauses.{over_kind}
-use Rattle.df_ntstmt.specs.mirror.Statements.{measured}
+use Rattle.df_ntstmt.specs.mirror.Statements.{is_measured}
 use Rattle.df_ntstmt.proofs.Judging.{met_typing, Judged, silent_sound}
 use Rattle.df_ntstmt.proofs.ClausesTold.{kinds_nodes, ClauseTypes}
 
@@ -36,6 +37,10 @@ loop_only env guard clauses pos rule h = absurd cc
 
 abbrev pub loop_at : Environment → ℕ → Pos → Expr → List Clause → Pos → Statements → Occurrence
 loop_at env start pos guard clauses opens body = occurrence env (nodes.Loop guard clauses pos) start (start + length (spell_statement (While pos guard clauses opens body)))
+
+-- it has a measure
+abbrev pub measured : Environment → Pos → Expr → List Clause → Reply (Unit {0})
+measured env pos guard clauses = unless (is_measured env guard clauses) (broken rules.Clauses pos)
 
 pub measured_told : {A : Type 0} (Q : A → Type 0) (a : A) (env : Environment) (start : ℕ) (pos : Pos) (guard : Expr) (clauses : List Clause) (opens : Pos) (body : Statements) → NoNames (loop_at env start pos guard clauses opens body ∷ [])
     → ((list_any is_decreases clauses || has_measure env guard) ≡ true → Q a) → Judged (loop_at env start pos guard clauses opens body ∷ []) Q (and_then (measured env pos guard clauses) (λ (held : Unit {0}). Ok a))

@@ -17,6 +17,7 @@ use Rattle.df_ntyping.specs.LocalTypes.{names_in, used_names, used, types_of_val
 use Rattle.df_ntyping.specs.StatementElaboration.{AreOperands, AreStatements, AreBranches, IsOtherwise}
 use Rattle.df_ntyping.specs.Wanted as wanteds
 use Rattle.df_ntyping.specs.mirror.Parts.{Typed}
+use Rattle.df_ntexpr.specs.Replies.{Reply}
 use Rattle.df_ntyping.proofs.BehindLengths.{used_length, all_behind_length, branches_behind_length}
 use Rattle.df_ntyping.proofs.ElaboratedSides.{IsReady}
 use Rattle.df_ntyping.proofs.ElaboratedStatements.{enter_ready, loop_ready, past_ready, behind_ready}
@@ -35,12 +36,13 @@ use Rattle.df_ntyping.proofs.WalkedTypes.{Walks, used_typed}
 use Rattle.df_ntyping.proofs.WalkedStatements.{statement_walked, statements_walked, branches_walked, enter_walks, loop_walks, past_walks, behind_walks, marks_walks}
 use Rattle.df_ntstmt.specs.mirror.Steps.{and_then, typed_in}
 use Rattle.df_ntstmt.specs.mirror.Clauses.{Clauses, clauses_in, operands_in}
-use Rattle.df_ntstmt.specs.mirror.Statements.{measured, statement_in, statements_in, branches_in, otherwise_in}
+use Rattle.df_ntstmt.specs.mirror.Statements.{statement_in, statements_in, branches_in, otherwise_in}
 use Rattle.df_ntstmt.proofs.Judging.{Judged, judged_then, judged_step, judged_map, judged_as, judged_grouped, judged_none}
 use Rattle.df_ntstmt.proofs.ExprsTold.{IsTyped, expr_told}
 use Rattle.df_ntstmt.proofs.ClausesTold.{AreSaid, clauses_told, operands_told}
 use Rattle.df_ntstmt.proofs.SimpleTold.{semicolon, IsRight, var_told, assign_told, whole_told, give_back_told, break_told}
-use Rattle.df_ntstmt.proofs.LoopsTold.{loop_at, measured_told, loop_nodes, loop_types}
+use Rattle.df_ntstmt.proofs.LoopsTold.{loop_at, measured, measured_told, loop_nodes, loop_types}
+use Rattle.df_ntstmt.proofs.LoopsMade.{in_parts, loop_is}
 
 -- ---- names that are used have types
 
@@ -177,8 +179,10 @@ mutual
       (beyond_both (suc start) (suc start + width guard) body_nodes (whole_loop ∷ [])
       (beyond_segment (suc start) (suc start + width guard) (suc opening) (suc opening) (suc opening + inner) body_nodes body_order (omega arith))
       (beyond_one (suc start) (suc start + width guard) whole_loop (inl (omega (arith, size))))) in
-      judged_grouped (guard_nodes ++ the_clauses) body_nodes (whole_loop ∷ []) (IsRight whole statement) (statement_in whole statement)
-      (judged_grouped guard_nodes the_clauses (body_nodes ++ whole_loop ∷ []) (IsRight whole statement) (statement_in whole statement)
+      let parts = in_parts whole pos guard clauses opens body in
+      subst (λ (reply : Reply typed.Stmt). Judged (statement_nodes whole start statement) (IsRight whole statement) reply) (loop_is whole pos guard clauses opens body)
+      (judged_grouped (guard_nodes ++ the_clauses) body_nodes (whole_loop ∷ []) (IsRight whole statement) parts
+      (judged_grouped guard_nodes the_clauses (body_nodes ++ whole_loop ∷ []) (IsRight whole statement) parts
       (judged_then (suc start) (suc start) (suc start + width guard) guard_nodes (the_clauses ++ (body_nodes ++ whole_loop ∷ [])) (IsTyped whole wanteds.Truth guard) (IsRight whole statement) (typed_in whole wanteds.Truth guard)
       (λ (condition : Typed).
       and_then (clauses_in whole whole OfLoop clauses) (λ (all : Clauses).
@@ -202,7 +206,7 @@ mutual
       (loop_walks (over (enter one) (used_names one names one.types)) (enter whole) (enter_walks (over one (used_names one names one.types)) whole (marks_walks one whole names w))) kept g.2 body_range room (named_right (guard_nodes ++ the_clauses) body_nodes three))
       (λ stmts right.
       measured_told (IsRight whole statement) (typed.While pos condition.expr all.invariants all.decreases stmts) whole start pos guard clauses opens body (named_right (guard_nodes ++ the_clauses ++ body_nodes) (whole_loop ∷ []) n)
-      (λ has ready there. (condition.expr, all.invariants, all.decreases, stmts, truth.0, said.belong, said.invariants, said.decreases, has, right (loop_ready (enter whole) (enter_ready whole ready)) there, refl)))))))
+      (λ has ready there. (condition.expr, all.invariants, all.decreases, stmts, truth.0, said.belong, said.invariants, said.decreases, has, right (loop_ready (enter whole) (enter_ready whole ready)) there, refl))))))))
   statement_told one whole start (Return pos values) w kept g r room n = give_back_told whole start pos values g r (have_types one whole (flat_map names_in values) w kept) n
   statement_told one whole start (Break pos) w kept g r room n = break_told whole start pos n
   statement_told one whole start (Assert pos condition) w kept g r room n =

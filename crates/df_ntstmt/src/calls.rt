@@ -1,12 +1,12 @@
 //! Calls that are whole right sides or statements.
 
-ghost use Rattle.std.specs.Prelude.{◌≡◌, map, option_map, slice_get, Some};
+ghost use Rattle.std.specs.Prelude.{◌≡◌, map, option_map, Some};
 ghost use Rattle.df_lang.specs.ExprView as typed;
 ghost use Rattle.df_lang.specs.StmtView.{call_of};
 ghost use Rattle.df_ntree.specs.Expr as tree;
 ghost use Rattle.df_ntyping.specs.Meaning.{called_signature, as_method, meaning_of};
 ghost use Rattle.df_ntyping.specs.LocalTypes.{results_of_call};
-ghost use Rattle.df_ntyping.specs.ExprNodes.{places_of, count};
+ghost use Rattle.df_ntyping.specs.ExprNodes.{places_of};
 ghost use Rattle.df_nenv.specs.Environments.{callee_from};
 ghost use Rattle.df_ntexpr.specs.Parts.{typed_of};
 ghost use Rattle.df_ntexpr.specs.Replies.{Replies};
@@ -21,7 +21,7 @@ use df_lang::{Call, DeclId, Ty};
 use df_nenv::{Environment, called};
 use df_nnames::Method;
 use df_nrules::beginning_of;
-use df_ntexpr::{Typed, Wanted, walked};
+use df_ntexpr::{Typed, Wanted, argument_count, place_at, walked};
 use df_ntree::{Expr, Ident};
 
 /// An expression at a place, if the type of that is known.
@@ -36,16 +36,6 @@ pub(crate) fn at_place(
     match place {
         Some(place) => walked(alloc, env, Wanted::Place(place), e),
         None => walked(alloc, env, Wanted::Nothing, e),
-    }
-}
-
-/// The type of the place of a number, if there is one.
-fn place_at(places: &[Ty], i: usize) -> Option<Ty>
-    ensures { result ≡ slice_get places.now i }
-{
-    match places.get(i) {
-        Some(ty) => Some(*ty),
-        None => None,
     }
 }
 
@@ -100,13 +90,6 @@ fn called_with(
     }
 }
 
-/// The number of arguments.
-fn count(all: &[Expr]) -> usize
-    ensures { result ≡ count (tree.arguments_of (map tree.expr_of all.now)) }
-{
-    all.len()
-}
-
 /// A call of what the name means.
 fn named_call(
     alloc: Global,
@@ -119,7 +102,7 @@ fn named_call(
 {
     let method = env.method(ident.name);
     let arguments = arguments(alloc, env, parameters_of(method), all)?;
-    let callee = called_with(goes, method, ident.pos, count(all))?;
+    let callee = called_with(goes, method, ident.pos, argument_count(all))?;
     Ok(Call {
         callee,
         name: ident.name,

@@ -5,7 +5,7 @@ ghost use Rattle.std.specs.List.{list_all};
 ghost use Rattle.df_lang.specs.StmtView.{conversion_of, source_of, update_of};
 ghost use Rattle.df_ntree.specs.Expr as tree;
 ghost use Rattle.df_ntyping.specs.ExprNodes as nodes;
-ghost use Rattle.df_ntyping.specs.LocalTypes as counts;
+ghost use Rattle.df_ntyping.specs.LocalTypes as local_types;
 ghost use Rattle.df_ntyping.specs.rules.Values.{are_given};
 ghost use Rattle.df_ntexpr.specs.Replies.{Replies};
 ghost use Rattle.df_ntstmt.specs.Rules.{typing_rule};
@@ -208,7 +208,7 @@ fn sources(
 
 /// How many values a right side gives, if that is known.
 fn values_of(env: &Environment<'_>, e: &Expr) -> Option<usize>
-    ensures { result ≡ counts.values_of env.now (tree.expr_of e.now) }
+    ensures { result ≡ local_types.values_of env.now (tree.expr_of e.now) }
 {
     match e {
         Expr::Call { callee, .. } => match called(env, callee) {
@@ -229,7 +229,7 @@ fn values_of(env: &Environment<'_>, e: &Expr) -> Option<usize>
 
 /// Whether a right side gives so many values. What is not known is not wrong.
 fn gives(env: &Environment<'_>, wanted: usize, e: &Expr) -> bool
-    ensures { result ≡ counts.is_count wanted (counts.values_of env.now (tree.expr_of e.now)) }
+    ensures { result ≡ local_types.is_count wanted (local_types.values_of env.now (tree.expr_of e.now)) }
 {
     match values_of(env, e) {
         Some(given) => given == wanted,
@@ -239,7 +239,7 @@ fn gives(env: &Environment<'_>, wanted: usize, e: &Expr) -> bool
 
 /// Whether each right side gives one value.
 fn give_one(env: &Environment<'_>, values: &[Expr]) -> bool
-    ensures { result ≡ list_all (λ value. counts.is_count 1 (counts.values_of env.now value)) (map tree.expr_of values.now) }
+    ensures { result ≡ list_all (λ value. local_types.is_count 1 (local_types.values_of env.now value)) (map tree.expr_of values.now) }
 {
     for e in values {
         if !gives(env, 1, e) {
@@ -251,7 +251,7 @@ fn give_one(env: &Environment<'_>, values: &[Expr]) -> bool
 
 /// Whether there are as many values as places.
 fn are_enough(env: &Environment<'_>, places: usize, values: &[Expr]) -> bool
-    ensures { result ≡ counts.are_enough env.now places (map tree.expr_of values.now) }
+    ensures { result ≡ local_types.are_enough env.now places (map tree.expr_of values.now) }
 {
     match values {
         [e] => gives(env, places, e),

@@ -72,3 +72,5 @@ pub mod ElaboratedFiles
 pub mod NamedFiles
 mod Alike
 mod OneRefusal
+pub mod ArgumentPlaces
+mod NamedExamples

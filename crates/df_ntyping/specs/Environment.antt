@@ -1,5 +1,5 @@
 -- Where a node stands: what the file declares, which locals are in scope, what is known of their types, and what is
--- around it.
+-- around it. How many locals a statement declares, and the environment behind it.
 use Rattle.std.specs.Prelude.{ℕ, suc, ◌+◌, Bool, true, List, [], ◌∷◌, ◌++◌, map, slice_get, Option, Some, None, length}
 use Rattle.df_lang.specs.declared.ty.Ty.{Ty}
 use Rattle.df_ntree.specs.declared.file.Local as declared_local
@@ -86,6 +86,9 @@ fixed_type inferred = None
 abbrev pub local_type : Environment → ℕ → Option Ty
 local_type env number = fixed_type (slice_get env.types number)
 
+-- ---- the environment behind a statement
+
+-- how many locals a statement declares, with those of the scopes inside it
 abbrev mutual
   pub locals_in : Statement → ℕ
   locals_in (Nested pos body) = locals_in_all body
@@ -111,6 +114,7 @@ abbrev mutual
   locals_in_otherwise without = 0
   locals_in_otherwise (otherwise opens body) = locals_in_all body
 
+-- what the statement declares itself is in scope behind it, and its inner scopes have ended
 abbrev pub behind : Environment → Statement → Environment
 behind env (Var pos locals values) = declare_variables env locals
 behind env statement = past env (locals_in statement)

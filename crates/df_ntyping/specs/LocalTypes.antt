@@ -1,5 +1,6 @@
 -- What fixes the types of a method's locals, in the order of the text: the type that is written, else that of the first
--- value, else that of the first assignment, unless the local is used before.
+-- value, else that of the first assignment, unless the local is used before. For it, and for the rules of assignments: how
+-- many values right sides give, and the types of places and of values.
 use Rattle.std.specs.Prelude.{ℕ, zero, suc, List, [], ◌∷◌, ◌++◌, map, Option, Some, None, ◌==◌, ◌&&◌, Bool, true, length, option_map}
 use Rattle.std.specs.List.{flat_map, list_all}
 use Rattle.df_lang.specs.declared.ty.Ty.{Ty}
@@ -62,6 +63,8 @@ used_names env (name ∷ others) types = used_names env others (fix_meaning (mea
 abbrev pub used : Environment → List Expr → List Inferred
 used env es = used_names env (flat_map names_in es) env.types
 
+-- ---- right sides
+
 -- how many values a right side gives, if it is known: a call as many as its method has results
 abbrev pub values_of : Environment → Expr → Option ℕ
 values_of env (Call callee arguments) = option_map (λ (signature : Signature). length signature.results) (called_signature env callee)
@@ -101,7 +104,7 @@ place_types env targets = map (place_type env) targets
 abbrev pub types_of_locals : Environment → List Local → List (Option Ty)
 types_of_locals env locals = map (λ (local : Local). local_type env local.number) locals
 
--- ---- left and right sides
+-- ---- places and their values
 
 -- the types of the values of a right side
 abbrev pub types_of_value : Environment → Expr → List (Option Ty)

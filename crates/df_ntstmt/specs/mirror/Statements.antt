@@ -32,9 +32,6 @@ whole_in env e = no_call_in env e
 abbrev pub is_measured : Environment → Expr → List Clause → Bool
 is_measured env guard clauses = list_any is_decreases clauses || has_measure env guard
 
-abbrev pub measured : Environment → Pos → Expr → List Clause → Reply (Unit {0})
-measured env pos guard clauses = unless (is_measured env guard clauses) (broken rules.Clauses pos)
-
 -- the guard and the clauses of a loop
 pub record Heading : Type 0 where
   pub guard : Typed
@@ -68,10 +65,8 @@ abbrev mutual
       and_then (branches_in first others) (λ (rest : typed.Branches).
       and_then (otherwise_in (past first (locals_in_branches others)) last) (λ (final : typed.Stmts). Ok (typed.If (typed.branch pos condition.expr inner rest) final)))))
   statement_in env (While pos guard clauses opens body) =
-      and_then (typed_in env wanteds.Truth guard) (λ (condition : Typed).
-      and_then (clauses_in env env OfLoop clauses) (λ (all : Clauses).
-      and_then (statements_in (inside_loop (enter env)) body) (λ (inner : typed.Stmts).
-      and_then (measured env pos guard clauses) (λ (held : Unit {0}). Ok (typed.While pos condition.expr all.invariants all.decreases inner)))))
+      and_then (heading_in env guard clauses) (λ (heading : Heading).
+      and_then (statements_in (inside_loop (enter env)) body) (λ (inner : typed.Stmts). looped_in (is_measured env guard clauses) heading pos inner))
   statement_in env (Return pos values) =
       and_then (may_update_in env rules.Returned pos (returned_places env pos env.results) values) (λ (update : Option typed.Update). Ok (typed.Return pos update))
   statement_in env (Break pos) = and_then (unless env.in_loop (broken rules.Broken pos)) (λ (held : Unit {0}). Ok (typed.Break pos))

@@ -1,5 +1,5 @@
 use Rattle.df_ntexpr.proofs.Opening.{counted}
-use Rattle.df_ntexpr.proofs.looking.count.Goals as goal
+use Rattle.df_ntexpr.proofs.looking.argument_count.Goals as goal
 
 pub returns : goal.returns
 returns c = counted c.args.all.now
