@@ -9,7 +9,7 @@ use Rattle.clap.specs.declared.builder.value_parser.ValueParser.TheVariants as p
 use Rattle.clap.proofs.ValueTestLemmas.{accepts-Accepts}
 use Rattle.df_ncmd.specs.Line.{Budget, Build, Bulk, Check, Command, IsBudget, IsInLimits, Prove, Run, Verify, budget_in, is_decimal, line_of, named, number_in, number_of, of_build, of_bulk, of_check, of_named, of_numbers, of_prove, of_run, of_verify, unless_faulty, value_of}
 use Rattle.df_ncmd.specs.Table.{table}
-use Rattle.df_ncmd.specs.Bounds.{most_steps, most_rounds, most_fuel, most_methods, most_seed}
+use Rattle.df_ncmd.specs.Limits.{step_limit, round_limit, fuel_limit, method_limit, seed_limit}
 
 text_in_limits : (least greatest : ℕ) (text : Text) (n : ℕ) → number_in least greatest text ≡ Some n → (least ≤ n) × (n ≤ greatest)
 text_in_limits least greatest text n is = go (is_unsigned_in least greatest text) refl (is_decimal text) is
@@ -31,16 +31,16 @@ number_in_limits id least greatest rows n is = go (first_of id rows) is
     go (Some text) is = text_in_limits least greatest text n is
 
 budget_in_limits : (rows : List Row) (b : Budget) → budget_in rows ≡ Some b → IsBudget b
-budget_in_limits rows b is = go (number_of (codes "steps") 1 most_steps rows) (number_of (codes "rounds") 0 most_rounds rows) refl refl is
+budget_in_limits rows b is = go (number_of (codes "steps") 1 step_limit rows) (number_of (codes "rounds") 0 round_limit rows) refl refl is
   where
-    go : (s r : Option ℕ) → number_of (codes "steps") 1 most_steps rows ≡ s → number_of (codes "rounds") 0 most_rounds rows ≡ r
+    go : (s r : Option ℕ) → number_of (codes "steps") 1 step_limit rows ≡ s → number_of (codes "rounds") 0 round_limit rows ≡ r
         → option_and_then (λ n. option_map (of_numbers n) r) s ≡ Some b → IsBudget b
     go None r steps rounds is = cc
     go (Some s) None steps rounds is = cc
     go (Some s) (Some r) steps rounds is =
         let same : of_numbers s r ≡ b = ap (λ (o : Option Budget). unwrap_or o b) is in
-        let low = number_in_limits (codes "steps") 1 most_steps rows s steps in
-        let high = number_in_limits (codes "rounds") 0 most_rounds rows r rounds in
+        let low = number_in_limits (codes "steps") 1 step_limit rows s steps in
+        let high = number_in_limits (codes "rounds") 0 round_limit rows r rounds in
         subst IsBudget same (low.0, low.1, high.1)
 
 module _ (command : Command) where
@@ -80,20 +80,20 @@ module _ (command : Command) where
   run_in_limits : (rows : List Row) → of_run rows ≡ Some command → IsInLimits command
   run_in_limits rows is =
       let proof = first_of (codes "proof") rows in
-      let fuel = number_of (codes "fuel") 0 most_fuel rows in
+      let fuel = number_of (codes "fuel") 0 fuel_limit rows in
       after (λ file. option_and_then (λ budget. option_map (Run file proof budget) fuel) (budget_in rows)) (first_of (codes "file") rows)
       (λ file found e. after (λ budget. option_map (Run file proof budget) fuel) (budget_in rows)
       (λ budget has d. mapped (Run file proof budget) fuel
-      (λ n given. (budget_in_limits rows budget has, (number_in_limits (codes "fuel") 0 most_fuel rows n given).1)) d) e) is
+      (λ n given. (budget_in_limits rows budget has, (number_in_limits (codes "fuel") 0 fuel_limit rows n given).1)) d) e) is
 
   bulk_in_limits : (rows : List Row) → of_bulk rows ≡ Some command → IsInLimits command
   bulk_in_limits rows is =
-      let count = number_of (codes "count") 1 most_methods rows in
-      after (λ seed. option_map (Bulk seed) count) (number_of (codes "seed") 0 most_seed rows)
+      let count = number_of (codes "count") 1 method_limit rows in
+      after (λ seed. option_map (Bulk seed) count) (number_of (codes "seed") 0 seed_limit rows)
       (λ seed has e. mapped (Bulk seed) count
       (λ n given.
-      let low = number_in_limits (codes "seed") 0 most_seed rows seed has in
-      let high = number_in_limits (codes "count") 1 most_methods rows n given in
+      let low = number_in_limits (codes "seed") 0 seed_limit rows seed has in
+      let high = number_in_limits (codes "count") 1 method_limit rows n given in
       (low.1, high.0, high.1)) e) is
 
   named_in_limits : (name : Text) (rows : List Row) → named name rows ≡ Some command → IsInLimits command

@@ -1,4 +1,4 @@
-pub mod Bounds
+pub mod Limits
 pub mod Table
 pub mod Line
 pub mod Fault

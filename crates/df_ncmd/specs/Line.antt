@@ -7,7 +7,7 @@ use Rattle.df_base.specs.Names.{same_text}
 use Rattle.clap.specs.Words.{Kinds, Row, Text, fault_of, first_of, subcommand_of}
 use Rattle.clap.specs.ValueTests.{is_unsigned_in}
 use Rattle.df_ncmd.specs.Table.{table}
-use Rattle.df_ncmd.specs.Bounds.{most_rounds, most_steps, most_fuel, most_methods, most_seed}
+use Rattle.df_ncmd.specs.Limits.{round_limit, step_limit, fuel_limit, method_limit, seed_limit}
 
 -- how much a search may do
 pub record Budget : Type 0 where
@@ -49,8 +49,8 @@ abbrev pub of_numbers : ℕ → ℕ → Budget
 of_numbers steps rounds = record { steps = steps; rounds = rounds }
 
 abbrev pub budget_in : List Row → Option Budget
-budget_in rows = option_and_then (λ steps. option_map (of_numbers steps) (number_of (codes "rounds") 0 most_rounds rows))
-    (number_of (codes "steps") 1 most_steps rows)
+budget_in rows = option_and_then (λ steps. option_map (of_numbers steps) (number_of (codes "rounds") 0 round_limit rows))
+    (number_of (codes "steps") 1 step_limit rows)
 
 -- ---- the command of a name, with what was given for its arguments
 
@@ -71,13 +71,13 @@ of_build rows =
 
 abbrev pub of_run : List Row → Option Command
 of_run rows = option_and_then (λ file. option_and_then (λ budget.
-    option_map (Run file (first_of (codes "proof") rows) budget) (number_of (codes "fuel") 0 most_fuel rows))
+    option_map (Run file (first_of (codes "proof") rows) budget) (number_of (codes "fuel") 0 fuel_limit rows))
     (budget_in rows))
     (first_of (codes "file") rows)
 
 abbrev pub of_bulk : List Row → Option Command
-of_bulk rows = option_and_then (λ seed. option_map (Bulk seed) (number_of (codes "count") 1 most_methods rows))
-    (number_of (codes "seed") 0 most_seed rows)
+of_bulk rows = option_and_then (λ seed. option_map (Bulk seed) (number_of (codes "count") 1 method_limit rows))
+    (number_of (codes "seed") 0 seed_limit rows)
 
 abbrev pub named : Text → List Row → Option Command
 named name rows =
@@ -107,7 +107,7 @@ line_of words = unless_faulty (fault_of table words) (option_and_then of_named (
 -- ---- limits
 
 abbrev pub IsBudget : Budget → Type 0
-IsBudget b = (1 ≤ b.steps) × (b.steps ≤ most_steps) × (b.rounds ≤ most_rounds)
+IsBudget b = (1 ≤ b.steps) × (b.steps ≤ step_limit) × (b.rounds ≤ round_limit)
 
 -- the numbers of a command lie within their limits
 abbrev pub IsInLimits : Command → Type 0
@@ -115,5 +115,5 @@ IsInLimits (Verify file budget) = IsBudget budget
 IsInLimits (Prove file budget) = IsBudget budget
 IsInLimits (Check file log) = ⊤
 IsInLimits (Build file proof budget) = IsBudget budget
-IsInLimits (Run file proof budget fuel) = IsBudget budget × (fuel ≤ most_fuel)
-IsInLimits (Bulk seed count) = (seed ≤ most_seed) × (1 ≤ count) × (count ≤ most_methods)
+IsInLimits (Run file proof budget fuel) = IsBudget budget × (fuel ≤ fuel_limit)
+IsInLimits (Bulk seed count) = (seed ≤ seed_limit) × (1 ≤ count) × (count ≤ method_limit)

@@ -1,9 +1,9 @@
 -- The table of commands, as a command of `clap` with one level of subcommands.
 use Rattle.std.specs.Prelude.{ℕ, true, false, List, [], ◌∷◌, ◌++◌, Some, codes}
-use Rattle.clap.specs.Words.{App, Rule, Shape, Text, new_rule, with_subcommand}
+use Rattle.clap.specs.Words.{App, Rule, Shape, Text, new_rule}
 use Rattle.clap.specs.Simple.{new_shape}
 use Rattle.clap.specs.declared.builder.value_parser.ValueParser.TheVariants as parsers
-use Rattle.df_ncmd.specs.Bounds.{most_steps, most_rounds, most_fuel, most_seed, most_methods}
+use Rattle.df_ncmd.specs.Limits.{step_limit, round_limit, fuel_limit, seed_limit, method_limit}
 
 -- a word in its place, which has to be there
 abbrev pub place : Text → Rule
@@ -30,42 +30,24 @@ with_arg s rule = record s { rules = s.rules ++ rule ∷ [] }
 abbrev pub proving : Text → Shape
 proving name = command name (
     place (codes "file")
-    ∷ with_default (numbered (option (codes "steps")) 1 most_steps) (codes "20000")
-    ∷ with_default (numbered (option (codes "rounds")) 0 most_rounds) (codes "4")
+    ∷ with_default (numbered (option (codes "steps")) 1 step_limit) (codes "20000")
+    ∷ with_default (numbered (option (codes "rounds")) 0 round_limit) (codes "4")
     ∷ [])
 
 abbrev pub compiling : Text → Shape
 compiling name = with_arg (proving name) (option (codes "proof"))
 
 abbrev pub running : Text → Shape
-running name = with_arg (compiling name) (with_default (numbered (option (codes "fuel")) 0 most_fuel) (codes "9223372036854775807"))
+running name = with_arg (compiling name) (with_default (numbered (option (codes "fuel")) 0 fuel_limit) (codes "9223372036854775807"))
 
 abbrev pub checking : Text → Shape
 checking name = command name (place (codes "file") ∷ place (codes "log") ∷ [])
 
 abbrev pub making : Text → Shape
 making name = command name (
-    numbered (place (codes "seed")) 0 most_seed
-    ∷ numbered (place (codes "count")) 1 most_methods
+    numbered (place (codes "seed")) 0 seed_limit
+    ∷ numbered (place (codes "count")) 1 method_limit
     ∷ [])
-
--- the program before its commands
-abbrev pub program : App
-program = record {
-  top = record (new_shape (codes "dfy")) {
-    no_binary_name = true;
-    subcommand_required = true;
-  };
-  subs = [];
-}
-
--- with the commands that prove a file
-abbrev pub with_provers : App → App
-with_provers a = with_subcommand (with_subcommand a (proving (codes "verify"))) (proving (codes "prove"))
-
--- with those that compile one
-abbrev pub with_compilers : App → App
-with_compilers a = with_subcommand (with_subcommand a (compiling (codes "build"))) (running (codes "run"))
 
 -- a command has to be named, and the words begin with its name
 abbrev pub table : App

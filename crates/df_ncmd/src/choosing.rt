@@ -6,8 +6,8 @@ ghost use Rattle.clap.specs.Words.{subcommand_rows_of};
 ghost use Rattle.df_ncmd.specs.Line.{named, of_build, of_bulk, of_check, of_named, of_prove, of_run, of_verify};
 ghost use Rattle.df_ncmd.specs.View.{Gives, ReadsLine, command_of, rows_in};
 
-use crate::bounds::{MOST_FUEL, MOST_METHODS, MOST_SEED};
 use crate::command::{Command, LineFault};
+use crate::limit::{FUEL_LIMIT, METHOD_LIMIT, SEED_LIMIT};
 use crate::reading::{budget, number, text, text_if_given};
 use crate::table::table;
 use clap::ArgMatches;
@@ -55,7 +55,7 @@ fn run(alloc: Global, given: &ArgMatches) -> Result<Command, LineFault>
 {
     let file = text(alloc, given, "file")?;
     let budget = budget(given)?;
-    let fuel = number(given, "fuel", 0, MOST_FUEL)?;
+    let fuel = number(given, "fuel", 0, FUEL_LIMIT)?;
     let proof = text_if_given(alloc, given, "proof")?;
     Ok(Command::Run {
         file,
@@ -68,8 +68,8 @@ fn run(alloc: Global, given: &ArgMatches) -> Result<Command, LineFault>
 fn bulk(given: &ArgMatches) -> Result<Command, LineFault>
     ensures { Gives command_of result (of_bulk (rows_in given.now)) }
 {
-    let seed = number(given, "seed", 0, MOST_SEED)?;
-    let count = number(given, "count", 1, MOST_METHODS)?;
+    let seed = number(given, "seed", 0, SEED_LIMIT)?;
+    let count = number(given, "count", 1, METHOD_LIMIT)?;
     Ok(Command::Bulk { seed, count })
 }
 

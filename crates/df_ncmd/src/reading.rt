@@ -7,8 +7,8 @@ ghost use Rattle.clap.specs.Words.{first_of};
 ghost use Rattle.df_ncmd.specs.Line.{budget_in, is_decimal, number_in, number_of, value_of, within};
 ghost use Rattle.df_ncmd.specs.View.{Gives, budget_of, rows_in};
 
-use crate::bounds::{MOST_ROUNDS, MOST_STEPS};
 use crate::command::{Budget, LineFault};
+use crate::limit::{ROUND_LIMIT, STEP_LIMIT};
 use clap::ArgMatches;
 use std::alloc::{AllocError, Global};
 
@@ -98,7 +98,7 @@ pub(crate) fn number(
 pub(crate) fn budget(given: &ArgMatches) -> Result<Budget, LineFault>
     ensures { Gives budget_of result (budget_in (rows_in given.now)) }
 {
-    let steps = number(given, "steps", 1, MOST_STEPS)?;
-    let rounds = number(given, "rounds", 0, MOST_ROUNDS)?;
+    let steps = number(given, "steps", 1, STEP_LIMIT)?;
+    let rounds = number(given, "rounds", 0, ROUND_LIMIT)?;
     Ok(Budget { steps, rounds })
 }

@@ -3,9 +3,10 @@
 ghost use Rattle.std.specs.Prelude.{◌≡◌, IfOk, codes};
 ghost use Rattle.clap.specs.Words.{app_of, with_subcommand};
 ghost use Rattle.df_ncmd.specs.Table as written;
+ghost use Rattle.df_ncmd.specs.Built as built;
 ghost use Rattle.df_ncmd.specs.Built.{IsArg, IsCommand};
 
-use crate::bounds::{MOST_FUEL, MOST_METHODS, MOST_ROUNDS, MOST_SEED, MOST_STEPS};
+use crate::limit::{FUEL_LIMIT, METHOD_LIMIT, ROUND_LIMIT, SEED_LIMIT, STEP_LIMIT};
 use clap::builder::ValueParser;
 use clap::{Arg, Command};
 use std::alloc::{AllocError, Global};
@@ -52,8 +53,8 @@ fn proving<'a>(alloc: Global, name: &'a str) -> Result<Command<'a>, AllocError>
 {
     Command::new(alloc, name)
         .arg(place(alloc, "file"))?
-        .arg(number_option(alloc, "steps", 1, MOST_STEPS, "20000"))?
-        .arg(number_option(alloc, "rounds", 0, MOST_ROUNDS, "4"))
+        .arg(number_option(alloc, "steps", 1, STEP_LIMIT, "20000"))?
+        .arg(number_option(alloc, "rounds", 0, ROUND_LIMIT, "4"))
 }
 
 /// A command that compiles a file, once it is proved or its log is checked.
@@ -68,7 +69,7 @@ fn running<'a>(alloc: Global, name: &'a str) -> Result<Command<'a>, AllocError>
     ensures { IfOk result (λ command. IsCommand command (written.running name.entry.now)) }
 {
     let command = compiling(alloc, name)?;
-    let fuel = number_option(alloc, "fuel", 0, MOST_FUEL, "9223372036854775807");
+    let fuel = number_option(alloc, "fuel", 0, FUEL_LIMIT, "9223372036854775807");
     command.arg(fuel)
 }
 
@@ -86,14 +87,14 @@ fn making<'a>(alloc: Global, name: &'a str) -> Result<Command<'a>, AllocError>
     ensures { IfOk result (λ command. IsCommand command (written.making name.entry.now)) }
 {
     Command::new(alloc, name)
-        .arg(number_place(alloc, "seed", 0, MOST_SEED))?
-        .arg(number_place(alloc, "count", 1, MOST_METHODS))
+        .arg(number_place(alloc, "seed", 0, SEED_LIMIT))?
+        .arg(number_place(alloc, "count", 1, METHOD_LIMIT))
 }
 
 /// The program before its commands, of which one has to be named. Its words don't begin with its
 /// name.
 fn program<'a>(alloc: Global) -> Command<'a>
-    ensures { app_of result ≡ written.program }
+    ensures { app_of result ≡ built.program }
 {
     Command::new(alloc, "dfy")
         .no_binary_name(true)
@@ -102,7 +103,7 @@ fn program<'a>(alloc: Global) -> Command<'a>
 
 /// The program with the commands that prove a file.
 fn with_provers<'a>(alloc: Global, program: Command<'a>) -> Result<Command<'a>, AllocError>
-    ensures { IfOk result (λ command. app_of command ≡ written.with_provers (app_of program.entry)) }
+    ensures { IfOk result (λ command. app_of command ≡ built.with_provers (app_of program.entry)) }
 {
     program
         .subcommand(proving(alloc, "verify")?)?
@@ -118,7 +119,7 @@ fn with_checker<'a>(alloc: Global, program: Command<'a>) -> Result<Command<'a>, 
 
 /// The program with the commands that compile a file.
 fn with_compilers<'a>(alloc: Global, program: Command<'a>) -> Result<Command<'a>, AllocError>
-    ensures { IfOk result (λ command. app_of command ≡ written.with_compilers (app_of program.entry)) }
+    ensures { IfOk result (λ command. app_of command ≡ built.with_compilers (app_of program.entry)) }
 {
     program
         .subcommand(compiling(alloc, "build")?)?

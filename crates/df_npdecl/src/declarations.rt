@@ -11,12 +11,9 @@ ghost use Rattle.df_npexpr.specs.Rest.{rest_of};
 use crate::nesting::block;
 use crate::parts::clauses;
 use df_base::{Global, Stop};
-use df_npexpr::{Cursor, syntax};
+use df_npexpr::{Cursor, HEIGHT_LIMIT, syntax};
 use df_ntree::{Declaration, Expr, Ident, MethodDeclaration, NewtypeDeclaration, Parameter};
 use df_tok::{Kind, Sign, Word};
-
-/// How many statements, blocks, types and expressions may stand inside one another.
-const HEIGHT: usize = 200;
 
 /// Takes `name: ty`.
 #[tactic(auto, unfolding(df_ntree::specs::mirror::FileReading::parameter_at))]
@@ -108,8 +105,8 @@ fn method(cursor: &mut Cursor, alloc: Global) -> Result<MethodDeclaration, Stop>
 {
     let (name, parameters) = method_head(cursor, alloc)?;
     let results = results(cursor, alloc)?;
-    let clauses = clauses(cursor, alloc, HEIGHT)?;
-    let body = block(cursor, alloc, HEIGHT)?;
+    let clauses = clauses(cursor, alloc, HEIGHT_LIMIT)?;
+    let body = block(cursor, alloc, HEIGHT_LIMIT)?;
     Ok(MethodDeclaration {
         name,
         parameters,
@@ -140,7 +137,7 @@ fn witness(cursor: &mut Cursor, alloc: Global) -> Result<Option<Expr>, Stop>
 {
     if cursor.word_stands(Word::Witness) {
         cursor.word(Word::Witness)?;
-        Ok(Some(cursor.expression(alloc, HEIGHT)?))
+        Ok(Some(cursor.expression(alloc, HEIGHT_LIMIT)?))
     } else {
         Ok(None)
     }
@@ -164,7 +161,7 @@ fn predicate(cursor: &mut Cursor, alloc: Global) -> Result<Expr, Stop>
     ensures { Reads (λ x. (expr_of x, rest_of cursor.new)) result (predicate_at (rest_of cursor.old)) }
 {
     cursor.sign(Sign::Bar)?;
-    cursor.expression(alloc, HEIGHT)
+    cursor.expression(alloc, HEIGHT_LIMIT)
 }
 
 /// Takes a newtype.

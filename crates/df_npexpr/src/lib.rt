@@ -26,8 +26,8 @@ use df_base::{Global, Stop};
 use df_ntree::{Expr, Level, TreeType};
 use df_tok::Tokens;
 
-/// How many expressions may stand inside one another.
-const HEIGHT: usize = 200;
+/// How many statements, blocks, types and expressions may stand inside one another.
+pub const HEIGHT_LIMIT: usize = 200;
 
 impl Cursor<'_, '_> {
     /// Takes an expression of at most the height `room`, up to a token that does not continue it.
@@ -66,7 +66,7 @@ pub fn expression(alloc: Global, tokens: &Tokens, start: usize) -> Result<(Expr,
 {
     let all = tokens.all.as_slice();
     let mut cursor = Cursor::new(all, start);
-    let tree = cursor.expression(alloc, HEIGHT)?;
+    let tree = cursor.expression(alloc, HEIGHT_LIMIT)?;
     Ok((tree, all.len() - cursor.len()))
 }
 

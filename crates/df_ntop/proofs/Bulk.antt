@@ -6,13 +6,14 @@ use Rattle.df_nproof.specs.Laws.{OutcomesAre}
 use Rattle.df_report.specs.Report.{summary}
 use Rattle.df_nproof.specs.Verified.{verified_outcomes}
 use Rattle.df_search.specs.declared.found.Budget as search
+use Rattle.df_ncmd.specs.Limits.{fuel_limit}
 use Rattle.df_ncmd.specs.Line.{Budget, Command, Verify, Prove, Check, Build, Run, Bulk}
 use Rattle.df_nmach.specs.State.{Code}
 use Rattle.df_ntop.specs.declared.machine.Ran.{Ran}
 use Rattle.df_ntop.specs.declared.machine.Ran.TheVariants as rans
 use Rattle.df_ntop.specs.declared.ending.End.{End}
 use Rattle.df_ntop.specs.declared.ending.End.TheVariants as ends
-use Rattle.df_ntop.specs.Call.{Streams, IsSilent, Rose, most_fuel}
+use Rattle.df_ntop.specs.Call.{Streams, IsSilent, Rose}
 use Rattle.df_ntop.specs.Command.{usual, compiles, runs, is_bulk}
 use Rattle.df_ntop.specs.Loaded.{LogFile}
 use Rattle.df_ntop.specs.Run.{IsRunOf, RunsMain}
@@ -87,7 +88,7 @@ module _ (program : Program) where
       main_behind whole run = record { rest = whole; is_rest = (number, code, accepted whole run); text_is = with_line whole }
 
       -- Main is run behind it
-      of_run : (ran : Ran) → RunsMain ran program code number most_fuel mid s.out.new → (ran ≡ rans.Write → Rose s.out.before s.out.after) → EndsSo (end_of ran)
+      of_run : (ran : Ran) → RunsMain ran program code number fuel_limit mid s.out.new → (ran ≡ rans.Write → Rose s.out.before s.out.after) → EndsSo (end_of ran)
       of_run rans.Ended (text, run, ended, put) rose =
           ((line ++ text, record { rest = text; is_rest = record { number = number; code = code; accepted = accepted text run; ended = ended }; text_is = with_line text }, behind s.out.old mid s.out.new line text first put), same)
       of_run rans.FuelSpent (whole, text, run, unended, put) rose =
@@ -101,5 +102,5 @@ module _ (program : Program) where
           let put = part_of_whole mid s.out.new cut.whole cut.text cut.unended.more cut.unended.is_part cut.puts in
           inr (inl ((line ++ cut.whole, inr (main_behind cut.whole cut.run), part_behind s.out.old mid s.out.new line cut.whole first put), same))
 
-      pub run_ends : (ran : Ran) (end : End) → end ≡ end_of ran → RunsMain ran program code number most_fuel mid s.out.new → (ran ≡ rans.Write → Rose s.out.before s.out.after) → EndsSo end
+      pub run_ends : (ran : Ran) (end : End) → end ≡ end_of ran → RunsMain ran program code number fuel_limit mid s.out.new → (ran ≡ rans.Write → Rose s.out.before s.out.after) → EndsSo end
       run_ends ran end is runs rose = subst EndsSo (sym is) (of_run ran runs rose)

@@ -8,6 +8,7 @@ use Rattle.df_form.specs.Log.{Step}
 use Rattle.df_lang.specs.Native.{IsNative}
 use Rattle.df_lang.specs.Program.{Program}
 use Rattle.df_logtext.specs.BadLog.{IsText, IsBad}
+use Rattle.df_ncmd.specs.Limits.{fuel_limit}
 use Rattle.df_ncmd.specs.Line.{Budget, Command, Verify, Prove, Check, Build, Run, Bulk}
 use Rattle.df_nmach.specs.Step as step
 use Rattle.df_nmach.specs.Step.{Stepped}
@@ -22,7 +23,7 @@ use Rattle.df_npass.specs.Laws.{OneListOfObligations}
 use Rattle.df_nproof.specs.Laws.{DerivedIsNotRefused}
 use Rattle.df_report.specs.Report.{summary}
 use Rattle.df_nproof.specs.Verified.{verified_outcomes}
-use Rattle.df_ntop.specs.Call.{Call, IsLine, most_fuel, IsSourceOf}
+use Rattle.df_ntop.specs.Call.{Call, IsLine, IsSourceOf}
 use Rattle.df_ntop.specs.Command.{IsNoLine, IsFileOf, file_of, log_of, usual, compiles, runs}
 use Rattle.df_ntop.specs.Entry.{HasNoEntry}
 use Rattle.df_ntop.specs.Loaded.{IsLonger, LogFile, NoLog, IsLogFile}
@@ -160,7 +161,7 @@ module _ (call : Call)
       (of_lawful (Bulk seed count) is.accepted.source log is.accepted.program statuses.Done is.accepted.lawful (record {
         not_native = λ h. absurd (h is.built.native);
         no_main = λ native none. absurd (none run.number run.main run.entry);
-        main = λ native number entry. inr (done_run is.accepted.program most_fuel line usual is.accepted.code is.built run);
+        main = λ native number entry. inr (done_run is.accepted.program fuel_limit line usual is.accepted.code is.built run);
       }))
 
   spent_due : (command : Command) (source : List ℕ) (log : LogFile) → HoldsSource call.files.held command source → HoldsLog call.files.held (log_of command) log → IsSpent call command → Due command source log statuses.FuelSpent
@@ -184,7 +185,7 @@ module _ (call : Call)
       (of_lawful (Bulk seed count) is.accepted.source log is.accepted.program statuses.FuelSpent is.accepted.lawful (record {
         not_native = λ h. absurd (h is.built.native);
         no_main = λ native none. absurd (none run.number run.main run.entry);
-        main = λ native number entry. inr (spent_run is.accepted.program most_fuel line usual is.accepted.code is.built run);
+        main = λ native number entry. inr (spent_run is.accepted.program fuel_limit line usual is.accepted.code is.built run);
       }))
 
   unproved_due : (command : Command) (source : List ℕ) (log : LogFile) → HoldsSource call.files.held command source → HoldsLog call.files.held (log_of command) log → IsUnproved call command → Due command source log statuses.Unproved

@@ -3,11 +3,12 @@ use Rattle.std.proofs.Common.{◌≡◌, ◌≢◌, inl, inr, ℕ, true, List, [
 use Rattle.df_base.specs.declared.status.Status.{Status}
 use Rattle.df_base.specs.declared.status.Status.TheVariants as statuses
 use Rattle.df_lang.specs.Program.{Program}
+use Rattle.df_ncmd.specs.Limits.{fuel_limit}
 use Rattle.df_ncmd.specs.Line.{Command, Verify, Prove, Check, Build, Run, Bulk}
 use Rattle.df_nmach.specs.State.{Code}
 use Rattle.df_report.specs.Report.{summary}
 use Rattle.df_nproof.specs.Verified.{verified_outcomes}
-use Rattle.df_ntop.specs.Call.{Call, Takes, TakesPrefix, IsSilent, IsLine, most_fuel}
+use Rattle.df_ntop.specs.Call.{Call, Takes, TakesPrefix, IsSilent, IsLine}
 use Rattle.df_ntop.specs.Headline.{Share, Whole, Spent, Part, HasPassedLine, EntryRun, IsPut, share_at, Accepts, Accepted, CorrectSource, judges}
 use Rattle.df_ntop.specs.Answer.{OfLine, Proved, IsDone, IsSpent, IsUnproved, IsPartOnOut, IsPartOnErr, PutSoFar, nothing, on_out, on_err, IsCutOnErr, Answers}
 use Rattle.df_ntop.specs.Answer as answers
@@ -53,7 +54,7 @@ module _ (call : Call) where
   part_of_spent (Run file proof budget fuel) is = with_put (Run file proof budget fuel) Spent Part is (as_part is.accepted.program is.accepted.code fuel [] is.accepted.put)
   part_of_spent (Bulk seed count) is =
       let program = is.accepted.program in
-      inr (with_put (Bulk seed count) Spent Part is (as_part program is.accepted.code most_fuel (summary (verified_outcomes program.decls)) is.accepted.put))
+      inr (with_put (Bulk seed count) Spent Part is (as_part program is.accepted.code fuel_limit (summary (verified_outcomes program.decls)) is.accepted.put))
 
   -- ---- what is put where a command accepts
 

@@ -2,6 +2,7 @@
 use Rattle.std.proofs.Common.{◌≡◌, inl, inr, ℕ, true, List, [], ◌++◌, Option, None, Some, sym, subst}
 use Rattle.df_base.specs.Outside.{AppendsPrefix}
 use Rattle.df_lang.specs.Program.{Program}
+use Rattle.df_ncmd.specs.Limits.{fuel_limit}
 use Rattle.df_ncmd.specs.Line.{Budget, Command, Verify, Prove, Check, Build, Run, Bulk}
 use Rattle.df_meaning.specs.Correct.{AreCorrect}
 use Rattle.df_nmach.specs.State.{Code}
@@ -9,7 +10,7 @@ use Rattle.df_nerase.specs.Erasing.{method_number}
 use Rattle.df_nfront.specs.Source.{IsLawful}
 use Rattle.df_report.specs.Report.{summary}
 use Rattle.df_nproof.specs.Verified.{verified_outcomes}
-use Rattle.df_ntop.specs.Call.{Store, Stream, Streams, Call, Takes, TakesPrefix, most_fuel, IsSourceOf}
+use Rattle.df_ntop.specs.Call.{Store, Stream, Streams, Call, Takes, TakesPrefix, IsSourceOf}
 use Rattle.df_ntop.specs.Command.{log_of, budget_of, usual}
 use Rattle.df_ntop.specs.Loaded.{LogFile, NoLog, TooLong, Log, IsLogFile}
 use Rattle.df_ntop.specs.Headline.{Share, Whole, Spent, Part, HasPut, EntryRun, IsPut, CorrectSource}
@@ -98,7 +99,7 @@ module _ (words : List (List ℕ)) (files : Store) (s : Streams) (err : Stream) 
       let line = summary (verified_outcomes program.decls) in
       let there_put = subst (Takes s.out) b.text_is put in
       proved (Bulk seed count) Whole source log program ran.code there is_log is ran.accepted.built (proves_unlogged program log is_log)
-      (entry_run program usual most_fuel Whole line ran.number ran.code b.rest ran.accepted (ran.ended, there_put))
+      (entry_run program usual fuel_limit Whole line ran.number ran.code b.rest ran.accepted (ran.ended, there_put))
 
   pub spent_row : (command : Command) → (of_files command files).puts IsSpentText (Takes s.out) → IsSpent here command
   spent_row (Verify file budget) (source, log, there, is_log, (program, is, (text, never, put))) = absurd never
@@ -112,7 +113,7 @@ module _ (words : List (List ℕ)) (files : Store) (s : Streams) (err : Stream) 
       let line = summary (verified_outcomes program.decls) in
       let there_put = subst (Takes s.out) b.text_is put in
       proved (Bulk seed count) Spent source log program ran.code there is_log is ran.accepted.built (proves_unlogged program log is_log)
-      (entry_run program usual most_fuel Spent line ran.number ran.code ran.whole ran.accepted (b.rest, ran.unended, there_put))
+      (entry_run program usual fuel_limit Spent line ran.number ran.code ran.whole ran.accepted (b.rest, ran.unended, there_put))
 
   -- ---- a part of one
 
@@ -131,7 +132,7 @@ module _ (words : List (List ℕ)) (files : Store) (s : Streams) (err : Stream) 
       let line = summary (verified_outcomes program.decls) in
       let there_put = subst (TakesPrefix s.out) b.text_is put in
       inr (proved (Bulk seed count) Part source log program main.1 there is_log is main.2.built (proves_unlogged program log is_log)
-      (entry_run program usual most_fuel Part line main.0 main.1 b.rest main.2 there_put))
+      (entry_run program usual fuel_limit Part line main.0 main.1 b.rest main.2 there_put))
 
   -- the text so far of a run is a prefix of its whole text
   pub spent_part_row : (command : Command) → (of_files command files).puts IsSpentText (Takes s.out) → IsPartOnOut here command
@@ -148,7 +149,7 @@ module _ (words : List (List ℕ)) (files : Store) (s : Streams) (err : Stream) 
       let there_put = subst (Takes s.out) b.text_is put in
       let part = part_of_whole s.out.old s.out.new (line ++ ran.whole) (line ++ b.rest) ran.unended.more (behind_line line ran.whole b.rest ran.unended.more ran.unended.is_part) there_put in
       inr (proved (Bulk seed count) Part source log program ran.code there is_log is ran.accepted.built (proves_unlogged program log is_log)
-      (entry_run program usual most_fuel Part line ran.number ran.code ran.whole ran.accepted part))
+      (entry_run program usual fuel_limit Part line ran.number ran.code ran.whole ran.accepted part))
 
   -- ---- reports with a failure
 

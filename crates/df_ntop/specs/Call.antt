@@ -86,10 +86,6 @@ Rose before after = (before < after) ⊎ (after ≡ 2 ^ 64 - 1)
 pub record IsLine (words : List (List ℕ)) (command : Command) : Type 0 where
   pub asks : line_of words ≡ Some command
 
--- the greatest fuel that they may say
-abbrev pub most_fuel : ℕ
-most_fuel = 9223372036854775807
-
 -- ---- the source
 
 -- the files gave these bytes as those of the file, before any others of the call, and they are, where the files tell what

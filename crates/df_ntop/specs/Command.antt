@@ -1,7 +1,8 @@
 -- Commands, and what they name.
 use Rattle.std.specs.Prelude.{◌≡◌, ◌⊎◌, ℕ, Bool, true, false, List, [], Option, None, Some, codes, unwrap_or}
+use Rattle.df_ncmd.specs.Limits.{fuel_limit}
 use Rattle.df_ncmd.specs.Line.{Budget, Command, Verify, Prove, Check, Build, Run, Bulk}
-use Rattle.df_ntop.specs.Call.{IsLine, most_fuel}
+use Rattle.df_ntop.specs.Call.{IsLine}
 
 -- the words are no line of any command
 abbrev pub IsNoLine : List (List ℕ) → Type 0
@@ -50,7 +51,7 @@ budget_of (Bulk seed count) = usual
 -- how many steps the machine may take
 abbrev pub fuel_of : Command → ℕ
 fuel_of (Run file proof budget fuel) = fuel
-fuel_of command = most_fuel
+fuel_of command = fuel_limit
 
 -- the program has to compile
 abbrev pub compiles : Command → Bool

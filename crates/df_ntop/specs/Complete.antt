@@ -9,6 +9,7 @@ use Rattle.df_form.specs.Log.{Step}
 use Rattle.df_lang.specs.Native.{IsNative}
 use Rattle.df_lang.specs.Program.{Program}
 use Rattle.df_logtext.specs.BadLog.{IsText}
+use Rattle.df_ncmd.specs.Limits.{fuel_limit}
 use Rattle.df_ncmd.specs.Line.{Budget, Command, Verify, Prove, Check, Build, Run, Bulk}
 use Rattle.df_nmach.specs.State.{Code}
 use Rattle.df_listing.specs.Listing.{listing_text}
@@ -21,7 +22,7 @@ use Rattle.df_nproof.specs.Names.{names_in}
 use Rattle.df_nproof.specs.Derived.{AreProofs}
 use Rattle.df_report.specs.Report.{summary}
 use Rattle.df_nproof.specs.Verified.{verified_outcomes}
-use Rattle.df_ntop.specs.Call.{Stream, Call, Takes, IsLine, most_fuel, HasEnded}
+use Rattle.df_ntop.specs.Call.{Stream, Call, Takes, IsLine, HasEnded}
 use Rattle.df_ntop.specs.Command.{IsNoLine, log_of, usual}
 use Rattle.df_ntop.specs.Entry.{IsEntryAt, HasNoEntry}
 use Rattle.df_ntop.specs.Loaded.{log_limit, LogFile, NoLog, TooLong, Log}
@@ -106,7 +107,7 @@ IsDueOn (Prove file budget) program log status out = (status ≡ statuses.Unprov
 IsDueOn (Check file name) program log status out = LogIsDue program log status (status ≡ statuses.Done)
 IsDueOn (Build file proof budget) program log status out = BuildIsDue program proof log budget status out
 IsDueOn (Run file proof budget fuel) program log status out = RunIsDue program proof log status (HasRun program budget fuel [] status out)
-IsDueOn (Bulk seed count) program log status out = RunIsDue program None log status (HasRun program usual most_fuel (summary (verified_outcomes program.decls)) status out)
+IsDueOn (Bulk seed count) program log status out = RunIsDue program None log status (HasRun program usual fuel_limit (summary (verified_outcomes program.decls)) status out)
 
 -- what a command is due on a source: a source that breaks a rule or is too long is refused
 pub record IsDue (command : Command) (source : List ℕ) (log : LogFile) (status : Status) (out : Stream) : Type 0 where

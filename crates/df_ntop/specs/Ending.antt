@@ -6,6 +6,7 @@ use Rattle.df_base.specs.Outside.{bytes_of}
 use Rattle.df_base.specs.declared.status.Status.{Status}
 use Rattle.df_base.specs.declared.status.Status.TheVariants as statuses
 use Rattle.df_lang.specs.Program.{Program}
+use Rattle.df_ncmd.specs.Limits.{fuel_limit}
 use Rattle.df_ncmd.specs.Line.{Budget, Command, Verify, Prove, Check, Build, Run, Bulk}
 use Rattle.df_nmach.specs.State.{Code}
 use Rattle.df_listing.specs.Listing.{listing_text}
@@ -17,7 +18,7 @@ use Rattle.df_report.specs.Report.{summary}
 use Rattle.df_nproof.specs.Verified.{verified_outcomes}
 use Rattle.df_ntop.specs.declared.ending.End.{End}
 use Rattle.df_ntop.specs.declared.ending.End.TheVariants as ends
-use Rattle.df_ntop.specs.Call.{Store, Stream, Streams, Takes, TakesPrefix, IsSilent, Rose, most_fuel, IsSourceOf, HasEnded, IsUnended}
+use Rattle.df_ntop.specs.Call.{Store, Stream, Streams, Takes, TakesPrefix, IsSilent, Rose, IsSourceOf, HasEnded, IsUnended}
 use Rattle.df_ntop.specs.Command.{file_of, log_of, usual}
 use Rattle.df_ntop.specs.Lines.{unread_line}
 use Rattle.df_ntop.specs.Loaded.{IsLonger, log_limit, LogFile, NoLog, TooLong, Log, IsLogFile}
@@ -70,12 +71,12 @@ IsDoneText (Prove file budget) log program text = IsProofText program text
 IsDoneText (Check file name) log program text = IsReport program usual true text × ProvesBy program log
 IsDoneText (Build file proof budget) log program text = IsWholeListing program budget text × ProvesBy program log
 IsDoneText (Run file proof budget fuel) log program text = IsRunText program budget fuel text × ProvesBy program log
-IsDoneText (Bulk seed count) log program text = IsBehindLine program (IsRunText program usual most_fuel) text
+IsDoneText (Bulk seed count) log program text = IsBehindLine program (IsRunText program usual fuel_limit) text
 
 -- what a run puts on out whose fuel is spent
 abbrev pub IsSpentText : Command → LogFile → Program → List ℕ → Type 0
 IsSpentText (Run file proof budget fuel) log program text = IsFuelText program budget fuel text × ProvesBy program log
-IsSpentText (Bulk seed count) log program text = IsBehindLine program (IsFuelText program usual most_fuel) text
+IsSpentText (Bulk seed count) log program text = IsBehindLine program (IsFuelText program usual fuel_limit) text
 IsSpentText command log program text = ⊥
 
 -- the report with a failure, which verify puts on out, and of which bulk puts the last line there

@@ -6,6 +6,7 @@ use Rattle.df_lang.specs.Program.{Method, Program, method_at, types_of}
 use Rattle.df_meaning.specs.Value.{Value}
 use Rattle.df_meaning.specs.Types.{have_types}
 use Rattle.df_meaning.specs.Correct.{MeetsPreconditions, AreCorrect, IsEntry}
+use Rattle.df_ncmd.specs.Limits.{fuel_limit}
 use Rattle.df_ncmd.specs.Line.{Command, Verify, Prove, Check, Build, Run, Bulk}
 use Rattle.df_nmach.specs.State.{Code}
 use Rattle.df_listing.specs.Listing.{listing_text}
@@ -15,7 +16,7 @@ use Rattle.df_nback.specs.Run.{nothing_yet, RunsAs, RunsAsEntry, code_for}
 use Rattle.df_nfront.specs.Source.{IsLawful}
 use Rattle.df_report.specs.Report.{Outcome, summary}
 use Rattle.df_nproof.specs.Verified.{verified_outcomes}
-use Rattle.df_ntop.specs.Call.{Stream, Call, Takes, TakesPrefix, IsLine, most_fuel, IsSourceOf, HasEnded, IsUnended}
+use Rattle.df_ntop.specs.Call.{Stream, Call, Takes, TakesPrefix, IsLine, IsSourceOf, HasEnded, IsUnended}
 
 -- out has taken more than a part of the last line of a report
 abbrev pub HasPassedLine : Stream → Type 0
@@ -77,7 +78,7 @@ pub record EntryRun (program : Program) (code : Code) (fuel : ℕ) (share : Shar
 abbrev pub IsPut : Command → Share → Program → Code → Stream → Type 0
 IsPut (Build file proof budget) share program code out = HasListed share code out
 IsPut (Run file proof budget fuel) share program code out = EntryRun program code fuel share [] out
-IsPut (Bulk seed count) share program code out = EntryRun program code most_fuel share (summary (verified_outcomes program.decls)) out
+IsPut (Bulk seed count) share program code out = EntryRun program code fuel_limit share (summary (verified_outcomes program.decls)) out
 IsPut command share program code out = ⊥
 
 -- ---- the headline

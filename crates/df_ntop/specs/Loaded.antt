@@ -1,4 +1,4 @@
--- The log of a call.
+-- What a call has of its log; and when a file, a source too, is longer than a limit.
 use Rattle.std.specs.Prelude.{◌≡◌, ◌<◌, ◌≤◌, ℕ, Bool, true, false, List, ◌∷◌, length, Option, None, Some, IfSome}
 use Rattle.df_base.specs.Outside.{Contents, bytes_of}
 use Rattle.df_ntop.specs.Call.{Store}

@@ -32,13 +32,10 @@ use crate::telling::{native_text, no_main_text, told};
 use df_base::{Global, Sink, Status};
 use df_lang::Program;
 use df_nback::{EraseFault, compile};
-use df_ncmd::Command;
+use df_ncmd::{Command, FUEL_LIMIT};
 use df_nghost::Checked;
 use df_nmach::Code;
 use df_nproof::outcomes_are;
-
-/// How many steps the machine may take where the words may not say it.
-const MOST_FUEL: u64 = 9_223_372_036_854_775_807;
 
 /// The code of a program, or how a command ends without it: the first rule that is broken on what compiles is told.
 fn compiled(alloc: Global, command: &Command, program: &Checked) -> Result<Code, End>
@@ -234,7 +231,7 @@ fn report_and_run<O: Sink>(
     if !report.verified {
         return End::Unproved;
     }
-    run_entry(alloc, &program.program, code, number, MOST_FUEL, out)
+    run_entry(alloc, &program.program, code, number, FUEL_LIMIT, out)
 }
 
 /// Compiles a program that was made and finds its entry, and then proves it, puts the last line of the report, and runs

@@ -1,7 +1,8 @@
 use Rattle.std.proofs.Common.{ap, codes, ◌∙◌}
 use Rattle.std.proofs.lemmas.Result.{IfOk-weaker}
 use Rattle.clap.specs.Words.{App, with_subcommand}
-use Rattle.df_ncmd.specs.Table.{checking, making, with_compilers, with_provers}
+use Rattle.df_ncmd.specs.Table.{checking, making}
+use Rattle.df_ncmd.specs.Built.{with_compilers, with_provers}
 use Rattle.df_ncmd.proofs.table.table.Goals as goal
 
 pub returns : goal.returns
