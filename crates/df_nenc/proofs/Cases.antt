@@ -1,6 +1,6 @@
 -- An expression from its first operand: its term and conditions, and then what is made over them.
-use Rattle.df_nenc.proofs.Words.{◌≡◌, ℕ, List, [], ◌++◌, Option, Result, Ok, Err, IfOk, AllocError, sym, ap, ◌∙◌, subst, true, Expr, Node, Ty, Program, is_expr, Term, Sort, sort_of_type, Environment, Condition, term_of, conditions_under, tree_at, trees_in, path_in, Grows, IsTerm, Stands, IsPath, HasTerm, AreLocals, Gives, Encodes, IsOver, DeclaredCondition}
-use Rattle.df_nenc.proofs.Lemmas.{grows_not, path_same, path_stays, over_stays, locals_same, is_term, gives_as, gives_then, gives_alone, gives_over, Part, local_tree, env_sorted, term_is}
+use Rattle.df_nenc.proofs.Words.{◌≡◌, ℕ, List, [], ◌++◌, Option, Result, Ok, Err, IfOk, AllocError, sym, ap, ◌∙◌, subst, true, Expr, Node, Ty, Program, is_expr, Term, Sort, sort_of_type, Environment, Condition, term_of, conditions_under, tree_at, trees_in, path_in, IsTerm, Stands, IsPath, HasTerm, AreLocals, Gives, Encodes, IsOver, DeclaredCondition}
+use Rattle.df_nenc.proofs.Lemmas.{grows_not, path_same, path_stays, over_stays, locals_same, is_term, gives_as, gives_then, gives_alone, Part, local_tree, env_sorted, term_is}
 
 -- the whole, as it is seen
 pub over_seen : {nodes : List Node} {terms : List ℕ} {whole seen : Expr} → IsOver nodes terms whole → whole ≡ seen → IsOver nodes terms seen
@@ -10,23 +10,6 @@ over_seen {nodes = nodes} {terms = terms} over is = subst (IsOver nodes terms) i
 pub operand_term : (sort : Sort) (old new : List Node) (terms : List ℕ) (path : Option ℕ) (e : Expr) (n : ℕ) (before after : List DeclaredCondition) → Part sort old terms e → Encodes old new terms path e n before after → IsTerm sort new n
 operand_term sort old new terms path e n before after part g = is_term new sort (term_of (trees_in old terms) e) n g.stands part.is
 
-module _ (old middle new : List Node) (terms : List ℕ) (path : Option ℕ) (e whole : Expr) (m n : ℕ) (before between after : List DeclaredCondition) where
-  -- what is made over an operand, with conditions of its own
-  pub then_encodes : (f : Environment → Term → Term) (d : Environment → Option Term → Term → List Condition)
-      → IsOver old terms whole → IsPath old path → Encodes old middle terms path e m before between
-      → Gives (f (trees_in middle terms) (tree_at middle m)) (d (trees_in middle terms) (path_in middle path) (tree_at middle m)) middle new n between after
-      → Gives (f (trees_in old terms) (term_of (trees_in old terms) e)) (conditions_under (trees_in old terms) (path_in old path) e ++ d (trees_in old terms) (path_in old path) (term_of (trees_in old terms) e)) old new n before after
-  then_encodes f d over is_path g h =
-      let env = locals_same old middle over.types terms g.grows over.locals in
-      let on = path_same old middle path g.grows is_path in
-      let is = g.stands.tree_is in
-      gives_then _ _ _ _ old middle new m n before between after g (gives_as _ _ _ _ middle new n between after (λ i. f (env i) (is i)) (λ i. d (env i) (on i) (is i)) h)
-
-  -- and without any
-  pub over_encodes : (f : Term → Term) → Encodes old middle terms path e m before after → Grows middle new → Stands new (f (tree_at middle m)) n
-      → Gives (f (term_of (trees_in old terms) e)) (conditions_under (trees_in old terms) (path_in old path) e) old new n before after
-  over_encodes f g grows s = gives_over _ (f (term_of (trees_in old terms) e)) _ old middle new m n before after g grows (record { below = s.below; tree_is = s.tree_is ∙ ap f g.stands.tree_is })
-
 -- what is asked of the rest of a level behind its first operand
 pub rest_asks : (old middle : List Node) (terms : List ℕ) (path : Option ℕ) (e seen : Expr) (m : ℕ) (before between : List DeclaredCondition) (sort : Sort) (Rest : List Node → Type 0)
     → IsOver old terms seen → ((nodes : List Node) → IsOver nodes terms seen → (Part sort nodes terms e) × (Rest nodes)) → IsPath old path → Encodes old middle terms path e m before between
@@ -34,15 +17,19 @@ pub rest_asks : (old middle : List Node) (terms : List ℕ) (path : Option ℕ) 
 rest_asks old middle terms path e seen m before between sort Rest over parts is_path g =
     ((parts middle (over_stays old middle terms seen g.grows over)).1, (path_stays old middle path g.grows is_path, operand_term sort old middle terms path e m before between (parts old over).0 g))
 
--- and what the rest gives is that of the whole
+-- and what is made over it, with conditions of its own, is that of the whole
 pub rest_encodes : (old middle new : List Node) (terms : List ℕ) (path : Option ℕ) (e whole seen : Expr) (m : ℕ) (before between after : List DeclaredCondition) (r : Result ℕ AllocError) (f : Environment → Term → Term) (d : Environment → Option Term → Term → List Condition)
     → IsOver old terms whole → IsPath old path → whole ≡ seen → Encodes old middle terms path e m before between
     → ((env : Environment) → term_of env seen ≡ f env (term_of env e)) → ((env : Environment) (on : Option Term) → conditions_under env on seen ≡ conditions_under env on e ++ d env on (term_of env e))
     → IfOk r (λ n. Gives (f (trees_in middle terms) (tree_at middle m)) (d (trees_in middle terms) (path_in middle path) (tree_at middle m)) middle new n between after) → IfOk r (λ n. Encodes old new terms path whole n before after)
 rest_encodes old middle new terms path e whole seen m before between after (Err x) f d over is_path is g tree asked h = tt
 rest_encodes old middle new terms path e whole seen m before between after (Ok n) f d over is_path is g tree asked h =
-    gives_as _ _ _ _ old new n before after (sym (ap (term_of (trees_in old terms)) is ∙ tree (trees_in old terms))) (sym (ap (conditions_under (trees_in old terms) (path_in old path)) is ∙ asked (trees_in old terms) (path_in old path)))
-    (then_encodes old middle new terms path e whole m n before between after f d over is_path g h)
+    let env = trees_in old terms in
+    let same = locals_same old middle over.types terms g.grows over.locals in
+    let on = path_same old middle path g.grows is_path in
+    let made = g.stands.tree_is in
+    gives_as _ _ _ _ old new n before after (sym (ap (term_of env) is ∙ tree env)) (sym (ap (conditions_under env (path_in old path)) is ∙ asked env (path_in old path)))
+    (gives_then _ _ _ _ old middle new m n before between after g (gives_as _ _ _ _ middle new n between after (λ i. f (same i) (made i)) (λ i. d (same i) (on i) (made i)) h))
 
 -- the term of a local
 pub local_encodes : (nodes : List Node) (terms : List ℕ) (local n : ℕ) (sort : Sort) (cs : List DeclaredCondition) → (t : HasTerm sort nodes terms local) → n ≡ t.number → Gives (trees_in nodes terms local) [] nodes nodes n cs cs

@@ -18,3 +18,4 @@ pub mod Trees
 pub mod Adding
 pub mod Siblings
 pub mod Reaching
+mod GrowingExamples

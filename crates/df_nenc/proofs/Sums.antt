@@ -1,7 +1,7 @@
 -- Sums and products: one more member, and loops over the members.
 use Rattle.df_nenc.proofs.Words.{◌≡◌, ℕ, List, Option, ◌<◌, ◌≤◌, ◌+◌, length, drop, get_or, Ty, Addends, Factors, expr_of, DeclaredAddend, DeclaredFactor, Node, Numbers, sum_of, product_of, summed, multiplied, under, in_range, conditions_of_addends, conditions_of_factors, tree_at, trees_in, path_in, IsTerm, IsPath, Gives, Encodes, conditions_of_factor, AreAddendsOver, AreFactorsOver, DeclaredCondition, addends_in, factors_in}
 use Rattle.df_nenc.proofs.Folding.{Folding, fold_steps, fold_stops}
-use Rattle.df_nenc.proofs.Lemmas.{grows_then, is_term, locals_same, path_same, stands, reached_first, extends_not, summed_is, multiplied_is, addends_left, factors_left, addend_part, factor_part, addends_next, factors_next, addends_done, factors_done, Part}
+use Rattle.df_nenc.proofs.Lemmas.{grows_then, is_term, locals_same, path_same, reached_first, extends_not, summed_is, multiplied_is, addends_left, factors_left, addend_part, factor_part, addends_next, factors_next, addends_done, factors_done, Part}
 
 -- so far, with the members that are left
 pub record Summing (old now : List Node) (terms : List ℕ) (path : Option ℕ) (ty : Ty) (first total : ℕ) (before after : List DeclaredCondition) (all rest : Addends) : Type 0 where
@@ -30,11 +30,10 @@ sum_steps {old = old} {now = now} {middle = middle} {next = next} {terms = terms
     let to = grows_then now middle next g.grows h.grows in
     let rest = addends_in (drop (i + 1) xs) in
     let one = summed x.operator in
-    record {
-      so_far = fold_steps _ _ Numbers _ _ old now middle next terms path (trees_in old terms) (path_in old path) (expr_of x.operand) total operand n before after between then one (λ on a b. under on (in_range ty x.pos (summed x.operator a b))) (λ a. sum_of (trees_in old terms) a rest) (λ a. conditions_of_addends (trees_in old terms) (path_in old path) ty a rest)
-          (locals_same old now over.types terms s.so_far.extends.grows over.locals) (path_same old now path s.so_far.extends.grows is_path) (path_same old middle path (grows_then old now middle s.so_far.extends.grows g.grows) is_path)
-          (addends_left now next terms to x.operator x.pos (expr_of x.operand) rest here.so_far.over) (is_term next Numbers (one (tree_at middle total) (tree_at middle operand)) n h.stands (summed_is x.operator (tree_at middle total) (tree_at middle operand))) here.so_far g h;
-    }
+    let folded = fold_steps _ _ Numbers _ _ old now middle next terms path (trees_in old terms) (path_in old path) (expr_of x.operand) total operand n before after between then one (λ on a b. under on (in_range ty x.pos (summed x.operator a b))) (λ a. sum_of (trees_in old terms) a rest) (λ a. conditions_of_addends (trees_in old terms) (path_in old path) ty a rest)
+    (locals_same old now over.types terms s.so_far.extends.grows over.locals) (path_same old now path s.so_far.extends.grows is_path) (path_same old middle path (grows_then old now middle s.so_far.extends.grows g.grows) is_path)
+    (addends_left now next terms to x.operator x.pos (expr_of x.operand) rest here.so_far.over) (is_term next Numbers (one (tree_at middle total) (tree_at middle operand)) n h.stands (summed_is x.operator (tree_at middle total) (tree_at middle operand))) here.so_far g h in
+    record { so_far = folded }
 
 pub sum_stops : {old now : List Node} {terms : List ℕ} {path : Option ℕ} {ty : Ty} {first total : ℕ} {before after : List DeclaredCondition} {all : Addends} (xs : List DeclaredAddend) (i : ℕ)
     → length xs ≤ i → Summing old now terms path ty first total before after all (addends_in (drop i xs))
@@ -61,11 +60,10 @@ product_steps {old = old} {now = now} {middle = middle} {next = next} {terms = t
     let to = grows_then now middle next g.grows h.grows in
     let rest = factors_in (drop (i + 1) xs) in
     let one = multiplied x.operator in
-    record {
-      so_far = fold_steps _ _ Numbers _ _ old now middle next terms path (trees_in old terms) (path_in old path) (expr_of x.operand) total operand n before after between then one (λ on a b. conditions_of_factor on ty x.operator x.pos a b) (λ a. product_of (trees_in old terms) a rest) (λ a. conditions_of_factors (trees_in old terms) (path_in old path) ty a rest)
-          (locals_same old now over.types terms s.so_far.extends.grows over.locals) (path_same old now path s.so_far.extends.grows is_path) (path_same old middle path (grows_then old now middle s.so_far.extends.grows g.grows) is_path)
-          (factors_left now next terms to x.operator x.pos (expr_of x.operand) rest here.so_far.over) (is_term next Numbers (one (tree_at middle total) (tree_at middle operand)) n h.stands (multiplied_is x.operator (tree_at middle total) (tree_at middle operand))) here.so_far g h;
-    }
+    let folded = fold_steps _ _ Numbers _ _ old now middle next terms path (trees_in old terms) (path_in old path) (expr_of x.operand) total operand n before after between then one (λ on a b. conditions_of_factor on ty x.operator x.pos a b) (λ a. product_of (trees_in old terms) a rest) (λ a. conditions_of_factors (trees_in old terms) (path_in old path) ty a rest)
+    (locals_same old now over.types terms s.so_far.extends.grows over.locals) (path_same old now path s.so_far.extends.grows is_path) (path_same old middle path (grows_then old now middle s.so_far.extends.grows g.grows) is_path)
+    (factors_left now next terms to x.operator x.pos (expr_of x.operand) rest here.so_far.over) (is_term next Numbers (one (tree_at middle total) (tree_at middle operand)) n h.stands (multiplied_is x.operator (tree_at middle total) (tree_at middle operand))) here.so_far g h in
+    record { so_far = folded }
 
 pub product_stops : {old now : List Node} {terms : List ℕ} {path : Option ℕ} {ty : Ty} {first total : ℕ} {before after : List DeclaredCondition} {all : Factors} (xs : List DeclaredFactor) (i : ℕ)
     → length xs ≤ i → Multiplying old now terms path ty first total before after all (factors_in (drop i xs))

@@ -95,11 +95,10 @@ equivalence_steps {old = old} {now = now} {n1 = n1} {next = next} {terms = terms
     let to = grows_then now n1 next h.grows g in
     let rest = members_in (drop (i + 1) xs) in
     let f = s.so_far.extends.grows in
-    record {
-      so_far = fold_steps _ _ Truths _ _ old now n1 next terms path (trees_in old terms) (path_in old path) (expr_of x.operand) formula operand n before after between between iff (λ on a b. []) (λ a. equivalence_of (trees_in old terms) a rest) (λ a. conditions_of_members (trees_in old terms) (path_in old path) rest)
-          (locals_same old now over.types terms f over.locals) (path_same old now path f is_path) (path_same old n1 path (grows_then old now n1 f h.grows) is_path)
-          (members_left now next terms to x.pos (expr_of x.operand) rest here.so_far.over) (is_term next Truths _ n made refl) here.so_far h (gives_alone _ n1 next n between g made);
-    }
+    let folded = fold_steps _ _ Truths _ _ old now n1 next terms path (trees_in old terms) (path_in old path) (expr_of x.operand) formula operand n before after between between iff (λ on a b. []) (λ a. equivalence_of (trees_in old terms) a rest) (λ a. conditions_of_members (trees_in old terms) (path_in old path) rest)
+    (locals_same old now over.types terms f over.locals) (path_same old now path f is_path) (path_same old n1 path (grows_then old now n1 f h.grows) is_path)
+    (members_left now next terms to x.pos (expr_of x.operand) rest here.so_far.over) (is_term next Truths _ n made refl) here.so_far h (gives_alone _ n1 next n between g made) in
+    record { so_far = folded }
 
 pub equivalence_stops : {old now : List Node} {terms : List ℕ} {path : Option ℕ} {first formula : ℕ} {before after : List DeclaredCondition} {all : Members} (xs : List DeclaredMember) (i : ℕ)
     → length xs ≤ i → Equating old now terms path first formula before after all (members_in (drop i xs))

@@ -1,7 +1,7 @@
-use Rattle.df_nenc.proofs.Words.{◌≡◌, ◌<◌, length, to_z, of_z, [], ◌∷◌, ◌++◌, get_or, refl, sym, ap, ◌∙◌, rules, subst, AllByRecursion, w128, to_z-of_z, slice_get_within, get_or_from_slice_get, the_lemmas, expr_of, As, Chain, Character, Convert, Iff, Implies, Junction, Local, Negate, Not, Number, Product, Sum, Truth, Numbers, Truths, sort_of_type, conjunction, literal, negation, negative, term, comparisons_of, conditions_of_addends, conditions_of_factors, conditions_of_implication, conditions_of_junction, conditions_of_links, conditions_of_members, equivalence_of, implication_of, in_range, joined, members_of, narrowing, number_in, product_of, sum_of, under, value_in, tree_at, path_in, IsTerm, IsOver, Gives, Encodes, AreAddendsOver, AreFactorsOver, AreMembersOver, AreLinksOver}
+use Rattle.df_nenc.proofs.Words.{append-nil, Ok, conditions_under, ◌≡◌, ◌<◌, length, to_z, of_z, [], ◌∷◌, ◌++◌, get_or, refl, sym, ap, ◌∙◌, rules, subst, AllByRecursion, w128, to_z-of_z, slice_get_within, get_or_from_slice_get, the_lemmas, expr_of, As, Chain, Character, Convert, Iff, Implies, Junction, Local, Negate, Not, Number, Product, Sum, Truth, Numbers, Truths, sort_of_type, conjunction, literal, negation, negative, term, comparisons_of, conditions_of_addends, conditions_of_factors, conditions_of_implication, conditions_of_junction, conditions_of_links, conditions_of_members, equivalence_of, implication_of, in_range, joined, members_of, narrowing, number_in, product_of, sum_of, under, value_in, tree_at, path_in, IsTerm, IsOver, Gives, Encodes, AreAddendsOver, AreFactorsOver, AreMembersOver, AreLinksOver}
 use Rattle.df_nenc.specs.Views.{addends_in, factors_in, members_in, links_in}
 use Rattle.df_nenc.proofs.Lemmas.{grows_not, grows_then, term_stays, path_stays, gives_alone, gives_owing, if_ok, local_term, negate_part, not_part, sum_parts, product_parts, level_parts, chain_parts, as_part, as_counts, convert_part, member_at, extends_then, extends_nodes, extends_not}
-use Rattle.df_nenc.proofs.Cases.{over_seen, operand_term, rest_asks, rest_encodes, then_encodes, over_encodes, local_encodes}
+use Rattle.df_nenc.proofs.Cases.{over_seen, operand_term, rest_asks, rest_encodes, local_encodes}
 use Rattle.df_nenc.proofs.Sums.{sum_starts, sum_operand, sum_steps, sum_stops, product_starts, product_operand, product_steps, product_stops}
 use Rattle.df_nenc.proofs.WalkingMembers.{guard_term, next_path, junction_starts, junction_steps, junction_stops, implication_starts, implication_steps, implication_stops, equivalence_starts, equivalence_steps, equivalence_stops}
 use Rattle.df_nenc.proofs.Chains.{chain_starts, chain_operand, chain_compares, chain_steps, chain_stops}
@@ -25,10 +25,7 @@ pub encode-negation-requires : goal.encode-negation-requires
 encode-negation-requires t c = operand_term Truths c.args.nodes.now c.encode-in-Not.new.nodes c.args.terms.now c.args.path (expr_of c.deref-in-Not.result.now) c.in_ok-operand-in-Not.operand c.args.out.now.items c.encode-in-Not.new.out.items (not_part c.args.nodes.now c.args.terms.now c.in-Not.pos (expr_of c.deref-in-Not.result.now) (over_seen c.requires.over (search (rules, the_lemmas)))) c.in_ok-operand-in-Not.ensures.encodes
 
 pub encode-returns-in_ok-operand-in-Not : goal.encode-returns-in_ok-operand-in-Not
-encode-returns-in_ok-operand-in-Not t c =
-    let is : expr_of c.args.expr.now ≡ Not c.in-Not.pos (expr_of c.deref-in-Not.result.now) = search (rules, the_lemmas) in
-    let over = over_seen c.requires.over is in
-    record { encodes = if_ok c.negation.result _ _ c.negation.ensures.stands (λ n s. subst (λ whole. Encodes c.args.nodes.now c.negation.new.nodes c.args.terms.now c.args.path whole n c.args.out.now.items c.encode-in-Not.new.out.items) (sym is) (over_encodes c.args.nodes.now c.encode-in-Not.new.nodes c.negation.new.nodes c.args.terms.now c.args.path (expr_of c.deref-in-Not.result.now) (Not c.in-Not.pos (expr_of c.deref-in-Not.result.now)) c.in_ok-operand-in-Not.operand n c.args.out.now.items c.encode-in-Not.new.out.items c.encode-in-Not.new.out.items negation c.in_ok-operand-in-Not.ensures.encodes c.negation.ensures.grows s)); extends = extends_then c.encode-in-Not.ensures.extends (extends_nodes c.encode-in-Not.new.nodes c.negation.new.nodes c.encode-in-Not.new.out.items c.negation.ensures.grows) }
+encode-returns-in_ok-operand-in-Not t c = record { encodes = rest_encodes c.args.nodes.now c.encode-in-Not.new.nodes c.negation.new.nodes c.args.terms.now c.args.path (expr_of c.deref-in-Not.result.now) (expr_of c.args.expr.now) (Not c.in-Not.pos (expr_of c.deref-in-Not.result.now)) c.in_ok-operand-in-Not.operand c.args.out.now.items c.encode-in-Not.new.out.items c.encode-in-Not.new.out.items c.negation.result (λ env a. negation a) (λ env on a. []) c.requires.over c.requires.path (search (rules, the_lemmas)) c.in_ok-operand-in-Not.ensures.encodes (λ env. refl) (λ env on. sym (append-nil (conditions_under env on (expr_of c.deref-in-Not.result.now)))) (if_ok c.negation.result _ _ c.negation.ensures.stands (λ n s. gives_alone _ c.encode-in-Not.new.nodes c.negation.new.nodes n c.encode-in-Not.new.out.items c.negation.ensures.grows s)); extends = extends_then c.encode-in-Not.ensures.extends (extends_nodes c.encode-in-Not.new.nodes c.negation.new.nodes c.encode-in-Not.new.out.items c.negation.ensures.grows) }
 
 pub encode-encode-requires-in-Sum : goal.encode-encode-requires-in-Sum
 unfolding addends_in
@@ -119,8 +116,8 @@ encode-owe_narrowing-requires t c = record { path = path_stays _ _ c.args.path c
 
 pub encode-returns-in_ok-owe_narrowing-in-Convert : goal.encode-returns-in_ok-owe_narrowing-in-Convert
 encode-returns-in_ok-owe_narrowing-in-Convert t c =
-    let is : expr_of c.args.expr.now ≡ Convert c.in-Convert.source c.in-Convert.target c.in-Convert.pos (expr_of c.deref-in-Convert.result.now) = search (rules, the_lemmas) in
-    record { encodes = subst (λ whole. Encodes c.args.nodes.now c.owe_narrowing.new.nodes c.args.terms.now c.args.path whole c.in_ok-operand-in-Convert.operand c.args.out.now.items c.owe_narrowing.new.out.items) (sym is) (then_encodes c.args.nodes.now c.encode-in-Convert.new.nodes c.owe_narrowing.new.nodes c.args.terms.now c.args.path (expr_of c.deref-in-Convert.result.now) (Convert c.in-Convert.source c.in-Convert.target c.in-Convert.pos (expr_of c.deref-in-Convert.result.now)) c.in_ok-operand-in-Convert.operand c.in_ok-operand-in-Convert.operand c.args.out.now.items c.encode-in-Convert.new.out.items c.owe_narrowing.new.out.items (λ env a. a) (λ env on a. under on (narrowing c.in-Convert.source c.in-Convert.target c.in-Convert.pos a)) (over_seen c.requires.over is) c.requires.path c.in_ok-operand-in-Convert.ensures.encodes (gives_owing (tree_at c.encode-in-Convert.new.nodes c.in_ok-operand-in-Convert.operand) _ c.encode-in-Convert.new.nodes c.encode-in-Convert.new.nodes c.owe_narrowing.new.nodes c.in_ok-operand-in-Convert.operand c.encode-in-Convert.new.out.items c.owe_narrowing.new.out.items (grows_not c.encode-in-Convert.new.nodes) c.owe_narrowing.ensures.grows (record { below = c.in_ok-operand-in-Convert.ensures.encodes.stands.below; tree_is = refl }) c.in_ok-owe_narrowing-in-Convert.ensures.adds)); extends = extends_then c.encode-in-Convert.ensures.extends (record { grows = c.owe_narrowing.ensures.grows; begins = c.owe_narrowing.ensures.begins }) }
+    let e = expr_of c.deref-in-Convert.result.now in
+    record { encodes = rest_encodes c.args.nodes.now c.encode-in-Convert.new.nodes c.owe_narrowing.new.nodes c.args.terms.now c.args.path e (expr_of c.args.expr.now) (Convert c.in-Convert.source c.in-Convert.target c.in-Convert.pos e) c.in_ok-operand-in-Convert.operand c.args.out.now.items c.encode-in-Convert.new.out.items c.owe_narrowing.new.out.items (Ok c.in_ok-operand-in-Convert.operand) (λ env a. a) (λ env on a. under on (narrowing c.in-Convert.source c.in-Convert.target c.in-Convert.pos a)) c.requires.over c.requires.path (search (rules, the_lemmas)) c.in_ok-operand-in-Convert.ensures.encodes (λ env. refl) (λ env on. refl) (gives_owing (tree_at c.encode-in-Convert.new.nodes c.in_ok-operand-in-Convert.operand) _ c.encode-in-Convert.new.nodes c.encode-in-Convert.new.nodes c.owe_narrowing.new.nodes c.in_ok-operand-in-Convert.operand c.encode-in-Convert.new.out.items c.owe_narrowing.new.out.items (grows_not c.encode-in-Convert.new.nodes) c.owe_narrowing.ensures.grows (record { below = c.in_ok-operand-in-Convert.ensures.encodes.stands.below; tree_is = refl }) c.in_ok-owe_narrowing-in-Convert.ensures.adds); extends = extends_then c.encode-in-Convert.ensures.extends (record { grows = c.owe_narrowing.ensures.grows; begins = c.owe_narrowing.ensures.begins }) }
 
 pub encode-returns-in_err-owe_narrowing-in-Convert-clause-extends : goal.encode-returns-in_err-owe_narrowing-in-Convert-clause-extends
 encode-returns-in_err-owe_narrowing-in-Convert-clause-extends t c = extends_then c.encode-in-Convert.ensures.extends (record { grows = c.owe_narrowing.ensures.grows; begins = c.owe_narrowing.ensures.begins })
