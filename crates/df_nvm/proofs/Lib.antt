@@ -11,3 +11,5 @@ pub mod Reached
 pub mod Ending
 pub mod Effects
 pub mod Acting
+pub mod Next
+pub mod Printed

@@ -3,7 +3,7 @@
 ghost use Rattle.std.specs.Prelude.{◌≡◌, ◌≢◌, [], false, IsTrue, OnOk, Err};
 ghost use Rattle.df_base.specs.Outside.{Appends, AppendsPrefix, HasCause};
 ghost use Rattle.df_nmach.specs.View.{value_of};
-ghost use Rattle.df_nmach.specs.Value as meaning;
+ghost use Rattle.df_nmach.specs.Value as machine;
 ghost use Rattle.df_nvm.specs.Quiet.{is_some};
 ghost use Rattle.df_nvm.specs.mirror.Quiet.{prints};
 ghost use Rattle.df_nvm.specs.mirror.Turns.{Prints};
@@ -32,8 +32,8 @@ fn put<S: Sink>(sink: &mut S, text: &[u8]) -> Result<(), SinkFault>
 
 /// Puts the text of a value by a shape, of whose kind it has to be.
 pub(crate) fn print<S: Sink>(shape: Shape, value: &Value, sink: &mut S) -> Result<(), Halt>
-    ensures prints { Prints result (S.taken sink.old) (S.taken sink.new) (meaning.text_of shape (value_of value.now)) }
-    ensures quiet { prints (meaning.text_of shape (value_of value.now)) ≡ false → sink.new ≡ sink.old }
+    ensures prints { Prints result (S.taken sink.old) (S.taken sink.new) (machine.text_of shape (value_of value.now)) }
+    ensures quiet { prints (machine.text_of shape (value_of value.now)) ≡ false → sink.new ≡ sink.old }
     // Only the sink takes memory.
     ensures from_memory { result ≡ Err Halt.Memory → IsTrue (S.takes_memory sink.old) }
     ensures cause { HasCause (S.fault_count sink.old) (S.fault_count sink.new) (result ≡ Err Halt.Write) }
