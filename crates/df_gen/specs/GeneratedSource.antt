@@ -1,4 +1,4 @@
--- The text of generated sources. Each line ends with a line feed.
+-- The text of generated sources, and the numbers of a seed in it. Each line ends with a line feed.
 use Rattle.std.specs.Prelude.{ℕ, zero, suc, List, [], ◌++◌, codes, ◌+◌, ◌*◌, ◌/◌, ◌%◌, ◌^◌}
 use Rattle.std.specs.Fmt.{decimal}
 
@@ -15,7 +15,7 @@ numbered number after = decimal number ++ after
 abbrev pub method_head : ℕ → List ℕ
 method_head number = codes "method m" ++ numbered number (codes "(n: u) returns (r: u) requires n < 1000 ensures r == n * ")
 
--- the state after a state
+-- the numbers are a linear congruential generator's of 64 bits: the state after a state
 abbrev pub next : ℕ → ℕ
 next state = (state * 6364136223846793005 + 1442695040888963407) % 2 ^ 64
 

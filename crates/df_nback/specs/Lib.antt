@@ -1,2 +1,2 @@
-pub mod Compiled
+pub mod MethodNames
 pub mod Run

@@ -1,4 +1,4 @@
--- Runs of methods with their ghosts, and on the machine.
+-- Runs of methods with their ghosts, and on the machine: their arguments and results there, and the code of a program.
 use Rattle.std.specs.Prelude.{◌≡◌, ℕ, true, List, [], Some, map, Option}
 use Rattle.df_lang.specs.Program.{Method, Program, method_at, types_of, Param}
 use Rattle.df_meaning.specs.Value.{Value}

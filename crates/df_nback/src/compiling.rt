@@ -8,7 +8,7 @@ ghost use Rattle.df_nerase.specs.Erasing.{methods_among};
 ghost use Rattle.df_nerase.specs.Refusals.{TellsTheFirst, IsTold, Compiles};
 ghost use Rattle.df_nmach.specs.State as machine;
 ghost use Rattle.df_nmach.specs.View.{code_of};
-ghost use Rattle.df_nback.specs.Compiled.{has_names};
+ghost use Rattle.df_nback.specs.MethodNames.{has_names};
 ghost use Rattle.df_nback.specs.Run.{IsCompiled};
 
 use df_lang::Program;

@@ -5,7 +5,7 @@ ghost use Rattle.df_lang.specs.Program.{Method, Program, method_at};
 ghost use Rattle.df_meaning.specs.Correct.{IsCorrect, IsEntry};
 ghost use Rattle.df_nmach.specs.Name.{is_name};
 ghost use Rattle.df_nmach.specs.State.{Code};
-ghost use Rattle.df_nback.specs.Compiled.{has_names};
+ghost use Rattle.df_nback.specs.MethodNames.{has_names};
 ghost use Rattle.df_nback.specs.Run.{IsCompiled, NeverFaultsWhereCorrect, RunsAsEntry};
 
 /// A correct entry runs on the machine without arguments, and prints what its run with ghosts prints.

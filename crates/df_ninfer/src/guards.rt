@@ -2,7 +2,7 @@
 
 ghost use Rattle.std.specs.Prelude.{◌≡◌, map, None};
 ghost use Rattle.df_ntree.specs.Expr.{expr_of, operation_of, members_of};
-ghost use Rattle.df_ntyping.specs.Types as comparisons;
+ghost use Rattle.df_ntyping.specs.Types as types;
 ghost use Rattle.df_ntyping.specs.rules.Loops as loops;
 ghost use Rattle.df_ninfer.specs.Guards as guards;
 ghost use Rattle.df_ninfer.specs.Guards.{may_be_integer};
@@ -23,7 +23,7 @@ fn may_be_integer(env: &Environment<'_>, e: &Expr) -> bool
 
 /// Whether the sign compares by order.
 fn is_order(operator: BinaryOperator) -> bool
-    ensures { result ≡ comparisons.is_order operator }
+    ensures { result ≡ types.is_order operator }
 {
     matches!(
         operator,

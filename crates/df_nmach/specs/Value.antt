@@ -1,4 +1,4 @@
--- Values of the machine, and when two are equal. No value holds another one.
+-- Values of the machine, when two are equal, and the text of one by a shape. No value holds another one.
 use Rattle.std.specs.Prelude.{ℕ, ℤ, Bool, true, false, not, nat_eq, List, [], ◌∷◌, Option, Some, None, codes}
 use Rattle.std.specs.Ordering.{int_eq}
 use Rattle.std.specs.Str.{bytes_eq}

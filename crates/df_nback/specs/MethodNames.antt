@@ -1,4 +1,4 @@
--- The code of a program.
+-- The names of a program's methods.
 use Rattle.std.specs.Prelude.{Bool}
 use Rattle.std.specs.List.{list_all}
 use Rattle.df_lang.specs.Program.{Method, Program}
