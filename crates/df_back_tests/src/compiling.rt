@@ -7,7 +7,7 @@ ghost use Rattle.df_lang.specs.StmtView.{target_of, clause_of, update_of, stmt_o
 ghost use Rattle.df_lang.specs.DeclView.{declared_of, decl_of};
 ghost use Rattle.df_lang.specs.View.{program_of};
 ghost use Rattle.df_lang.specs.Typing.{is_well_typed};
-ghost use Rattle.df_nback.specs.Compiled.{has_names};
+ghost use Rattle.df_nback.specs.MethodNames.{has_names};
 ghost use Rattle.df_nback.specs.Run.{IsCompiled};
 ghost use Rattle.df_nmach.specs.View.{code_of};
 ghost use Rattle.df_back_tests.specs.Digits as pure;

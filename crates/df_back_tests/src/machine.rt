@@ -93,19 +93,26 @@ fn run_edges<S: Sink>(alloc: Global, sink: &mut S) -> Option<Ran> {
 }
 
 /// Whether a run ended with 5 and 7.
-fn gives_five_and_seven(ran: &Option<Ran>) -> bool {
+fn gives_five_and_seven(ran: &Ran) -> bool {
     match ran {
-        Some(Ran::Ended(results, _)) => {
+        Ran::Ended(results, _) => {
             matches!(results.as_slice(), [Value::Number(5), Value::Number(7)])
         }
         _ => false,
     }
 }
 
+fn edges_give_both(alloc: Global, sink: &mut SureSink) -> bool {
+    match run_edges(alloc, sink) {
+        Some(ran) => gives_five_and_seven(&ran),
+        None => false,
+    }
+}
+
 #[test]
 fn instructions_do_their_work(rt: HostRuntime) {
     let mut sink = SureSink::new(rt.alloc());
-    assert!(rt; gives_five_and_seven(&run_edges(rt.alloc(), &mut sink)));
+    assert!(rt; edges_give_both(rt.alloc(), &mut sink));
     assert!(rt; is_joined(rt.alloc(), sink.taken(), ITEMS.as_slice()));
 }
 
@@ -156,8 +163,18 @@ const FAILURES: [(u64, usize, &str); 6] = [
     (6, 0, "57true!hi65"),
 ];
 
+fn is_unwritten(ran: &Ran) -> bool {
+    match ran {
+        Ran::Write => true,
+        _ => false,
+    }
+}
+
 fn is_stopped(alloc: Global, sink: &mut MemSink) -> bool {
-    matches!(&run_edges(alloc, sink), Some(Ran::Write))
+    match run_edges(alloc, sink) {
+        Some(ran) => is_unwritten(&ran),
+        None => false,
+    }
 }
 
 /// Whether a write that fails so stops the edges, where this text is there.
@@ -209,10 +226,25 @@ fn step_call(alloc: Global, sink: &mut SureSink) -> bool {
     }
 }
 
+fn is_without_memory(ran: &Ran) -> bool {
+    match ran {
+        Ran::Memory => true,
+        _ => false,
+    }
+}
+
+/// Whether a run ends at the call of too many locals.
+fn is_call_refused(alloc: Global, sink: &mut SureSink) -> bool {
+    match run_call(alloc, LOCALS, sink) {
+        Some(ran) => is_without_memory(&ran),
+        None => false,
+    }
+}
+
 #[test]
 fn a_refused_call_is_not_begun(rt: HostRuntime) {
     let mut sink = SureSink::new(rt.alloc());
-    assert!(rt; matches!(&run_call(rt.alloc(), LOCALS, &mut sink), Some(Ran::Memory)));
+    assert!(rt; is_call_refused(rt.alloc(), &mut sink));
     assert!(rt; sink.taken() == b"1".as_slice());
 }
 
@@ -225,8 +257,8 @@ fn a_refused_call_is_refused_again(rt: HostRuntime) {
 
 /// Whether a call of so many locals ends.
 fn call_ends(alloc: Global, locals: usize, sink: &mut SureSink) -> bool {
-    match &run_call(alloc, locals, sink) {
-        Some(ran) => is_ended(ran, true),
+    match run_call(alloc, locals, sink) {
+        Some(ran) => is_ended(&ran, true),
         None => false,
     }
 }

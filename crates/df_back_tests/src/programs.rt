@@ -116,10 +116,26 @@ fn run_even(alloc: Global, steps: u64, sink: &mut SureSink) -> Option<Ran> {
 }
 
 /// Whether a run ended with one truth, and that is true.
-fn gives_true(ran: &Option<Ran>) -> bool {
+fn gives_true(ran: &Ran) -> bool {
     match ran {
-        Some(Ran::Ended(results, _)) => matches!(results.as_slice(), [Value::Truth(true)]),
+        Ran::Ended(results, _) => matches!(results.as_slice(), [Value::Truth(true)]),
         _ => false,
+    }
+}
+
+/// Whether so many is even, by a run of so many steps.
+fn is_even(alloc: Global, steps: u64, sink: &mut SureSink) -> bool {
+    match run_even(alloc, steps, sink) {
+        Some(ran) => gives_true(&ran),
+        None => false,
+    }
+}
+
+/// Whether so many steps are too few for it.
+fn are_few(alloc: Global, steps: u64, sink: &mut SureSink) -> bool {
+    match run_even(alloc, steps, sink) {
+        Some(ran) => is_ended(&ran, false),
+        None => false,
     }
 }
 
@@ -127,11 +143,6 @@ fn gives_true(ran: &Option<Ran>) -> bool {
 fn many_calls_wait(rt: HostRuntime) {
     let mut sink = SureSink::new(rt.alloc());
     let steps = 11 * u64::from(DEPTH) + 9;
-    assert!(rt; gives_true(&run_even(rt.alloc(), steps, &mut sink)));
-    assert!(rt;
-        matches!(
-            &run_even(rt.alloc(), steps - 1, &mut sink),
-            Some(Ran::FuelSpent)
-        )
-    );
+    assert!(rt; is_even(rt.alloc(), steps, &mut sink));
+    assert!(rt; are_few(rt.alloc(), steps - 1, &mut sink));
 }

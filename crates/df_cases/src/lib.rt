@@ -1,21 +1,18 @@
-//! What tests are about, built of plain data: sequents of operations on a stack, nodes, literals, logs by letter,
-//! and rows by their entries.
+//! What tests are about, built of plain data: sequents of operations on a stack or of texts, nodes of texts, literals, and rows by
+//! their entries.
 #![tactic(auto)]
 
+mod texts;
+
 use df_base::Pos;
-use df_form::{
-    Combination, Draft, Free, Lit, Multiple, Node, Nodes, Op, Pair, Sequent, Sort, Step, World,
-};
+use df_form::{Combination, Draft, Free, Lit, Multiple, Node, Op, Sequent, Sort, World};
 use df_lang::{Decl, Declared, Interval, Newtype, Program, Ty};
 use df_level::Row;
-use std::alloc::Global;
-use std::test::Fail;
+use std::alloc::{AllocError, Global};
+pub use texts::{add_line, are_literals, nodes_of, push_literals, sequent_of, trimmed};
 
 /// Operations with how many terms of a stack each takes.
 pub type Terms<'a> = &'a [(Op, usize)];
-
-/// A node: its operation and its parts.
-pub type Plain<'a> = (Op, &'a [usize]);
 
 /// A literal: whether it is positive, and its node.
 pub type Signed = (bool, usize);
@@ -25,20 +22,6 @@ pub type Sum<'a> = (i128, &'a [(i128, usize)]);
 
 /// The coefficients of a row by node, and its constant.
 pub type Sparse<'a> = (&'a [(usize, i128)], i128);
-
-/// A line of a log by its letter.
-#[derive(Clone, Copy)]
-pub enum Line<'a> {
-    H(usize),
-    G,
-    X(usize, usize),
-    A(u8, u32, &'a [usize]),
-    U(&'a [usize], &'a [Signed]),
-    E(&'a [Signed], &'a [(usize, usize)]),
-    L(&'a [Signed], &'a [Sum<'a>]),
-    S(usize, i128),
-    N(Op, &'a [usize]),
-}
 
 pub const P: Op = Op::Free(Free {
     number: 0,
@@ -83,7 +66,7 @@ pub const INT: Op = Op::Is(Ty::Int);
 /// That a character is a `char`.
 pub const CHAR: Op = Op::Is(Ty::Char);
 
-fn declared(alloc: Global, name: u32, text: &str) -> Result<Declared, Fail> {
+fn declared(alloc: Global, name: u32, text: &str) -> Result<Declared, AllocError> {
     Ok(Declared {
         name,
         text: String::from_str(alloc, text)?,
@@ -92,29 +75,59 @@ fn declared(alloc: Global, name: u32, text: &str) -> Result<Declared, Fail> {
 }
 
 /// newtype i8 = x: int | -128 <= x < 128
-fn i8(alloc: Global) -> Result<Newtype, Fail> {
+fn i8(alloc: Global) -> Result<Newtype, AllocError> {
     Ok(Newtype {
         declared: declared(alloc, 0, "i8")?,
-        interval: Interval::new(-128, 127).ok_or("ordered")?,
+        interval: Interval::new(-128, 127).ok_or(AllocError)?,
         default: 0,
     })
 }
 
 /// newtype byte = x: int | 0 <= x < 256
-fn byte(alloc: Global) -> Result<Newtype, Fail> {
+fn byte(alloc: Global) -> Result<Newtype, AllocError> {
     Ok(Newtype {
         declared: declared(alloc, 5, "byte")?,
-        interval: Interval::new(0, 255).ok_or("ordered")?,
+        interval: Interval::new(0, 255).ok_or(AllocError)?,
         default: 0,
     })
 }
 
-/// The program of `i8` and `byte`.
-pub fn program(alloc: Global) -> Result<Program, Fail> {
+fn owned(alloc: Global) -> Result<Program, AllocError> {
     let first = i8(alloc)?;
     let second = byte(alloc)?;
     let decls = vec![in alloc; Decl::Newtype(first), Decl::Newtype(second)]?;
     Ok(Program::new(decls))
+}
+
+/// The same program, which is never dropped, so that no test need own it.
+fn lent(alloc: Global, program: Program) -> Option<&'static Program> {
+    match Box::new(alloc, program) {
+        Ok(program) => Some(&*Box::leak(program)),
+        Err(_) => None,
+    }
+}
+
+fn program(alloc: Global) -> Option<&'static Program> {
+    match owned(alloc) {
+        Ok(program) => lent(alloc, program),
+        Err(_) => None,
+    }
+}
+
+/// What formulas know of the program of `i8` and `byte`.
+pub fn world(alloc: Global) -> Option<World<'static>> {
+    match program(alloc) {
+        Some(program) => Some(World { program }),
+        None => None,
+    }
+}
+
+/// A draft over this program.
+pub fn draft(alloc: Global) -> Option<Draft<'static>> {
+    match world(alloc) {
+        Some(world) => Some(Draft::new(alloc, world)),
+        None => None,
+    }
 }
 
 /// Puts a term on the stack, whose parts are the last ones there. Whether there are so many, of its sorts.
@@ -174,50 +187,25 @@ pub fn conclude<'a>(alloc: Global, draft: &mut Draft<'a>, goal: Terms) -> Option
     draft.sequent(alloc).ok()
 }
 
-/// The sequent of these hypotheses and this goal; nothing where the terms of one do not leave one formula.
-pub fn sequent<'a>(
+fn sequent_in<'a>(
     alloc: Global,
-    program: &'a Program,
+    draft: &mut Draft<'a>,
     hypotheses: &[Terms],
     goal: Terms,
 ) -> Option<Sequent<'a>> {
-    let mut draft = Draft::new(alloc, World { program });
-    if assume_all(&mut draft, hypotheses) {
-        conclude(alloc, &mut draft, goal)
+    if assume_all(draft, hypotheses) {
+        conclude(alloc, draft, goal)
     } else {
         None
     }
 }
 
-/// Adds a node. Whether its parts are of their sorts.
-fn add(alloc: Global, nodes: &mut Nodes, plain: Plain) -> bool {
-    let (op, parts) = plain;
-    let Ok(parts) = Vec::from_slice(alloc, parts) else {
-        return false;
-    };
-    let node = Node { op, parts };
-    if !nodes.admits(&node) {
-        return false;
-    }
-    nodes.add(node).is_ok()
-}
-
-fn add_all(alloc: Global, nodes: &mut Nodes, plain: &[Plain]) -> bool {
-    for node in plain {
-        if !add(alloc, nodes, *node) {
-            return false;
-        }
-    }
-    true
-}
-
-/// Nodes in this order; a word where the parts of one are not of their sorts, or memory is refused.
-pub fn nodes(alloc: Global, plain: &[Plain]) -> Result<Nodes, &'static str> {
-    let mut nodes = Nodes::new(alloc);
-    if add_all(alloc, &mut nodes, plain) {
-        Ok(nodes)
-    } else {
-        Err("no nodes")
+/// The sequent of these hypotheses and this goal over the program of `i8` and `byte`; nothing where the terms of one do
+/// not leave one formula.
+pub fn sequent(alloc: Global, hypotheses: &[Terms], goal: Terms) -> Option<Sequent<'static>> {
+    match draft(alloc) {
+        Some(mut draft) => sequent_in(alloc, &mut draft, hypotheses, goal),
+        None => None,
     }
 }
 
@@ -230,17 +218,6 @@ pub fn literals(alloc: Global, signed: &[Signed]) -> Option<Vec<Lit>> {
         }
     }
     Some(literals)
-}
-
-/// Pairs in this order.
-fn pairs(alloc: Global, named: &[(usize, usize)]) -> Option<Vec<Pair>> {
-    let mut pairs = Vec::new(alloc);
-    for &(left, right) in named {
-        if pairs.push(Pair { left, right }).is_err() {
-            return None;
-        }
-    }
-    Some(pairs)
 }
 
 fn members(alloc: Global, multiples: &[(i128, usize)]) -> Option<Vec<Multiple>> {
@@ -269,90 +246,6 @@ pub fn combinations(alloc: Global, sums: &[Sum]) -> Option<Vec<Combination>> {
         }
     }
     Some(combinations)
-}
-
-fn schema_step(alloc: Global, schema: u8, clause: u32, terms: &[usize]) -> Option<Step> {
-    match Vec::from_slice(alloc, terms) {
-        Ok(terms) => Some(Step::Schema {
-            schema,
-            clause,
-            terms,
-        }),
-        Err(_) => None,
-    }
-}
-
-fn propagation(alloc: Global, clauses: &[usize], conclusion: &[Signed]) -> Option<Step> {
-    let conclusion = literals(alloc, conclusion)?;
-    match Vec::from_slice(alloc, clauses) {
-        Ok(clauses) => Some(Step::Propagation {
-            clauses,
-            conclusion,
-        }),
-        Err(_) => None,
-    }
-}
-
-fn congruence(alloc: Global, conclusion: &[Signed], named: &[(usize, usize)]) -> Option<Step> {
-    let conclusion = literals(alloc, conclusion)?;
-    let pairs = pairs(alloc, named)?;
-    Some(Step::Congruence { conclusion, pairs })
-}
-
-fn linear(alloc: Global, conclusion: &[Signed], sums: &[Sum]) -> Option<Step> {
-    let conclusion = literals(alloc, conclusion)?;
-    let combinations = combinations(alloc, sums)?;
-    Some(Step::Linear {
-        conclusion,
-        combinations,
-    })
-}
-
-fn making(alloc: Global, op: Op, parts: &[usize]) -> Option<Step> {
-    match Vec::from_slice(alloc, parts) {
-        Ok(parts) => Some(Step::Make(Node { op, parts })),
-        Err(_) => None,
-    }
-}
-
-pub fn step(alloc: Global, line: Line) -> Option<Step> {
-    match line {
-        Line::H(number) => Some(Step::Hypothesis(number)),
-        Line::G => Some(Step::Goal),
-        Line::X(node, clause) => Some(Step::Connective { node, clause }),
-        Line::A(schema, clause, terms) => schema_step(alloc, schema, clause, terms),
-        Line::U(clauses, conclusion) => propagation(alloc, clauses, conclusion),
-        Line::E(conclusion, named) => congruence(alloc, conclusion, named),
-        Line::L(conclusion, sums) => linear(alloc, conclusion, sums),
-        Line::S(node, bound) => Some(Step::Split { node, bound }),
-        Line::N(op, parts) => making(alloc, op, parts),
-    }
-}
-
-fn push_step(alloc: Global, log: &mut Vec<Step>, line: Line) -> bool {
-    match step(alloc, line) {
-        Some(step) => log.push(step).is_ok(),
-        None => false,
-    }
-}
-
-fn push_steps(alloc: Global, log: &mut Vec<Step>, lines: &[Line]) -> bool {
-    for line in lines {
-        if !push_step(alloc, log, *line) {
-            return false;
-        }
-    }
-    true
-}
-
-/// A log of the first lines and the others after them.
-pub fn steps(alloc: Global, first: &[Line], others: &[Line]) -> Option<Vec<Step>> {
-    let mut log = Vec::new(alloc);
-    if push_steps(alloc, &mut log, first) && push_steps(alloc, &mut log, others) {
-        Some(log)
-    } else {
-        None
-    }
 }
 
 /// A row; nothing where its entries are out of order.

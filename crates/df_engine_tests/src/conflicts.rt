@@ -1,13 +1,12 @@
 //! How many conflicts the engine comes to, and a long chain of equalities.
 
 use crate::pairs::beside_pairs;
-use df_cases::{Z, assume, conclude, program};
-use df_form::{Draft, Free, Op, Sequent, Sort, World};
+use crate::proposals::proposed;
+use df_cases::{Z, assume, conclude, draft};
+use df_form::{Draft, Free, Op, Sequent, Sort};
 use df_kern::check;
-use df_lang::Program;
-use df_solve::{Counted, Engine, Proposal, propose_counted};
+use df_solve::{Counted, Proposal};
 use std::alloc::{AllocError, Global};
-use std::test::Fail;
 
 /// How many atoms the clauses are over.
 const ATOM_COUNT: usize = 6;
@@ -40,18 +39,12 @@ fn conflicts_before(alloc: Global, sequent: &Sequent, counted: &Counted) -> Opti
     }
 }
 
-/// How many conflicts an engine comes to before such a log, without rounds of instances.
-fn conflicts_of(alloc: Global, engine: &mut Engine, sequent: &Sequent) -> Option<u64> {
-    match propose_counted(alloc, engine, sequent, 1000, 0) {
-        Ok(counted) => conflicts_before(alloc, sequent, &counted),
-        Err(_) => None,
-    }
-}
-
 /// How many conflicts come before a log that the kernel takes, without rounds of instances.
 fn conflicts(alloc: Global, sequent: &Sequent) -> Option<u64> {
-    let mut engine = Engine::new(alloc);
-    conflicts_of(alloc, &mut engine, sequent)
+    match proposed(alloc, sequent, 0) {
+        Some(counted) => conflicts_before(alloc, sequent, &counted),
+        None => None,
+    }
 }
 
 /// Whether a log that the kernel takes comes after at most so many conflicts.
@@ -77,7 +70,10 @@ fn push_clause(terms: &mut Vec<(Op, usize)>, number: u32) -> Result<(), AllocErr
 
 fn assume_clause(alloc: Global, draft: &mut Draft, number: u32) -> bool {
     let mut terms = Vec::new(alloc);
-    push_clause(&mut terms, number).is_ok() && assume(draft, &terms)
+    if push_clause(&mut terms, number).is_err() {
+        return false;
+    }
+    assume(draft, &terms)
 }
 
 fn assume_clauses(alloc: Global, draft: &mut Draft) -> bool {
@@ -89,19 +85,25 @@ fn assume_clauses(alloc: Global, draft: &mut Draft) -> bool {
     true
 }
 
-/// All clauses of the six atoms, with another atom as goal.
-fn of_all_signs<'a>(alloc: Global, program: &'a Program) -> Option<Sequent<'a>> {
-    let mut draft = Draft::new(alloc, World { program });
-    if assume_clauses(alloc, &mut draft) {
-        conclude(alloc, &mut draft, &[(free(ATOM_COUNT, Sort::Truth), 0)])
+fn of_all_signs_in<'a>(alloc: Global, draft: &mut Draft<'a>) -> Option<Sequent<'a>> {
+    if assume_clauses(alloc, draft) {
+        conclude(alloc, draft, &[(free(ATOM_COUNT, Sort::Truth), 0)])
     } else {
         None
     }
 }
 
+/// All clauses of the six atoms, with another atom as goal.
+fn of_all_signs(alloc: Global) -> Option<Sequent<'static>> {
+    match draft(alloc) {
+        Some(mut draft) => of_all_signs_in(alloc, &mut draft),
+        None => None,
+    }
+}
+
 /// Whether the clauses beside pairs take at most so many conflicts.
-fn are_pairs_proved(alloc: Global, program: &Program, most: u64) -> bool {
-    match beside_pairs(alloc, program) {
+fn are_pairs_proved(alloc: Global, most: u64) -> bool {
+    match beside_pairs(alloc) {
         Some(sequent) => is_proved(alloc, &sequent, most),
         None => false,
     }
@@ -109,15 +111,13 @@ fn are_pairs_proved(alloc: Global, program: &Program, most: u64) -> bool {
 
 /// Four clauses of two atoms are false together: no more conflicts are needed than there are clauses.
 #[test]
-fn proves_beside_pairs_with_few_conflicts(rt: HostRuntime) -> Result<(), Fail> {
-    let program = program(rt.alloc())?;
-    assert!(rt; are_pairs_proved(rt.alloc(), &program, 6));
-    Ok(())
+fn proves_beside_pairs_with_few_conflicts(rt: HostRuntime) {
+    assert!(rt; are_pairs_proved(rt.alloc(), 6));
 }
 
 /// Whether the clauses of all signs take at most so many conflicts.
-fn are_signs_proved(alloc: Global, program: &Program, most: u64) -> bool {
-    match of_all_signs(alloc, program) {
+fn are_signs_proved(alloc: Global, most: u64) -> bool {
+    match of_all_signs(alloc) {
         Some(sequent) => is_proved(alloc, &sequent, most),
         None => false,
     }
@@ -125,10 +125,8 @@ fn are_signs_proved(alloc: Global, program: &Program, most: u64) -> bool {
 
 /// Each conflict makes one clause false, and the last decision of two such may be the same atom: at least 32.
 #[test]
-fn proves_of_all_signs_with_few_conflicts(rt: HostRuntime) -> Result<(), Fail> {
-    let program = program(rt.alloc())?;
-    assert!(rt; are_signs_proved(rt.alloc(), &program, 64));
-    Ok(())
+fn proves_of_all_signs_with_few_conflicts(rt: HostRuntime) {
+    assert!(rt; are_signs_proved(rt.alloc(), 64));
 }
 
 /// That each number is equal to the next one.
@@ -157,27 +155,31 @@ fn conclude_products<'a>(alloc: Global, draft: &mut Draft<'a>) -> Option<Sequent
     conclude(alloc, draft, &goal)
 }
 
-/// Numbers of which each is equal to the next one; the products of the first and of the last with z are equal.
-fn chain<'a>(alloc: Global, program: &'a Program) -> Option<Sequent<'a>> {
-    let mut draft = Draft::new(alloc, World { program });
-    if assume_links(&mut draft) {
-        conclude_products(alloc, &mut draft)
+fn chain_in<'a>(alloc: Global, draft: &mut Draft<'a>) -> Option<Sequent<'a>> {
+    if assume_links(draft) {
+        conclude_products(alloc, draft)
     } else {
         None
     }
 }
 
+/// Numbers of which each is equal to the next one; the products of the first and of the last with z are equal.
+fn chain(alloc: Global) -> Option<Sequent<'static>> {
+    match draft(alloc) {
+        Some(mut draft) => chain_in(alloc, &mut draft),
+        None => None,
+    }
+}
+
 /// Whether the chain takes at most so many conflicts.
-fn is_chain_proved(alloc: Global, program: &Program, most: u64) -> bool {
-    match chain(alloc, program) {
+fn is_chain_proved(alloc: Global, most: u64) -> bool {
+    match chain(alloc) {
         Some(sequent) => is_proved(alloc, &sequent, most),
         None => false,
     }
 }
 
 #[test]
-fn proves_along_a_chain(rt: HostRuntime) -> Result<(), Fail> {
-    let program = program(rt.alloc())?;
-    assert!(rt; is_chain_proved(rt.alloc(), &program, 64));
-    Ok(())
+fn proves_along_a_chain(rt: HostRuntime) {
+    assert!(rt; is_chain_proved(rt.alloc(), 64));
 }

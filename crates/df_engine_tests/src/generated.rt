@@ -1,16 +1,15 @@
 //! Generated sequents, valid by construction or with a planted model: how many logs and tables of the engine pass
 //! their checks, and how many are refused.
 
+use crate::proposals::proposed;
 use df_axiom::Written;
-use df_cases::{Terms, X, Y, Z, assume, conclude, program};
-use df_form::{Draft, Op, Sequent, World};
+use df_cases::{Terms, X, Y, Z, assume, conclude, draft};
+use df_form::{Draft, Op, Sequent};
 use df_kern::check;
-use df_lang::Program;
-use df_solve::{Engine, Proposal, propose};
+use df_solve::Proposal;
 use df_table::{Table, is_model};
 use df_trig::instances;
 use std::alloc::Global;
-use std::test::Fail;
 
 /// How many sequents there are of each kind.
 const COUNT: u64 = 500;
@@ -212,16 +211,11 @@ fn answer_to(alloc: Global, sequent: &Sequent, proposal: &Proposal) -> Answer {
     }
 }
 
-fn answer_by(alloc: Global, engine: &mut Engine, sequent: &Sequent) -> Answer {
-    match propose(alloc, engine, sequent, 1_000, ROUNDS) {
-        Ok(proposal) => answer_to(alloc, sequent, &proposal),
-        Err(_) => Answer::Nothing,
-    }
-}
-
 fn answer_of(alloc: Global, sequent: &Sequent) -> Answer {
-    let mut engine = Engine::new(alloc);
-    answer_by(alloc, &mut engine, sequent)
+    match proposed(alloc, sequent, ROUNDS) {
+        Some(counted) => answer_to(alloc, sequent, &counted.proposal),
+        None => Answer::Nothing,
+    }
 }
 
 fn concluded_answer(alloc: Global, draft: &mut Draft, goal: Terms) -> Answer {
@@ -231,19 +225,25 @@ fn concluded_answer(alloc: Global, draft: &mut Draft, goal: Terms) -> Answer {
     }
 }
 
-fn made_answer(alloc: Global, program: &Program, state: u64, wanted: Answer) -> Answer {
+fn drafted_answer(alloc: Global, draft: &mut Draft, state: u64, wanted: Answer) -> Answer {
     let mut maker = Maker::new(alloc, state);
-    let mut draft = Draft::new(alloc, World { program });
-    maker.fill(&mut draft, wanted);
-    concluded_answer(alloc, &mut draft, &maker.terms)
+    maker.fill(draft, wanted);
+    concluded_answer(alloc, draft, &maker.terms)
+}
+
+fn made_answer(alloc: Global, state: u64, wanted: Answer) -> Answer {
+    match draft(alloc) {
+        Some(mut draft) => drafted_answer(alloc, &mut draft, state, wanted),
+        None => Answer::Nothing,
+    }
 }
 
 /// How many answers are what is wanted, and how many proposals were refused.
-fn counts(alloc: Global, program: &Program, wanted: Answer) -> (u64, u64) {
+fn counts(alloc: Global, wanted: Answer) -> (u64, u64) {
     let mut as_wanted = 0u64;
     let mut refused = 0u64;
     for state in 0..COUNT {
-        let answer = made_answer(alloc, program, state, wanted);
+        let answer = made_answer(alloc, state, wanted);
         as_wanted = as_wanted.saturating_add(u64::from(answer == wanted));
         refused = refused.saturating_add(u64::from(answer == Answer::Refused));
     }
@@ -251,14 +251,12 @@ fn counts(alloc: Global, program: &Program, wanted: Answer) -> (u64, u64) {
 }
 
 #[test]
-fn takes_what_is_proposed(rt: HostRuntime) -> Result<(), Fail> {
-    let program = program(rt.alloc())?;
+fn takes_what_is_proposed(rt: HostRuntime) {
     for wanted in [Answer::Log, Answer::Table] {
-        let (as_wanted, refused) = counts(rt.alloc(), &program, wanted);
+        let (as_wanted, refused) = counts(rt.alloc(), wanted);
         assert!(rt;
             refused == 0 && as_wanted == COUNT,
             "{as_wanted} found, {refused} refused"
         );
     }
-    Ok(())
 }

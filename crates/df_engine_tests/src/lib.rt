@@ -8,3 +8,5 @@ mod conflicts;
 mod generated;
 #[cfg(test)]
 mod pairs;
+#[cfg(test)]
+mod proposals;

@@ -1,12 +1,10 @@
 //! Clauses of two atoms that are false together, beside clauses that a proof does without.
 
-use df_cases::{P, Q, Terms, assume, assume_all, conclude, program};
-use df_form::{Draft, Free, Op, Sequent, Sort, World};
+use df_cases::{P, Q, Terms, assume, assume_all, conclude, draft};
+use df_form::{Draft, Free, Op, Sequent, Sort};
 use df_kern::check;
-use df_lang::Program;
 use df_search::{Budget, Found, search};
 use std::alloc::Global;
-use std::test::Fail;
 
 /// A further atom.
 fn atom(number: usize) -> Op {
@@ -39,13 +37,23 @@ fn assume_pairs(draft: &mut Draft) -> bool {
     true
 }
 
-/// The clauses of two atoms, and as many of two atoms each of their own, with another atom as goal.
-pub(crate) fn beside_pairs<'a>(alloc: Global, program: &'a Program) -> Option<Sequent<'a>> {
-    let mut draft = Draft::new(alloc, World { program });
-    if assume_all(&mut draft, &CLAUSES) && assume_pairs(&mut draft) {
-        conclude(alloc, &mut draft, &[(atom(12), 0)])
+fn assume_clauses(draft: &mut Draft) -> bool {
+    assume_all(draft, &CLAUSES)
+}
+
+fn beside_pairs_in<'a>(alloc: Global, draft: &mut Draft<'a>) -> Option<Sequent<'a>> {
+    if assume_clauses(draft) && assume_pairs(draft) {
+        conclude(alloc, draft, &[(atom(12), 0)])
     } else {
         None
+    }
+}
+
+/// The clauses of two atoms, and as many of two atoms each of their own, with another atom as goal.
+pub(crate) fn beside_pairs(alloc: Global) -> Option<Sequent<'static>> {
+    match draft(alloc) {
+        Some(mut draft) => beside_pairs_in(alloc, &mut draft),
+        None => None,
     }
 }
 
@@ -69,16 +77,14 @@ fn is_proved(alloc: Global, sequent: &Sequent) -> bool {
     }
 }
 
-fn are_pairs_proved(alloc: Global, program: &Program) -> bool {
-    match beside_pairs(alloc, program) {
+fn are_pairs_proved(alloc: Global) -> bool {
+    match beside_pairs(alloc) {
         Some(sequent) => is_proved(alloc, &sequent),
         None => false,
     }
 }
 
 #[test]
-fn proves_beside_other_clauses(rt: HostRuntime) -> Result<(), Fail> {
-    let program = program(rt.alloc())?;
-    assert!(rt; are_pairs_proved(rt.alloc(), &program));
-    Ok(())
+fn proves_beside_other_clauses(rt: HostRuntime) {
+    assert!(rt; are_pairs_proved(rt.alloc()));
 }

@@ -300,11 +300,18 @@ fn heights_end_at_200(rt: HostRuntime) {
     }
 }
 
-/// How many operands are behind the first one of a row, where a text is one.
-fn further_operands(alloc: Global, text: &[u8]) -> Option<usize> {
-    match &expression_of(alloc, text) {
-        Some(Expr::Operations { rest, .. }) => Some(rest.len()),
+/// How many operands are behind the first one of a row, where a tree is one.
+fn operands_behind(tree: &Expr) -> Option<usize> {
+    match tree {
+        Expr::Operations { rest, .. } => Some(rest.len()),
         _ => None,
+    }
+}
+
+fn further_operands(alloc: Global, text: &[u8]) -> Option<usize> {
+    match expression_of(alloc, text) {
+        Some(tree) => operands_behind(&tree),
+        None => None,
     }
 }
 

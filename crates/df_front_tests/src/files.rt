@@ -36,11 +36,21 @@ const FILES: [&str; 24] = [
     "method M() { print x - 1 + y, (x); }",
 ];
 
+/// The file of a source with few names.
+fn file_with(alloc: Global, source: &[u8], names: &mut Names) -> Result<File, Stop> {
+    if names.len() > 9 {
+        return Err(Stop::Memory);
+    }
+    let tokens = tokens(alloc, source, names)?;
+    parse(alloc, &tokens)
+}
+
 /// The file of a source.
 fn file_of(alloc: Global, source: &[u8]) -> Result<File, Stop> {
-    let mut names = Names::new(alloc)?;
-    let tokens = tokens(alloc, source, &mut names)?;
-    parse(alloc, &tokens)
+    match Names::new(alloc) {
+        Ok(mut names) => file_with(alloc, source, &mut names),
+        Err(_) => Err(Stop::Memory),
+    }
 }
 
 /// Whether a source is refused by this code, or read where there is none.

@@ -4,6 +4,7 @@ use crate::building::name_letters;
 use crate::expecting::expect;
 use df_base::{Code, Detail, Global, Names, Pos, Refusal};
 use df_nfront::{pos_text, refusal_line};
+use std::process::Abort;
 use std::test::Fail;
 
 /// Refusals at line 12 and column 3, where `b` is the name 1, and their lines.
@@ -58,17 +59,18 @@ fn is_told(alloc: Global, names: &Names, code: Code, detail: Detail, line: &str)
     has_line(alloc, names, &refusal, line)
 }
 
+fn expect_lines(rt: &impl Abort, alloc: Global, names: &Names) {
+    for (number, (code, detail, line)) in LINES.iter().enumerate() {
+        let is_right = is_told(alloc, names, *code, *detail, *line);
+        expect(rt, number, is_right);
+    }
+}
+
 #[test]
 fn each_code_has_its_line(rt: HostRuntime) -> Result<(), Fail> {
     let mut names = Names::new(rt.alloc())?;
     assert!(rt; name_letters(&mut names));
-    for (number, (code, detail, line)) in LINES.iter().enumerate() {
-        expect(
-            &rt,
-            number,
-            is_told(rt.alloc(), &names, *code, *detail, *line),
-        );
-    }
+    expect_lines(&rt, rt.alloc(), &names);
     Ok(())
 }
 

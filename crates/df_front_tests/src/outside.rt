@@ -7,6 +7,7 @@ use df_base::{
 };
 use std::alloc::Global;
 use std::io::Write;
+use std::process::Abort;
 use std::{fs, io};
 
 /// The name of a text, where the text is that of the name.
@@ -103,15 +104,25 @@ const PLANNED: [(&str, u64, Loaded, u64); 6] = [
     ("a", 9, Loaded::Text("new!"), 2),
 ];
 
+/// Whether a load comes to what it should.
+fn loads(alloc: Global, files: &mut MemFiles, name: &str, limit: u64, wanted: Loaded) -> bool {
+    let load = files.load(alloc, name, limit);
+    comes_to(&load, wanted)
+}
+
+/// Each load comes to what is planned.
+fn expect_planned(rt: &impl Abort, alloc: Global, files: &mut MemFiles) {
+    for (number, (name, limit, wanted, faults)) in PLANNED.iter().enumerate() {
+        let is_loaded = loads(alloc, files, *name, *limit, *wanted);
+        expect(rt, number, is_loaded && files.faults() == *faults);
+    }
+}
+
 #[test]
 fn files_in_memory_fail_where_planned(rt: HostRuntime) {
     let mut files = MemFiles::new(rt.alloc());
     assert!(rt; plan_files(&mut files));
-    for (number, (name, limit, wanted, faults)) in PLANNED.iter().enumerate() {
-        let load = files.load(rt.alloc(), *name, *limit);
-        let is_right = comes_to(&load, *wanted) && files.faults() == *faults;
-        expect(&rt, number, is_right);
-    }
+    expect_planned(&rt, rt.alloc(), &mut files);
 }
 
 /// Names and limits, and what their loads come to where `a` is `text`.
@@ -121,15 +132,30 @@ const SURE: [(&str, u64, Loaded); 3] = [
     ("a", 0, Loaded::Large(1)),
 ];
 
+fn loads_surely(
+    alloc: Global,
+    files: &mut SureFiles,
+    name: &str,
+    limit: u64,
+    wanted: Loaded,
+) -> bool {
+    let load = files.load(alloc, name, limit);
+    comes_to(&load, wanted)
+}
+
+/// Each load comes to what it should, and none to a fault.
+fn expect_sure(rt: &impl Abort, alloc: Global, files: &mut SureFiles) {
+    for (number, (name, limit, wanted)) in SURE.iter().enumerate() {
+        let is_loaded = loads_surely(alloc, files, *name, *limit, *wanted);
+        expect(rt, number, is_loaded && files.faults() == 0);
+    }
+}
+
 #[test]
 fn sure_files_are_empty_where_none_was_added(rt: HostRuntime) {
     let mut files = SureFiles::new(rt.alloc());
     assert!(rt; files.add("a", b"text").is_ok());
-    for (number, (name, limit, wanted)) in SURE.iter().enumerate() {
-        let load = files.load(rt.alloc(), *name, *limit);
-        let is_right = comes_to(&load, *wanted) && files.faults() == 0;
-        expect(&rt, number, is_right);
-    }
+    expect_sure(&rt, rt.alloc(), &mut files);
 }
 
 fn write_long(rt: &HostRuntime) -> io::Result<()> {
@@ -193,14 +219,19 @@ const PLANNED_PUTS: [(&str, bool); 4] = [
     (" four", false),
 ];
 
+/// Each text is put as it is planned.
+fn expect_puts(rt: &impl Abort, sink: &mut MemSink) {
+    for (number, (text, fails)) in PLANNED_PUTS.iter().enumerate() {
+        let put = sink.put(text.as_bytes());
+        expect(rt, number, comes_through(put, *fails));
+    }
+}
+
 #[test]
 fn sinks_in_memory_keep_what_they_take(rt: HostRuntime) {
     let mut sink = MemSink::new(rt.alloc());
     assert!(rt; plan_sink(&mut sink));
-    for (number, (text, fails)) in PLANNED_PUTS.iter().enumerate() {
-        let put = sink.put(text.as_bytes());
-        expect(&rt, number, comes_through(put, *fails));
-    }
+    expect_puts(&rt, &mut sink);
     assert!(rt; sink.taken() == b"one tw four".as_slice() && sink.faults() == 2);
 }
 

@@ -126,13 +126,21 @@ fn limit_of(stop: &Stop) -> Option<u64> {
     }
 }
 
+/// Whether a source with few names is past this limit, or divided where there is none.
+fn is_past_with(alloc: Global, source: &[u8], names: &mut Names, limit: Option<u64>) -> bool {
+    if names.len() > 9 {
+        return false;
+    }
+    match tokens(alloc, source, names) {
+        Ok(_) => limit.is_none(),
+        Err(stop) => limit.is_some() && limit_of(&stop) == limit,
+    }
+}
+
 /// Whether a source is past this limit, or divided where there is none.
 fn is_past(alloc: Global, source: &[u8], limit: Option<u64>) -> bool {
     match Names::new(alloc) {
-        Ok(mut names) => match tokens(alloc, source, &mut names) {
-            Ok(_) => limit.is_none(),
-            Err(stop) => limit.is_some() && limit_of(&stop) == limit,
-        },
+        Ok(mut names) => is_past_with(alloc, source, &mut names, limit),
         Err(_) => false,
     }
 }

@@ -7,6 +7,7 @@ ghost use Rattle.df_back.specs.Ranges.{AreInside};
 ghost use Rattle.df_row.specs.RowView.{IsWithin};
 
 use crate::expecting::expect;
+use crate::verdicts::{are_equal, are_many};
 use df_back::{Back, back};
 use df_cases::{Sparse, Sum, combinations, row, rows};
 use df_elim::{Elimination, eliminate};
@@ -93,18 +94,6 @@ const ALL: [Sum; 4] = [
 
 const NEEDED: [Sum; 2] = [(1, &[(1, 0), (1, 1)]), (1, &[(1, 2), (1, 1)])];
 
-fn are_equal(found: &[Combination], wanted: &[Combination]) -> bool {
-    if found.len() != wanted.len() {
-        return false;
-    }
-    for (one, other) in found.iter().zip(wanted) {
-        if one.divisor != other.divisor || one.members != other.members {
-            return false;
-        }
-    }
-    true
-}
-
 /// Whether these are the combinations that are needed, in this order.
 fn are_needed(alloc: Global, all: &[Combination], wanted: &[Combination]) -> bool {
     match needed(alloc, 2, all) {
@@ -140,14 +129,22 @@ const OPEN: [(&[Sparse], &[usize], &[Sparse]); 5] = [
     (&[(&[(usize::MAX, 1)], 0)], &[usize::MAX], &[]),
 ];
 
-/// Whether the rows have these variables, and are these rows without them.
-fn are_left(alloc: Global, given: &[Row], variables: &[usize], wanted: &[Row]) -> bool {
-    match eliminate(alloc, given) {
-        Ok(Elimination::Open(levels)) => {
+/// Whether the elimination has these variables, and leaves these rows.
+fn is_left(elimination: &Elimination, variables: &[usize], wanted: &[Row]) -> bool {
+    match elimination {
+        Elimination::Open(levels) => {
             let last = levels.others.last().unwrap_or(&levels.first);
             levels.variables.as_slice() == variables && last.rows() == wanted
         }
-        Ok(_) | Err(_) => false,
+        _ => false,
+    }
+}
+
+/// Whether the rows have these variables, and are these rows without them.
+fn are_left(alloc: Global, given: &[Row], variables: &[usize], wanted: &[Row]) -> bool {
+    match eliminate(alloc, given) {
+        Ok(elimination) => is_left(&elimination, variables, wanted),
+        Err(_) => false,
     }
 }
 
@@ -247,8 +244,18 @@ fn push_bounds(alloc: Global, rows: &mut Vec<Row>, others: u16) -> bool {
     push_lower(alloc, rows) && push_upper(alloc, rows) && push_others(alloc, rows, others)
 }
 
+fn is_point(verdict: &Verdict) -> bool {
+    match verdict {
+        Verdict::Point(_) => true,
+        _ => false,
+    }
+}
+
 fn has_point(alloc: Global, given: &[Row]) -> bool {
-    matches!(refute(alloc, given), Ok(Verdict::Point(_)))
+    match refute(alloc, given) {
+        Ok(verdict) => is_point(&verdict),
+        Err(_) => false,
+    }
 }
 
 /// 224 * 223 sums, and 47 rows.
@@ -260,18 +267,13 @@ fn takes_almost_too_many_rows(rt: HostRuntime) {
     assert!(rt; has_point(rt.alloc(), &given));
 }
 
-/// Whether there is no verdict, since elimination gives up at 50,000 rows.
-fn has_no_verdict(alloc: Global, given: &[Row]) -> bool {
-    matches!(refute(alloc, given), Ok(Verdict::Many(50_000)))
-}
-
-/// 224 * 223 sums, and 48 rows.
+/// 224 * 223 sums, and 48 rows: elimination gives up at 50,000.
 #[test]
 fn tells_of_many_rows(rt: HostRuntime) {
     let mut given = Vec::new(rt.alloc());
     assert!(rt; push_bounds(rt.alloc(), &mut given, 48));
     assert!(rt; end(rt.alloc(), &given) == "50,000 rows");
-    assert!(rt; has_no_verdict(rt.alloc(), &given));
+    assert!(rt; are_many(rt.alloc(), &given));
 }
 
 /// Whether only nodes below the count have a coefficient in the row.
@@ -332,10 +334,17 @@ const POINTS: [(&[Sparse], [i128; 2]); 2] = [
     ),
 ];
 
+fn is_solution(back: &Back, wanted: &[i128]) -> bool {
+    match back {
+        Back::Point(numbers) => numbers.as_slice() == wanted,
+        _ => false,
+    }
+}
+
 fn has_numbers(alloc: Global, given: &[Sparse], wanted: &[i128]) -> bool {
     match solved(alloc, given) {
-        Some(Back::Point(numbers)) => numbers.as_slice() == wanted,
-        Some(_) | None => false,
+        Some(back) => is_solution(&back, wanted),
+        None => false,
     }
 }
 

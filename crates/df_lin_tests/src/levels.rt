@@ -2,8 +2,8 @@
 
 use crate::expecting::expect;
 use crate::verdicts::are_equal;
-use df_cases::{Plain, Sparse, Sum, X, Y, combinations, nodes, row, rows};
-use df_form::{Combination, Lit, Nodes, Op};
+use df_cases::{Sparse, Sum, combinations, nodes_of, row, rows};
+use df_form::{Combination, Lit, Nodes};
 use df_level::{Level, LevelFault, Row, RowFault};
 use df_row::rows_of_literals;
 use std::alloc::Global;
@@ -137,12 +137,7 @@ fn divides_rows(rt: HostRuntime) {
 }
 
 /// 3: x + y <= x
-const COMPARISON: [Plain; 4] = [
-    (X, &[]),
-    (Y, &[]),
-    (Op::Plus, &[0, 1]),
-    (Op::AtMost, &[2, 0]),
-];
+const COMPARISON: &str = "x; y; plus 0 1; le 2 0";
 
 /// Whether the comparison is true, and its row: -y, or y - 1.
 const OF_LITERALS: [(bool, Sparse); 2] = [(true, (&[(1, -1)], 0)), (false, (&[(1, 1)], -1))];
@@ -173,7 +168,7 @@ fn have_row(alloc: Global, nodes: &Nodes, literals: &[Lit], wanted: Sparse) -> b
 
 #[test]
 fn takes_rows_of_literals(rt: HostRuntime) -> Result<(), Fail> {
-    let nodes = nodes(rt.alloc(), &COMPARISON)?;
+    let nodes = nodes_of(rt.alloc(), COMPARISON)?;
     for (positive, wanted) in OF_LITERALS {
         let literals = [Lit { positive, node: 3 }];
         assert!(rt; have_row(rt.alloc(), &nodes, &literals, wanted));

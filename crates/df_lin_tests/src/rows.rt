@@ -1,8 +1,8 @@
 //! The kernel's linear arithmetic: rows of literals, and combinations that refute them.
 
 use crate::expecting::expect;
-use df_cases::{P, Plain, Signed, Sum, X, combinations, literals, nodes};
-use df_form::{Nodes, Op};
+use df_cases::{Signed, Sum, combinations, literals, nodes_of};
+use df_form::Nodes;
 use df_row::{Row, RowFault, is_linear, rows_of_literals};
 use std::alloc::Global;
 use std::process::Abort;
@@ -10,33 +10,14 @@ use std::test::Fail;
 
 const MAX: i128 = i128::MAX;
 
-const NODES: [Plain; 20] = [
-    (X, &[]),
-    (Op::Plus, &[0, 0]),
-    (Op::Number(1), &[]),
-    // 3: x + x <= 1, 4: 1 <= x + x, 5: x + x = 1
-    (Op::AtMost, &[1, 2]),
-    (Op::AtMost, &[2, 1]),
-    (Op::Equal, &[1, 2]),
-    (P, &[]),
-    (Op::Number(MAX), &[]),
-    (Op::Times, &[7, 1]),
-    // 9: MAX * (x + x) <= 1, which has no row
-    (Op::AtMost, &[8, 2]),
-    (Op::Number(2), &[]),
-    (Op::Times, &[10, 0]),
-    (Op::Times, &[7, 11]),
-    (Op::Plus, &[12, 0]),
-    // 14: MAX * (x + x) <= MAX * (2 * x) + x
-    (Op::AtMost, &[8, 13]),
-    (Op::Number(-MAX), &[]),
-    (Op::Plus, &[7, 7]),
-    (Op::Plus, &[16, 15]),
-    // 18: MAX + MAX + -MAX <= 1
-    (Op::AtMost, &[17, 2]),
-    // 19: MAX + MAX <= 1
-    (Op::AtMost, &[16, 2]),
-];
+/// 3: x + x <= 1, 4: 1 <= x + x, 5: x + x = 1.
+/// 9: MAX * (x + x) <= 1, which has no row.
+/// 14: MAX * (x + x) <= MAX * (2 * x) + x.
+/// 18: MAX + MAX + -MAX <= 1.
+/// 19: MAX + MAX <= 1.
+const NODES: &str = "x; plus 0 0; 1; le 1 2; le 2 1; eq 1 2; p; max; \
+    times 7 1; le 8 2; 2; times 10 0; times 7 11; plus 12 0; le 8 13; \
+    -170141183460469231731687303715884105727; plus 7 7; plus 16 15; le 17 2; le 16 2";
 
 /// Literals, and their rows: the coefficient of x, where there is one, and the constant. Or a number of
 /// one is past 128 bits.
@@ -72,54 +53,49 @@ const BOTH: Sum = (1, &[(1, 2), (1, 3)]);
 /// x - 1.
 const APART: &[Signed] = &[(false, 3), (false, 4)];
 
-/// A clause, combinations of the rows of its negated literals, and whether these refute them.
-type Combined<'a> = (&'a [Signed], &'a [Sum<'a>], bool);
+/// Combinations of the rows of the negated literals of a clause, and whether these refute them.
+type Combined<'a> = (&'a [Sum<'a>], bool);
 
-const COMBINATIONS: [Combined; 23] = [
-    (APART, &[HALF, OTHER_HALF, BOTH], true),
-    (APART, &[HALF, BOTH, OTHER_HALF], false),
-    (APART, &[HALF, OTHER_HALF, (1, &[(1, 5)])], false),
+/// Those of the first two comparisons.
+const COMBINATIONS: [Combined; 21] = [
+    (&[HALF, OTHER_HALF, BOTH], true),
+    (&[HALF, BOTH, OTHER_HALF], false),
+    (&[HALF, OTHER_HALF, (1, &[(1, 5)])], false),
     // the last row is to be false
-    (APART, &[], false),
-    (APART, &[HALF], false),
-    (APART, &[(1, &[(1, 0), (1, 1)])], false),
-    (APART, &[(1, &[])], false),
-    (APART, &[HALF, OTHER_HALF, BOTH, HALF], false),
-    (APART, &[HALF, OTHER_HALF, BOTH, (7, &[(1, 4)])], true),
+    (&[], false),
+    (&[HALF], false),
+    (&[(1, &[(1, 0), (1, 1)])], false),
+    (&[(1, &[])], false),
+    (&[HALF, OTHER_HALF, BOTH, HALF], false),
+    (&[HALF, OTHER_HALF, BOTH, (7, &[(1, 4)])], true),
     // factors
-    (APART, &[HALF, (1, &[(-1, 0), (2, 2)])], false),
-    (APART, &[HALF, (1, &[(1, 1), (2, 2)])], true),
-    (APART, &[HALF, (1, &[(1, 1), (1, 2)])], false),
-    (APART, &[OTHER_HALF, (1, &[(1, 0), (2, 2)])], true),
-    (APART, &[HALF, OTHER_HALF, (1, &[(0, 2), (0, 3)])], false),
+    (&[HALF, (1, &[(-1, 0), (2, 2)])], false),
+    (&[HALF, (1, &[(1, 1), (2, 2)])], true),
+    (&[HALF, (1, &[(1, 1), (1, 2)])], false),
+    (&[OTHER_HALF, (1, &[(1, 0), (2, 2)])], true),
+    (&[HALF, OTHER_HALF, (1, &[(0, 2), (0, 3)])], false),
     // divisors
-    (APART, &[HALF, OTHER_HALF, (0, &[(1, 2), (1, 3)])], false),
-    (APART, &[HALF, OTHER_HALF, (-1, &[(1, 2), (1, 3)])], false),
-    (APART, &[(4, &[(1, 0)]), OTHER_HALF, BOTH], false),
-    (APART, &[HALF, OTHER_HALF, (9, &[(1, 2), (1, 3)])], true),
+    (&[HALF, OTHER_HALF, (0, &[(1, 2), (1, 3)])], false),
+    (&[HALF, OTHER_HALF, (-1, &[(1, 2), (1, 3)])], false),
+    (&[(4, &[(1, 0)]), OTHER_HALF, BOTH], false),
+    (&[HALF, OTHER_HALF, (9, &[(1, 2), (1, 3)])], true),
     // numbers past 128 bits
-    (APART, &[HALF, OTHER_HALF, (1, &[(MAX, 2), (MAX, 3)])], true),
+    (&[HALF, OTHER_HALF, (1, &[(MAX, 2), (MAX, 3)])], true),
     (
-        APART,
         &[HALF, OTHER_HALF, (1, &[(MAX, 2), (MAX, 3), (2, 2), (2, 3)])],
         false,
     ),
-    (APART, &[(1, &[(MAX, 0)]), OTHER_HALF, BOTH], false),
-    (
-        &[(false, 3), (false, 4), (false, 9)],
-        &[HALF, OTHER_HALF, BOTH],
-        false,
-    ),
-    // a number is no formula
-    (
-        &[(false, 3), (false, 4), (false, 0)],
-        &[HALF, OTHER_HALF, BOTH],
-        false,
-    ),
+    (&[(1, &[(MAX, 0)]), OTHER_HALF, BOTH], false),
+];
+
+/// Clauses of which no combinations tell: one has a row past 128 bits, and in the other a number is no formula.
+const UNTOLD: [&[Signed]; 2] = [
+    &[(false, 3), (false, 4), (false, 9)],
+    &[(false, 3), (false, 4), (false, 0)],
 ];
 
 fn all_nodes(alloc: Global) -> Result<Nodes, &'static str> {
-    nodes(alloc, &NODES)
+    nodes_of(alloc, NODES)
 }
 
 /// Whether the combinations refute the negation of the clause.
@@ -129,15 +105,14 @@ fn refute(alloc: Global, nodes: &Nodes, clause: &[Signed], sums: &[Sum]) -> Opti
     is_linear(alloc, nodes, &literals, &combinations).ok()
 }
 
-/// Whether the combinations refute the clause or not, as is said.
-fn is_told(alloc: Global, nodes: &Nodes, combined: Combined) -> bool {
-    let (clause, sums, wanted) = combined;
-    refute(alloc, nodes, clause, sums) == Some(wanted)
+fn apart() -> &'static [Signed] {
+    APART
 }
 
 fn tells_each(rt: &impl Abort, alloc: Global, nodes: &Nodes, table: &[Combined]) {
-    for (number, combined) in table.iter().enumerate() {
-        expect(rt, number, is_told(alloc, nodes, *combined));
+    for (number, (sums, wanted)) in table.iter().enumerate() {
+        let told = refute(alloc, nodes, apart(), *sums);
+        expect(rt, number, told == Some(*wanted));
     }
 }
 
@@ -146,10 +121,23 @@ fn tells_of_combinations(rt: &impl Abort, alloc: Global, nodes: &Nodes) {
     tells_each(rt, alloc, nodes, &COMBINATIONS);
 }
 
+fn halves_refute(alloc: Global, nodes: &Nodes, clause: &[Signed]) -> Option<bool> {
+    refute(alloc, nodes, clause, &[HALF, OTHER_HALF, BOTH])
+}
+
+/// What refutes the first two comparisons refutes no such clause.
+fn tells_of_none(rt: &impl Abort, alloc: Global, nodes: &Nodes) {
+    for (number, clause) in UNTOLD.iter().enumerate() {
+        let told = halves_refute(alloc, nodes, *clause);
+        expect(rt, number, told == Some(false));
+    }
+}
+
 #[test]
 fn refutes_by_combinations(rt: HostRuntime) -> Result<(), Fail> {
     let nodes = all_nodes(rt.alloc())?;
     tells_of_combinations(&rt, rt.alloc(), &nodes);
+    tells_of_none(&rt, rt.alloc(), &nodes);
     Ok(())
 }
 

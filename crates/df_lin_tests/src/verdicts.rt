@@ -153,10 +153,17 @@ pub(crate) fn are_equal(found: &[Combination], wanted: &[Combination]) -> bool {
     true
 }
 
-fn is_refuted(alloc: Global, given: &[Sparse], wanted: &[Combination]) -> bool {
-    match &verdict(alloc, given) {
-        Some(Verdict::Refuted(found)) => are_equal(&found.combinations, wanted),
+fn is_refutation(verdict: &Verdict, wanted: &[Combination]) -> bool {
+    match verdict {
+        Verdict::Refuted(found) => are_equal(&found.combinations, wanted),
         _ => false,
+    }
+}
+
+fn is_refuted(alloc: Global, given: &[Sparse], wanted: &[Combination]) -> bool {
+    match verdict(alloc, given) {
+        Some(verdict) => is_refutation(&verdict, wanted),
+        None => false,
     }
 }
 
@@ -222,10 +229,17 @@ fn has_its_numbers(point: &Point) -> bool {
     true
 }
 
-fn has_point(alloc: Global, given: &[Sparse], wanted: Numbers) -> bool {
-    match &verdict(alloc, given) {
-        Some(Verdict::Point(point)) => has_numbers(point, wanted) && has_its_numbers(point),
+fn is_point(verdict: &Verdict, wanted: Numbers) -> bool {
+    match verdict {
+        Verdict::Point(point) => has_numbers(point, wanted) && has_its_numbers(point),
         _ => false,
+    }
+}
+
+fn has_point(alloc: Global, given: &[Sparse], wanted: Numbers) -> bool {
+    match verdict(alloc, given) {
+        Some(verdict) => is_point(&verdict, wanted),
+        None => false,
     }
 }
 
@@ -278,13 +292,21 @@ const GAPS: [(&[Sparse], usize, i128, Numbers); 3] = [
     ),
 ];
 
-/// Whether rows have a gap at this node above this number, beside these numbers.
-fn has_gap(alloc: Global, given: &[Sparse], wanted: usize, least: i128, numbers: Numbers) -> bool {
-    match &verdict(alloc, given) {
-        Some(Verdict::Between { node, bound, point }) => {
+/// Whether the verdict is a gap at this node above this number, beside these numbers.
+fn is_gap(verdict: &Verdict, wanted: usize, least: i128, numbers: Numbers) -> bool {
+    match verdict {
+        Verdict::Between { node, bound, point } => {
             *node == wanted && *bound == least && has_numbers(point, numbers)
         }
         _ => false,
+    }
+}
+
+/// Whether rows have such a gap.
+fn has_gap(alloc: Global, given: &[Sparse], wanted: usize, least: i128, numbers: Numbers) -> bool {
+    match verdict(alloc, given) {
+        Some(verdict) => is_gap(&verdict, wanted, least, numbers),
+        None => false,
     }
 }
 
@@ -318,11 +340,18 @@ const WIDE_BOUNDS: [(&[Sparse], usize, Numbers); 2] = [
     ),
 ];
 
+fn is_wide_level(verdict: &Verdict) -> bool {
+    match verdict {
+        Verdict::Wide(Chain::Elimination) => true,
+        _ => false,
+    }
+}
+
 fn has_wide_level(alloc: Global, given: &[Sparse]) -> bool {
-    matches!(
-        &verdict(alloc, given),
-        Some(Verdict::Wide(Chain::Elimination))
-    )
+    match verdict(alloc, given) {
+        Some(verdict) => is_wide_level(&verdict),
+        None => false,
+    }
 }
 
 #[test]
@@ -332,13 +361,20 @@ fn tells_of_levels_past_128_bits(rt: HostRuntime) {
     }
 }
 
-/// Whether this node has a bound that is too wide, beside these numbers.
-fn has_wide_bound(alloc: Global, given: &[Sparse], wanted: usize, numbers: Numbers) -> bool {
-    match &verdict(alloc, given) {
-        Some(Verdict::Wide(Chain::Substitution { node, point })) => {
+/// Whether the verdict is that this node has a bound that is too wide, beside these numbers.
+fn is_wide_bound(verdict: &Verdict, wanted: usize, numbers: Numbers) -> bool {
+    match verdict {
+        Verdict::Wide(Chain::Substitution { node, point }) => {
             *node == wanted && has_numbers(point, numbers)
         }
         _ => false,
+    }
+}
+
+fn has_wide_bound(alloc: Global, given: &[Sparse], wanted: usize, numbers: Numbers) -> bool {
+    match verdict(alloc, given) {
+        Some(verdict) => is_wide_bound(&verdict, wanted, numbers),
+        None => false,
     }
 }
 
@@ -381,9 +417,19 @@ fn add_bounds(
     true
 }
 
-/// Whether there are too many rows on the way to a verdict: more than 50,000.
-fn are_many(alloc: Global, given: &[Row]) -> bool {
-    matches!(&refute(alloc, given), Ok(Verdict::Many(50_000)))
+/// Whether the verdict is that there are too many rows on the way: more than 50,000.
+fn is_many(verdict: &Verdict) -> bool {
+    match verdict {
+        Verdict::Many(50_000) => true,
+        _ => false,
+    }
+}
+
+pub(crate) fn are_many(alloc: Global, given: &[Row]) -> bool {
+    match refute(alloc, given) {
+        Ok(verdict) => is_many(&verdict),
+        Err(_) => false,
+    }
 }
 
 /// Each of the 225 rows 0 <= x + i and each of the 223 rows 0 <= 1000 * j - x give the row 0 <= i + 1000 * j. No two

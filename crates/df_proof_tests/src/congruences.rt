@@ -4,31 +4,18 @@
 ghost use Rattle.std.specs.Prelude.{◌≡◌, []};
 
 use crate::expecting::expect;
-use df_cases::{I8, Plain, Signed, X, Y, Z, literals, nodes};
+use df_cases::{Signed, literals, nodes_of};
 use df_cong::{Answer, Classes, Congruence, Theory, congruence};
-use df_form::{Lit, Nodes, Op};
+use df_form::{Lit, Nodes};
 use std::alloc::Global;
 use std::test::Fail;
 
 /// x is 0, y 1, and z 2.
-const NODES: [Plain; 13] = [
-    (X, &[]),
-    (Y, &[]),
-    (Z, &[]),
-    (Op::Times, &[0, 2]),
-    (Op::Times, &[1, 2]),
-    // 5: x = y, and 6: x * z = y * z
-    (Op::Equal, &[0, 1]),
-    (Op::Equal, &[3, 4]),
-    (Op::Number(2), &[]),
-    (Op::Number(3), &[]),
-    // 9: x = 2, and 10: y = 3
-    (Op::Equal, &[0, 7]),
-    (Op::Equal, &[1, 8]),
-    // 11: x is of i8, and 12: y is
-    (I8, &[0]),
-    (I8, &[1]),
-];
+/// 5: x = y, and 6: x * z = y * z.
+/// 9: x = 2, and 10: y = 3.
+/// 11: x is of i8, and 12: y is.
+const NODES: &str =
+    "x; y; z; times 0 2; times 1 2; eq 0 1; eq 3 4; 2; 3; eq 0 7; eq 1 8; is:i8 0; is:i8 1";
 
 /// Three literals, and how many of them are held when the next one contradicts them.
 type Case = (Signed, Signed, Signed, usize);
@@ -92,7 +79,7 @@ fn is_right(alloc: Global, nodes: &Nodes, case: Case) -> bool {
 
 #[test]
 fn tells_of_conflicts(rt: HostRuntime) -> Result<(), Fail> {
-    let nodes = nodes(rt.alloc(), &NODES)?;
+    let nodes = nodes_of(rt.alloc(), NODES)?;
     for (number, case) in CASES.iter().enumerate() {
         expect(&rt, number, is_right(rt.alloc(), &nodes, *case));
     }
@@ -122,7 +109,7 @@ fn is_taken_back(alloc: Global, nodes: &Nodes) -> bool {
 
 #[test]
 fn takes_literals_back(rt: HostRuntime) -> Result<(), Fail> {
-    let nodes = nodes(rt.alloc(), &NODES)?;
+    let nodes = nodes_of(rt.alloc(), NODES)?;
     assert!(rt; is_taken_back(rt.alloc(), &nodes));
     Ok(())
 }
@@ -178,7 +165,7 @@ fn is_told(alloc: Global, nodes: &Nodes, list: List) -> bool {
 
 #[test]
 fn tells_of_equal_nodes(rt: HostRuntime) -> Result<(), Fail> {
-    let nodes = nodes(rt.alloc(), &NODES)?;
+    let nodes = nodes_of(rt.alloc(), NODES)?;
     for (number, list) in LISTS.iter().enumerate() {
         expect(&rt, number, is_told(rt.alloc(), &nodes, *list));
     }

@@ -1,730 +1,433 @@
 //! The kernel: which logs it accepts, and where it refuses the others.
 
-use crate::expecting::expect;
+use crate::expecting::{expect, expect_no_row};
+use crate::lines::steps_of;
 use df_axiom::instance;
-use df_cases::{
-    BYTE, CHAR, I8, INT, Line, NAT, P, Plain, Q, Signed, Terms, UNDECLARED, X, Y, Z, nodes,
-    program, sequent, step, steps,
-};
-use df_form::{Lit, Nodes, Op, Sequent, Step, World};
+use df_cases::{P, X, are_literals, nodes_of, sequent_of, trimmed, world};
+use df_form::{Node, Nodes, Op, Sequent, Step, World};
 use df_kern::{Checker, KernFault, check};
-use df_lang::Program;
 use df_rules::connective;
 use std::alloc::Global;
 use std::process::Abort;
 use std::test::Fail;
 
-/// The last lines of a log, and the number of the step and the row that refuse it, or none.
-type Case<'a> = (&'a [Line<'a>], Option<(u64, u8)>);
-
-/// A sequent's hypotheses and goal, the first lines of its logs, and the logs.
-type Sheet<'a> = (&'a [Terms<'a>], Terms<'a>, &'a [Line<'a>], &'a [Case<'a>]);
+/// A sequent, the first lines of its logs, and a row for each log: its last lines and, behind `|`, the numbers of the step
+/// and of the row of the table of lines that refuse it, or that it is taken. Behind `#` a row says nothing.
+type Sheet<'a> = (&'a str, &'a str, &'a str);
 
 /// Lines over p alone, which is 0.
-const PLACES: [Case; 13] = [
-    (&[Line::H(0)], Some((1, 1))),
-    (&[Line::X(0, 0)], Some((1, 2))),
-    (&[Line::A(74, 0, &[0])], Some((1, 5))),
-    (&[Line::U(&[0], &[(true, 0)])], Some((1, 6))),
-    (&[Line::L(&[], &[])], Some((1, 8))),
-    (&[Line::S(0, 1)], Some((1, 9))),
-    (&[Line::N(P, &[])], Some((1, 10))),
-    (&[Line::N(X, &[])], Some((1, 10))),
-    (
-        &[Line::N(Op::Number(5), &[]), Line::N(Op::Number(5), &[])],
-        Some((2, 10)),
-    ),
-    (&[Line::G], Some((2, 0))),
-    (&[Line::G, Line::N(Op::Number(5), &[])], Some((3, 0))),
-    (&[Line::G, Line::H(0)], Some((2, 1))),
-    (&[], Some((1, 0))),
-];
+const PLACES: &str = "h 0 | 1 1\n\
+    x 0 0 | 1 2\n\
+    a 74 0 0 | 1 5\n\
+    u 0 : +0 | 1 6\n\
+    l : | 1 8\n\
+    s 0 1 | 1 9\n\
+    n num 5; n num 5 | 2 10\n\
+    g | 2 0\n\
+    g; n num 5 | 3 0\n\
+    g; h 0 | 2 1\n\
+    | 1 0";
 
-/// The terms of the `and` of not p, p and q, p or q, p implies q, p iff q, x = y, x is i8, and y is i8.
+/// The goal is the `and` of not p, p and q, p or q, p implies q, p iff q, x = y, x is i8, and y is i8.
 /// Their nodes: p 0, not p 1, q 2, then 3 to 6, x 7, y 8, then 9 to 12.
-const EACH: [(Op, usize); 22] = [
-    (P, 0),
-    (Op::Not, 1),
-    (P, 0),
-    (Q, 0),
-    (Op::And, 2),
-    (P, 0),
-    (Q, 0),
-    (Op::Or, 2),
-    (P, 0),
-    (Q, 0),
-    (Op::Implies, 2),
-    (P, 0),
-    (Q, 0),
-    (Op::Iff, 2),
-    (X, 0),
-    (Y, 0),
-    (Op::Equal, 2),
-    (X, 0),
-    (I8, 1),
-    (Y, 0),
-    (I8, 1),
-    (Op::And, 8),
-];
+const EACH: &str = "| p not p q and p q or p q imp p q iff x y eq x is:i8 y is:i8 and:8";
+
+/// The same beside the hypotheses p and not p.
+const BESIDE_BOTH: &str =
+    "p, p not | p not p q and p q or p q imp p q iff x y eq x is:i8 y is:i8 and:8";
 
 /// Lines over these terms, one after another, with the clauses that they add.
-const ADDED: [(Line, &[Signed]); 27] = [
-    (Line::G, &[(false, 12)]),
-    (Line::X(1, 0), &[(false, 1), (false, 0)]),
-    (Line::X(1, 1), &[(true, 1), (true, 0)]),
-    (Line::X(3, 0), &[(false, 3), (true, 0)]),
-    (Line::X(3, 1), &[(false, 3), (true, 2)]),
-    (Line::X(3, 2), &[(true, 3), (false, 0), (false, 2)]),
-    (Line::X(4, 0), &[(false, 4), (true, 0), (true, 2)]),
-    (Line::X(4, 1), &[(true, 4), (false, 0)]),
-    (Line::X(4, 2), &[(true, 4), (false, 2)]),
-    (Line::X(5, 0), &[(false, 5), (false, 0), (true, 2)]),
-    (Line::X(5, 1), &[(true, 5), (true, 0)]),
-    (Line::X(5, 2), &[(true, 5), (false, 2)]),
-    (Line::X(6, 0), &[(false, 6), (false, 0), (true, 2)]),
-    (Line::X(6, 1), &[(false, 6), (true, 0), (false, 2)]),
-    (Line::X(6, 2), &[(true, 6), (true, 0), (true, 2)]),
-    (Line::X(6, 3), &[(true, 6), (false, 0), (false, 2)]),
-    // x <= y becomes 13, and y <= x 14
-    (Line::X(9, 0), &[(false, 9), (true, 13)]),
-    (Line::X(9, 1), &[(false, 9), (true, 14)]),
-    (Line::X(9, 2), &[(true, 9), (false, 13), (false, 14)]),
-    // -128 becomes 15, -128 <= x 16, 127 17, and x <= 127 18
-    (Line::A(74, 0, &[10]), &[(false, 10), (true, 16)]),
-    (Line::A(74, 1, &[10]), &[(false, 10), (true, 18)]),
-    (
-        Line::A(74, 2, &[10]),
-        &[(true, 10), (false, 16), (false, 18)],
-    ),
-    // 3 becomes 19, x <= 3 20, 4 21, and 4 <= x 22
-    (Line::S(7, 3), &[(true, 20), (true, 22)]),
-    // x <= 4 becomes 23, 5 24, and 5 <= x 25
-    (Line::S(7, 4), &[(true, 23), (true, 25)]),
-    (
-        Line::U(&[2], &[(true, 0), (true, 1)]),
-        &[(true, 0), (true, 1)],
-    ),
-    (
-        Line::L(&[(false, 20), (false, 25)], &[(1, &[(1, 0), (1, 1)])]),
-        &[(false, 20), (false, 25)],
-    ),
-    (
-        Line::L(&[(false, 25), (false, 20)], &[(2, &[(1, 0), (1, 1)])]),
-        &[(false, 25), (false, 20)],
-    ),
-];
+const ADDED: &str = "g | -12\n\
+    x 1 0 | -1 -0\n\
+    x 1 1 | +1 +0\n\
+    x 3 0 | -3 +0\n\
+    x 3 1 | -3 +2\n\
+    x 3 2 | +3 -0 -2\n\
+    x 4 0 | -4 +0 +2\n\
+    x 4 1 | +4 -0\n\
+    x 4 2 | +4 -2\n\
+    x 5 0 | -5 -0 +2\n\
+    x 5 1 | +5 +0\n\
+    x 5 2 | +5 -2\n\
+    x 6 0 | -6 -0 +2\n\
+    x 6 1 | -6 +0 -2\n\
+    x 6 2 | +6 +0 +2\n\
+    x 6 3 | +6 -0 -2\n\
+    # x <= y becomes 13, and y <= x 14\n\
+    x 9 0 | -9 +13\n\
+    x 9 1 | -9 +14\n\
+    x 9 2 | +9 -13 -14\n\
+    # -128 becomes 15, -128 <= x 16, 127 17, and x <= 127 18\n\
+    a 74 0 10 | -10 +16\n\
+    a 74 1 10 | -10 +18\n\
+    a 74 2 10 | +10 -16 -18\n\
+    # 3 becomes 19, x <= 3 20, 4 21, and 4 <= x 22\n\
+    s 7 3 | +20 +22\n\
+    # x <= 4 becomes 23, 5 24, and 5 <= x 25\n\
+    s 7 4 | +23 +25\n\
+    u 2 : +0 +1 | +0 +1\n\
+    l -20 -25 : 1 1*0+1*1 | -20 -25\n\
+    l -25 -20 : 2 1*0+1*1 | -25 -20";
 
 /// Lines over the same terms, beside the hypotheses p and not p.
-const KINDS: [Case; 13] = [
-    (&[Line::H(0)], Some((2, 0))),
-    (&[Line::H(1)], Some((2, 0))),
-    (&[Line::H(2)], Some((1, 1))),
-    (&[Line::X(1, 2)], Some((1, 2))),
-    (&[Line::X(3, 3)], Some((1, 2))),
-    (&[Line::X(4, 3)], Some((1, 2))),
-    (&[Line::X(5, 3)], Some((1, 2))),
-    (&[Line::X(6, 4)], Some((1, 2))),
-    (&[Line::X(9, 3)], Some((1, 2))),
-    // an equality of characters, a free term, a type, a number that no node has
-    (
-        &[
-            Line::N(Op::Chr, &[7]),
-            Line::N(Op::Chr, &[8]),
-            Line::N(Op::Equal, &[13, 14]),
-            Line::X(15, 0),
-        ],
-        Some((4, 2)),
-    ),
-    (&[Line::X(0, 0)], Some((1, 2))),
-    (&[Line::X(10, 0)], Some((1, 2))),
-    (&[Line::X(13, 0)], Some((1, 2))),
-];
+const KINDS: &str = "h 0 | 2 0\n\
+    h 1 | 2 0\n\
+    h 2 | 1 1\n\
+    x 1 2 | 1 2\n\
+    x 3 3 | 1 2\n\
+    x 4 3 | 1 2\n\
+    x 5 3 | 1 2\n\
+    x 6 4 | 1 2\n\
+    x 9 3 | 1 2\n\
+    # an equality of characters, a free term, a type, a number that no node has\n\
+    n chr 7; n chr 8; n eq 13 14; x 15 0 | 4 2\n\
+    x 0 0 | 1 2\n\
+    x 10 0 | 1 2\n\
+    x 13 0 | 1 2";
 
 /// Instances and splits over the same terms.
-const INSTANCES: [Case; 14] = [
-    (&[Line::A(74, 3, &[10])], Some((1, 5))),
-    (&[Line::A(73, 0, &[10])], Some((1, 5))),
-    (&[Line::A(74, 0, &[10, 10])], Some((1, 5))),
-    (&[Line::A(74, 0, &[])], Some((1, 5))),
-    (&[Line::A(74, 0, &[7])], Some((1, 5))),
-    (&[Line::A(74, 0, &[13])], Some((1, 5))),
-    // a newtype that is not declared: no line makes its test
-    (&[Line::N(UNDECLARED, &[7])], Some((1, 10))),
-    (&[Line::N(BYTE, &[8]), Line::A(74, 0, &[13])], Some((3, 0))),
-    // x - 5 and x - 4, by a factor below 0
-    (
-        &[
-            Line::S(7, 3),
-            Line::S(7, 4),
-            Line::L(&[(false, 19), (false, 16)], &[(1, &[(1, 0), (-1, 1)])]),
-        ],
-        Some((3, 8)),
-    ),
-    (&[Line::S(7, i128::MIN)], Some((2, 0))),
-    (&[Line::S(7, i128::MAX - 1)], Some((2, 0))),
-    (&[Line::S(7, i128::MAX)], Some((1, 9))),
-    (&[Line::S(0, 3)], Some((1, 9))),
-    (&[Line::S(13, 3)], Some((1, 9))),
-];
+const INSTANCES: &str = "a 74 3 10 | 1 5\n\
+    a 73 0 10 | 1 5\n\
+    a 74 0 10 10 | 1 5\n\
+    a 74 0 | 1 5\n\
+    a 74 0 7 | 1 5\n\
+    a 74 0 13 | 1 5\n\
+    # a newtype that is not declared: no line makes its test\n\
+    n is:other 7 | 1 10\n\
+    n is:byte 8; a 74 0 13 | 3 0\n\
+    # x - 5 and x - 4, by a factor below 0\n\
+    s 7 3; s 7 4; l -19 -16 : 1 1*0+-1*1 | 3 8\n\
+    s 7 -170141183460469231731687303715884105728 | 2 0\n\
+    s 7 170141183460469231731687303715884105726 | 2 0\n\
+    s 7 170141183460469231731687303715884105727 | 1 9\n\
+    s 0 3 | 1 9\n\
+    s 13 3 | 1 9";
 
 /// Nodes over the same terms.
-const MADE: [Case; 21] = [
-    (&[Line::N(Op::Plus, &[7, 8])], Some((2, 0))),
-    (&[Line::N(Op::Plus, &[7, 8]), Line::S(13, 0)], Some((3, 0))),
-    (&[Line::N(Op::Plus, &[7, 0])], Some((1, 10))),
-    (&[Line::N(Op::Plus, &[7, 13])], Some((1, 10))),
-    (&[Line::N(Op::Plus, &[7])], Some((1, 10))),
-    (&[Line::N(Op::Times, &[8, 8])], Some((2, 0))),
-    (&[Line::N(Op::Number(5), &[7])], Some((1, 10))),
-    (&[Line::N(I8, &[0])], Some((1, 10))),
-    (&[Line::N(I8, &[7])], Some((1, 10))),
-    (&[Line::N(Op::Equal, &[0, 7])], Some((1, 10))),
-    (&[Line::N(Op::Equal, &[0, 2])], Some((1, 10))),
-    (&[Line::N(Op::Equal, &[7, 8])], Some((1, 10))),
-    (&[Line::N(Op::Equal, &[8, 7])], Some((2, 0))),
-    (&[Line::N(Op::AtMost, &[0, 2])], Some((1, 10))),
-    (&[Line::N(Op::Not, &[2])], Some((2, 0))),
-    (&[Line::N(Op::Not, &[7])], Some((1, 10))),
-    (&[Line::N(Op::Or, &[])], Some((2, 0))),
-    (&[Line::N(Op::And, &[0, 2])], Some((1, 10))),
-    (&[Line::N(Op::And, &[0, 8])], Some((1, 10))),
-    (&[Line::N(Op::Implies, &[0, 2, 2])], Some((1, 10))),
-    (
-        &[Line::N(Op::Or, &[]), Line::X(13, 0), Line::X(13, 1)],
-        Some((3, 2)),
-    ),
-];
+const MADE: &str = "n plus 7 8 | 2 0\n\
+    n plus 7 8; s 13 0 | 3 0\n\
+    n plus 7 0 | 1 10\n\
+    n plus 7 13 | 1 10\n\
+    n plus 7 | 1 10\n\
+    n times 8 8 | 2 0\n\
+    n num 5 7 | 1 10\n\
+    n is:i8 0 | 1 10\n\
+    n is:i8 7 | 1 10\n\
+    n eq 0 7 | 1 10\n\
+    n eq 0 2 | 1 10\n\
+    n eq 7 8 | 1 10\n\
+    n eq 8 7 | 2 0\n\
+    n le 0 2 | 1 10\n\
+    n not 2 | 2 0\n\
+    n not 7 | 1 10\n\
+    n or | 2 0\n\
+    n and 0 2 | 1 10\n\
+    n and 0 8 | 1 10\n\
+    n imp 0 2 2 | 1 10\n\
+    n or; x 13 0; x 13 1 | 3 2";
 
-/// x + x becomes 13, y + y 14, twice these 15 and 16, and the equality of the last two 17.
-const DOUBLES: &[Line] = &[
-    Line::N(Op::Plus, &[7, 7]),
-    Line::N(Op::Plus, &[8, 8]),
-    Line::N(Op::Plus, &[13, 13]),
-    Line::N(Op::Plus, &[14, 14]),
-    Line::N(Op::Equal, &[15, 16]),
-    // y * y becomes 18, 1 19, 2 20, and the equalities of x with these 21 and 22
-    Line::N(Op::Times, &[8, 8]),
-    Line::N(Op::Number(1), &[]),
-    Line::N(Op::Number(2), &[]),
-    Line::N(Op::Equal, &[7, 19]),
-    Line::N(Op::Equal, &[7, 20]),
-];
+/// x + x becomes 13, y + y 14, twice these 15 and 16, and the equality of the last two 17; y * y becomes 18, 1 19, 2 20,
+/// and the equalities of x with these 21 and 22.
+const DOUBLES: &str = "n plus 7 7; n plus 8 8; n plus 13 13; n plus 14 14; n eq 15 16; \
+    n times 8 8; n num 1; n num 2; n eq 7 19; n eq 7 20";
 
 /// Clauses over these terms that hold by congruence, and then others.
-const CONGRUENCES: [Case; 19] = [
-    (&[Line::E(&[(false, 9), (true, 9)], &[])], Some((12, 0))),
-    (&[Line::E(&[(false, 2), (true, 2)], &[])], Some((12, 0))),
-    // x = y, and what holds of x holds of y, and of x what holds of y
-    (
-        &[Line::E(&[(false, 9), (false, 10), (true, 11)], &[(10, 11)])],
-        Some((12, 0)),
-    ),
-    (
-        &[Line::E(&[(true, 10), (false, 11), (false, 9)], &[(11, 10)])],
-        Some((12, 0)),
-    ),
-    // x = y makes their doubles equal, and then the doubles of these
-    (
-        &[Line::E(&[(false, 9), (true, 17)], &[(13, 14), (15, 16)])],
-        Some((12, 0)),
-    ),
-    (
-        &[Line::E(&[(true, 17), (false, 9)], &[(14, 13), (16, 15)])],
-        Some((12, 0)),
-    ),
-    // x is 1 and 2
-    (&[Line::E(&[(false, 21), (false, 22)], &[])], Some((12, 0))),
-    (
-        &[Line::E(&[(false, 9), (true, 9)], &[(7, 7)])],
-        Some((12, 0)),
-    ),
-    // not in this order, and not without the equality or the first pair
-    (
-        &[Line::E(&[(false, 9), (true, 17)], &[(15, 16), (13, 14)])],
-        Some((11, 7)),
-    ),
-    (
-        &[Line::E(&[(true, 17)], &[(13, 14), (15, 16)])],
-        Some((11, 7)),
-    ),
-    (
-        &[Line::E(&[(false, 9), (true, 17)], &[(13, 14)])],
-        Some((11, 7)),
-    ),
-    // two operations
-    (
-        &[Line::E(&[(false, 9), (true, 9)], &[(14, 18)])],
-        Some((11, 7)),
-    ),
-    (
-        &[Line::E(&[(false, 9), (true, 9)], &[(7, 8)])],
-        Some((11, 7)),
-    ),
-    // nothing that can't be
-    (&[Line::E(&[], &[])], Some((11, 7))),
-    (&[Line::E(&[(false, 9)], &[])], Some((11, 7))),
-    (&[Line::E(&[(false, 21)], &[])], Some((11, 7))),
-    (&[Line::E(&[(false, 0), (true, 2)], &[])], Some((11, 7))),
-    // no formula, and no node
-    (
-        &[Line::E(&[(false, 9), (true, 9), (true, 7)], &[])],
-        Some((11, 7)),
-    ),
-    (
-        &[Line::E(&[(false, 9), (true, 9)], &[(23, 23)])],
-        Some((11, 7)),
-    ),
-];
+const CONGRUENCES: &str = "e -9 +9 : | 12 0\n\
+    e -2 +2 : | 12 0\n\
+    # x = y, and what holds of x holds of y, and of x what holds of y\n\
+    e -9 -10 +11 : 10 11 | 12 0\n\
+    e +10 -11 -9 : 11 10 | 12 0\n\
+    # x = y makes their doubles equal, and then the doubles of these\n\
+    e -9 +17 : 13 14 15 16 | 12 0\n\
+    e +17 -9 : 14 13 16 15 | 12 0\n\
+    # x is 1 and 2\n\
+    e -21 -22 : | 12 0\n\
+    e -9 +9 : 7 7 | 12 0\n\
+    # not in this order, and not without the equality or the first pair\n\
+    e -9 +17 : 15 16 13 14 | 11 7\n\
+    e +17 : 13 14 15 16 | 11 7\n\
+    e -9 +17 : 13 14 | 11 7\n\
+    # two operations\n\
+    e -9 +9 : 14 18 | 11 7\n\
+    e -9 +9 : 7 8 | 11 7\n\
+    # nothing that can't be\n\
+    e : | 11 7\n\
+    e -9 : | 11 7\n\
+    e -21 : | 11 7\n\
+    e -0 +2 : | 11 7\n\
+    # no formula, and no node\n\
+    e -9 +9 +7 : | 11 7\n\
+    e -9 +9 : 23 23 | 11 7";
 
 /// p (0), and p implies q (2), whose clauses are 0 to 3 with the negation of q (1).
-const FIRST: &[Line] = &[Line::H(0), Line::H(1), Line::X(2, 0), Line::G];
+const FIRST: &str = "h 0; h 1; x 2 0; g";
 
 /// Numbers of clauses and conclusions that follow, and then others.
-const PROPAGATIONS: [Case; 19] = [
-    (&[Line::U(&[0, 1, 2, 3], &[])], None),
-    (&[Line::U(&[3, 0, 1, 2], &[])], None),
-    (&[Line::U(&[0, 3, 2, 1], &[])], None),
-    (&[Line::U(&[0, 0, 1, 2, 3], &[])], None),
-    (&[Line::U(&[0, 1, 2], &[(true, 1)])], Some((6, 0))),
+const PROPAGATIONS: &str = "u 0 1 2 3 : | taken\n\
+    u 3 0 1 2 : | taken\n\
+    u 0 3 2 1 : | taken\n\
+    u 0 0 1 2 3 : | taken\n\
+    u 0 1 2 : +1 | 6 0\n\
+    u 2 : -2 +1 -0 | 6 0\n\
+    # two literals are left on the way\n\
+    u 1 2 3 : | 5 6\n\
+    u 0 2 3 : | 5 6\n\
+    u 3 2 1 0 : | 5 6\n\
+    # and at the end one or two\n\
+    u 0 1 2 : | 5 6\n\
+    u 0 1 3 : | 5 6\n\
+    u 0 2 : | 5 6\n\
+    # none on the way\n\
+    u 0 1 2 3 3 : | 5 6\n\
+    u 0 1 2 2 : +1 | 5 6\n\
+    u 0 1 4 : | 5 6\n\
+    u 4 0 1 2 3 : | 5 6\n\
+    u : | 5 6\n\
+    u : +1 | 5 6\n\
+    # no formula\n\
+    u 0 1 2 : +1 +3 | 5 6";
+
+/// p and p implies q, so q.
+const MODUS_PONENS: &str = "p, p q imp | q";
+
+/// Logs of each kind of line.
+const SHEETS: [Sheet; 6] = [
+    ("| p", "", PLACES),
+    (BESIDE_BOTH, "", KINDS),
+    (BESIDE_BOTH, "", INSTANCES),
+    (BESIDE_BOTH, "", MADE),
+    (EACH, DOUBLES, CONGRUENCES),
+    (MODUS_PONENS, FIRST, PROPAGATIONS),
+];
+
+/// Logs of sums, splits and instances of schemas.
+const ARITHMETIC: [Sheet; 4] = [
+    // 2 * x <= 2 * y + 1, y <= z |- x <= z, whose formulas are 7, 9 and 10. The rows are 2y + 1 - 2x, z - y and
+    // x - z - 1; halved, the first is y - x.
     (
-        &[Line::U(&[2], &[(false, 2), (true, 1), (false, 0)])],
-        Some((6, 0)),
+        "2 x times 2 y times 1 plus le, y z le | x z le",
+        "h 0; h 1; g",
+        "l -7 -9 +10 : 2 1*0 1 1*3+1*1+1*2; u 0 1 2 3 : | taken\n\
+         # twice the other rows do as well\n\
+         l -7 -9 +10 : 1 1*0+2*1+2*2 | 5 0",
     ),
-    // two literals are left on the way
-    (&[Line::U(&[1, 2, 3], &[])], Some((5, 6))),
-    (&[Line::U(&[0, 2, 3], &[])], Some((5, 6))),
-    (&[Line::U(&[3, 2, 1, 0], &[])], Some((5, 6))),
-    // and at the end one or two
-    (&[Line::U(&[0, 1, 2], &[])], Some((5, 6))),
-    (&[Line::U(&[0, 1, 3], &[])], Some((5, 6))),
-    (&[Line::U(&[0, 2], &[])], Some((5, 6))),
-    // none on the way
-    (&[Line::U(&[0, 1, 2, 3, 3], &[])], Some((5, 6))),
-    (&[Line::U(&[0, 1, 2, 2], &[(true, 1)])], Some((5, 6))),
-    (&[Line::U(&[0, 1, 4], &[])], Some((5, 6))),
-    (&[Line::U(&[4, 0, 1, 2, 3], &[])], Some((5, 6))),
-    (&[Line::U(&[], &[])], Some((5, 6))),
-    (&[Line::U(&[], &[(true, 1)])], Some((5, 6))),
-    // no formula
+    // x <= 3 implies p, 7 <= 2 * x implies p |- p. The formulas: x <= 3 is 2, p 3, the first hypothesis 4,
+    // 7 <= 2 * x 8, the second hypothesis 9, and 4 <= x becomes 11. The rows are x - 4 and 6 - 2x.
     (
-        &[Line::U(&[0, 1, 2], &[(true, 1), (true, 3)])],
-        Some((5, 6)),
+        "x 3 le p imp, 7 2 x times le p imp | p",
+        "h 0; h 1; g; s 0 3",
+        "x 4 0; x 9 0; l -11 +8 : 1 2*0+1*1; u 0 1 2 4 5 6 3 : | taken",
+    ),
+    // Instances of schemas: x is 0, y 1, x * y 2, y * x 3, and the goal x * y = y * x 4.
+    (
+        "| x y times y x times eq",
+        "g",
+        "a 5 0 2; u 0 1 : | taken\n\
+         a 5 1 2 | 2 5\n\
+         a 5 0 0 | 2 5\n\
+         a 5 0 2 3 | 2 5\n\
+         a 5 0 | 2 5\n\
+         a 5 0 9 | 2 5\n\
+         # no literal, no product in a product, no sum\n\
+         a 8 0 2 | 2 5\n\
+         a 6 0 2 | 2 5\n\
+         a 7 0 2 | 2 5\n\
+         # two products with one second factor\n\
+         a 10 0 2 3 | 2 5\n\
+         a 10 0 2 2 | 3 0\n\
+         a 11 0 2 | 2 5",
+    ),
+    // x is 0, 7 1, x mod 7 2, 6 3, and the goal x mod 7 <= 6 4. 1 becomes 5, 1 <= 7 6, x mod 7 + 1 7, and
+    // x mod 7 + 1 <= 7 8.
+    (
+        "| x 7 mod 6 le",
+        "g; a 3 0 2",
+        "l +6 : 1 1*0; l -8 +4 : 1 1*0+1*1; u 0 3 2 1 : | taken\n\
+         a 3 0 0 | 3 5\n\
+         a 1 0 0 | 3 5\n\
+         a 1 0 2 | 4 0\n\
+         a 1 1 2 | 3 5",
     ),
 ];
 
-/// p, p implies q
-const MODUS_PONENS: &[Terms] = &[&[(P, 0)], &[(P, 0), (Q, 0), (Op::Implies, 2)]];
+/// Logs of types and characters.
+const TYPES: [Sheet; 5] = [
+    // x is i8, 127 <= x |- x = 127, whose formulas are 1, 3 and 4; x <= 127 becomes 5.
+    (
+        "x is:i8, 127 x le | x 127 eq",
+        "h 0; h 1; g",
+        "a 74 1 1; x 4 2; u 0 3 1 2 4 : | taken",
+    ),
+    // 65 is 0, its character 1, the code of this 2, and the goal that it is 65 3. 0 becomes 4, 0 <= 65 5,
+    // 127 6, and 65 <= 127 7.
+    (
+        "| 65 chr code 65 eq",
+        "g; a 110 0 1",
+        "l +5 : 1 1*0; l +7 : 1 1*0; u 0 2 3 1 : | taken\n\
+         a 110 0 2 | 3 5\n\
+         a 109 2 2 | 4 0\n\
+         a 109 3 2 | 3 5",
+    ),
+    // 3 is 0, x 1, 3 <= x 2, and the goal that x is a nat 3. 0 becomes 4, and 0 <= x 5.
+    (
+        "3 x le | x is:nat",
+        "h 0; g",
+        "a 74 1 3; l -2 +5 : 1 1*0+1*1; u 0 3 2 1 : | taken\n\
+         a 74 0 3 | 4 0\n\
+         a 74 2 3 | 3 5",
+    ),
+    // x is 0, and the goal that it is an int 1.
+    (
+        "| x is:int",
+        "g",
+        "a 74 0 1; u 0 1 : | taken\n\
+         a 74 1 1 | 2 5",
+    ),
+    // 65 is 0, its character 1, and the goal that this is a char 2.
+    (
+        "| 65 chr is:char",
+        "g",
+        "a 74 0 2; u 0 1 : | taken\n\
+         a 74 1 2 | 2 5",
+    ),
+];
 
-/// 2 * x <= 2 * y + 1, y <= z |- x <= z, whose formulas are 7, 9 and 10. The rows are 2y + 1 - 2x, z - y and
-/// x - z - 1; halved, the first is y - x.
-const LINEAR: Sheet = (
-    &[
-        &[
-            (Op::Number(2), 0),
-            (X, 0),
-            (Op::Times, 2),
-            (Op::Number(2), 0),
-            (Y, 0),
-            (Op::Times, 2),
-            (Op::Number(1), 0),
-            (Op::Plus, 2),
-            (Op::AtMost, 2),
-        ],
-        &[(Y, 0), (Z, 0), (Op::AtMost, 2)],
-    ],
-    &[(X, 0), (Z, 0), (Op::AtMost, 2)],
-    &[Line::H(0), Line::H(1), Line::G],
-    &[
-        (
-            &[
-                Line::L(
-                    &[(false, 7), (false, 9), (true, 10)],
-                    &[(2, &[(1, 0)]), (1, &[(1, 3), (1, 1), (1, 2)])],
-                ),
-                Line::U(&[0, 1, 2, 3], &[]),
-            ],
-            None,
-        ),
-        // twice the other rows do as well
-        (
-            &[Line::L(
-                &[(false, 7), (false, 9), (true, 10)],
-                &[(1, &[(1, 0), (2, 1), (2, 2)])],
-            )],
-            Some((5, 0)),
-        ),
-    ],
-);
-
-/// x <= 3 implies p, 7 <= 2 * x implies p |- p. The formulas: x <= 3 is 2, p 3, the first hypothesis 4,
-/// 7 <= 2 * x 8, the second hypothesis 9, and 4 <= x becomes 11. The rows are x - 4 and 6 - 2x.
-const SPLITTING: Sheet = (
-    &[
-        &[
-            (X, 0),
-            (Op::Number(3), 0),
-            (Op::AtMost, 2),
-            (P, 0),
-            (Op::Implies, 2),
-        ],
-        &[
-            (Op::Number(7), 0),
-            (Op::Number(2), 0),
-            (X, 0),
-            (Op::Times, 2),
-            (Op::AtMost, 2),
-            (P, 0),
-            (Op::Implies, 2),
-        ],
-    ],
-    &[(P, 0)],
-    &[Line::H(0), Line::H(1), Line::G, Line::S(0, 3)],
-    &[(
-        &[
-            Line::X(4, 0),
-            Line::X(9, 0),
-            Line::L(&[(false, 11), (true, 8)], &[(1, &[(2, 0), (1, 1)])]),
-            Line::U(&[0, 1, 2, 4, 5, 6, 3], &[]),
-        ],
-        None,
-    )],
-);
-
-/// x is i8, 127 <= x |- x = 127, whose formulas are 1, 3 and 4; x <= 127 becomes 5.
-const TYPED: Sheet = (
-    &[
-        &[(X, 0), (I8, 1)],
-        &[(Op::Number(127), 0), (X, 0), (Op::AtMost, 2)],
-    ],
-    &[(X, 0), (Op::Number(127), 0), (Op::Equal, 2)],
-    &[Line::H(0), Line::H(1), Line::G],
-    &[(
-        &[
-            Line::A(74, 1, &[1]),
-            Line::X(4, 2),
-            Line::U(&[0, 3, 1, 2, 4], &[]),
-        ],
-        None,
-    )],
-);
-
-/// Instances of schemas: x is 0, y 1, x * y 2, y * x 3, and the goal x * y = y * x 4.
-const FACTORS: Sheet = (
-    &[],
-    &[
-        (X, 0),
-        (Y, 0),
-        (Op::Times, 2),
-        (Y, 0),
-        (X, 0),
-        (Op::Times, 2),
-        (Op::Equal, 2),
-    ],
-    &[Line::G],
-    &[
-        (&[Line::A(5, 0, &[2]), Line::U(&[0, 1], &[])], None),
-        (&[Line::A(5, 1, &[2])], Some((2, 5))),
-        (&[Line::A(5, 0, &[0])], Some((2, 5))),
-        (&[Line::A(5, 0, &[2, 3])], Some((2, 5))),
-        (&[Line::A(5, 0, &[])], Some((2, 5))),
-        (&[Line::A(5, 0, &[9])], Some((2, 5))),
-        // no literal, no product in a product, no sum
-        (&[Line::A(8, 0, &[2])], Some((2, 5))),
-        (&[Line::A(6, 0, &[2])], Some((2, 5))),
-        (&[Line::A(7, 0, &[2])], Some((2, 5))),
-        // two products with one second factor
-        (&[Line::A(10, 0, &[2, 3])], Some((2, 5))),
-        (&[Line::A(10, 0, &[2, 2])], Some((3, 0))),
-        (&[Line::A(11, 0, &[2])], Some((2, 5))),
-    ],
-);
-
-/// x is 0, 7 1, x mod 7 2, 6 3, and the goal x mod 7 <= 6 4. 1 becomes 5, 1 <= 7 6, x mod 7 + 1 7, and
-/// x mod 7 + 1 <= 7 8.
-const REMAINDER: Sheet = (
-    &[],
-    &[
-        (X, 0),
-        (Op::Number(7), 0),
-        (Op::Mod, 2),
-        (Op::Number(6), 0),
-        (Op::AtMost, 2),
-    ],
-    &[Line::G, Line::A(3, 0, &[2])],
-    &[
-        (
-            &[
-                Line::L(&[(true, 6)], &[(1, &[(1, 0)])]),
-                Line::L(&[(false, 8), (true, 4)], &[(1, &[(1, 0), (1, 1)])]),
-                Line::U(&[0, 3, 2, 1], &[]),
-            ],
-            None,
-        ),
-        (&[Line::A(3, 0, &[0])], Some((3, 5))),
-        (&[Line::A(1, 0, &[0])], Some((3, 5))),
-        (&[Line::A(1, 0, &[2])], Some((4, 0))),
-        (&[Line::A(1, 1, &[2])], Some((3, 5))),
-    ],
-);
-
-/// 65 is 0, its character 1, the code of this 2, and the goal that it is 65 3. 0 becomes 4, 0 <= 65 5,
-/// 127 6, and 65 <= 127 7.
-const CHARACTER: Sheet = (
-    &[],
-    &[
-        (Op::Number(65), 0),
-        (Op::Chr, 1),
-        (Op::Code, 1),
-        (Op::Number(65), 0),
-        (Op::Equal, 2),
-    ],
-    &[Line::G, Line::A(110, 0, &[1])],
-    &[
-        (
-            &[
-                Line::L(&[(true, 5)], &[(1, &[(1, 0)])]),
-                Line::L(&[(true, 7)], &[(1, &[(1, 0)])]),
-                Line::U(&[0, 2, 3, 1], &[]),
-            ],
-            None,
-        ),
-        (&[Line::A(110, 0, &[2])], Some((3, 5))),
-        (&[Line::A(109, 2, &[2])], Some((4, 0))),
-        (&[Line::A(109, 3, &[2])], Some((3, 5))),
-    ],
-);
-
-/// 3 is 0, x 1, 3 <= x 2, and the goal that x is a nat 3. 0 becomes 4, and 0 <= x 5.
-const NATURAL: Sheet = (
-    &[&[(Op::Number(3), 0), (X, 0), (Op::AtMost, 2)]],
-    &[(X, 0), (NAT, 1)],
-    &[Line::H(0), Line::G],
-    &[
-        (
-            &[
-                Line::A(74, 1, &[3]),
-                Line::L(&[(false, 2), (true, 5)], &[(1, &[(1, 0), (1, 1)])]),
-                Line::U(&[0, 3, 2, 1], &[]),
-            ],
-            None,
-        ),
-        (&[Line::A(74, 0, &[3])], Some((4, 0))),
-        (&[Line::A(74, 2, &[3])], Some((3, 5))),
-    ],
-);
-
-/// x is 0, and the goal that it is an int 1.
-const WHOLE: Sheet = (
-    &[],
-    &[(X, 0), (INT, 1)],
-    &[Line::G],
-    &[
-        (&[Line::A(74, 0, &[1]), Line::U(&[0, 1], &[])], None),
-        (&[Line::A(74, 1, &[1])], Some((2, 5))),
-    ],
-);
-
-/// 65 is 0, its character 1, and the goal that this is a char 2.
-const LETTER: Sheet = (
-    &[],
-    &[(Op::Number(65), 0), (Op::Chr, 1), (CHAR, 1)],
-    &[Line::G],
-    &[
-        (&[Line::A(74, 0, &[2]), Line::U(&[0, 1], &[])], None),
-        (&[Line::A(74, 1, &[2])], Some((2, 5))),
-    ],
-);
-
-/// The refusal at this step and row.
-fn refused_at(place: Option<(u64, u8)>) -> Option<KernFault> {
-    match place {
-        Some((at, broken)) => Some(KernFault::Refused { at, broken }),
-        None => None,
-    }
+/// The refusal at the step and the row of these numbers, if they are some.
+fn refused_at(place: &str) -> Option<KernFault> {
+    let (at, broken) = place.split_once(' ')?;
+    let at = at.parse::<u64>().ok()?;
+    let broken = broken.parse::<u8>().ok()?;
+    Some(KernFault::Refused { at, broken })
 }
 
 /// Whether the log of the first lines and the last ones is accepted, or refused at this place.
-fn is_refused_at(
-    alloc: Global,
-    sequent: &Sequent,
-    first: &[Line],
-    last: &[Line],
-    place: Option<(u64, u8)>,
-) -> bool {
-    match steps(alloc, first, last) {
+fn is_refused_at(alloc: Global, sequent: &Sequent, first: &str, last: &str, place: &str) -> bool {
+    match steps_of(alloc, first, last) {
         Some(log) => check(alloc, sequent, &log).err() == refused_at(place),
         None => false,
     }
 }
 
-/// Each log is accepted, or refused at its place.
-fn checks_each(rt: &impl Abort, alloc: Global, sequent: &Sequent, first: &[Line], cases: &[Case]) {
-    for (number, (last, place)) in cases.iter().enumerate() {
-        expect(
-            rt,
-            number,
-            is_refused_at(alloc, sequent, first, *last, *place),
-        );
+/// Whether the log of a row is accepted, or refused at its place.
+fn is_told(alloc: Global, sequent: &Sequent, first: &str, row: &str) -> bool {
+    match row.split_once('|') {
+        Some((last, place)) => is_refused_at(alloc, sequent, first, last, trimmed(place)),
+        None => row.starts_with('#'),
     }
 }
 
-/// Each log of the sheet is accepted, or refused at its place. Whether it has a sequent.
-fn checks_sheet(rt: &impl Abort, alloc: Global, program: &Program, sheet: Sheet) -> bool {
-    let (hypotheses, goal, first, cases) = sheet;
-    match sequent(alloc, program, hypotheses, goal) {
-        Some(sequent) => {
-            checks_each(rt, alloc, &sequent, first, cases);
-            true
+/// The first row that is not as it says, if there is one.
+fn wrong_row(alloc: Global, sequent: &Sequent, first: &str, rows: &str) -> Option<usize> {
+    for (number, row) in rows.lines().enumerate() {
+        if !is_told(alloc, sequent, first, row) {
+            return Some(number);
         }
+    }
+    None
+}
+
+/// The first row of a sheet that is not as it says, if there is one, or if there is no sequent.
+fn wrong_in(alloc: Global, sheet: Sheet) -> Option<usize> {
+    let (text, first, rows) = sheet;
+    match sequent_of(alloc, text) {
+        Some(sequent) => wrong_row(alloc, &sequent, first, rows),
+        None => Some(0),
+    }
+}
+
+/// All rows of the sheets are as they say.
+fn expect_sheets(rt: &impl Abort, alloc: Global, sheets: &[Sheet]) {
+    for (number, sheet) in sheets.iter().enumerate() {
+        expect_no_row(rt, number, wrong_in(alloc, *sheet));
+    }
+}
+
+#[test]
+fn accepts_logs_or_tells_where_they_are_refused(rt: HostRuntime) {
+    expect_sheets(&rt, rt.alloc(), &SHEETS);
+}
+
+#[test]
+fn accepts_logs_of_arithmetic_or_tells_where_they_are_refused(rt: HostRuntime) {
+    expect_sheets(&rt, rt.alloc(), &ARITHMETIC);
+}
+
+#[test]
+fn accepts_logs_of_types_or_tells_where_they_are_refused(rt: HostRuntime) {
+    expect_sheets(&rt, rt.alloc(), &TYPES);
+}
+
+/// A log that makes a free term, which no text of a log does.
+fn making(alloc: Global, op: Op) -> Option<Vec<Step>> {
+    let mut log = Vec::new(alloc);
+    let parts = Vec::new(alloc);
+    match log.push(Step::Make(Node { op, parts })) {
+        Ok(()) => Some(log),
+        Err(_) => None,
+    }
+}
+
+fn is_making_refused(alloc: Global, sequent: &Sequent, op: Op) -> bool {
+    match making(alloc, op) {
+        Some(log) => check(alloc, sequent, &log).err() == refused_at("1 10"),
         None => false,
     }
 }
 
-/// Each log of a table is accepted, or refused at its place: here and below a function a table, since it carries it.
-fn checks_places(rt: &impl Abort, alloc: Global, program: &Program) -> bool {
-    checks_sheet(rt, alloc, program, (&[], &[(P, 0)], &[], &PLACES))
-}
-
-fn checks_kinds(rt: &impl Abort, alloc: Global, sequent: &Sequent) {
-    checks_each(rt, alloc, sequent, &[], &KINDS);
-}
-
-fn checks_instances(rt: &impl Abort, alloc: Global, sequent: &Sequent) {
-    checks_each(rt, alloc, sequent, &[], &INSTANCES);
-}
-
-fn checks_made(rt: &impl Abort, alloc: Global, sequent: &Sequent) {
-    checks_each(rt, alloc, sequent, &[], &MADE);
-}
-
-/// The terms of each operation, beside the hypotheses p and not p.
-fn beside_both<'a>(alloc: Global, program: &'a Program) -> Option<Sequent<'a>> {
-    sequent(alloc, program, &[&[(P, 0)], &[(P, 0), (Op::Not, 1)]], &EACH)
-}
-
-fn checks_lines(rt: &impl Abort, alloc: Global, program: &Program) -> bool {
-    match beside_both(alloc, program) {
-        Some(sequent) => {
-            checks_kinds(rt, alloc, &sequent);
-            checks_instances(rt, alloc, &sequent);
-            checks_made(rt, alloc, &sequent);
-            true
-        }
+/// Whether a log for p that makes the free term is refused.
+fn is_free_refused(alloc: Global, op: Op) -> bool {
+    match sequent_of(alloc, "| p") {
+        Some(sequent) => is_making_refused(alloc, &sequent, op),
         None => false,
     }
 }
 
-fn checks_congruences(rt: &impl Abort, alloc: Global, program: &Program) -> bool {
-    checks_sheet(rt, alloc, program, (&[], &EACH, DOUBLES, &CONGRUENCES))
-}
-
-fn checks_propagations(rt: &impl Abort, alloc: Global, program: &Program) -> bool {
-    checks_sheet(
-        rt,
-        alloc,
-        program,
-        (MODUS_PONENS, &[(Q, 0)], FIRST, &PROPAGATIONS),
-    )
-}
-
-fn checks_linear(rt: &impl Abort, alloc: Global, program: &Program) -> bool {
-    checks_sheet(rt, alloc, program, LINEAR)
-}
-
-fn checks_splitting(rt: &impl Abort, alloc: Global, program: &Program) -> bool {
-    checks_sheet(rt, alloc, program, SPLITTING)
-}
-
-fn checks_typed(rt: &impl Abort, alloc: Global, program: &Program) -> bool {
-    checks_sheet(rt, alloc, program, TYPED)
-}
-
-fn checks_factors(rt: &impl Abort, alloc: Global, program: &Program) -> bool {
-    checks_sheet(rt, alloc, program, FACTORS)
-}
-
-fn checks_remainder(rt: &impl Abort, alloc: Global, program: &Program) -> bool {
-    checks_sheet(rt, alloc, program, REMAINDER)
-}
-
-fn checks_character(rt: &impl Abort, alloc: Global, program: &Program) -> bool {
-    checks_sheet(rt, alloc, program, CHARACTER)
-}
-
-fn checks_natural(rt: &impl Abort, alloc: Global, program: &Program) -> bool {
-    checks_sheet(rt, alloc, program, NATURAL)
-}
-
-fn checks_whole(rt: &impl Abort, alloc: Global, program: &Program) -> bool {
-    checks_sheet(rt, alloc, program, WHOLE)
-}
-
-fn checks_letter(rt: &impl Abort, alloc: Global, program: &Program) -> bool {
-    checks_sheet(rt, alloc, program, LETTER)
-}
-
 #[test]
-fn accepts_logs_or_tells_where_they_are_refused(rt: HostRuntime) -> Result<(), Fail> {
-    let program = program(rt.alloc())?;
-    assert!(rt; checks_places(&rt, rt.alloc(), &program));
-    assert!(rt; checks_lines(&rt, rt.alloc(), &program));
-    assert!(rt; checks_congruences(&rt, rt.alloc(), &program));
-    assert!(rt; checks_propagations(&rt, rt.alloc(), &program));
-    Ok(())
+fn no_line_makes_a_free_term(rt: HostRuntime) {
+    assert!(rt; is_free_refused(rt.alloc(), P));
+    assert!(rt; is_free_refused(rt.alloc(), X));
 }
 
-#[test]
-fn accepts_logs_of_arithmetic_or_tells_where_they_are_refused(rt: HostRuntime) -> Result<(), Fail> {
-    let program = program(rt.alloc())?;
-    assert!(rt; checks_linear(&rt, rt.alloc(), &program));
-    assert!(rt; checks_splitting(&rt, rt.alloc(), &program));
-    assert!(rt; checks_factors(&rt, rt.alloc(), &program));
-    assert!(rt; checks_remainder(&rt, rt.alloc(), &program));
-    Ok(())
-}
-
-#[test]
-fn accepts_logs_of_types_or_tells_where_they_are_refused(rt: HostRuntime) -> Result<(), Fail> {
-    let program = program(rt.alloc())?;
-    assert!(rt; checks_typed(&rt, rt.alloc(), &program));
-    assert!(rt; checks_character(&rt, rt.alloc(), &program));
-    assert!(rt; checks_natural(&rt, rt.alloc(), &program));
-    assert!(rt; checks_whole(&rt, rt.alloc(), &program));
-    assert!(rt; checks_letter(&rt, rt.alloc(), &program));
-    Ok(())
-}
-
-/// Whether these are the literals, in this order.
-fn are_literals(literals: &[Lit], signed: &[Signed]) -> bool {
-    for (literal, wanted) in literals.iter().zip(signed) {
-        if literal.positive != wanted.0 || literal.node != wanted.1 {
+/// Whether the checker takes all steps.
+fn takes_all(checker: &mut Checker, steps: &[Step]) -> bool {
+    for step in steps {
+        if checker.take(step).is_err() {
             return false;
         }
     }
-    literals.len() == signed.len()
+    true
 }
 
 /// Whether the checker takes the line.
-fn takes(alloc: Global, checker: &mut Checker, line: Line) -> bool {
-    match step(alloc, line) {
-        Some(step) => checker.take(&step).is_ok(),
+fn takes(alloc: Global, checker: &mut Checker, line: &str) -> bool {
+    match steps_of(alloc, line, "") {
+        Some(steps) => takes_all(checker, &steps),
         None => false,
     }
 }
 
 /// Whether the last clause is of these literals.
-fn ends_with(checker: &Checker, wanted: &[Signed]) -> bool {
+fn ends_with(alloc: Global, checker: &Checker, wanted: &str) -> bool {
     match checker.clauses.last() {
-        Some(clause) => are_literals(clause.as_slice(), wanted),
+        Some(clause) => are_literals(alloc, clause.as_slice(), wanted),
         None => false,
+    }
+}
+
+/// Whether the line of a row adds its clause.
+fn adds(alloc: Global, checker: &mut Checker, row: &str) -> bool {
+    match row.split_once('|') {
+        Some((line, added)) => {
+            takes(alloc, checker, line) && ends_with(alloc, checker, trimmed(added))
+        }
+        None => row.starts_with('#'),
     }
 }
 
 /// Each line adds its clause.
 fn adds_each(rt: &impl Abort, alloc: Global, checker: &mut Checker) {
-    for (number, (line, added)) in ADDED.iter().enumerate() {
-        let is_right = takes(alloc, checker, *line) && ends_with(checker, *added);
-        expect(rt, number, is_right);
+    for (number, row) in ADDED.lines().enumerate() {
+        expect(rt, number, adds(alloc, checker, row));
     }
 }
 
@@ -740,32 +443,20 @@ fn count_added(rt: &impl Abort, alloc: Global, sequent: &Sequent) -> Option<usiz
 }
 
 /// Whether so many nodes are there where each line has added its clause.
-fn adds_up_to(rt: &impl Abort, alloc: Global, program: &Program, count: usize) -> bool {
-    match sequent(alloc, program, &[], &EACH) {
+fn adds_up_to(rt: &impl Abort, alloc: Global, count: usize) -> bool {
+    match sequent_of(alloc, EACH) {
         Some(sequent) => count_added(rt, alloc, &sequent) == Some(count),
         None => false,
     }
 }
 
 #[test]
-fn adds_clauses(rt: HostRuntime) -> Result<(), Fail> {
-    let program = program(rt.alloc())?;
-    assert!(rt; adds_up_to(&rt, rt.alloc(), &program, 26));
-    Ok(())
+fn adds_clauses(rt: HostRuntime) {
+    assert!(rt; adds_up_to(&rt, rt.alloc(), 26));
 }
 
 /// A hypothesis, and what follows from it alone.
-const REPEATED: [Line; 2] = [Line::H(0), Line::U(&[0], &[(true, 0)])];
-
-/// Whether the checker takes all steps.
-fn takes_all(checker: &mut Checker, steps: &[Step]) -> bool {
-    for step in steps {
-        if checker.take(step).is_err() {
-            return false;
-        }
-    }
-    true
-}
+const REPEATED: &str = "h 0; u 0 : +0";
 
 /// Whether the checker takes these steps ten thousand times.
 fn takes_often(checker: &mut Checker, steps: &[Step]) -> bool {
@@ -778,7 +469,7 @@ fn takes_often(checker: &mut Checker, steps: &[Step]) -> bool {
 }
 
 /// Whether the log is refused at this place where it ends after ten thousand times these steps.
-fn ends_at(alloc: Global, sequent: &Sequent, steps: &[Step], place: Option<(u64, u8)>) -> bool {
+fn ends_at(alloc: Global, sequent: &Sequent, steps: &[Step], place: &str) -> bool {
     match Checker::new(alloc, sequent) {
         Ok(mut checker) => {
             takes_often(&mut checker, steps) && checker.finish().err() == refused_at(place)
@@ -787,63 +478,65 @@ fn ends_at(alloc: Global, sequent: &Sequent, steps: &[Step], place: Option<(u64,
     }
 }
 
-fn repeated_ends_at(alloc: Global, sequent: &Sequent, place: Option<(u64, u8)>) -> bool {
-    match steps(alloc, &REPEATED, &[]) {
+fn repeated_ends_at(alloc: Global, sequent: &Sequent, place: &str) -> bool {
+    match steps_of(alloc, REPEATED, "") {
         Some(steps) => ends_at(alloc, sequent, &steps, place),
         None => false,
     }
 }
 
 /// Whether the repeated lines are taken, and the log is refused at its end.
-fn are_repeated_taken(alloc: Global, program: &Program) -> bool {
-    match sequent(alloc, program, MODUS_PONENS, &[(Q, 0)]) {
-        Some(sequent) => repeated_ends_at(alloc, &sequent, Some((20_001, 0))),
+fn are_repeated_taken(alloc: Global) -> bool {
+    match sequent_of(alloc, MODUS_PONENS) {
+        Some(sequent) => repeated_ends_at(alloc, &sequent, "20001 0"),
         None => false,
     }
 }
 
 #[test]
-fn takes_twenty_thousand_lines(rt: HostRuntime) -> Result<(), Fail> {
-    let program = program(rt.alloc())?;
-    assert!(rt; are_repeated_taken(rt.alloc(), &program));
-    Ok(())
+fn takes_twenty_thousand_lines(rt: HostRuntime) {
+    assert!(rt; are_repeated_taken(rt.alloc()));
 }
 
 /// x, that it is i8, and the negation of this. -128 becomes 3, -128 <= x 4, 127 5, and x <= 127 6.
-const NO_I8: [Plain; 3] = [(X, &[]), (I8, &[0]), (Op::Not, &[1])];
+const NO_I8: &str = "x; is:i8 0; not 1";
 
 fn no_i8(alloc: Global) -> Result<Nodes, &'static str> {
-    nodes(alloc, &NO_I8)
+    nodes_of(alloc, NO_I8)
 }
 
 /// Whether the last clause of what i8 means, for node 1, is of these literals, and four nodes are made for it.
-fn is_type_clause(world: World, alloc: Global, nodes: &mut Nodes, wanted: &[Signed]) -> bool {
+fn is_type_clause(world: World, alloc: Global, nodes: &mut Nodes, wanted: &str) -> bool {
     match instance(alloc, world, nodes, 74, 2, &[1]) {
-        Ok(clause) => are_literals(clause.as_slice(), wanted) && nodes.len() == 7,
+        Ok(clause) => are_literals(alloc, clause.as_slice(), wanted) && nodes.len() == 7,
         Err(_) => false,
     }
 }
 
 /// Whether the type's clause is of these literals.
-fn has_type_clause(alloc: Global, program: &Program, wanted: &[Signed]) -> bool {
+fn has_type_clause_in(world: World, alloc: Global, wanted: &str) -> bool {
     match no_i8(alloc) {
-        Ok(mut nodes) => is_type_clause(World { program }, alloc, &mut nodes, wanted),
+        Ok(mut nodes) => is_type_clause(world, alloc, &mut nodes, wanted),
         Err(_) => false,
     }
 }
 
+fn has_type_clause(alloc: Global, wanted: &str) -> bool {
+    match world(alloc) {
+        Some(world) => has_type_clause_in(world, alloc, wanted),
+        None => false,
+    }
+}
+
 #[test]
-fn gives_clauses_of_types(rt: HostRuntime) -> Result<(), Fail> {
-    let program = program(rt.alloc())?;
-    let wanted = [(true, 1), (false, 4), (false, 6)];
-    assert!(rt; has_type_clause(rt.alloc(), &program, &wanted));
-    Ok(())
+fn gives_clauses_of_types(rt: HostRuntime) {
+    assert!(rt; has_type_clause(rt.alloc(), "+1 -4 -6"));
 }
 
 /// Whether the second clause of node 2 is of these literals.
-fn is_connective_clause(alloc: Global, nodes: &mut Nodes, wanted: &[Signed]) -> bool {
+fn is_connective_clause(alloc: Global, nodes: &mut Nodes, wanted: &str) -> bool {
     match connective(alloc, nodes, 2, 1) {
-        Ok(clause) => are_literals(clause.as_slice(), wanted),
+        Ok(clause) => are_literals(alloc, clause.as_slice(), wanted),
         Err(_) => false,
     }
 }
@@ -851,7 +544,6 @@ fn is_connective_clause(alloc: Global, nodes: &mut Nodes, wanted: &[Signed]) -> 
 #[test]
 fn gives_clauses_of_connectives(rt: HostRuntime) -> Result<(), Fail> {
     let mut nodes = no_i8(rt.alloc())?;
-    let wanted = [(true, 2), (true, 1)];
-    assert!(rt; is_connective_clause(rt.alloc(), &mut nodes, &wanted));
+    assert!(rt; is_connective_clause(rt.alloc(), &mut nodes, "+2 +1"));
     Ok(())
 }

@@ -11,6 +11,8 @@ mod integers;
 #[cfg(test)]
 mod kernel;
 #[cfg(test)]
+mod lines;
+#[cfg(test)]
 mod logs;
 #[cfg(test)]
 mod sequents;

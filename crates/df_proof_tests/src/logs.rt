@@ -1,17 +1,16 @@
 //! Logs that are built, and the branch of a search.
 
-use df_cases::{Line, P, Signed, Sum, Terms, X, combinations, literals, program, sequent, steps};
+use crate::lines::steps_of;
+use df_cases::{Signed, Sum, combinations, literals, sequent_of};
 use df_form::{Lit, Node, Op, Sequent};
 use df_kern::check;
-use df_lang::Program;
 use df_logbuild::{Derivation, logs_end_with_empty_clauses};
-use df_trail::{Retreat, Trail};
+use df_trail::{Conflict, Retreat, Trail, negations};
 use std::alloc::Global;
-use std::test::Fail;
 
 /// A log of these lines, each of which adds a clause.
-fn begun(alloc: Global, sequent: &Sequent, lines: &[Line]) -> Option<Derivation> {
-    let lines = steps(alloc, lines, &[])?;
+fn begun(alloc: Global, sequent: &Sequent, lines: &str) -> Option<Derivation> {
+    let lines = steps_of(alloc, lines, "")?;
     match sequent.nodes.copy(alloc) {
         Ok(nodes) => {
             let count = lines.len();
@@ -34,11 +33,8 @@ fn propagate(
     }
 }
 
-/// x <= 3, where x is node 0, and this one 2.
-const HYPOTHESIS: Terms = &[(X, 0), (Op::Number(3), 0), (Op::AtMost, 2)];
-
-/// x <= 4, which is node 4.
-const GOAL: Terms = &[(X, 0), (Op::Number(4), 0), (Op::AtMost, 2)];
+/// x <= 3, where x is node 0 and this one 2, gives x <= 4, which is node 4.
+const SEQUENT: &str = "x 3 le | x 4 le";
 
 /// That the hypothesis is false, or the goal true.
 const CONCLUSION: [Signed; 2] = [(false, 2), (true, 4)];
@@ -76,7 +72,7 @@ fn build(alloc: Global, derivation: &mut Derivation) -> bool {
 
 /// Whether the log that is built has five lines, and is accepted.
 fn is_built(alloc: Global, sequent: &Sequent) -> bool {
-    match begun(alloc, sequent, &[Line::H(0), Line::G]) {
+    match begun(alloc, sequent, "h 0; g") {
         Some(mut derivation) => {
             build(alloc, &mut derivation)
                 && derivation.lines.len() == 5
@@ -87,30 +83,22 @@ fn is_built(alloc: Global, sequent: &Sequent) -> bool {
 }
 
 /// Whether the log for the goal is built, and accepted.
-fn builds(alloc: Global, program: &Program) -> bool {
-    match sequent(alloc, program, &[HYPOTHESIS], GOAL) {
+fn builds(alloc: Global) -> bool {
+    match sequent_of(alloc, SEQUENT) {
         Some(sequent) => is_built(alloc, &sequent),
         None => false,
     }
 }
 
 #[test]
-fn builds_a_log_that_is_accepted(rt: HostRuntime) -> Result<(), Fail> {
+fn builds_a_log_that_is_accepted(rt: HostRuntime) {
     logs_end_with_empty_clauses();
-    let program = program(rt.alloc())?;
-    assert!(rt; builds(rt.alloc(), &program));
-    Ok(())
+    assert!(rt; builds(rt.alloc()));
 }
 
 /// The negated goal `p || !p`, and what the goal and the negation of p mean: p is node 0, its negation 1,
 /// and the goal 2.
-const LINES: [Line; 5] = [
-    Line::G,
-    Line::X(2, 1),
-    Line::X(2, 2),
-    Line::X(1, 0),
-    Line::X(1, 1),
-];
+const LINES: &str = "g; x 2 1; x 2 2; x 1 0; x 1 1";
 
 /// Decides p.
 fn decide(trail: &mut Trail) -> bool {
@@ -121,6 +109,25 @@ fn decide(trail: &mut Trail) -> bool {
     trail.decide(literal).is_ok()
 }
 
+/// Says that the literals are not all true, by propagation through clauses, and closes the branch by that.
+fn close_by(
+    alloc: Global,
+    derivation: &mut Derivation,
+    trail: &mut Trail,
+    numbers: &[usize],
+    needed: Vec<Lit>,
+) -> Option<Retreat> {
+    match negations(alloc, &needed) {
+        Ok(conclusion) => {
+            let number = propagate(alloc, derivation, numbers, conclusion)?;
+            trail
+                .retreat(alloc, derivation, Conflict { number, needed })
+                .ok()
+        }
+        Err(_) => None,
+    }
+}
+
 /// Closes the branch by propagation through clauses.
 fn close(
     alloc: Global,
@@ -128,11 +135,8 @@ fn close(
     trail: &mut Trail,
     numbers: &[usize],
 ) -> Option<Retreat> {
-    match trail.negations(alloc) {
-        Ok(conclusion) => {
-            let closed = propagate(alloc, derivation, numbers, conclusion)?;
-            trail.retreat(alloc, derivation, closed).ok()
-        }
+    match trail.branch(alloc) {
+        Ok(needed) => close_by(alloc, derivation, trail, numbers, needed),
         Err(_) => None,
     }
 }
@@ -164,7 +168,7 @@ fn closes(alloc: Global, derivation: &mut Derivation) -> bool {
 
 /// Whether the log of the two branches is accepted.
 fn is_closed(alloc: Global, sequent: &Sequent) -> bool {
-    match begun(alloc, sequent, &LINES) {
+    match begun(alloc, sequent, LINES) {
         Some(mut derivation) => {
             closes(alloc, &mut derivation) && check(alloc, sequent, &derivation.lines).is_ok()
         }
@@ -173,17 +177,106 @@ fn is_closed(alloc: Global, sequent: &Sequent) -> bool {
 }
 
 /// Whether the log for `p || !p` is accepted.
-fn closes_both(alloc: Global, program: &Program) -> bool {
-    let goal = [(P, 0), (P, 0), (Op::Not, 1), (Op::Or, 2)];
-    match sequent(alloc, program, &[], &goal) {
+fn closes_both(alloc: Global) -> bool {
+    match sequent_of(alloc, "| p p not or") {
         Some(sequent) => is_closed(alloc, &sequent),
         None => false,
     }
 }
 
 #[test]
-fn closes_both_sides_of_a_decision(rt: HostRuntime) -> Result<(), Fail> {
-    let program = program(rt.alloc())?;
-    assert!(rt; closes_both(rt.alloc(), &program));
-    Ok(())
+fn closes_both_sides_of_a_decision(rt: HostRuntime) {
+    assert!(rt; closes_both(rt.alloc()));
+}
+
+/// The decision of a node.
+fn decide_node(trail: &mut Trail, node: usize) -> bool {
+    trail
+        .decide(Lit {
+            positive: true,
+            node,
+        })
+        .is_ok()
+}
+
+/// Closes a branch of p and two more decisions by what p alone makes false.
+fn close_by_first(alloc: Global, derivation: &mut Derivation, trail: &mut Trail) -> bool {
+    let first = Lit {
+        positive: true,
+        node: 0,
+    };
+    match vec![in alloc; first] {
+        Ok(needed) => {
+            close_by(alloc, derivation, trail, &[0, 1], needed) == Some(Retreat::Turned)
+        }
+        Err(_) => false,
+    }
+}
+
+/// Whether the two later decisions are taken back, and not turned.
+fn goes_back(alloc: Global, derivation: &mut Derivation) -> bool {
+    let mut trail = Trail::new(alloc);
+    decide(&mut trail)
+        && decide_node(&mut trail, 1)
+        && decide_node(&mut trail, 2)
+        && close_by_first(alloc, derivation, &mut trail)
+        && is_turned(alloc, &trail)
+}
+
+fn goes_back_in(alloc: Global, sequent: &Sequent) -> bool {
+    match begun(alloc, sequent, LINES) {
+        Some(mut derivation) => goes_back(alloc, &mut derivation),
+        None => false,
+    }
+}
+
+/// Whether that is so beside `p || !p`.
+fn goes_back_over(alloc: Global) -> bool {
+    match sequent_of(alloc, "| p p not or") {
+        Some(sequent) => goes_back_in(alloc, &sequent),
+        None => false,
+    }
+}
+
+#[test]
+fn goes_back_over_what_is_not_needed(rt: HostRuntime) {
+    assert!(rt; goes_back_over(rt.alloc()));
+}
+
+/// Whether the list is of p alone.
+fn is_of_first(literals: &[Lit]) -> bool {
+    let first = Lit {
+        positive: true,
+        node: 0,
+    };
+    literals == [first].as_slice()
+}
+
+/// Whether p is what stands before the last decision.
+fn is_before(alloc: Global, trail: &Trail) -> bool {
+    match trail.before(alloc) {
+        Ok(Some(before)) => is_of_first(&before),
+        Ok(None) | Err(_) => false,
+    }
+}
+
+/// Whether p is what is decided.
+fn is_left(alloc: Global, trail: &Trail) -> bool {
+    match trail.branch(alloc) {
+        Ok(branch) => is_of_first(&branch),
+        Err(_) => false,
+    }
+}
+
+/// Whether p is told before a second decision, and left when that is taken back.
+fn takes_back(alloc: Global) -> bool {
+    let mut trail = Trail::new(alloc);
+    let is_told = decide(&mut trail) && decide_node(&mut trail, 1) && is_before(alloc, &trail);
+    trail.take_back();
+    is_told && is_left(alloc, &trail)
+}
+
+#[test]
+fn takes_a_decision_back(rt: HostRuntime) {
+    assert!(rt; takes_back(rt.alloc()));
 }

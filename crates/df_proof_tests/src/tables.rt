@@ -1,220 +1,220 @@
 //! Tables by hand: those that are models of ground sets and those that are not, and those of assignments.
 
-use crate::expecting::expect;
-use df_cases::{
-    CHAR, I8, INT, NAT, P, Plain, Q, Terms, UNDECLARED, X, Y, Z, nodes, program, sequent,
-};
+use crate::expecting::{expect, expect_no_row};
+use df_cases::{add_line, nodes_of, sequent_of, trimmed, world};
 use df_clause::{Ground, clauses};
-use df_form::{Lit, Nodes, Op, Sequent, World};
-use df_lang::Program;
+use df_form::{Lit, Nodes, Sequent, World};
 use df_model::{Valuation, valuation};
 use df_rules::Known;
 use df_table::{Table, is_model};
 use std::alloc::Global;
 use std::process::Abort;
-use std::test::Fail;
 
-/// A sequent's hypotheses and goal, and tables: whether they are models of its ground set without instances.
-type Sheet<'a> = (&'a [Terms<'a>], Terms<'a>, &'a [(&'a [i128], bool)]);
+/// A sequent, and a row for each table: its numbers and, behind `|`, whether it is a model of the ground set without
+/// instances. Behind `#` a row says nothing.
+type Sheet<'a> = (&'a str, &'a str);
 
 const SHEETS: [Sheet; 3] = [
     // x <= 3 does not make x + 1 <= 3: x is 0, 3 is 1, x <= 3 is 2, 1 is 3, x + 1 is 4, and x + 1 <= 3 is 5
     (
-        &[&[(X, 0), (Op::Number(3), 0), (Op::AtMost, 2)]],
-        &[
-            (X, 0),
-            (Op::Number(1), 0),
-            (Op::Plus, 2),
-            (Op::Number(3), 0),
-            (Op::AtMost, 2),
-        ],
-        &[
-            (&[3, 3, 1, 1, 4, 0], true),
-            // a truth may have any number of at least 1, and a falsehood any below
-            (&[3, 3, 7, 1, 4, -5], true),
-            // a node without a number, or a number without a node
-            (&[3, 3, 1, 1, 4], false),
-            (&[3, 3, 1, 1, 4, 0, 0], false),
-            // a literal that is wrong
-            (&[3, 4, 1, 1, 5, 0], false),
-            // a sum that is wrong
-            (&[3, 3, 1, 1, 5, 0], false),
-            // a sum that does not fit
-            (&[i128::MAX, 3, 1, 1, i128::MIN, 0], false),
-            // a comparison that is true and said to be false
-            (&[2, 3, 1, 1, 3, 0], false),
-            // a hypothesis that is false
-            (&[4, 3, 0, 1, 5, 0], false),
-        ],
+        "x 3 le | x 1 plus 3 le",
+        "3 3 1 1 4 0 | a model\n\
+         # a truth may have any number of at least 1, and a falsehood any below\n\
+         3 3 7 1 4 -5 | a model\n\
+         # a node without a number, or a number without a node\n\
+         3 3 1 1 4 | none\n\
+         3 3 1 1 4 0 0 | none\n\
+         # a literal that is wrong\n\
+         3 4 1 1 5 0 | none\n\
+         # a sum that is wrong\n\
+         3 3 1 1 5 0 | none\n\
+         # a sum that does not fit\n\
+         170141183460469231731687303715884105727 3 1 1 -170141183460469231731687303715884105728 0 | none\n\
+         # a comparison that is true and said to be false\n\
+         2 3 1 1 3 0 | none\n\
+         # a hypothesis that is false\n\
+         4 3 0 1 5 0 | none",
     ),
     // x * y differs from y * x: x is 0, y 1, x * y 2, y * x 3, and x * y = y * x 4; 2 <= 3 becomes 5, and
     // 3 <= 2 6
     (
-        &[],
-        &[
-            (X, 0),
-            (Y, 0),
-            (Op::Times, 2),
-            (Y, 0),
-            (X, 0),
-            (Op::Times, 2),
-            (Op::Equal, 2),
-        ],
-        &[
-            // other products are not looked into
-            (&[2, 3, 6, 7, 0, 1, 0], true),
-            // equal arguments with other results
-            (&[2, 2, 6, 7, 0, 1, 0], false),
-            // an equality of different numbers that is true
-            (&[2, 3, 6, 7, 1, 1, 0], false),
-            // the goal is true
-            (&[2, 3, 6, 6, 1, 1, 1], false),
-            // a clause of an equality is false, where its comparisons are not those of the numbers
-            (&[2, 3, 6, 6, 0, 1, 1], false),
-        ],
+        "| x y times y x times eq",
+        "# other products are not looked into\n\
+         2 3 6 7 0 1 0 | a model\n\
+         # equal arguments with other results\n\
+         2 2 6 7 0 1 0 | none\n\
+         # an equality of different numbers that is true\n\
+         2 3 6 7 1 1 0 | none\n\
+         # the goal is true\n\
+         2 3 6 6 1 1 1 | none\n\
+         # a clause of an equality is false, where its comparisons are not those of the numbers\n\
+         2 3 6 6 0 1 1 | none",
     ),
     // 2 * x <= 7 or p: 2 is 0, x 1, 2 * x 2, 7 is 3, 2 * x <= 7 is 4, p 5, and the `or` 6
     (
-        &[],
-        &[
-            (Op::Number(2), 0),
-            (X, 0),
-            (Op::Times, 2),
-            (Op::Number(7), 0),
-            (Op::AtMost, 2),
-            (P, 0),
-            (Op::Or, 2),
-        ],
-        &[
-            (&[2, 4, 8, 7, 0, 0, 0], true),
-            // a multiple that is wrong
-            (&[2, 4, 9, 7, 0, 0, 0], false),
-            // a part of a false `or` that is true
-            (&[2, 4, 8, 7, 0, 1, 0], false),
-            // the goal is true
-            (&[2, 4, 8, 7, 0, 1, 1], false),
-        ],
+        "| 2 x times 7 le p or",
+        "2 4 8 7 0 0 0 | a model\n\
+         # a multiple that is wrong\n\
+         2 4 9 7 0 0 0 | none\n\
+         # a part of a false `or` that is true\n\
+         2 4 8 7 0 1 0 | none\n\
+         # the goal is true\n\
+         2 4 8 7 0 1 1 | none",
     ),
 ];
 
-/// Whether a table of these numbers is a model of the ground set.
-fn is_modelled_by(alloc: Global, set: &Ground, numbers: &[i128]) -> Option<bool> {
-    match Vec::from_slice(alloc, numbers) {
-        Ok(numbers) => Some(is_model(set, &Table::new(numbers))),
-        Err(_) => None,
-    }
-}
-
-/// Whether each table is a model of the ground set or not, as it says.
-fn tells_of_each(alloc: Global, set: &Ground, tables: &[(&[i128], bool)]) -> bool {
-    for (numbers, expected) in tables {
-        if is_modelled_by(alloc, set, *numbers) != Some(*expected) {
-            return false;
-        }
-    }
-    true
-}
-
-fn tells_of_set(alloc: Global, sequent: &Sequent, tables: &[(&[i128], bool)]) -> bool {
-    match clauses(alloc, sequent) {
-        Ok(set) => tells_of_each(alloc, &set, tables),
+fn push_number(numbers: &mut Vec<i128>, word: &str) -> bool {
+    match word.parse::<i128>() {
+        Ok(number) => numbers.push(number).is_ok(),
         Err(_) => false,
     }
 }
 
-/// Whether each table of a sheet is a model of its sequent's ground set or not, as it says.
-fn tells_of_sheet(alloc: Global, program: &Program, sheet: Sheet) -> bool {
-    let (hypotheses, goal, tables) = sheet;
-    match sequent(alloc, program, hypotheses, goal) {
-        Some(sequent) => tells_of_set(alloc, &sequent, tables),
-        None => false,
-    }
-}
-
-#[test]
-fn tells_models(rt: HostRuntime) -> Result<(), Fail> {
-    let program = program(rt.alloc())?;
-    for (number, sheet) in SHEETS.iter().enumerate() {
-        expect(&rt, number, tells_of_sheet(rt.alloc(), &program, *sheet));
-    }
-    Ok(())
-}
-
-/// Nodes with their numbers, where the first two free numbers are 5 and -3, and node 2 alone is known
-/// to be true.
-const TABLE: [(Plain, i128); 41] = [
-    ((X, &[]), 5),
-    ((Y, &[]), -3),
-    ((P, &[]), 1),
-    ((Q, &[]), 0),
-    // past the end of the numbers
-    ((Z, &[]), 0),
-    ((Op::Number(2), &[]), 2),
-    ((Op::Plus, &[0, 1]), 2),
-    ((Op::Times, &[0, 1]), -15),
-    ((Op::Times, &[7, 7]), 225),
-    ((I8, &[7]), 1),
-    ((I8, &[8]), 0),
-    ((UNDECLARED, &[7]), 0),
-    ((Op::Equal, &[5, 6]), 1),
-    ((Op::Equal, &[0, 1]), 0),
-    // truths are compared by `iff`
-    ((Op::Iff, &[3, 13]), 1),
-    ((Op::AtMost, &[5, 6]), 1),
-    ((Op::AtMost, &[0, 1]), 0),
-    ((Op::Not, &[2]), 0),
-    ((Op::Not, &[3]), 1),
-    ((Op::And, &[]), 1),
-    ((Op::And, &[2, 3]), 0),
-    ((Op::Or, &[]), 0),
-    ((Op::Or, &[3, 2]), 1),
-    ((Op::Implies, &[2, 3]), 0),
-    ((Op::Implies, &[3, 3]), 1),
-    ((Op::Iff, &[2, 3]), 0),
-    ((Op::Iff, &[3, 3]), 1),
-    // 27: quotients and remainders, also by 0
-    ((Op::Div, &[0, 1]), -1),
-    ((Op::Mod, &[0, 1]), 2),
-    ((Op::Div, &[1, 5]), -2),
-    ((Op::Mod, &[1, 5]), 1),
-    ((Op::Div, &[0, 4]), 0),
-    ((Op::Mod, &[0, 4]), 0),
-    // 33: characters, `D` of a number that none has
-    ((Op::Chr, &[0]), 5),
-    ((Op::Chr, &[8]), 68),
-    ((Op::Code, &[33]), 5),
-    ((Op::Equal, &[33, 34]), 0),
-    // 37: types
-    ((NAT, &[0]), 1),
-    ((NAT, &[1]), 0),
-    ((INT, &[1]), 1),
-    ((CHAR, &[34]), 1),
-];
-
-/// A node and its number.
-type Numbered = (Plain<'static>, i128);
-
-/// Adds what nodes are made of.
-fn push_plain(plain: &mut Vec<Plain<'static>>, rows: &[Numbered]) -> bool {
-    for (node, _) in rows {
-        if plain.push(*node).is_err() {
+fn push_numbers(numbers: &mut Vec<i128>, words: &str) -> bool {
+    for word in words.split(' ') {
+        if !word.is_empty() && !push_number(numbers, word) {
             return false;
         }
     }
     true
 }
 
-fn tabulated(alloc: Global, rows: &[Numbered]) -> Option<Nodes> {
-    let mut plain = Vec::new(alloc);
-    if push_plain(&mut plain, rows) {
-        nodes(alloc, &plain).ok()
+/// The table of numbers.
+fn table_by(alloc: Global, words: &str) -> Option<Table> {
+    let mut numbers = Vec::new(alloc);
+    if push_numbers(&mut numbers, words) {
+        Some(Table::new(numbers))
+    } else {
+        None
+    }
+}
+
+/// Whether a table of these numbers is a model of the ground set or not, as it says.
+fn is_modelled_so(alloc: Global, set: &Ground, words: &str, told: &str) -> bool {
+    match table_by(alloc, words) {
+        Some(table) => is_model(set, &table) == (told == "a model"),
+        None => false,
+    }
+}
+
+fn is_row_told(alloc: Global, set: &Ground, row: &str) -> bool {
+    match row.split_once('|') {
+        Some((words, told)) => is_modelled_so(alloc, set, words, trimmed(told)),
+        None => row.starts_with('#'),
+    }
+}
+
+/// The first row that is not as it says, if there is one.
+fn wrong_row(alloc: Global, set: &Ground, rows: &str) -> Option<usize> {
+    for (number, row) in rows.lines().enumerate() {
+        if !is_row_told(alloc, set, row) {
+            return Some(number);
+        }
+    }
+    None
+}
+
+fn wrong_of(alloc: Global, sequent: &Sequent, rows: &str) -> Option<usize> {
+    match clauses(alloc, sequent) {
+        Ok(set) => wrong_row(alloc, &set, rows),
+        Err(_) => Some(0),
+    }
+}
+
+/// The first row of a sheet that is not as it says, if there is one, or if there is no ground set.
+fn wrong_in(alloc: Global, sheet: Sheet) -> Option<usize> {
+    let (text, rows) = sheet;
+    match sequent_of(alloc, text) {
+        Some(sequent) => wrong_of(alloc, &sequent, rows),
+        None => Some(0),
+    }
+}
+
+#[test]
+fn tells_models(rt: HostRuntime) {
+    for (number, sheet) in SHEETS.iter().enumerate() {
+        expect_no_row(&rt, number, wrong_in(rt.alloc(), *sheet));
+    }
+}
+
+/// Nodes with their numbers, where the first two free numbers are 5 and -3, and node 2 alone is known
+/// to be true.
+const TABLE: &str = "x = 5\n\
+    y = -3\n\
+    p = 1\n\
+    q = 0\n\
+    # past the end of the numbers\n\
+    z = 0\n\
+    2 = 2\n\
+    plus 0 1 = 2\n\
+    times 0 1 = -15\n\
+    times 7 7 = 225\n\
+    is:i8 7 = 1\n\
+    is:i8 8 = 0\n\
+    is:other 7 = 0\n\
+    eq 5 6 = 1\n\
+    eq 0 1 = 0\n\
+    # truths are compared by `iff`\n\
+    iff 3 13 = 1\n\
+    le 5 6 = 1\n\
+    le 0 1 = 0\n\
+    not 2 = 0\n\
+    not 3 = 1\n\
+    and = 1\n\
+    and 2 3 = 0\n\
+    or = 0\n\
+    or 3 2 = 1\n\
+    imp 2 3 = 0\n\
+    imp 3 3 = 1\n\
+    iff 2 3 = 0\n\
+    iff 3 3 = 1\n\
+    # 27: quotients and remainders, also by 0\n\
+    div 0 1 = -1\n\
+    mod 0 1 = 2\n\
+    div 1 5 = -2\n\
+    mod 1 5 = 1\n\
+    div 0 4 = 0\n\
+    mod 0 4 = 0\n\
+    # 33: characters, `D` of a number that none has\n\
+    chr 0 = 5\n\
+    chr 8 = 68\n\
+    code 33 = 5\n\
+    eq 33 34 = 0\n\
+    # 37: types\n\
+    is:nat 0 = 1\n\
+    is:nat 1 = 0\n\
+    is:int 1 = 1\n\
+    is:char 34 = 1";
+
+/// Adds the node of a row.
+fn add_row(alloc: Global, nodes: &mut Nodes, row: &str) -> bool {
+    match row.split_once('=') {
+        Some((node, _)) => add_line(alloc, nodes, trimmed(node)),
+        None => row.starts_with('#'),
+    }
+}
+
+fn add_rows(alloc: Global, nodes: &mut Nodes, rows: &str) -> bool {
+    for row in rows.lines() {
+        if !add_row(alloc, nodes, row) {
+            return false;
+        }
+    }
+    true
+}
+
+/// The nodes of rows.
+fn tabulated(alloc: Global, rows: &str) -> Option<Nodes> {
+    let mut nodes = Nodes::new(alloc);
+    if add_rows(alloc, &mut nodes, rows) {
+        Some(nodes)
     } else {
         None
     }
 }
 
 /// The table of nodes where node 2 is true.
-fn table_of(alloc: Global, program: &Program, nodes: &Nodes) -> Option<Table> {
+fn table_of(world: World, alloc: Global, nodes: &Nodes) -> Option<Table> {
     let mut known = Known::new(alloc);
     let second = Lit {
         positive: true,
@@ -223,81 +223,102 @@ fn table_of(alloc: Global, program: &Program, nodes: &Nodes) -> Option<Table> {
     if known.insert(second).is_err() {
         return None;
     }
-    match valuation(alloc, World { program }, nodes, &[5, -3], &known) {
+    match valuation(alloc, world, nodes, &[5, -3], &known) {
         Ok(Valuation::Table(table)) => Some(table),
         Ok(Valuation::Wide) | Err(_) => None,
     }
 }
 
-/// The numbers of these nodes.
-fn made_table(alloc: Global, program: &Program, rows: &[Numbered]) -> Option<Table> {
+fn table_in(world: World, alloc: Global, rows: &str) -> Option<Table> {
     match tabulated(alloc, rows) {
-        Some(nodes) => table_of(alloc, program, &nodes),
+        Some(nodes) => table_of(world, alloc, &nodes),
         None => None,
     }
 }
 
-fn has_numbers(rt: &impl Abort, table: &Table, rows: &[Numbered]) {
-    for (node, (_, wanted)) in rows.iter().enumerate() {
-        expect(rt, node, table.number(node) == *wanted);
+/// The numbers of these nodes.
+fn made_table(alloc: Global, rows: &str) -> Option<Table> {
+    match world(alloc) {
+        Some(world) => table_in(world, alloc, rows),
+        None => None,
     }
 }
 
-/// Each node has its number. Whether there are just so many.
-fn tabulates(rt: &impl Abort, alloc: Global, program: &Program, rows: &[Numbered]) -> bool {
-    match made_table(alloc, program, rows) {
-        Some(table) => {
-            has_numbers(rt, &table, rows);
-            table.len() == rows.len()
+/// Whether the node of this number has the number of its row.
+fn has_number(table: &Table, node: usize, number: &str) -> bool {
+    match number.parse::<i128>() {
+        Ok(number) => table.number(node) == number,
+        Err(_) => false,
+    }
+}
+
+/// Each node has the number of its row. This is how many there are.
+fn count_numbers(rt: &impl Abort, table: &Table, rows: &str) -> usize {
+    let mut node = 0usize;
+    for row in rows.lines() {
+        if let Some((_, number)) = row.split_once('=') {
+            expect(rt, node, has_number(table, node, trimmed(number)));
+            node = node.saturating_add(1);
         }
+    }
+    node
+}
+
+/// Each node has its number. Whether there are just so many.
+fn tabulates(rt: &impl Abort, alloc: Global, rows: &str) -> bool {
+    match made_table(alloc, rows) {
+        Some(table) => count_numbers(rt, &table, rows) == table.len(),
         None => false,
     }
 }
 
 #[test]
-fn tabulates_each_operation(rt: HostRuntime) -> Result<(), Fail> {
-    let program = program(rt.alloc())?;
-    assert!(rt; tabulates(&rt, rt.alloc(), &program, &TABLE));
-    Ok(())
+fn tabulates_each_operation(rt: HostRuntime) {
+    assert!(rt; tabulates(&rt, rt.alloc(), TABLE));
 }
 
-/// Operations on two numbers, and whether the result is past 128 bits.
-const WIDE: [(Op, [i128; 2], bool); 10] = [
-    (Op::Plus, [i128::MAX, 0], false),
-    (Op::Plus, [i128::MAX, 1], true),
-    (Op::Plus, [i128::MIN, -1], true),
-    (Op::Times, [1 << 126, 1], false),
-    (Op::Times, [1 << 126, 2], true),
-    (Op::Times, [1 << 126, -2], false),
-    (Op::Times, [i128::MIN, -1], true),
-    (Op::Div, [i128::MIN, 1], false),
-    (Op::Div, [i128::MIN, -1], true),
-    (Op::Mod, [i128::MIN, -1], false),
+/// Nodes with an operation on two numbers, these, and whether the result is past 128 bits.
+const WIDE: [(&str, [i128; 2], bool); 10] = [
+    ("x; y; plus 0 1", [i128::MAX, 0], false),
+    ("x; y; plus 0 1", [i128::MAX, 1], true),
+    ("x; y; plus 0 1", [i128::MIN, -1], true),
+    ("x; y; times 0 1", [1 << 126, 1], false),
+    ("x; y; times 0 1", [1 << 126, 2], true),
+    ("x; y; times 0 1", [1 << 126, -2], false),
+    ("x; y; times 0 1", [i128::MIN, -1], true),
+    ("x; y; div 0 1", [i128::MIN, 1], false),
+    ("x; y; div 0 1", [i128::MIN, -1], true),
+    ("x; y; mod 0 1", [i128::MIN, -1], false),
 ];
 
 /// Whether the nodes of the operation on the numbers have no numbers, since one is past 128 bits.
-fn are_wide(alloc: Global, program: &Program, nodes: &Nodes, numbers: &[i128]) -> Option<bool> {
+fn are_wide(world: World, alloc: Global, nodes: &Nodes, numbers: &[i128]) -> Option<bool> {
     let known = Known::new(alloc);
-    match valuation(alloc, World { program }, nodes, numbers, &known) {
+    match valuation(alloc, world, nodes, numbers, &known) {
         Ok(valuation) => Some(matches!(valuation, Valuation::Wide)),
         Err(_) => None,
     }
 }
 
-/// Whether the result of the operation on the numbers is past 128 bits.
-fn is_wide(alloc: Global, program: &Program, op: Op, numbers: &[i128]) -> Option<bool> {
-    match nodes(alloc, &[(X, &[]), (Y, &[]), (op, &[0, 1])]) {
-        Ok(nodes) => are_wide(alloc, program, &nodes, numbers),
+fn is_wide_in(world: World, alloc: Global, lines: &str, numbers: &[i128]) -> Option<bool> {
+    match nodes_of(alloc, lines) {
+        Ok(nodes) => are_wide(world, alloc, &nodes, numbers),
         Err(_) => None,
     }
 }
 
+/// Whether the result of the operation on the numbers is past 128 bits.
+fn is_wide(alloc: Global, lines: &str, numbers: &[i128]) -> Option<bool> {
+    match world(alloc) {
+        Some(world) => is_wide_in(world, alloc, lines, numbers),
+        None => None,
+    }
+}
+
 #[test]
-fn tells_of_wide_numbers(rt: HostRuntime) -> Result<(), Fail> {
-    let program = program(rt.alloc())?;
-    for (case, (op, numbers, wide)) in WIDE.iter().enumerate() {
-        let found = is_wide(rt.alloc(), &program, *op, numbers);
+fn tells_of_wide_numbers(rt: HostRuntime) {
+    for (case, (lines, numbers, wide)) in WIDE.iter().enumerate() {
+        let found = is_wide(rt.alloc(), *lines, numbers);
         expect(&rt, case, found == Some(*wide));
     }
-    Ok(())
 }

@@ -3,78 +3,26 @@
 use crate::expecting::expect;
 use df_axiom::Written;
 use df_branch::{Leaf, ground_sets_are_places, leaf_at};
-use df_cases::{P, Q, Terms, X, Y, program, sequent};
-use df_form::{Op, Sequent};
-use df_lang::Program;
+use df_cases::sequent_of;
+use df_form::Sequent;
 use df_trig::{instances, instances_are_ground};
 use std::alloc::Global;
-use std::test::Fail;
 
-/// A sequent's hypotheses and goal, and what comes next.
-type Case<'a> = (&'a [Terms<'a>], Terms<'a>, &'a str);
+/// A sequent, and what comes next.
+type Case<'a> = (&'a str, &'a str);
 
 const CASES: [Case; 8] = [
-    (&[], &[(P, 0)], "modelled"),
-    (&[&[(P, 0)]], &[(Q, 0)], "modelled"),
-    (&[&[(P, 0)]], &[(P, 0)], "refuted"),
-    (
-        &[&[(P, 0), (Q, 0), (Op::Or, 2)]],
-        &[(P, 0), (Q, 0), (Op::And, 2)],
-        "open",
-    ),
-    (
-        &[&[(X, 0), (Op::Number(0), 0), (Op::AtMost, 2)]],
-        &[(X, 0), (Op::Number(1), 0), (Op::AtMost, 2)],
-        "unsolvable",
-    ),
+    ("| p", "modelled"),
+    ("p | q", "modelled"),
+    ("p | p", "refuted"),
+    ("p q or | p q and", "open"),
+    ("x 0 le | x 1 le", "unsolvable"),
     // x = y, so x * x = y * y
-    (
-        &[&[(X, 0), (Y, 0), (Op::Equal, 2)]],
-        &[
-            (X, 0),
-            (X, 0),
-            (Op::Times, 2),
-            (Y, 0),
-            (Y, 0),
-            (Op::Times, 2),
-            (Op::Equal, 2),
-        ],
-        "incongruent",
-    ),
+    ("x y eq | x x times y y times eq", "incongruent"),
     // x <= y, y <= x, and x * x <= 3, so y * y <= 4: nothing says that x = y
-    (
-        &[
-            &[(X, 0), (Y, 0), (Op::AtMost, 2)],
-            &[(Y, 0), (X, 0), (Op::AtMost, 2)],
-            &[
-                (X, 0),
-                (X, 0),
-                (Op::Times, 2),
-                (Op::Number(3), 0),
-                (Op::AtMost, 2),
-            ],
-        ],
-        &[
-            (Y, 0),
-            (Y, 0),
-            (Op::Times, 2),
-            (Op::Number(4), 0),
-            (Op::AtMost, 2),
-        ],
-        "apart",
-    ),
+    ("x y le, y x le, x x times 3 le | y y times 4 le", "apart"),
     // -2 minus the greatest number is no number of 128 bits
-    (
-        &[&[
-            (X, 0),
-            (Op::Number(i128::MAX), 0),
-            (Op::Plus, 2),
-            (Op::Number(-2), 0),
-            (Op::AtMost, 2),
-        ]],
-        &[(P, 0)],
-        "wide",
-    ),
+    ("x max plus -2 le | p", "wide"),
 ];
 
 /// What comes next at the empty branch.
@@ -111,19 +59,16 @@ fn end_word(alloc: Global, sequent: &Sequent) -> &'static str {
 }
 
 /// The word for what comes next at the empty branch of the search for the goal.
-fn next(alloc: Global, program: &Program, hypotheses: &[Terms], goal: Terms) -> &'static str {
-    match sequent(alloc, program, hypotheses, goal) {
+fn next(alloc: Global, text: &str) -> &'static str {
+    match sequent_of(alloc, text) {
         Some(sequent) => end_word(alloc, &sequent),
         None => "no sequent",
     }
 }
 
 #[test]
-fn ends_as_told(rt: HostRuntime) -> Result<(), Fail> {
-    let program = program(rt.alloc())?;
-    for (case, (hypotheses, goal, wanted)) in CASES.iter().enumerate() {
-        let word = next(rt.alloc(), &program, *hypotheses, *goal);
-        expect(&rt, case, word == *wanted);
+fn ends_as_told(rt: HostRuntime) {
+    for (case, (text, wanted)) in CASES.iter().enumerate() {
+        expect(&rt, case, next(rt.alloc(), *text) == *wanted);
     }
-    Ok(())
 }

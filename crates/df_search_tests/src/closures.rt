@@ -1,11 +1,11 @@
 //! Closures by hand.
 
 use crate::expecting::expect;
-use crate::grounds::are_literals;
-use df_cases::{Signed, literals};
+use df_cases::{Signed, are_literals, literals};
 use df_clause::GroundClause;
 use df_closure::{Closure, close};
 use std::alloc::Global;
+use std::process::Abort;
 
 /// The equality that a clause is bound to, and its literals.
 const CLAUSES: [(Option<usize>, &[Signed]); 7] = [
@@ -19,27 +19,15 @@ const CLAUSES: [(Option<usize>, &[Signed]); 7] = [
 ];
 
 /// A list, what is learned beside it, and by which clauses.
-const CLOSED: [(&[Signed], &[Signed], &[usize]); 6] = [
-    (&[], &[(true, 1), (true, 2)], &[0, 1]),
-    (
-        &[(false, 3)],
-        &[(true, 1), (true, 2), (true, 4), (false, 8), (false, 7)],
-        &[0, 1, 2, 6, 5],
-    ),
+const CLOSED: [(&[Signed], &str, &[usize]); 6] = [
+    (&[], "+1 +2", &[0, 1]),
+    (&[(false, 3)], "+1 +2 +4 -8 -7", &[0, 1, 2, 6, 5]),
     // a clause that is bound to an equality counts where this is known
-    (&[(true, 5), (true, 6)], &[(true, 1), (true, 2)], &[0, 1]),
-    (&[(true, 9)], &[(true, 1), (true, 2), (true, 5)], &[0, 1, 3]),
-    (
-        &[(false, 9), (true, 5)],
-        &[(true, 1), (true, 2), (false, 6)],
-        &[0, 1, 4],
-    ),
+    (&[(true, 5), (true, 6)], "+1 +2", &[0, 1]),
+    (&[(true, 9)], "+1 +2 +5", &[0, 1, 3]),
+    (&[(false, 9), (true, 5)], "+1 +2 -6", &[0, 1, 4]),
     // a literal that stands twice
-    (
-        &[(true, 7), (true, 3)],
-        &[(true, 1), (true, 2), (true, 8), (false, 4)],
-        &[0, 1, 5, 6],
-    ),
+    (&[(true, 7), (true, 3)], "+1 +2 +8 -4", &[0, 1, 5, 6]),
 ];
 
 /// A list beside which a clause is false, and how this is seen.
@@ -82,7 +70,7 @@ fn teaches(
     alloc: Global,
     clauses: &[GroundClause],
     list: &[Signed],
-    wanted: &[Signed],
+    wanted: &str,
     by: &[usize],
 ) -> bool {
     match &closure(alloc, clauses, list) {
@@ -92,8 +80,16 @@ fn teaches(
                 reasons,
                 ..
             },
-        ) => are_literals(learned, wanted) && reasons.as_slice() == by,
+        ) => are_literals(alloc, learned, wanted) && reasons.as_slice() == by,
         Some(Closure::Refuted(_)) | None => false,
+    }
+}
+
+/// Each list teaches what it says.
+fn expect_closed(rt: &impl Abort, alloc: Global, clauses: &[GroundClause]) {
+    for (number, (list, wanted, by)) in CLOSED.iter().enumerate() {
+        let is_right = teaches(alloc, clauses, *list, *wanted, *by);
+        expect(rt, number, is_right);
     }
 }
 
@@ -101,10 +97,7 @@ fn teaches(
 fn closes_lists(rt: HostRuntime) {
     let mut clauses = Vec::new(rt.alloc());
     assert!(rt; push_clauses(rt.alloc(), &mut clauses));
-    for (number, (list, wanted, by)) in CLOSED.iter().enumerate() {
-        let is_right = teaches(rt.alloc(), &clauses, *list, *wanted, *by);
-        expect(&rt, number, is_right);
-    }
+    expect_closed(&rt, rt.alloc(), &clauses);
 }
 
 /// Whether a clause is false beside a list, which these clauses show.
@@ -115,11 +108,16 @@ fn refutes(alloc: Global, clauses: &[GroundClause], list: &[Signed], by: &[usize
     }
 }
 
+/// Each list is refuted as it says.
+fn expect_refuted(rt: &impl Abort, alloc: Global, clauses: &[GroundClause]) {
+    for (number, (list, by)) in REFUTED.iter().enumerate() {
+        expect(rt, number, refutes(alloc, clauses, *list, *by));
+    }
+}
+
 #[test]
 fn finds_false_clauses(rt: HostRuntime) {
     let mut clauses = Vec::new(rt.alloc());
     assert!(rt; push_clauses(rt.alloc(), &mut clauses));
-    for (number, (list, by)) in REFUTED.iter().enumerate() {
-        expect(&rt, number, refutes(rt.alloc(), &clauses, *list, *by));
-    }
+    expect_refuted(&rt, rt.alloc(), &clauses);
 }

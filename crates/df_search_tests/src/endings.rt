@@ -58,6 +58,11 @@ fn name(found: &Found) -> Ending {
     }
 }
 
+/// Whether what is found is of this kind, and sound.
+fn is_end(alloc: Global, sequent: &Sequent, found: &Found, rounds: u32, wanted: Ending) -> bool {
+    name(found) == wanted && is_sound(alloc, sequent, found, rounds)
+}
+
 /// Whether a search ends so, where the kernel takes its log, and its table is a model.
 pub(crate) fn ends(
     alloc: Global,
@@ -67,7 +72,7 @@ pub(crate) fn ends(
     wanted: Ending,
 ) -> bool {
     match search_to(alloc, sequent, steps, rounds) {
-        Some(found) => name(&found) == wanted && is_sound(alloc, sequent, &found, rounds),
+        Some(found) => is_end(alloc, sequent, &found, rounds, wanted),
         None => false,
     }
 }

@@ -2,20 +2,18 @@
 //! instances or rows.
 
 use crate::endings::search_to;
-use df_cases::{Terms, X, Y, Z, assume, assume_all, conclude, program, sequent};
-use df_form::{Draft, Free, Op, Sequent, Sort, World};
-use df_lang::Program;
+use df_cases::{Terms, X, Y, Z, assume, assume_all, conclude, draft, sequent};
+use df_form::{Draft, Free, Op, Sequent, Sort};
 use df_search::{Found, What};
 use std::alloc::Global;
-use std::test::Fail;
 
 /// The atoms a, b and another one.
-const A: Op = Op::Free(Free {
+pub(crate) const A: Op = Op::Free(Free {
     number: 10,
     sort: Sort::Truth,
 });
 
-const B: Op = Op::Free(Free {
+pub(crate) const B: Op = Op::Free(Free {
     number: 11,
     sort: Sort::Truth,
 });
@@ -27,7 +25,7 @@ const OTHER: Op = Op::Free(Free {
 
 /// Why a search stops, with how many branches are closed, and how many literals the branch has that is left.
 #[derive(Clone, Copy)]
-enum Stop {
+pub(crate) enum Stop {
     Proved,
     Modelled,
     Spent(usize),
@@ -77,8 +75,8 @@ fn stop_within(alloc: Global, sequent: &Sequent, steps: u64, rounds: u32) -> Opt
 }
 
 /// Why the search stops under these hypotheses, with another atom as goal.
-fn stop_under(alloc: Global, program: &Program, hypotheses: &[Terms], steps: u64) -> Option<Stop> {
-    match sequent(alloc, program, hypotheses, &[(OTHER, 0)]) {
+pub(crate) fn stop_under(alloc: Global, hypotheses: &[Terms], steps: u64) -> Option<Stop> {
+    match sequent(alloc, hypotheses, &[(OTHER, 0)]) {
         Some(sequent) => stop_within(alloc, &sequent, steps, 0),
         None => None,
     }
@@ -108,32 +106,27 @@ const GUARDED: [Terms; 3] = [
     ],
 ];
 
-fn stop_of_guarded(alloc: Global, program: &Program, steps: u64) -> Option<Stop> {
-    stop_under(alloc, program, &GUARDED, steps)
+fn stop_of_guarded(alloc: Global, steps: u64) -> Option<Stop> {
+    stop_under(alloc, &GUARDED, steps)
 }
 
 /// The first branch is closed, and that is all it may close.
 #[test]
-fn tells_of_closed_branches(rt: HostRuntime) -> Result<(), Fail> {
-    let program = program(rt.alloc())?;
-    let stop = stop_of_guarded(rt.alloc(), &program, 1);
+fn tells_of_closed_branches(rt: HostRuntime) {
+    let stop = stop_of_guarded(rt.alloc(), 1);
     assert!(rt; matches!(stop, Some(Stop::Spent(1))));
-    Ok(())
 }
 
 /// With another one it comes to the number.
 #[test]
-fn tells_of_wide_numbers_past_a_closed_branch(rt: HostRuntime) -> Result<(), Fail> {
-    let program = program(rt.alloc())?;
-    let stop = stop_of_guarded(rt.alloc(), &program, 2);
+fn tells_of_wide_numbers_past_a_closed_branch(rt: HostRuntime) {
+    let stop = stop_of_guarded(rt.alloc(), 2);
     assert!(rt; matches!(stop, Some(Stop::Wide { closed: 1, .. })));
-    Ok(())
 }
 
 #[test]
-fn tells_of_wide_numbers(rt: HostRuntime) -> Result<(), Fail> {
-    let program = program(rt.alloc())?;
-    let stop = stop_under(rt.alloc(), &program, &[PAST], 1);
+fn tells_of_wide_numbers(rt: HostRuntime) {
+    let stop = stop_under(rt.alloc(), &[PAST], 1);
     assert!(rt;
         matches!(
             stop,
@@ -143,7 +136,6 @@ fn tells_of_wide_numbers(rt: HostRuntime) -> Result<(), Fail> {
             })
         )
     );
-    Ok(())
 }
 
 /// How many products have z as their second factor: each two of them are compared.
@@ -165,37 +157,39 @@ fn assume_compared(draft: &mut Draft) -> bool {
     true
 }
 
-/// Products that are compared with z.
-pub(crate) fn compared<'a>(alloc: Global, program: &'a Program) -> Option<Sequent<'a>> {
-    let mut draft = Draft::new(alloc, World { program });
-    if assume_compared(&mut draft) {
-        conclude(alloc, &mut draft, &[(OTHER, 0)])
+fn compared_in<'a>(alloc: Global, draft: &mut Draft<'a>) -> Option<Sequent<'a>> {
+    if assume_compared(draft) {
+        conclude(alloc, draft, &[(OTHER, 0)])
     } else {
         None
     }
 }
 
-fn stop_of_compared(alloc: Global, program: &Program, rounds: u32) -> Option<Stop> {
-    match compared(alloc, program) {
+/// Products that are compared with z.
+pub(crate) fn compared(alloc: Global) -> Option<Sequent<'static>> {
+    match draft(alloc) {
+        Some(mut draft) => compared_in(alloc, &mut draft),
+        None => None,
+    }
+}
+
+fn stop_of_compared(alloc: Global, rounds: u32) -> Option<Stop> {
+    match compared(alloc) {
         Some(sequent) => stop_within(alloc, &sequent, 1, rounds),
         None => None,
     }
 }
 
 #[test]
-fn models_products_without_rounds(rt: HostRuntime) -> Result<(), Fail> {
-    let program = program(rt.alloc())?;
-    let stop = stop_of_compared(rt.alloc(), &program, 0);
+fn models_products_without_rounds(rt: HostRuntime) {
+    let stop = stop_of_compared(rt.alloc(), 0);
     assert!(rt; matches!(stop, Some(Stop::Modelled)));
-    Ok(())
 }
 
 #[test]
-fn tells_of_too_many_instances(rt: HostRuntime) -> Result<(), Fail> {
-    let program = program(rt.alloc())?;
-    let stop = stop_of_compared(rt.alloc(), &program, 1);
+fn tells_of_too_many_instances(rt: HostRuntime) {
+    let stop = stop_of_compared(rt.alloc(), 1);
     assert!(rt; matches!(stop, Some(Stop::Instances(200_000))));
-    Ok(())
 }
 
 /// The greatest number is at most y, and y is below x.
@@ -245,18 +239,28 @@ fn bound_above(draft: &mut Draft) -> bool {
     true
 }
 
-/// z is bounded so, and x is past all numbers of 128 bits, so no table is found.
-fn bounded<'a>(alloc: Global, program: &'a Program) -> Option<Sequent<'a>> {
-    let mut draft = Draft::new(alloc, World { program });
-    if bound_below(&mut draft) && bound_above(&mut draft) && assume_all(&mut draft, &BEYOND) {
-        conclude(alloc, &mut draft, &[(OTHER, 0)])
+fn assume_bounded(draft: &mut Draft) -> bool {
+    bound_below(draft) && bound_above(draft) && assume_all(draft, &BEYOND)
+}
+
+fn bounded_in<'a>(alloc: Global, draft: &mut Draft<'a>) -> Option<Sequent<'a>> {
+    if assume_bounded(draft) {
+        conclude(alloc, draft, &[(OTHER, 0)])
     } else {
         None
     }
 }
 
-fn stop_of_bounded(alloc: Global, program: &Program) -> Option<Stop> {
-    match bounded(alloc, program) {
+/// z is bounded so, and x is past all numbers of 128 bits, so no table is found.
+fn bounded(alloc: Global) -> Option<Sequent<'static>> {
+    match draft(alloc) {
+        Some(mut draft) => bounded_in(alloc, &mut draft),
+        None => None,
+    }
+}
+
+fn stop_of_bounded(alloc: Global) -> Option<Stop> {
+    match bounded(alloc) {
         Some(sequent) => stop_within(alloc, &sequent, 1, 0),
         None => None,
     }
@@ -266,9 +270,8 @@ fn stop_of_bounded(alloc: Global, program: &Program) -> Option<Stop> {
 /// 0 <= 1000 * j - z give the row 0 <= i + 1000 * j. No two of these 50,175 rows are equal, and none is false; the
 /// rows of x and y stay. So the level comes to its limit at the empty branch.
 #[test]
-fn tells_of_too_many_rows(rt: HostRuntime) -> Result<(), Fail> {
-    let program = program(rt.alloc())?;
-    let stop = stop_of_bounded(rt.alloc(), &program);
+fn tells_of_too_many_rows(rt: HostRuntime) {
+    let stop = stop_of_bounded(rt.alloc());
     assert!(rt;
         matches!(
             stop,
@@ -279,5 +282,4 @@ fn tells_of_too_many_rows(rt: HostRuntime) -> Result<(), Fail> {
             })
         )
     );
-    Ok(())
 }

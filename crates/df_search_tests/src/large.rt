@@ -2,11 +2,9 @@
 
 use crate::endings::{Ending, ends};
 use crate::expecting::expect;
-use df_cases::{Terms, X, assume, conclude, program, sequent};
-use df_form::{Draft, Op, Sequent, World};
-use df_lang::Program;
+use df_cases::{Terms, X, assume, conclude, draft, sequent};
+use df_form::{Draft, Op, Sequent};
 use std::alloc::{AllocError, Global};
-use std::test::Fail;
 
 /// How many hypotheses there are, and how many operations stand on one another.
 const COUNT: u32 = 100_000;
@@ -38,7 +36,7 @@ fn is_proved(alloc: Global, sequent: Option<Sequent>) -> bool {
 }
 
 /// That x is at most each number from 0 on.
-fn assume_bounds(draft: &mut Draft) -> bool {
+pub(crate) fn assume_bounds(draft: &mut Draft) -> bool {
     for number in 0..COUNT {
         let bound = Op::Number(i128::from(number));
         if !assume(draft, &[(X, 0), (bound, 0), (Op::AtMost, 2)]) {
@@ -48,21 +46,25 @@ fn assume_bounds(draft: &mut Draft) -> bool {
     true
 }
 
-/// The sequent of many bounds of x.
-fn of_bounds<'a>(alloc: Global, program: &'a Program) -> Option<Sequent<'a>> {
-    let mut draft = Draft::new(alloc, World { program });
-    if assume_bounds(&mut draft) {
-        conclude(alloc, &mut draft, BELOW_LAST)
+fn of_bounds_in<'a>(alloc: Global, draft: &mut Draft<'a>) -> Option<Sequent<'a>> {
+    if assume_bounds(draft) {
+        conclude(alloc, draft, BELOW_LAST)
     } else {
         None
     }
 }
 
+/// The sequent of many bounds of x.
+fn of_bounds(alloc: Global) -> Option<Sequent<'static>> {
+    match draft(alloc) {
+        Some(mut draft) => of_bounds_in(alloc, &mut draft),
+        None => None,
+    }
+}
+
 #[test]
-fn proves_under_many_hypotheses(rt: HostRuntime) -> Result<(), Fail> {
-    let program = program(rt.alloc())?;
-    assert!(rt; is_proved(rt.alloc(), of_bounds(rt.alloc(), &program)));
-    Ok(())
+fn proves_under_many_hypotheses(rt: HostRuntime) {
+    assert!(rt; is_proved(rt.alloc(), of_bounds(rt.alloc())));
 }
 
 /// Puts the links of a chain.
@@ -74,7 +76,7 @@ fn push_links(terms: &mut Vec<(Op, usize)>, link: Terms) -> Result<(), AllocErro
 }
 
 /// Puts a chain.
-fn push_chain(
+pub(crate) fn push_chain(
     terms: &mut Vec<(Op, usize)>,
     first: Terms,
     link: Terms,
@@ -85,25 +87,23 @@ fn push_chain(
     terms.extend_from_slice(last)
 }
 
+fn is_goal_proved(alloc: Global, goal: Terms) -> bool {
+    is_proved(alloc, sequent(alloc, &[POSITIVE], goal))
+}
+
 /// Whether a chain is proved where x is not below 0.
-fn is_chain_proved(
-    alloc: Global,
-    program: &Program,
-    first: Terms,
-    link: Terms,
-    last: Terms,
-) -> bool {
+fn is_chain_proved(alloc: Global, first: Terms, link: Terms, last: Terms) -> bool {
     let mut goal = Vec::new(alloc);
-    push_chain(&mut goal, first, link, last).is_ok()
-        && is_proved(alloc, sequent(alloc, program, &[POSITIVE], &goal))
+    if push_chain(&mut goal, first, link, last).is_err() {
+        return false;
+    }
+    is_goal_proved(alloc, &goal)
 }
 
 #[test]
-fn proves_deep_goals(rt: HostRuntime) -> Result<(), Fail> {
-    let program = program(rt.alloc())?;
+fn proves_deep_goals(rt: HostRuntime) {
     for (number, (first, link, last)) in CHAINS.iter().enumerate() {
-        let is_right = is_chain_proved(rt.alloc(), &program, *first, *link, *last);
+        let is_right = is_chain_proved(rt.alloc(), *first, *link, *last);
         expect(&rt, number, is_right);
     }
-    Ok(())
 }

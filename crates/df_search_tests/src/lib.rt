@@ -15,10 +15,18 @@ mod expecting;
 #[cfg(test)]
 mod grounds;
 #[cfg(test)]
+mod inputs;
+#[cfg(test)]
+mod jumps;
+#[cfg(test)]
 mod large;
 #[cfg(test)]
 mod operations;
 #[cfg(test)]
+mod past;
+#[cfg(test)]
 mod rounds;
 #[cfg(test)]
 mod searches;
+#[cfg(test)]
+mod standings;
