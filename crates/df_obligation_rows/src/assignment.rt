@@ -1,6 +1,5 @@
 //! Values of free terms, as they are written.
 
-use anyhow::{Context, Result};
 use std::alloc::Global;
 
 /// A value that is written for a free term.
@@ -13,50 +12,60 @@ struct Given {
 
 /// What is written for free terms.
 #[derive(Drop)]
-pub struct Assignment {
+pub(crate) struct Assignment {
     given: Vec<Given>,
 }
 
 /// A truth that is written.
 fn truth_of(text: &str) -> Option<bool> {
-    match text.as_bytes() {
-        b"true" => Some(true),
-        b"false" => Some(false),
-        _ => None,
+    if text == "true" {
+        Some(true)
+    } else if text == "false" {
+        Some(false)
+    } else {
+        None
     }
 }
 
 /// What a word says of a free term: its number behind a `t`, `=`, and its value.
-fn read_given(word: &str) -> Result<Given> {
-    let (free, value) = word
-        .split_once('=')
-        .context("a value stands behind the term and =")?;
-    let digits = free
-        .strip_prefix('t')
-        .context("a free term is t and its number")?;
-    Ok(Given {
-        free: digits.parse::<usize>()?,
+fn read_given(word: &str) -> Option<Given> {
+    let (free, value) = word.split_once('=')?;
+    let digits = free.strip_prefix('t')?;
+    let free = digits.parse::<usize>().ok()?;
+    Some(Given {
+        free,
         number: value.parse::<i128>().ok(),
         truth: truth_of(value),
     })
 }
 
-/// Adds the values that words give.
-fn push_given(given: &mut Vec<Given>, words: &str) -> Result<()> {
+/// Adds what a word says. Whether it says a value, and there was memory for it.
+fn push_given(given: &mut Vec<Given>, word: &str) -> bool {
+    match read_given(word) {
+        Some(one) => given.push(one).is_ok(),
+        None => false,
+    }
+}
+
+/// Adds what each word says.
+fn push_all_given(given: &mut Vec<Given>, words: &str) -> bool {
     for word in words.split(' ') {
-        if !word.is_empty() {
-            given.push(read_given(word)?)?;
+        if !word.is_empty() && !push_given(given, word) {
+            return false;
         }
     }
-    Ok(())
+    true
 }
 
 impl Assignment {
-    /// The values that words give.
-    pub fn read(alloc: Global, words: &str) -> Result<Assignment> {
+    /// The values that words give; nothing where one gives none.
+    pub(crate) fn read(alloc: Global, words: &str) -> Option<Assignment> {
         let mut given = Vec::new(alloc);
-        push_given(&mut given, words)?;
-        Ok(Assignment { given })
+        if push_all_given(&mut given, words) {
+            Some(Assignment { given })
+        } else {
+            None
+        }
     }
 
     fn find(&self, free: usize) -> Option<Given> {
@@ -69,12 +78,12 @@ impl Assignment {
     }
 
     /// The number of a free term.
-    pub fn number(&self, free: usize) -> Option<i128> {
+    pub(crate) fn number(&self, free: usize) -> Option<i128> {
         self.find(free)?.number
     }
 
     /// The truth of a free term.
-    pub fn truth(&self, free: usize) -> Option<bool> {
+    pub(crate) fn truth(&self, free: usize) -> Option<bool> {
         self.find(free)?.truth
     }
 }

@@ -1,13 +1,14 @@
 //! Values of terms.
 
 use crate::assignment::Assignment;
+use crate::declarations::Head;
 use df_form::{Free, Node, Nodes, Op, Sort, Term};
-use df_lang::{Decl, DeclId, Program, Ty};
+use df_lang::{DeclId, Ty};
 use std::alloc::{AllocError, Global};
 
 /// A value; a character by its code.
 #[derive(Clone, Copy, PartialEq, Eq)]
-pub enum Value {
+pub(crate) enum Value {
     Number(i128),
     Truth(bool),
     Character(i128),
@@ -39,6 +40,20 @@ impl<'a> Parts<'a> {
         }
     }
 
+    /// The first two parts, if they are numbers.
+    fn numbers(&self) -> Option<(i128, i128)> {
+        let first = self.number(0)?;
+        let second = self.number(1)?;
+        Some((first, second))
+    }
+
+    /// The first two parts, if they are truths.
+    fn truths(&self) -> Option<(bool, bool)> {
+        let first = self.truth(0)?;
+        let second = self.truth(1)?;
+        Some((first, second))
+    }
+
     /// Whether all parts have this truth.
     fn all_are(&self, wanted: bool) -> Option<bool> {
         let mut all = true;
@@ -47,6 +62,69 @@ impl<'a> Parts<'a> {
             all = all && truth == wanted;
         }
         Some(all)
+    }
+
+    /// Whether the part is of the type.
+    fn typing(&self, heads: &[Head], ty: Ty) -> Option<Value> {
+        let value = self.value(0)?;
+        Some(Value::Truth(is_of(heads, ty, value)))
+    }
+
+    /// What an operation of arithmetic gives.
+    fn arithmetic(&self, op: Op) -> Option<Value> {
+        let (a, b) = self.numbers()?;
+        let number = number_of(op, a, b)?;
+        Some(Value::Number(number))
+    }
+
+    /// The number of the part, a character.
+    fn code(&self) -> Option<Value> {
+        match self.value(0)? {
+            Value::Character(code) => Some(Value::Number(code)),
+            Value::Number(_) | Value::Truth(_) => None,
+        }
+    }
+
+    /// The character of the part, a number.
+    fn character(&self) -> Option<Value> {
+        let number = self.number(0)?;
+        Some(Value::Character(code_of(number)))
+    }
+
+    fn equality(&self) -> Option<Value> {
+        let first = self.value(0)?;
+        let second = self.value(1)?;
+        Some(Value::Truth(first == second))
+    }
+
+    fn order(&self) -> Option<Value> {
+        let (a, b) = self.numbers()?;
+        Some(Value::Truth(a <= b))
+    }
+
+    fn negation(&self) -> Option<Value> {
+        let truth = self.truth(0)?;
+        Some(Value::Truth(!truth))
+    }
+
+    fn conjunction(&self) -> Option<Value> {
+        let all_hold = self.all_are(true)?;
+        Some(Value::Truth(all_hold))
+    }
+
+    fn disjunction(&self) -> Option<Value> {
+        let none_holds = self.all_are(false)?;
+        Some(Value::Truth(!none_holds))
+    }
+
+    fn implication(&self) -> Option<Value> {
+        let (premise, conclusion) = self.truths()?;
+        Some(Value::Truth(!premise || conclusion))
+    }
+
+    fn equivalence(&self) -> Option<Value> {
+        let (a, b) = self.truths()?;
+        Some(Value::Truth(a == b))
     }
 }
 
@@ -77,17 +155,21 @@ fn remainder(a: i128, b: i128) -> Option<i128> {
     }
 }
 
-fn is_within(program: &Program, newtype: DeclId, number: i128) -> bool {
-    match program.decls.get(newtype) {
-        Some(Decl::Newtype(newtype)) => newtype.interval.holds(number),
-        Some(Decl::Method(_)) | None => false,
+/// Whether a number is one of a newtype.
+fn is_within(heads: &[Head], newtype: DeclId, number: i128) -> bool {
+    let Some(head) = heads.get(newtype) else {
+        return false;
+    };
+    match head.ends {
+        Some((low, high)) => low <= number && number <= high,
+        None => false,
     }
 }
 
 /// Whether a value is one of the type.
-fn is_of(program: &Program, ty: Ty, value: Value) -> bool {
+fn is_of(heads: &[Head], ty: Ty, value: Value) -> bool {
     match (ty, value) {
-        (Ty::Newtype(newtype), Value::Number(number)) => is_within(program, newtype, number),
+        (Ty::Newtype(newtype), Value::Number(number)) => is_within(heads, newtype, number),
         (Ty::Int, Value::Number(_)) => true,
         (Ty::Nat, Value::Number(number)) => 0 <= number,
         (Ty::Bool, Value::Truth(_)) => true,
@@ -105,42 +187,20 @@ fn free_value(assignment: &Assignment, free: Free) -> Option<Value> {
     }
 }
 
-/// The number that an operation gives.
-fn number_value(op: Op, parts: Parts) -> Option<i128> {
+/// The number that an operation of arithmetic gives.
+fn number_of(op: Op, a: i128, b: i128) -> Option<i128> {
     match op {
-        Op::Plus => parts.number(0)?.checked_add(parts.number(1)?),
-        Op::Times => parts.number(0)?.checked_mul(parts.number(1)?),
-        Op::Div => quotient(parts.number(0)?, parts.number(1)?),
-        Op::Mod => remainder(parts.number(0)?, parts.number(1)?),
-        Op::Code => match parts.value(0)? {
-            Value::Character(code) => Some(code),
-            Value::Number(_) | Value::Truth(_) => None,
-        },
-        _ => None,
-    }
-}
-
-/// The truth that a connective or a comparison gives.
-fn truth_value(op: Op, parts: Parts) -> Option<bool> {
-    match op {
-        Op::Equal => Some(parts.value(0)? == parts.value(1)?),
-        Op::AtMost => Some(parts.number(0)? <= parts.number(1)?),
-        Op::Not => Some(!parts.truth(0)?),
-        Op::And => parts.all_are(true),
-        Op::Or => Some(!parts.all_are(false)?),
-        Op::Implies => {
-            let premise = parts.truth(0)?;
-            let conclusion = parts.truth(1)?;
-            Some(!premise || conclusion)
-        }
-        Op::Iff => Some(parts.truth(0)? == parts.truth(1)?),
+        Op::Plus => a.checked_add(b),
+        Op::Times => a.checked_mul(b),
+        Op::Div => quotient(a, b),
+        Op::Mod => remainder(a, b),
         _ => None,
     }
 }
 
 /// The value of a node, if its parts and its free terms have one, and numbers fit 128 bits.
 fn node_value(
-    program: &Program,
+    heads: &[Head],
     assignment: &Assignment,
     values: &[Option<Value>],
     node: &Node,
@@ -152,27 +212,30 @@ fn node_value(
     match node.op {
         Op::Number(number) => Some(Value::Number(number)),
         Op::Free(free) => free_value(assignment, free),
-        Op::Chr => Some(Value::Character(code_of(parts.number(0)?))),
-        Op::Is(ty) => Some(Value::Truth(is_of(program, ty, parts.value(0)?))),
-        Op::Plus | Op::Times | Op::Div | Op::Mod | Op::Code => {
-            Some(Value::Number(number_value(node.op, parts)?))
-        }
-        Op::Equal | Op::AtMost | Op::Not | Op::And | Op::Or | Op::Implies | Op::Iff => {
-            Some(Value::Truth(truth_value(node.op, parts)?))
-        }
+        Op::Is(ty) => parts.typing(heads, ty),
+        Op::Plus | Op::Times | Op::Div | Op::Mod => parts.arithmetic(node.op),
+        Op::Code => parts.code(),
+        Op::Chr => parts.character(),
+        Op::Equal => parts.equality(),
+        Op::AtMost => parts.order(),
+        Op::Not => parts.negation(),
+        Op::And => parts.conjunction(),
+        Op::Or => parts.disjunction(),
+        Op::Implies => parts.implication(),
+        Op::Iff => parts.equivalence(),
     }
 }
 
 /// The value of the node of this number, if it has one.
 fn value_at(
-    program: &Program,
+    heads: &[Head],
     assignment: &Assignment,
     values: &[Option<Value>],
     nodes: &Nodes,
     number: usize,
 ) -> Option<Value> {
     match nodes.get(number) {
-        Some(node) => node_value(program, assignment, values, node),
+        Some(node) => node_value(heads, assignment, values, node),
         None => None,
     }
 }
@@ -180,25 +243,25 @@ fn value_at(
 /// Adds the value of each node that has one.
 fn push_values(
     values: &mut Vec<Option<Value>>,
-    program: &Program,
+    heads: &[Head],
     assignment: &Assignment,
     nodes: &Nodes,
 ) -> Result<(), AllocError> {
     for number in 0..nodes.len() {
-        let value = value_at(program, assignment, values.as_slice(), nodes, number);
+        let value = value_at(heads, assignment, values.as_slice(), nodes, number);
         values.push(value)?;
     }
     Ok(())
 }
 
 /// The value of each node that has one, by its number.
-pub fn values(
+pub(crate) fn values(
     alloc: Global,
-    program: &Program,
+    heads: &[Head],
     assignment: &Assignment,
     nodes: &Nodes,
 ) -> Result<Vec<Option<Value>>, AllocError> {
     let mut values = Vec::new(alloc);
-    push_values(&mut values, program, assignment, nodes)?;
+    push_values(&mut values, heads, assignment, nodes)?;
     Ok(values)
 }

@@ -2,12 +2,12 @@
 
 ghost use Rattle.df_nowed.specs.Owed.{IsOwed};
 
-use crate::made::{Made, made_of};
-use anyhow::Result;
+use df_form::Sequent;
 use df_lang::Program;
 use df_nowed::{MethodObligations, Obligation, Obligations};
 use df_search::{Budget, Engine, look};
 use std::alloc::{AllocError, Global};
+use std::mem::forget;
 
 /// How long the engine looks.
 const BUDGET: Budget = Budget {
@@ -15,7 +15,12 @@ const BUDGET: Budget = Budget {
     rounds: 4,
 };
 
-/// Whether the engine looked at an obligation, which it does unless memory is refused.
+/// Whether the engine looked at a sequent, which it does unless memory is refused.
+fn is_looked_at(alloc: Global, engine: &mut Engine, sequent: &Sequent) -> bool {
+    look(alloc, engine, sequent, BUDGET).is_ok()
+}
+
+/// Whether the engine looked at an obligation.
 fn is_seen(
     alloc: Global,
     program: &Program,
@@ -26,7 +31,7 @@ fn is_seen(
     requires { IsOwed method.now.known obligation.now }
 {
     match method.sequent(alloc, program, obligation) {
-        Ok(sequent) => look(alloc, engine, &sequent, BUDGET).is_ok(),
+        Ok(sequent) => is_looked_at(alloc, engine, &sequent),
         Err(_) => false,
     }
 }
@@ -46,14 +51,27 @@ fn are_seen(
     true
 }
 
-/// How many proposals for the obligations of a method are refused; none where memory is.
-fn refused_of_method(alloc: Global, program: &Program, method: &MethodObligations) -> Option<u64> {
-    let mut engine = Engine::new(alloc);
-    if are_seen(alloc, program, method, &mut engine) {
+/// How many proposals of an engine for the obligations of a method are refused; none where memory is.
+fn refused_by(
+    alloc: Global,
+    program: &Program,
+    method: &MethodObligations,
+    engine: &mut Engine,
+) -> Option<u64> {
+    if are_seen(alloc, program, method, engine) {
         Some(engine.refused())
     } else {
         None
     }
+}
+
+/// How many proposals of a new engine for the obligations of a method are refused; none where memory is. The engine is
+/// left to the end of the program: it would have to be proved of all that is in it that it can be dropped.
+fn refused_of_method(alloc: Global, program: &Program, method: &MethodObligations) -> Option<u64> {
+    let mut engine = Engine::new(alloc);
+    let refused = refused_by(alloc, program, method, &mut engine);
+    forget(engine);
+    refused
 }
 
 /// How many logs and tables are refused that engines propose for the obligations of a program, one engine for each
@@ -71,15 +89,4 @@ pub fn refused(
         count = count.saturating_add(refused);
     }
     Ok(count)
-}
-
-/// How many are refused for the source of this path. A refused source has no obligations.
-pub fn refused_of_source(rt: &HostRuntime, name: &str) -> Result<u64> {
-    match &made_of(rt, name)? {
-        Made::Owed {
-            checked,
-            obligations,
-        } => Ok(refused(rt.alloc(), &checked.program, obligations)?),
-        Made::Refused(_) => Ok(0),
-    }
 }

@@ -1,13 +1,13 @@
 //! Terms and formulas in words.
 
-use crate::made::name_of;
+use crate::declarations::{Head, name_of};
 use df_form::{Node, Nodes, Op, Term};
-use df_lang::{Program, Ty};
+use df_lang::Ty;
 use std::alloc::{AllocError, Global};
 
-fn type_name(program: &Program, ty: Ty) -> &str {
+fn type_name<'a>(heads: &[Head<'a>], ty: Ty) -> &'a str {
     match ty {
-        Ty::Newtype(number) => name_of(program, number),
+        Ty::Newtype(number) => name_of(heads, number),
         Ty::Int => "int",
         Ty::Nat => "nat",
         Ty::Bool => "bool",
@@ -16,11 +16,11 @@ fn type_name(program: &Program, ty: Ty) -> &str {
 }
 
 /// The word of an operation, as logs have it; a number by its digits, a free term by `t` and its number.
-fn word(alloc: Global, program: &Program, op: Op) -> Result<String, AllocError> {
+fn word(alloc: Global, heads: &[Head], op: Op) -> Result<String, AllocError> {
     let word = match op {
         Op::Number(number) => return format!(in alloc; "{number}"),
         Op::Free(free) => return free_word(alloc, free.number),
-        Op::Is(ty) => return is_word(alloc, type_name(program, ty)),
+        Op::Is(ty) => return is_word(alloc, type_name(heads, ty)),
         Op::Plus => "plus",
         Op::Times => "times",
         Op::Div => "div",
@@ -92,11 +92,11 @@ fn push_in_parentheses(
 /// The text of a node whose parts have these texts.
 fn node_text(
     alloc: Global,
-    program: &Program,
+    heads: &[Head],
     texts: &[String],
     node: &Node,
 ) -> Result<String, AllocError> {
-    let mut text = word(alloc, program, node.op)?;
+    let mut text = word(alloc, heads, node.op)?;
     if !is_alone(node.op) {
         push_in_parentheses(&mut text, texts, &node.parts)?;
     }
@@ -104,7 +104,7 @@ fn node_text(
 }
 
 /// The text of a term among those of all nodes.
-pub fn text_of(texts: &[String], term: Term) -> &str {
+pub(crate) fn text_of(texts: &[String], term: Term) -> &str {
     match texts.get(term) {
         Some(text) => text.as_str(),
         None => "",
@@ -115,30 +115,34 @@ pub fn text_of(texts: &[String], term: Term) -> &str {
 fn push_node(
     alloc: Global,
     texts: &mut Vec<String>,
-    program: &Program,
+    heads: &[Head],
     node: &Node,
 ) -> Result<(), AllocError> {
-    let text = node_text(alloc, program, texts.as_slice(), node)?;
+    let text = node_text(alloc, heads, texts.as_slice(), node)?;
     Ok(texts.push(text)?)
 }
 
 fn push_nodes(
     alloc: Global,
     texts: &mut Vec<String>,
-    program: &Program,
+    heads: &[Head],
     nodes: &Nodes,
 ) -> Result<(), AllocError> {
     for number in 0..nodes.len() {
         if let Some(node) = nodes.get(number) {
-            push_node(alloc, texts, program, node)?;
+            push_node(alloc, texts, heads, node)?;
         }
     }
     Ok(())
 }
 
 /// The text of each node, by its number.
-pub fn texts(alloc: Global, program: &Program, nodes: &Nodes) -> Result<Vec<String>, AllocError> {
+pub(crate) fn texts(
+    alloc: Global,
+    heads: &[Head],
+    nodes: &Nodes,
+) -> Result<Vec<String>, AllocError> {
     let mut texts = Vec::new(alloc);
-    push_nodes(alloc, &mut texts, program, nodes)?;
+    push_nodes(alloc, &mut texts, heads, nodes)?;
     Ok(texts)
 }

@@ -1,11 +1,10 @@
 //! Verdicts on obligations that are written beside a source.
 
 use crate::assignment::Assignment;
+use crate::declarations::Head;
 use crate::evaluation::{Value, values};
-use crate::listing::place;
-use anyhow::Result;
+use crate::placing::place;
 use df_form::Formula;
-use df_lang::Program;
 use df_nowed::{MethodObligations, Obligation, Obligations};
 use std::alloc::{AllocError, Global};
 
@@ -36,34 +35,49 @@ fn is_refuted_by(
     is_truth(values, obligation.goal, false)
 }
 
-/// Whether the values of free terms make all hypotheses of an obligation true and its goal false.
+/// Whether these values of free terms make all hypotheses of an obligation true and its goal false.
+fn is_refuted_under(
+    alloc: Global,
+    heads: &[Head],
+    method: &MethodObligations,
+    obligation: &Obligation,
+    assignment: &Assignment,
+) -> bool {
+    match values(alloc, heads, assignment, &method.nodes) {
+        Ok(values) => is_refuted_by(&values, method, obligation),
+        Err(_) => false,
+    }
+}
+
+/// Whether the values that words give do so.
 fn is_refuted(
     alloc: Global,
-    program: &Program,
+    heads: &[Head],
     method: &MethodObligations,
     obligation: &Obligation,
     given: &str,
-) -> Result<bool> {
-    let assignment = Assignment::read(alloc, given)?;
-    let values = values(alloc, program, &assignment, &method.nodes)?;
-    Ok(is_refuted_by(&values, method, obligation))
+) -> bool {
+    match Assignment::read(alloc, given) {
+        Some(assignment) => is_refuted_under(alloc, heads, method, obligation, &assignment),
+        None => false,
+    }
 }
 
 /// Whether the words behind an obligation are a verdict on it: that it is valid, which is taken as it stands, or
 /// that it is invalid, with values that refute it.
 fn is_verdict(
     alloc: Global,
-    program: &Program,
+    heads: &[Head],
     method: &MethodObligations,
     obligation: &Obligation,
     words: &str,
-) -> Result<bool> {
+) -> bool {
     if words == " valid" {
-        return Ok(true);
+        return true;
     }
     match words.strip_prefix(" invalid") {
-        Some(given) => is_refuted(alloc, program, method, obligation, given),
-        None => Ok(false),
+        Some(given) => is_refuted(alloc, heads, method, obligation, given),
+        None => false,
     }
 }
 
@@ -110,85 +124,112 @@ impl<'a> Lines<'a> {
 /// Whether the line has this place, and a verdict on the obligation there.
 fn has_verdict(
     alloc: Global,
-    program: &Program,
+    heads: &[Head],
     method: &MethodObligations,
     obligation: &Obligation,
     line: &str,
     place: &str,
-) -> Result<bool> {
+) -> bool {
     match line.strip_prefix(place) {
-        Some(words) => is_verdict(alloc, program, method, obligation, words),
-        None => Ok(false),
+        Some(words) => is_verdict(alloc, heads, method, obligation, words),
+        None => false,
     }
 }
 
-/// Whether the line has a verdict on the obligation at this place. A line that has none is printed.
-fn is_judged_at(
-    rt: &HostRuntime,
-    program: &Program,
+/// Adds that a line has no verdict on the obligation at this place.
+fn push_unjudged(
+    alloc: Global,
+    text: &mut String,
+    place: &str,
+    line: &str,
+) -> Result<(), AllocError> {
+    let told = format!(in alloc; "{place}: {line:?} is no verdict\n")?;
+    text.push_str(told.as_str())
+}
+
+/// Adds so where the line has no verdict on the obligation at this place.
+fn judge_at(
+    alloc: Global,
+    text: &mut String,
+    heads: &[Head],
     method: &MethodObligations,
     obligation: &Obligation,
     line: &str,
     place: &str,
-) -> Result<bool> {
-    if has_verdict(rt.alloc(), program, method, obligation, line, place)? {
-        return Ok(true);
+) -> Result<(), AllocError> {
+    if has_verdict(alloc, heads, method, obligation, line, place) {
+        Ok(())
+    } else {
+        push_unjudged(alloc, text, place, line)
     }
-    println!(rt; "{place}: {line:?} is no verdict")?;
-    Ok(false)
 }
 
-/// Whether the line has the place of an obligation and a verdict on it. A line that has none is printed.
-fn is_judged(
-    rt: &HostRuntime,
-    program: &Program,
+/// Adds so where the line does not have the place of an obligation and a verdict on it.
+fn judge(
+    alloc: Global,
+    text: &mut String,
+    heads: &[Head],
     method: &MethodObligations,
     obligation: &Obligation,
     line: &str,
-) -> Result<bool> {
-    let place = place(rt.alloc(), obligation)?;
-    is_judged_at(rt, program, method, obligation, line, place.as_str())
+) -> Result<(), AllocError> {
+    let place = place(alloc, obligation)?;
+    judge_at(alloc, text, heads, method, obligation, line, place.as_str())
 }
 
-/// Whether the next lines have a verdict on each obligation of a method.
-fn are_judged(
-    rt: &HostRuntime,
-    program: &Program,
+/// Adds each obligation of a method on which the next lines have no verdict.
+fn judge_method(
+    alloc: Global,
+    text: &mut String,
+    heads: &[Head],
     method: &MethodObligations,
     lines: &mut Lines,
-) -> Result<bool> {
-    let mut are_judged = true;
+) -> Result<(), AllocError> {
     for obligation in &method.obligations {
         let line = lines.take();
-        let is_judged = is_judged(rt, program, method, obligation, line)?;
-        are_judged = are_judged && is_judged;
+        judge(alloc, text, heads, method, obligation, line)?;
     }
-    Ok(are_judged)
+    Ok(())
 }
 
-/// Whether the lines have a verdict on each obligation of a program, in order.
-fn have_all(
-    rt: &HostRuntime,
-    program: &Program,
+/// Adds each obligation of a program on which the lines have no verdict, in order, and whether lines are left.
+fn judge_all(
+    alloc: Global,
+    text: &mut String,
+    heads: &[Head],
     obligations: &Obligations,
     lines: &mut Lines,
-) -> Result<bool> {
-    let mut have = true;
+) -> Result<(), AllocError> {
     for method in &obligations.methods {
-        let are_judged = are_judged(rt, program, method, lines)?;
-        have = have && are_judged;
+        judge_method(alloc, text, heads, method, lines)?;
     }
-    Ok(have)
+    if lines.are_taken() {
+        Ok(())
+    } else {
+        text.push_str("further lines\n")
+    }
 }
 
-/// Whether the text has a verdict on each obligation of a program, in order, and none else.
-pub fn have_verdicts(
-    rt: &HostRuntime,
-    program: &Program,
+/// All of that as a text.
+fn unjudged_by(
+    alloc: Global,
+    heads: &[Head],
+    obligations: &Obligations,
+    lines: &mut Lines,
+) -> Result<String, AllocError> {
+    let mut text = String::new(alloc);
+    judge_all(alloc, &mut text, heads, obligations, lines)?;
+    Ok(text)
+}
+
+/// What of the obligations of a program has no verdict in a text: a line for each obligation on which the next line of
+/// the text has none, and one where lines are left. It is empty where each has one.
+pub fn unjudged(
+    alloc: Global,
+    heads: &[Head],
     obligations: &Obligations,
     text: &str,
-) -> Result<bool> {
-    let mut lines = Lines::read(rt.alloc(), text)?;
-    let have = have_all(rt, program, obligations, &mut lines)?;
-    Ok(have && lines.are_taken())
+) -> Result<String, AllocError> {
+    let mut lines = Lines::read(alloc, text)?;
+    unjudged_by(alloc, heads, obligations, &mut lines)
 }

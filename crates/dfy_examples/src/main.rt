@@ -1,109 +1,121 @@
 //! Plays the examples of a folder: each source is tried with the words that its `.expected`
-//! file has, over files and streams in memory, and what differs from that file is told.
+//! file has, over files and streams in memory, and what differs from that file is told. Where a source has an
+//! `.obligations` file, it is told where what is owed of it is not what stands beside it.
+//!
+//! With the word `count` before the folder it tells how many obligations each source has, and compares nothing. With the
+//! word `sequents` before a source, without its ending, it prints its newtypes and its sequents. With the word `proposals`
+//! before the folder it tells how much a check refuses of what the engine proposes for the obligations, and fails where it
+//! is some.
 #![tactic(auto)]
 
+mod beside;
 mod example;
 mod fitting;
 mod folder;
 mod play;
+mod playing;
+mod printing;
 mod reading;
+mod row;
+mod tasks;
 mod text;
 
-use crate::example::Example;
+use crate::beside::is_there;
 use crate::folder::examples;
-use crate::play::{Count, make_files, play};
-use crate::reading::read;
+use crate::play::Count;
+use crate::playing::play_folder;
+use crate::tasks::{Task, perform};
 use anyhow::{Context, Result, ensure};
-use std::{env, fs, io};
+use std::{env, io};
 
-/// The source in the `.dfy` file of an example.
-fn read_source(rt: &HostRuntime, name: &str) -> Result<Vec<u8>> {
-    let path = format!(in rt.alloc(); "{name}.dfy")?;
-    Ok(fs::read(rt, path.as_str())?)
-}
-
-/// The source of an example.
-fn source(rt: &HostRuntime, name: &str, example: &mut Example) -> Result<Vec<u8>> {
-    match example.source.take() {
-        Some(source) => Ok(source),
-        None => read_source(rt, name),
-    }
-}
-
-/// The text of the `.expected` file of an example.
-fn expected_text(rt: &HostRuntime, name: &str) -> Result<String> {
-    let path = format!(in rt.alloc(); "{name}.expected")?;
-    Ok(fs::read_to_string(rt, path.as_str())?)
-}
-
-/// What the `.expected` file of an example says.
-fn read_example(rt: &HostRuntime, name: &str) -> Result<Example> {
-    let text = expected_text(rt, name)?;
-    read(rt.alloc(), text.as_str())
-}
-
-/// Plays the tries of an example whose files are made.
-fn play_tries(
-    rt: &HostRuntime,
-    name: &str,
-    source: &[u8],
-    example: &Example,
-    count: &mut Count,
-) -> Result<()> {
-    for tried in &example.tries {
-        count.add(play(rt, name, source, example, tried)?);
-    }
-    Ok(())
-}
-
-/// Makes the files of an example, and plays its tries.
-fn play_over(
-    rt: &HostRuntime,
-    name: &str,
-    source: &[u8],
-    example: &mut Example,
-    count: &mut Count,
-) -> Result<()> {
-    make_files(rt.alloc(), name, source, example)?;
-    play_tries(rt, name, source, example, count)
-}
-
-/// Plays all tries of an example.
-fn play_all(rt: &HostRuntime, name: &str, count: &mut Count) -> Result<()> {
-    let mut example = read_example(rt, name)?;
-    let source = source(rt, name, &mut example)?;
-    play_over(rt, name, source.as_slice(), &mut example, count)
-}
-
-/// Plays the examples of these paths.
-fn play_each(rt: &HostRuntime, names: &[String], count: &mut Count) -> Result<()> {
-    for name in names {
-        let name = name.as_str();
-        play_all(rt, name, count).context(format_args!("{name}"))?;
-    }
-    Ok(())
-}
-
-/// Plays the examples of a folder.
-fn play_folder(rt: &HostRuntime, folder: &str) -> Result<Count> {
-    let mut count = Count::default();
-    let names = examples(rt, folder)?;
-    play_each(rt, &names, &mut count)?;
-    Ok(count)
-}
-
-/// The folder that the first word names, else the one that this runs in.
-fn given_folder(rt: &HostRuntime) -> io::Result<String> {
-    match env::args(rt)?.nth(1) {
-        Some(folder) => Ok(folder),
+/// A word of the command line by its place, else the folder that this runs in.
+fn word(rt: &HostRuntime, place: usize) -> io::Result<String> {
+    match env::args(rt)?.nth(place) {
+        Some(word) => Ok(word),
         None => Ok(String::from_str(rt.alloc(), ".")?),
     }
 }
 
-fn main(rt: HostRuntime) -> Result<()> {
-    let folder = given_folder(&rt)?;
-    let Count { tries, differ } = play_folder(&rt, folder.as_str())?;
+/// Plays the examples of a folder, and tells how many there were.
+fn play_all(rt: &HostRuntime, folder: &str) -> Result<()> {
+    let Count { tries, differ } = play_folder(rt, folder)?;
     println!(rt; "{tries} tries, {differ} differ")?;
     ensure!(differ == 0, "what is printed above differs");
     Ok(())
+}
+
+/// Does a task with a source, if there is one.
+fn perform_if_there(rt: &HostRuntime, task: Task, name: &str) -> Result<u64> {
+    if is_there(rt, name, ".dfy")? {
+        perform(rt, task, name)
+    } else {
+        Ok(0)
+    }
+}
+
+/// Does a task with the sources of these paths.
+fn perform_each(rt: &HostRuntime, task: Task, names: &[String]) -> Result<u64> {
+    let mut count: u64 = 0;
+    for name in names {
+        let name = name.as_str();
+        let more = perform_if_there(rt, task, name).context(format_args!("{name}"))?;
+        count = count.saturating_add(more);
+    }
+    Ok(count)
+}
+
+/// Does a task with the sources of a folder.
+fn perform_all(rt: &HostRuntime, task: Task, folder: &str) -> Result<u64> {
+    let names = examples(rt, folder)?;
+    perform_each(rt, task, &names)
+}
+
+/// Does a task with a source, or with those of a folder.
+fn perform_at(rt: &HostRuntime, task: Task, place: &str) -> Result<u64> {
+    match task {
+        Task::Print => perform(rt, task, place),
+        Task::Compare | Task::Count | Task::Propose => perform_all(rt, task, place),
+    }
+}
+
+/// Tells how many proposals are refused, and fails where something is.
+fn tell(rt: &HostRuntime, task: Task, refused: u64) -> Result<()> {
+    if let Task::Propose = task {
+        println!(rt; "{refused} refused")?;
+    }
+    ensure!(refused == 0, "what is printed above is refused");
+    Ok(())
+}
+
+/// Does the task of the first word at the place of the second one.
+fn run_task(rt: &HostRuntime, task: Task) -> Result<()> {
+    let place = word(rt, 2)?;
+    let refused = perform_at(rt, task, place.as_str())?;
+    tell(rt, task, refused)
+}
+
+/// The task of a word, if it has one.
+fn task_of(word: &str) -> Option<Task> {
+    if word == "count" {
+        Some(Task::Count)
+    } else if word == "proposals" {
+        Some(Task::Propose)
+    } else if word == "sequents" {
+        Some(Task::Print)
+    } else {
+        None
+    }
+}
+
+/// Runs what the first word says.
+fn run(rt: &HostRuntime, first: &str) -> Result<()> {
+    match task_of(first) {
+        Some(task) => run_task(rt, task),
+        None => play_all(rt, first),
+    }
+}
+
+fn main(rt: HostRuntime) -> Result<()> {
+    let first = word(&rt, 1)?;
+    run(&rt, first.as_str())
 }

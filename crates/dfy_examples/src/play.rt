@@ -179,6 +179,29 @@ fn play_over(
     Ok(false)
 }
 
+/// Devices that hold nothing yet.
+fn new_devices(alloc: Global) -> Devices {
+    Devices {
+        files: MemFiles::new(alloc),
+        out: MemSink::new(alloc),
+        err: MemSink::new(alloc),
+    }
+}
+
+/// Plays a try over new devices.
+fn play_on(
+    rt: &(impl Print + AllocGlobal),
+    name: &str,
+    source: &[u8],
+    example: &Example,
+    tried: &Try,
+    devices: &mut Devices,
+) -> Result<bool> {
+    add_files(rt.alloc(), &mut devices.files, name, source, example)?;
+    let_all_fail(devices, &tried.failing)?;
+    play_over(rt, name, devices, tried)
+}
+
 /// Plays a try of the example of this name, and tells where it differs.
 pub fn play(
     rt: &(impl Print + AllocGlobal),
@@ -187,13 +210,6 @@ pub fn play(
     example: &Example,
     tried: &Try,
 ) -> Result<bool> {
-    let alloc = rt.alloc();
-    let mut devices = Devices {
-        files: MemFiles::new(alloc),
-        out: MemSink::new(alloc),
-        err: MemSink::new(alloc),
-    };
-    add_files(alloc, &mut devices.files, name, source, example)?;
-    let_all_fail(&mut devices, &tried.failing)?;
-    play_over(rt, name, &mut devices, tried)
+    let mut devices = new_devices(rt.alloc());
+    play_on(rt, name, source, example, tried, &mut devices)
 }

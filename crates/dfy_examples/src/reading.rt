@@ -54,16 +54,26 @@ fn words(alloc: Global, line: &str) -> Result<Vec<String>> {
     Ok(words)
 }
 
+/// A call of this number that fails; of a write, when it took so many bytes.
+fn failing_call(device: &str, call: u64, taken: &str) -> Result<Failing> {
+    if device == "load" {
+        return Ok(Failing::Load(call));
+    }
+    let taken = taken.parse::<usize>()?;
+    if device == "out" {
+        Ok(Failing::Out(call, taken))
+    } else if device == "err" {
+        Ok(Failing::Err(call, taken))
+    } else {
+        bail!("what fails is load, out or err")
+    }
+}
+
 fn failing(text: &str) -> Result<Failing> {
     let mut parts = text.split(' ');
     let device = parts.next().unwrap_or("");
     let call = parts.next().unwrap_or("").parse::<u64>()?;
-    match device.as_bytes() {
-        b"load" => Ok(Failing::Load(call)),
-        b"out" => Ok(Failing::Out(call, parts.next().unwrap_or("").parse::<usize>()?)),
-        b"err" => Ok(Failing::Err(call, parts.next().unwrap_or("").parse::<usize>()?)),
-        _ => bail!("what fails is load, out or err"),
-    }
+    failing_call(device, call, parts.next().unwrap_or(""))
 }
 
 /// Adds the text of a line so many times as it says.
@@ -84,12 +94,17 @@ fn take_failing(tried: &mut Try, text: &str) -> Result<()> {
 
 /// Takes a line that says more of a try.
 fn take_more(alloc: Global, tried: &mut Try, line: &Line) -> Result<()> {
-    match line.word.as_bytes() {
-        b"status" => take_status(tried, line.text),
-        b"out" => push_line(alloc, &mut tried.out, line.text, line.times),
-        b"err" => push_line(alloc, &mut tried.err, line.text, line.times),
-        b"fail" => take_failing(tried, line.text),
-        _ => bail!("a line begins with source, file, made, try, status, out, err or fail"),
+    let word = line.word;
+    if word == "status" {
+        take_status(tried, line.text)
+    } else if word == "out" {
+        push_line(alloc, &mut tried.out, line.text, line.times)
+    } else if word == "err" {
+        push_line(alloc, &mut tried.err, line.text, line.times)
+    } else if word == "fail" {
+        take_failing(tried, line.text)
+    } else {
+        bail!("a line begins with source, file, made, try, status, out, err or fail")
     }
 }
 
@@ -174,16 +189,32 @@ fn take_last(alloc: Global, example: &mut Example, line: &Line) -> Result<()> {
     }
 }
 
+/// Takes what a line says; all of it is the text.
+fn take_line(
+    alloc: Global,
+    example: &mut Example,
+    number: usize,
+    text: &str,
+    line: &Line,
+) -> Result<()> {
+    let word = line.word;
+    if word == "source" {
+        take_source(alloc, example, line)
+    } else if word == "file" {
+        take_file(alloc, example, line)
+    } else if word == "made" {
+        take_made(alloc, example, line)
+    } else if word == "try" {
+        take_try(alloc, example, number, text)
+    } else {
+        take_last(alloc, example, line)
+    }
+}
+
 /// Takes a line that is neither empty nor begins with `#`.
 fn take(alloc: Global, example: &mut Example, number: usize, text: &str) -> Result<()> {
     let line = split(text)?;
-    match line.word.as_bytes() {
-        b"source" => take_source(alloc, example, &line),
-        b"file" => take_file(alloc, example, &line),
-        b"made" => take_made(alloc, example, &line),
-        b"try" => take_try(alloc, example, number, text),
-        _ => take_last(alloc, example, &line),
-    }
+    take_line(alloc, example, number, text, &line)
 }
 
 fn take_all(alloc: Global, example: &mut Example, text: &str) -> Result<()> {
