@@ -1,14 +1,14 @@
 #!/usr/bin/env python3
 """Tries check_log.py, and dfy beside it where its path is given.
 
-    test.py [DFY [ROWS]]
+    test.py [DFY [EXAMPLES]]
     test.py --write
 
 The logs by hand in `data` must be accepted, and each log of the examples `logs/down` and `logs/middle` (docs/examples.md) must
 be answered as these say. Of each log its mutants are tried: it without one of its lines, and it with two neighbours swapped.
 Each must be answered by a status 0 or 10. With DFY, `dfy check` must give the same line; so it must of the logs that
 `dfy prove` makes of other examples and of the source of `bulk 0 3`, and of their mutants, where check_log.py has the sequents
-of their sources from ROWS, the path of the program `df_obligation_rows`. And logs that are too long, or have ten million
+of their sources from EXAMPLES, the path of the program `dfy_examples`. And logs that are too long, or have ten million
 literals in a line, must be answered. Nothing of this is part of the gate, but for the mutants of the logs by hand, which are
 examples too: `--write` writes them with what check_log.py answers.
 """
