@@ -8,7 +8,7 @@ ghost use Rattle.df_axiom.specs.Answers.{Makes, Builds};
 
 use crate::matching::place_at;
 use crate::templates::Need;
-use df_form::{Lit, Node, Nodes, Op, Term};
+use df_form::{Arena, Lit, Op, Term};
 use std::alloc::{AllocError, Global};
 
 /// The operation of a node that is needed.
@@ -40,37 +40,34 @@ fn parts_at(alloc: Global, places: &[Term], need: Need) -> Result<Option<Vec<Ter
 
 /// The number of a node that is needed, if its parts are there and of its sorts. It is made where it
 /// does not stand yet.
-fn make(
+fn make<A: Arena>(
     alloc: Global,
-    nodes: &mut Nodes,
+    nodes: &mut A,
     places: &[Term],
     need: Need,
 ) -> Result<Option<Term>, AllocError>
-    ensures makes { Makes nodes.new result (placed nodes.old places.now (need_of need)) }
-    ensures grows { take (length nodes.old) nodes.new ≡ nodes.old }
+    ensures makes { Makes (A.nodes nodes.new) result (placed (A.nodes nodes.old) places.now (need_of need)) }
+    ensures grows { take (length (A.nodes nodes.old)) (A.nodes nodes.new) ≡ (A.nodes nodes.old) }
 {
     let Some(parts) = parts_at(alloc, places, need)? else {
         return Ok(None);
     };
-    let node = Node {
-        op: op_of(need),
-        parts,
-    };
-    if !nodes.admits(&node) {
+    let op = op_of(need);
+    if !nodes.admits(op, &parts) {
         return Ok(None);
     }
-    Ok(Some(nodes.add(node)?))
+    Ok(Some(nodes.add(op, &parts)?))
 }
 
 /// Makes the nodes that are needed, and gives them places. Whether it could.
-pub(crate) fn build(
+pub(crate) fn build<A: Arena>(
     alloc: Global,
-    nodes: &mut Nodes,
+    nodes: &mut A,
     places: &mut Vec<Term>,
     needed: &[Need],
 ) -> Result<bool, AllocError>
-    ensures builds { Builds nodes.new places.new.items result (built nodes.old places.old.items (map need_of needed.now)) }
-    ensures grows { take (length nodes.old) nodes.new ≡ nodes.old }
+    ensures builds { Builds (A.nodes nodes.new) places.new.items result (built (A.nodes nodes.old) places.old.items (map need_of needed.now)) }
+    ensures grows { take (length (A.nodes nodes.old)) (A.nodes nodes.new) ≡ (A.nodes nodes.old) }
 {
     for need in needed {
         let Some(number) = make(alloc, nodes, places.as_slice(), *need)? else {

@@ -13,7 +13,7 @@ use crate::building::{build, clause_at};
 use crate::choosing::schema_template;
 use crate::matching::find;
 use crate::templates::Template;
-use df_form::{Lit, Nodes, Op, Term, World};
+use df_form::{Arena, Lit, Op, Term, World};
 use std::alloc::{AllocError, Global};
 
 /// Why there is no clause.
@@ -26,14 +26,14 @@ pub enum AxiomFault {
 }
 
 /// The clause of a template for the named terms. Nodes may be made even where there is none.
-fn instantiate(
+fn instantiate<A: Arena>(
     alloc: Global,
-    nodes: &mut Nodes,
+    nodes: &mut A,
     terms: &[Term],
     template: &Template,
 ) -> Result<Option<Vec<Lit>>, AllocError>
-    ensures gives { Gives nodes.new result (instantiated nodes.old terms.now (template_of template.now)) }
-    ensures grows { take (length nodes.old) nodes.new ≡ nodes.old }
+    ensures gives { Gives (A.nodes nodes.new) result (instantiated (A.nodes nodes.old) terms.now (template_of template.now)) }
+    ensures grows { take (length (A.nodes nodes.old)) (A.nodes nodes.new) ≡ (A.nodes nodes.old) }
 {
     let Some(mut places) = find(alloc, nodes, terms, template)? else {
         return Ok(None);
@@ -50,8 +50,8 @@ fn instantiate(
 }
 
 /// The operation of the first term.
-fn first_op(nodes: &Nodes, terms: &[Term]) -> Option<Op>
-    ensures { result ≡ first_op nodes.now terms.now }
+fn first_op<A: Arena>(nodes: &A, terms: &[Term]) -> Option<Op>
+    ensures { result ≡ first_op (A.nodes nodes.now) terms.now }
 {
     match terms {
         [] => None,
@@ -59,16 +59,16 @@ fn first_op(nodes: &Nodes, terms: &[Term]) -> Option<Op>
     }
 }
 
-fn clause_of(
+fn clause_of<A: Arena>(
     alloc: Global,
     world: World,
-    nodes: &mut Nodes,
+    nodes: &mut A,
     schema: u8,
     clause: u32,
     terms: &[Term],
 ) -> Result<Option<Vec<Lit>>, AllocError>
-    ensures gives { Gives nodes.new result (instance_line (world_of world.entry) nodes.old schema clause terms.now) }
-    ensures grows { take (length nodes.old) nodes.new ≡ nodes.old }
+    ensures gives { Gives (A.nodes nodes.new) result (instance_line (world_of world.entry) (A.nodes nodes.old) schema clause terms.now) }
+    ensures grows { take (length (A.nodes nodes.old)) (A.nodes nodes.new) ≡ (A.nodes nodes.old) }
 {
     let Some(op) = first_op(nodes, terms) else {
         return Ok(None);
@@ -82,16 +82,16 @@ fn clause_of(
 /// The clause of this number of a schema for the terms that its pattern matches, if there is one. It is
 /// true whatever the free terms are. Nodes that it needs are made; where there is none the nodes stand as
 /// before, and for want of memory they do up to those that were made.
-pub fn clause(
+pub fn clause<A: Arena>(
     alloc: Global,
     world: World,
-    nodes: &mut Nodes,
+    nodes: &mut A,
     schema: u8,
     clause: u32,
     terms: &[Term],
 ) -> Result<Option<Vec<Lit>>, AllocError>
-    ensures adds { Adds nodes.old nodes.new result (instance_line (world_of world.entry) nodes.old schema clause terms.now) }
-    ensures grows { take (length nodes.old) nodes.new ≡ nodes.old }
+    ensures adds { Adds (A.nodes nodes.old) (A.nodes nodes.new) result (instance_line (world_of world.entry) (A.nodes nodes.old) schema clause terms.now) }
+    ensures grows { take (length (A.nodes nodes.old)) (A.nodes nodes.new) ≡ (A.nodes nodes.old) }
 {
     let before = nodes.len();
     match clause_of(alloc, world, nodes, schema, clause, terms)? {
@@ -104,12 +104,12 @@ pub fn clause(
 }
 
 /// The clause, or why there is none: the nodes after the first ones are then taken away.
-pub fn settle(
-    nodes: &mut Nodes,
+pub fn settle<A: Arena>(
+    nodes: &mut A,
     before: usize,
     clause: Result<Option<Vec<Lit>>, AllocError>,
 ) -> Result<Vec<Lit>, AxiomFault>
-    ensures { (old : List Node) (line : Option Added) → length old ≡ before → Adds old nodes.old clause line → Instantiates old nodes.new result line }
+    ensures { (old : List Node) (line : Option Added) → length old ≡ before → Adds old (A.nodes nodes.old) clause line → Instantiates old (A.nodes nodes.new) result line }
 {
     match clause {
         Ok(Some(clause)) => Ok(clause),
@@ -124,15 +124,15 @@ pub fn settle(
 /// The clause of this number of a schema for the terms that its pattern matches. It is true whatever the
 /// free terms are. Nodes that it needs are made; after a fault the nodes stand as before. `NoSuch` comes
 /// exactly where there is no such clause.
-pub fn instance(
+pub fn instance<A: Arena>(
     alloc: Global,
     world: World,
-    nodes: &mut Nodes,
+    nodes: &mut A,
     schema: u8,
     number: u32,
     terms: &[Term],
 ) -> Result<Vec<Lit>, AxiomFault>
-    ensures { Instantiates nodes.old nodes.new result (instance_line (world_of world.entry) nodes.old schema number terms.now) }
+    ensures { Instantiates (A.nodes nodes.old) (A.nodes nodes.new) result (instance_line (world_of world.entry) (A.nodes nodes.old) schema number terms.now) }
 {
     let before = nodes.len();
     let found = clause(alloc, world, nodes, schema, number, terms);

@@ -8,7 +8,7 @@ ghost use Rattle.df_axiom.specs.Template.{template_of};
 ghost use Rattle.df_axiom.specs.Instance.{place_at, part_at, source_at, is_literal, suits, passes, found_from, agree, found};
 
 use crate::templates::{Piece, Source, Template, Test};
-use df_form::{Nodes, Op, Pair, Term};
+use df_form::{Arena, Op, Pair, Term};
 use std::alloc::{AllocError, Global};
 
 /// The node at a place; node 0 past the end.
@@ -21,8 +21,8 @@ pub(crate) fn place_at(places: &[Term], place: usize) -> Term
     }
 }
 
-fn part_at(nodes: &Nodes, node: Term, part: usize) -> Option<Term>
-    ensures { result ≡ part_at nodes.now node part }
+fn part_at<A: Arena>(nodes: &A, node: Term, part: usize) -> Option<Term>
+    ensures { result ≡ part_at (A.nodes nodes.now) node part }
 {
     match nodes.get(node)?.parts.get(part) {
         Some(part) => Some(*part),
@@ -40,8 +40,8 @@ fn named(terms: &[Term], term: usize) -> Option<Term>
 }
 
 /// A named term, or a part of what was found.
-fn source_at(nodes: &Nodes, terms: &[Term], places: &[Term], source: Source) -> Option<Term>
-    ensures { result ≡ source_at nodes.now terms.now places.now source }
+fn source_at<A: Arena>(nodes: &A, terms: &[Term], places: &[Term], source: Source) -> Option<Term>
+    ensures { result ≡ source_at (A.nodes nodes.now) terms.now places.now source }
 {
     match source {
         Source::Named(term) => named(terms, term),
@@ -89,8 +89,8 @@ fn suits(test: Test, op: Op) -> bool
 }
 
 /// Whether a node stands there, as the test wants it.
-fn passes(nodes: &Nodes, test: Test, node: Term) -> bool
-    ensures { result ≡ passes nodes.now test node }
+fn passes<A: Arena>(nodes: &A, test: Test, node: Term) -> bool
+    ensures { result ≡ passes (A.nodes nodes.now) test node }
 {
     match nodes.get(node) {
         Some(node) => suits(test, node.op),
@@ -99,13 +99,13 @@ fn passes(nodes: &Nodes, test: Test, node: Term) -> bool
 }
 
 /// The nodes of the pieces.
-fn pieces(
+fn pieces<A: Arena>(
     alloc: Global,
-    nodes: &Nodes,
+    nodes: &A,
     terms: &[Term],
     pieces: &[Piece],
 ) -> Result<Option<Vec<Term>>, AllocError>
-    ensures { IfOk result (λ found. option_map (λ places. places.items) found ≡ found_from nodes.now terms.now [] pieces.now) }
+    ensures { IfOk result (λ found. option_map (λ places. places.items) found ≡ found_from (A.nodes nodes.now) terms.now [] pieces.now) }
 {
     let mut places = Vec::new(alloc);
     for piece in pieces {
@@ -137,13 +137,13 @@ fn all_agree(places: &[Term], same: &[Pair]) -> bool
 }
 
 /// The nodes of all pieces, where so many terms are named and the places that are to be one node are.
-pub(crate) fn find(
+pub(crate) fn find<A: Arena>(
     alloc: Global,
-    nodes: &Nodes,
+    nodes: &A,
     terms: &[Term],
     template: &Template,
 ) -> Result<Option<Vec<Term>>, AllocError>
-    ensures { IfOk result (λ places. option_map (λ places. places.items) places ≡ found nodes.now terms.now (template_of template.now)) }
+    ensures { IfOk result (λ places. option_map (λ places. places.items) places ≡ found (A.nodes nodes.now) terms.now (template_of template.now)) }
 {
     if terms.len() != template.terms {
         return Ok(None);

@@ -12,7 +12,7 @@ ghost use Rattle.df_classes.specs.PartitionView.{state_of, Extends};
 
 use crate::lists::Lists;
 use crate::partition::Partition;
-use df_form::{Nodes, Op, Pair};
+use df_form::{NodeTable, Op, Over, Pair};
 use std::alloc::{AllocError, Global};
 
 /// Whether parts have the same labels place by place.
@@ -34,7 +34,7 @@ fn have_one_label(partition: &Partition, first: &[usize], second: &[usize]) -> b
 }
 
 /// Whether two nodes are of one operation, on parts of the same labels.
-pub fn are_alike(nodes: &Nodes, partition: &Partition, pair: Pair) -> bool
+pub fn are_alike(nodes: &Over, partition: &Partition, pair: Pair) -> bool
     ensures { result ≡ is_congruent nodes.now (label_of (state_of partition.now)) pair }
 {
     match (nodes.get(pair.left), nodes.get(pair.right)) {
@@ -49,7 +49,7 @@ pub fn are_alike(nodes: &Nodes, partition: &Partition, pair: Pair) -> bool
 
 /// A node among some that is like this one, and has another label.
 fn alike_and_apart(
-    nodes: &Nodes,
+    nodes: &Over,
     partition: &Partition,
     node: usize,
     others: &[usize],
@@ -69,7 +69,7 @@ fn alike_and_apart(
 }
 
 /// Whether a node among some is like this one.
-fn has_alike(nodes: &Nodes, partition: &Partition, node: usize, others: &[usize]) -> bool
+fn has_alike(nodes: &Over, partition: &Partition, node: usize, others: &[usize]) -> bool
     ensures { result ≡ list_any (alike_to nodes.now (label_of (state_of partition.now)) node) others.now }
 {
     for other in others {
@@ -128,7 +128,7 @@ fn mix(partition: &Partition, seed: usize, parts: &[usize]) -> usize
 }
 
 /// The bucket of a node, where there is such a node.
-fn bucket_for(nodes: &Nodes, partition: &Partition, node: usize) -> Option<usize>
+fn bucket_for(nodes: &Over, partition: &Partition, node: usize) -> Option<usize>
     requires { IsReady nodes.now (state_of partition.now) }
     ensures some { IfSome result (IsBucketOf nodes.now (state_of partition.now) node) }
     ensures none { IfNone result (slice_get nodes.now node ≡ None) }
@@ -204,7 +204,7 @@ fn merge(
 
 /// Puts a node into its bucket, where no node like it is there.
 fn enter(
-    nodes: &Nodes,
+    nodes: &Over,
     partition: &mut Partition,
     node: usize,
     bucket: usize,
@@ -224,7 +224,7 @@ fn enter(
 /// or it is put there.
 fn look_into(
     alloc: Global,
-    nodes: &Nodes,
+    nodes: &Over,
     users: &Lists,
     partition: &mut Partition,
     node: usize,
@@ -253,7 +253,7 @@ fn look_into(
 /// Looks at a node that waits: it gets the label of the nodes that are like it.
 fn look_at(
     alloc: Global,
-    nodes: &Nodes,
+    nodes: &Over,
     users: &Lists,
     partition: &mut Partition,
     node: usize,
@@ -273,7 +273,7 @@ fn look_at(
 /// Looks at each node that waits, and answers those that wait then.
 fn settle(
     alloc: Global,
-    nodes: &Nodes,
+    nodes: &Over,
     users: &Lists,
     partition: &mut Partition,
     waiting: &[usize],
@@ -293,7 +293,7 @@ fn settle(
 /// Looks at nodes that wait until there are none.
 pub(crate) fn close(
     alloc: Global,
-    nodes: &Nodes,
+    nodes: &Over,
     users: &Lists,
     partition: &mut Partition,
     waiting: Vec<usize>,

@@ -11,7 +11,7 @@ use crate::closing::{close, join};
 use crate::lists::Lists;
 use crate::partition::{Partition, counted};
 use crate::reading::sides;
-use df_form::{Lit, Nodes, Pair};
+use df_form::{Lit, NodeTable, Over, Pair};
 use std::alloc::{AllocError, Global};
 
 /// What there was when a literal came.
@@ -32,7 +32,7 @@ pub struct Holding {
 /// Makes the sides of an equality one class, and closes the classes.
 fn equate(
     alloc: Global,
-    nodes: &Nodes,
+    nodes: &Over,
     users: &Lists,
     partition: &mut Partition,
     pair: Pair,
@@ -56,7 +56,7 @@ fn equate(
 
 impl Holding {
     /// No literal is held: the classes are closed.
-    pub fn new(alloc: Global, nodes: &Nodes, users: &Lists) -> Result<Holding, AllocError>
+    pub fn new(alloc: Global, nodes: &Over, users: &Lists) -> Result<Holding, AllocError>
         requires { AreUsers nodes.now users.now }
         ensures holding { IfOk result (λ holding. IsHolding nodes.now holding.held.items holding.levels.items holding.partition) }
         ensures held { IfOk result (λ holding. holding.held.items ≡ []) }
@@ -92,7 +92,7 @@ impl Holding {
     fn put(
         &mut self,
         alloc: Global,
-        nodes: &Nodes,
+        nodes: &Over,
         users: &Lists,
         literal: Lit,
     ) -> Result<(), AllocError>
@@ -137,7 +137,7 @@ impl Holding {
     pub fn hold(
         &mut self,
         alloc: Global,
-        nodes: &Nodes,
+        nodes: &Over,
         users: &Lists,
         literal: Lit,
     ) -> Result<(), AllocError>

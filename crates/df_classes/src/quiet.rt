@@ -11,13 +11,13 @@ ghost use Rattle.df_classes.specs.mirror.Closure.{AreUsers};
 use crate::holding::Holding;
 use crate::lists::Lists;
 use crate::signs::Signs;
-use df_form::{Lit, Nodes};
+use df_form::{Lit, NodeTable, Over};
 use std::alloc::{AllocError, Global};
 
 /// What is known of the classes of no literals. All nodes that are numbers are given.
 pub fn first_signs(
     alloc: Global,
-    nodes: &Nodes,
+    nodes: &Over,
     numbers: &[usize],
     holding: &Holding,
 ) -> Result<Signs, AllocError>
@@ -37,7 +37,7 @@ pub fn first_signs(
 /// Whether held literals surely do not clash, where the last of so many came when there were so many changes,
 /// and all before it are covered. It goes over what changed since then.
 fn takes_last(
-    nodes: &Nodes,
+    nodes: &Over,
     users: &Lists,
     holding: &Holding,
     signs: &mut Signs,
@@ -65,7 +65,7 @@ fn takes_last(
 /// Whether held literals surely do not clash, where the last of them came when there were so many changes.
 /// An error leaves what was known.
 pub fn is_surely_quiet(
-    nodes: &Nodes,
+    nodes: &Over,
     users: &Lists,
     holding: &Holding,
     signs: &mut Signs,

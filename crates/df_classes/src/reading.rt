@@ -8,10 +8,10 @@ ghost use Rattle.df_classes.specs.mirror.Clash.{is_denied as is_denied_in};
 ghost use Rattle.df_classes.specs.PartitionView.{state_of};
 
 use crate::partition::Partition;
-use df_form::{Lit, Nodes, Op, Pair};
+use df_form::{Lit, NodeTable, Op, Over, Pair};
 
 /// The sides of a node that is an equality; no other node has any.
-pub fn sides(nodes: &Nodes, number: usize) -> Option<Pair>
+pub fn sides(nodes: &Over, number: usize) -> Option<Pair>
     ensures sides { result ≡ equality nodes.now number }
     ensures left { IfSome result (λ pair. pair.left < length nodes.now) }
     ensures right { IfSome result (λ pair. pair.right < length nodes.now) }
@@ -27,7 +27,7 @@ pub fn sides(nodes: &Nodes, number: usize) -> Option<Pair>
 }
 
 /// The number that a node is, where it is one.
-pub fn number(nodes: &Nodes, node: usize) -> Option<i128>
+pub fn number(nodes: &Over, node: usize) -> Option<i128>
     ensures { result ≡ number_at nodes.now node }
 {
     match nodes.get(node)?.op {
@@ -37,7 +37,7 @@ pub fn number(nodes: &Nodes, node: usize) -> Option<i128>
 }
 
 /// Whether a literal denies an equality whose sides have one label.
-pub fn is_denied(nodes: &Nodes, partition: &Partition, literal: Lit) -> bool
+pub fn is_denied(nodes: &Over, partition: &Partition, literal: Lit) -> bool
     ensures { result ≡ is_denied_in nodes.now (label_of (state_of partition.now)) literal }
 {
     if literal.positive {

@@ -13,7 +13,7 @@ use crate::partition::{Change, Partition};
 use crate::reading::is_denied;
 use crate::slots::Slots;
 use crate::stamps::Stamps;
-use df_form::{Lit, Nodes};
+use df_form::{Lit, Over};
 use std::alloc::{AllocError, Global};
 
 /// Whether held literals of each sign are in a class, and which number is.
@@ -44,7 +44,7 @@ impl Signs {
     /// Puts nodes that are numbers to their classes, and tells whether no class has two numbers.
     pub(crate) fn put_numbers(
         &mut self,
-        nodes: &Nodes,
+        nodes: &Over,
         partition: &Partition,
         numbers: &[usize],
     ) -> Result<bool, AllocError>
@@ -80,7 +80,7 @@ impl Signs {
     /// meet there.
     fn carry_node(
         &mut self,
-        nodes: &Nodes,
+        nodes: &Over,
         partition: &Partition,
         node: usize,
         before: usize,
@@ -99,7 +99,7 @@ impl Signs {
     /// And so for a change, where it moved a node.
     fn carry_change(
         &mut self,
-        nodes: &Nodes,
+        nodes: &Over,
         partition: &Partition,
         change: Change,
         held: usize,
@@ -117,7 +117,7 @@ impl Signs {
     /// And so for the change of a number, if there is one.
     fn carry(
         &mut self,
-        nodes: &Nodes,
+        nodes: &Over,
         partition: &Partition,
         place: usize,
         held: usize,
@@ -135,7 +135,7 @@ impl Signs {
     /// And so for the changes from one on.
     fn carry_all(
         &mut self,
-        nodes: &Nodes,
+        nodes: &Over,
         partition: &Partition,
         from: usize,
         held: usize,
@@ -160,7 +160,7 @@ impl Signs {
     }
 
     /// Whether a node is an equality with sides of one label, and a negative literal is in its class.
-    fn may_be_denied(&self, nodes: &Nodes, partition: &Partition, node: usize, held: usize) -> bool
+    fn may_be_denied(&self, nodes: &Over, partition: &Partition, node: usize, held: usize) -> bool
         ensures { result ≡ may_be_denied nodes.now (label_of (state_of partition.now)) held (tables_of self.now) node }
     {
         let denial = Lit {
@@ -171,7 +171,7 @@ impl Signs {
     }
 
     /// Whether one of some nodes is.
-    fn has_denied(&self, nodes: &Nodes, partition: &Partition, users: &[usize], held: usize) -> bool
+    fn has_denied(&self, nodes: &Over, partition: &Partition, users: &[usize], held: usize) -> bool
         ensures { result ≡ list_any (may_be_denied nodes.now (label_of (state_of partition.now)) held (tables_of self.now)) users.now }
     {
         for user in users {
@@ -185,7 +185,7 @@ impl Signs {
     /// Whether there may be a clash at a node that has moved.
     fn clashes_at(
         &self,
-        nodes: &Nodes,
+        nodes: &Over,
         users: &Lists,
         partition: &Partition,
         node: usize,
@@ -200,7 +200,7 @@ impl Signs {
     /// And so for a change, where it moved a node.
     fn clashes_after(
         &self,
-        nodes: &Nodes,
+        nodes: &Over,
         users: &Lists,
         partition: &Partition,
         change: Change,
@@ -217,7 +217,7 @@ impl Signs {
     /// And so for the change of a number, if there is one.
     fn clashes_by(
         &self,
-        nodes: &Nodes,
+        nodes: &Over,
         users: &Lists,
         partition: &Partition,
         place: usize,
@@ -234,7 +234,7 @@ impl Signs {
     /// And so for the changes from one on.
     fn clashes_from(
         &self,
-        nodes: &Nodes,
+        nodes: &Over,
         users: &Lists,
         partition: &Partition,
         from: usize,
@@ -253,7 +253,7 @@ impl Signs {
     /// Whether there may be a clash at a literal, or at a node that changes from one on have moved.
     fn clashes_with(
         &self,
-        nodes: &Nodes,
+        nodes: &Over,
         users: &Lists,
         partition: &Partition,
         from: usize,
@@ -277,7 +277,7 @@ impl Signs {
     /// whether there is surely no clash.
     pub(crate) fn take_in(
         &mut self,
-        nodes: &Nodes,
+        nodes: &Over,
         users: &Lists,
         partition: &Partition,
         from: usize,

@@ -1,11 +1,11 @@
 //! The numbers of classes, each with how many literals were held when it came.
 
-ghost use Rattle.std.specs.Prelude.{◌≡◌, ◌<◌, ℤ, true, None, Some, length, replicate, IfOk, OnOk};
+ghost use Rattle.std.specs.Prelude.{◌≡◌, ◌<◌, ℤ, true, None, Some, length, IfOk, OnOk};
 ghost use Rattle.df_rules.specs.CongruenceLine.{number_at};
 ghost use Rattle.df_classes.specs.mirror.Signs.{early_node, slot_node, are_one, HasNumber, KeepsSlotsTo};
 
 use crate::reading::number;
-use df_form::Nodes;
+use df_form::Over;
 use std::alloc::{AllocError, Global};
 
 /// A node that is a number, and how many literals were held when it came.
@@ -44,24 +44,13 @@ fn early_node(slot: Option<Slot>, held: usize) -> Option<usize>
     }
 }
 
-/// No slot, so many times.
-fn no_slots(alloc: Global, count: usize) -> Result<Vec<Option<Slot>>, AllocError>
-    ensures { IfOk result (λ slots. slots.items ≡ replicate count None) }
-{
-    let mut slots = Vec::with_capacity(alloc, count)?;
-    for _number in 0..count {
-        slots.push(None)?;
-    }
-    Ok(slots)
-}
-
 impl Slots {
     /// None of so many labels has a number.
     pub(crate) fn new(alloc: Global, count: usize) -> Result<Slots, AllocError>
         ensures { IfOk result (λ slots. length slots.slots.items ≡ count) }
     {
         Ok(Slots {
-            slots: no_slots(alloc, count)?,
+            slots: vec![in alloc; None; count]?,
             order: Vec::new(alloc),
         })
     }
@@ -93,7 +82,7 @@ impl Slots {
     /// Gives a label the number that a node is, where it has none, and tells whether it has no other.
     fn put(
         &mut self,
-        nodes: &Nodes,
+        nodes: &Over,
         label: usize,
         node: usize,
         held: usize,
@@ -113,7 +102,7 @@ impl Slots {
     /// And so where the node is a number.
     pub(crate) fn put_number(
         &mut self,
-        nodes: &Nodes,
+        nodes: &Over,
         label: usize,
         node: usize,
         held: usize,

@@ -1,6 +1,6 @@
 //! Marks of labels, each with how many literals were held when it came.
 
-ghost use Rattle.std.specs.Prelude.{◌≡◌, ◌<◌, true, false, None, length, replicate, IfOk, OnOk};
+ghost use Rattle.std.specs.Prelude.{◌≡◌, ◌<◌, true, false, length, IfOk, OnOk};
 ghost use Rattle.df_classes.specs.mirror.Signs.{stamp_at, is_stamped, KeepsStamps, KeepsStampsTo};
 
 use std::alloc::{AllocError, Global};
@@ -13,24 +13,13 @@ pub(crate) struct Stamps {
     order: Vec<usize>,
 }
 
-/// No label, so many times.
-fn no_stamps(alloc: Global, count: usize) -> Result<Vec<Option<usize>>, AllocError>
-    ensures { IfOk result (λ stamps. stamps.items ≡ replicate count None) }
-{
-    let mut stamps = Vec::with_capacity(alloc, count)?;
-    for _number in 0..count {
-        stamps.push(None)?;
-    }
-    Ok(stamps)
-}
-
 impl Stamps {
     /// None of so many labels is marked.
     pub(crate) fn new(alloc: Global, count: usize) -> Result<Stamps, AllocError>
         ensures { IfOk result (λ stamps. length stamps.since.items ≡ count) }
     {
         Ok(Stamps {
-            since: no_stamps(alloc, count)?,
+            since: vec![in alloc; None; count]?,
             order: Vec::new(alloc),
         })
     }

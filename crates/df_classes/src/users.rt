@@ -5,7 +5,7 @@ ghost use Rattle.df_classes.specs.mirror.Closure.{AreUsers};
 ghost use Rattle.df_classes.specs.mirror.Users.{AddsUser, AreUsersBelow};
 
 use crate::lists::Lists;
-use df_form::Nodes;
+use df_form::{NodeTable, Over};
 use std::alloc::{AllocError, Global};
 
 /// Adds a node to the users of each of its parts.
@@ -21,7 +21,7 @@ fn add_user(users: &mut Lists, parts: &[usize], user: usize) -> Result<(), Alloc
 }
 
 /// Adds the node of a number, where there is one, to the users of its parts.
-fn add_node(users: &mut Lists, nodes: &Nodes, number: usize) -> Result<(), AllocError>
+fn add_node(users: &mut Lists, nodes: &Over, number: usize) -> Result<(), AllocError>
     requires { AreUsersBelow nodes.now users.old number }
     ensures { OnOk result (AreUsersBelow nodes.now users.new (number + 1)) }
 {
@@ -32,7 +32,7 @@ fn add_node(users: &mut Lists, nodes: &Nodes, number: usize) -> Result<(), Alloc
 }
 
 /// The users of each node.
-pub fn users_of(alloc: Global, nodes: &Nodes) -> Result<Lists, AllocError>
+pub fn users_of(alloc: Global, nodes: &Over) -> Result<Lists, AllocError>
     ensures { IfOk result (λ users. AreUsers nodes.now users) }
 {
     let mut users = Lists::new(alloc, nodes.len())?;

@@ -18,16 +18,16 @@ ghost use Rattle.df_clause.specs.Keeping.{clause_of, with_line_if, Keeps, AddsLi
 use crate::clause::GroundClause;
 use crate::clause_set::ClauseSet;
 use crate::lines::{bound_by, connective_count};
-use df_form::{Formula, Lit, Nodes, Sequent, Step};
+use df_form::{Arena, Formula, Lit, NodeTable, Over, Sequent, Step};
 use df_rules::{AxiomFault, connective};
 use std::alloc::{AllocError, Global};
 
 /// Clauses of a sequent: its hypotheses, its negated goal, what connectives mean, and instances of
 /// schemas. Equal ones are there once.
 #[derive(Drop)]
-pub struct Ground {
+pub struct Ground<'a> {
     /// The nodes of the sequent, and those that the clauses make.
-    pub nodes: Nodes,
+    pub nodes: Over<'a>,
     pub clauses: ClauseSet,
     /// The steps of a log, one for each clause in the same order, which add just these.
     pub lines: Vec<Step>,
@@ -39,7 +39,7 @@ fn one(alloc: Global, positive: bool, node: Formula) -> Result<Vec<Lit>, AllocEr
     Ok(vec![in alloc; Lit { positive, node }]?)
 }
 
-impl Ground {
+impl<'a> Ground<'a> {
     /// Adds a clause with its line, unless the same one is there. Whether it was new.
     fn add(
         &mut self,
@@ -183,17 +183,16 @@ impl Ground {
 
 /// The clauses of a sequent: its hypotheses, its negated goal, and for each of its nodes, in the order of
 /// numbers, all that its connective means.
-pub fn clauses(alloc: Global, sequent: &Sequent) -> Result<Ground, AllocError>
+pub fn clauses<'a>(alloc: Global, sequent: &'a Sequent<'a>) -> Result<Ground<'a>, AllocError>
     ensures set { IfOk result (λ g. set_of g ≡ sequent_set (sequent_of sequent.now)) }
     ensures table { IfOk result (λ g. IsTable g.nodes) }
 {
-    let nodes = sequent.nodes.copy(alloc)?;
     let mut ground = Ground {
-        nodes,
+        nodes: sequent.nodes.over(alloc),
         clauses: ClauseSet::new(alloc),
         lines: Vec::new(alloc),
     };
-    ground.add_hypotheses(alloc, sequent)?;
+    ground.add_hypotheses(alloc, &*sequent)?;
     ground.add_goal(alloc, sequent.goal)?;
     ground.add_meanings(alloc, sequent.nodes.len())?;
     // The nodes are a table.

@@ -3,7 +3,7 @@
 ghost use Rattle.std.specs.Prelude.{◌≡◌};
 ghost use Rattle.df_clause.specs.Lines.{sides_count, equality_count, connective_count, bound_by};
 
-use df_form::{Formula, Node, Nodes, Op, Sort};
+use df_form::{Formula, Node, NodeTable, Op, Over, Sort};
 
 fn sides_count(sort: Sort) -> usize
     ensures { result ≡ sides_count sort }
@@ -14,7 +14,7 @@ fn sides_count(sort: Sort) -> usize
     }
 }
 
-fn equality_count(nodes: &Nodes, parts: &[usize]) -> usize
+fn equality_count(nodes: &Over, parts: &[usize]) -> usize
     ensures { result ≡ equality_count nodes.now parts.now }
 {
     match parts {
@@ -24,7 +24,7 @@ fn equality_count(nodes: &Nodes, parts: &[usize]) -> usize
 }
 
 /// How many defining clauses a node has.
-pub(crate) fn connective_count(nodes: &Nodes, node: &Node) -> usize
+pub(crate) fn connective_count(nodes: &Over, node: &Node) -> usize
     ensures { result ≡ connective_count nodes.now node.now.op node.now.parts.items }
 {
     match node.op {

@@ -12,12 +12,12 @@ ghost use Rattle.df_classes.specs.mirror.Clash.{has_denied as has_denied_in, cla
 ghost use Rattle.df_classes.specs.PartitionView.{state_of};
 
 use df_classes::{Partition, is_denied, number};
-use df_form::{Lit, Nodes};
+use df_form::{Lit, NodeTable, Over};
 use std::alloc::{AllocError, Global};
 use std::collections::{BTreeMap, BTreeSet};
 
 /// Whether one of some literals does.
-fn has_denied(nodes: &Nodes, partition: &Partition, literals: &[Lit]) -> bool
+fn has_denied(nodes: &Over, partition: &Partition, literals: &[Lit]) -> bool
     ensures { result ≡ has_denied_in nodes.now (label_of (state_of partition.now)) literals.now }
 {
     for literal in literals {
@@ -79,7 +79,7 @@ fn has_opposites(alloc: Global, partition: &Partition, literals: &[Lit]) -> Resu
 }
 
 /// All nodes that are numbers.
-pub(crate) fn numbers(alloc: Global, nodes: &Nodes) -> Result<Vec<usize>, AllocError>
+pub(crate) fn numbers(alloc: Global, nodes: &Over) -> Result<Vec<usize>, AllocError>
     ensures { IfOk result (λ numbers. AreNumbers nodes.now numbers.items) }
 {
     let mut numbers = Vec::new(alloc);
@@ -93,7 +93,7 @@ pub(crate) fn numbers(alloc: Global, nodes: &Nodes) -> Result<Vec<usize>, AllocE
 
 /// The number of a node by its label, beside those of others.
 fn add_number(
-    nodes: &Nodes,
+    nodes: &Over,
     partition: &Partition,
     by_label: &mut BTreeMap<usize, i128>,
     node: usize,
@@ -109,7 +109,7 @@ fn add_number(
 /// The last number of each label among some nodes.
 fn by_label(
     alloc: Global,
-    nodes: &Nodes,
+    nodes: &Over,
     partition: &Partition,
     numbers: &[usize],
 ) -> Result<BTreeMap<usize, i128>, AllocError>
@@ -133,7 +133,7 @@ fn are_different_numbers(first: Option<i128>, second: Option<i128>) -> bool
 
 /// Whether one of some nodes is another number than its label has.
 fn has_other_number(
-    nodes: &Nodes,
+    nodes: &Over,
     partition: &Partition,
     by_label: &BTreeMap<usize, i128>,
     numbers: &[usize],
@@ -153,7 +153,7 @@ fn has_other_number(
 /// Whether two different numbers have one label.
 fn has_two_numbers(
     alloc: Global,
-    nodes: &Nodes,
+    nodes: &Over,
     partition: &Partition,
     numbers: &[usize],
 ) -> Result<bool, AllocError>
@@ -167,7 +167,7 @@ fn has_two_numbers(
 /// different signs, or two different numbers, all of which are given, have one label.
 pub(crate) fn do_clash(
     alloc: Global,
-    nodes: &Nodes,
+    nodes: &Over,
     partition: &Partition,
     numbers: &[usize],
     literals: &[Lit],

@@ -17,14 +17,14 @@ use crate::clash::{do_clash, numbers};
 use crate::reason::{short_reason, whole_reason};
 use crate::theory::Theory;
 use df_classes::{Holding, Lists, Signs, first_signs, is_surely_quiet, users_of};
-use df_form::{Lit, Nodes};
+use df_form::{Lit, Over};
 use std::alloc::{AllocError, Global};
 use std::marker::Model;
 
 /// Literals over nodes, with the classes of nodes that the equalities among them make equal.
 #[derive(Drop)]
-pub struct Classes {
-    nodes: Nodes,
+pub struct Classes<'a> {
+    nodes: Over<'a>,
     users: Lists,
     numbers: Vec<usize>,
     holding: Holding,
@@ -32,7 +32,7 @@ pub struct Classes {
     alloc: Global,
 }
 
-impl Model for Classes {
+impl<'a> Model for Classes<'a> {
     ghost use Rattle.df_cong.specs.ClassesView.{Held, IsClasses};
 
     ghost Value = { Held };
@@ -45,7 +45,7 @@ impl Model for Classes {
 /// The conflict of held literals that clash. All nodes that are numbers are given.
 fn conflict(
     alloc: Global,
-    nodes: &Nodes,
+    nodes: &Over,
     numbers: &[usize],
     holding: &Holding,
 ) -> Result<Answer, AllocError>
@@ -63,7 +63,7 @@ fn conflict(
 /// What held literals come to, where all nodes that are numbers are given.
 pub(crate) fn answer_for(
     alloc: Global,
-    nodes: &Nodes,
+    nodes: &Over,
     numbers: &[usize],
     holding: &Holding,
 ) -> Result<Answer, AllocError>
@@ -82,7 +82,7 @@ pub(crate) fn answer_for(
 /// What held literals come to, where the last of them came when there were so many changes.
 fn answer_after(
     alloc: Global,
-    nodes: &Nodes,
+    nodes: &Over,
     users: &Lists,
     numbers: &[usize],
     holding: &Holding,
@@ -108,7 +108,7 @@ fn answer_after(
 /// Holds one more literal, and answers. An error leaves what was held.
 fn assert_on(
     alloc: Global,
-    nodes: &Nodes,
+    nodes: &Over,
     users: &Lists,
     numbers: &[usize],
     holding: &mut Holding,
@@ -140,18 +140,18 @@ fn assert_on(
     }
 }
 
-impl Classes {
+impl<'a> Classes<'a> {
     /// Classes over these nodes, with no literal held.
-    pub fn new(alloc: Global, nodes: &Nodes) -> Result<Classes, AllocError>
+    pub fn new(alloc: Global, nodes: &Over<'a>) -> Result<Classes<'a>, AllocError>
         ensures { IfOk result (λ classes. classes ≡ record { table = nodes.now; literals = [] }) }
     {
-        let nodes = nodes.copy(alloc)?;
-        let users = users_of(alloc, &nodes)?;
-        let numbers = numbers(alloc, &nodes)?;
-        let holding = Holding::new(alloc, &nodes, &users)?;
-        let signs = first_signs(alloc, &nodes, &numbers, &holding)?;
+        let users = users_of(alloc, nodes)?;
+        let numbers = numbers(alloc, nodes)?;
+        let holding = Holding::new(alloc, nodes, &users)?;
+        let signs = first_signs(alloc, nodes, &numbers, &holding)?;
+        let copy = nodes.copy(alloc)?;
         Ok(Classes {
-            nodes,
+            nodes: copy,
             users,
             numbers,
             holding,
@@ -161,7 +161,7 @@ impl Classes {
     }
 }
 
-impl Theory for Classes {
+impl<'a> Theory for Classes<'a> {
     ghost table = { λ classes. classes.table };
 
     ghost literals = { λ classes. classes.literals };

@@ -1,7 +1,7 @@
 //! Where held literals clash by the labels of their nodes.
 
 use df_classes::{Partition, is_denied, number, sides};
-use df_form::{Lit, Nodes, Pair};
+use df_form::{Lit, Over, Pair};
 use std::alloc::{AllocError, Global};
 use std::collections::BTreeMap;
 
@@ -15,7 +15,7 @@ pub(crate) struct Collision {
 }
 
 /// The sides of an equality that a literal denies.
-fn denied(nodes: &Nodes, partition: &Partition, literals: &[Lit]) -> Option<Collision> {
+fn denied(nodes: &Over, partition: &Partition, literals: &[Lit]) -> Option<Collision> {
     for (place, literal) in literals.iter().enumerate() {
         if is_denied(nodes, partition, *literal) {
             let ends = sides(nodes, literal.node)?;
@@ -100,7 +100,7 @@ fn number_nodes(
 /// Two nodes of one label that are different numbers, among those that are numbers.
 fn two_numbers(
     alloc: Global,
-    nodes: &Nodes,
+    nodes: &Over,
     partition: &Partition,
     numbers: &[usize],
 ) -> Result<Option<Collision>, AllocError> {
@@ -125,7 +125,7 @@ fn two_numbers(
 /// A collision of held literals, where there is one. All nodes that are numbers are given.
 pub(crate) fn find_collision(
     alloc: Global,
-    nodes: &Nodes,
+    nodes: &Over,
     partition: &Partition,
     numbers: &[usize],
     literals: &[Lit],

@@ -9,11 +9,11 @@ use crate::answer::{Answer, Congruence};
 use crate::clash::numbers;
 use crate::classes::answer_for;
 use df_classes::{Holding, users_of};
-use df_form::{Lit, Nodes};
+use df_form::{Lit, Over};
 use std::alloc::{AllocError, Global};
 
 /// Literals that are held, with the classes of their equalities.
-fn held(alloc: Global, nodes: &Nodes, literals: &[Lit]) -> Result<Holding, AllocError>
+fn held(alloc: Global, nodes: &Over, literals: &[Lit]) -> Result<Holding, AllocError>
     ensures holding { IfOk result (λ holding. IsHolding nodes.now holding.held.items holding.levels.items holding.partition) }
     ensures held { IfOk result (λ holding. holding.held.items ≡ literals.now) }
 {
@@ -27,7 +27,7 @@ fn held(alloc: Global, nodes: &Nodes, literals: &[Lit]) -> Result<Holding, Alloc
 
 /// Whether literals contradict one another by congruence, or else which nodes they make equal. The only
 /// error is want of memory.
-pub fn congruence(alloc: Global, nodes: &Nodes, literals: &[Lit]) -> Result<Congruence, AllocError>
+pub fn congruence(alloc: Global, nodes: &Over, literals: &[Lit]) -> Result<Congruence, AllocError>
     requires { are_literals nodes.now literals.now ≡ true }
     ensures { IfOk result (TellsCongruence nodes.now literals.now) }
 {

@@ -7,7 +7,7 @@ use crate::answer::Reason;
 use crate::collision::Collision;
 use crate::forest::{Cause, Forest, Merge, merges_of};
 use df_classes::Holding;
-use df_form::{Lit, Nodes, Pair};
+use df_form::{Lit, NodeTable, Over, Pair};
 use std::alloc::{AllocError, Global};
 
 /// Whether there is such a number, and it is marked.
@@ -38,7 +38,7 @@ fn mark_ways(forest: &Forest, marks: &mut [bool], first: &[usize], second: &[usi
 }
 
 /// Marks the merges that a merge by equal parts needs.
-fn mark_causes(nodes: &Nodes, forest: &Forest, marks: &mut [bool], merge: Merge) {
+fn mark_causes(nodes: &Over, forest: &Forest, marks: &mut [bool], merge: Merge) {
     if merge.cause != Cause::Parts {
         return;
     }
@@ -50,7 +50,7 @@ fn mark_causes(nodes: &Nodes, forest: &Forest, marks: &mut [bool], merge: Merge)
 /// Marks of the merges by which two nodes are equal. What a merge needs came before it.
 fn needed_marks(
     alloc: Global,
-    nodes: &Nodes,
+    nodes: &Over,
     merges: &[Merge],
     ends: Pair,
 ) -> Result<Vec<bool>, AllocError> {
@@ -155,7 +155,7 @@ fn marked_held(alloc: Global, holding: &Holding, marks: &[bool]) -> Result<Vec<L
 /// The held literals and the pairs that a collision needs.
 pub(crate) fn explanation(
     alloc: Global,
-    nodes: &Nodes,
+    nodes: &Over,
     holding: &Holding,
     collision: Collision,
 ) -> Result<Reason, AllocError>

@@ -1,7 +1,7 @@
 //! The merges that led to classes, as trees of nodes.
 
 use df_classes::{Holding, Level, Lists, sides};
-use df_form::{Lit, Nodes, Pair};
+use df_form::{Lit, Over, Pair};
 use std::alloc::{AllocError, Global};
 
 /// Why two nodes are equal.
@@ -53,7 +53,7 @@ fn add_pairs(
 /// the pairs after it.
 fn add_merges(
     merges: &mut Vec<Merge>,
-    nodes: &Nodes,
+    nodes: &Over,
     holding: &Holding,
     place: usize,
     literal: Lit,
@@ -74,7 +74,7 @@ fn add_merges(
 /// The merges of held literals, in their order.
 pub(crate) fn merges_of(
     alloc: Global,
-    nodes: &Nodes,
+    nodes: &Over,
     holding: &Holding,
 ) -> Result<Vec<Merge>, AllocError> {
     let mut merges = Vec::new(alloc);

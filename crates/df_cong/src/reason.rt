@@ -9,7 +9,7 @@ use crate::collision::{Collision, find_collision};
 use crate::explaining::explanation;
 use crate::replay::is_line;
 use df_classes::Holding;
-use df_form::Nodes;
+use df_form::Over;
 use std::alloc::{AllocError, Global};
 
 /// Why held literals clash: all of them, and all pairs.
@@ -26,7 +26,7 @@ pub(crate) fn whole_reason(alloc: Global, holding: &Holding) -> Result<Reason, A
 /// The literals and the pairs that a collision needs, where they are a line of congruence.
 fn explained(
     alloc: Global,
-    nodes: &Nodes,
+    nodes: &Over,
     numbers: &[usize],
     holding: &Holding,
     collision: Collision,
@@ -46,7 +46,7 @@ fn explained(
 /// given.
 pub(crate) fn short_reason(
     alloc: Global,
-    nodes: &Nodes,
+    nodes: &Over,
     numbers: &[usize],
     holding: &Holding,
 ) -> Result<Option<Reason>, AllocError>

@@ -10,7 +10,7 @@ ghost use Rattle.df_cong.specs.mirror.Replay.{CanUnite, Unites, UnitesAlike};
 
 use crate::clash::do_clash;
 use df_classes::{Lists, Partition, are_alike, join, sides};
-use df_form::{Lit, Nodes, Pair};
+use df_form::{Lit, NodeTable, Over, Pair};
 use std::alloc::{AllocError, Global};
 
 /// Makes the classes of two nodes one.
@@ -31,7 +31,7 @@ fn unite(alloc: Global, partition: &mut Partition, pair: Pair) -> Result<(), All
 /// Makes the classes of the sides of the equality that a literal is one.
 fn unite_sides(
     alloc: Global,
-    nodes: &Nodes,
+    nodes: &Over,
     partition: &mut Partition,
     literal: Lit,
 ) -> Result<(), AllocError>
@@ -50,7 +50,7 @@ fn unite_sides(
 /// And so for each of some literals.
 fn unite_all_sides(
     alloc: Global,
-    nodes: &Nodes,
+    nodes: &Over,
     partition: &mut Partition,
     literals: &[Lit],
 ) -> Result<(), AllocError>
@@ -66,7 +66,7 @@ fn unite_all_sides(
 /// Makes the classes of two nodes one, where they are alike, and tells whether they are.
 fn unite_alike(
     alloc: Global,
-    nodes: &Nodes,
+    nodes: &Over,
     partition: &mut Partition,
     pair: Pair,
 ) -> Result<bool, AllocError>
@@ -83,7 +83,7 @@ fn unite_alike(
 /// And so for pairs in their order, as long as they are.
 fn unite_all_alike(
     alloc: Global,
-    nodes: &Nodes,
+    nodes: &Over,
     partition: &mut Partition,
     pairs: &[Pair],
 ) -> Result<bool, AllocError>
@@ -102,7 +102,7 @@ fn unite_all_alike(
 /// that are numbers are given.
 pub(crate) fn is_line(
     alloc: Global,
-    nodes: &Nodes,
+    nodes: &Over,
     numbers: &[usize],
     literals: &[Lit],
     pairs: &[Pair],

@@ -1,5 +1,5 @@
 -- The definitions, computed on a small sequent.
-use Rattle.std.proofs.Common.{◌≡◌, ℕ, zero, suc, ◌<◌, ℤ, pos, ◌+ℤ◌, int_le, ◌≤ℤ◌, true, false, true≢false, List, [], ◌∷◌, take, slice_get, Some, refl, sym, arith}
+use Rattle.std.proofs.Common.{◌≡◌, ℕ, zero, suc, ◌<◌, ℤ, pos, ◌+ℤ◌, int_le, ◌≤ℤ◌, true, false, true≢false, List, [], ◌∷◌, take, slice_get, None, Some, refl, sym, arith}
 use Rattle.std.proofs.lemmas.Int.{ints}
 use Rattle.std.proofs.lemmas.Option.{none-some}
 use Rattle.df_form.specs.World.{World}
@@ -14,6 +14,7 @@ use Rattle.df_form.specs.Truth.{Assignment, has_sort, truth}
 use Rattle.df_form.specs.Sequent.{Sequent, IsValid, IsSequent, IsNumbered, Walk, ends, again, first}
 use Rattle.df_form.specs.Sorting.{IsTable, is_formula, is_well_sorted}
 use Rattle.df_form.specs.Renaming.{IsRenaming, renamed}
+use Rattle.df_form.specs.Offset.{offsets, offset_of}
 use Rattle.df_form.proofs.Tables.{table_none, table_next}
 use Rattle.df_form.proofs.Walks.{walk_parts, one_end}
 
@@ -139,3 +140,16 @@ renames (suc (suc (suc (suc (suc (suc (suc n))))))) a at = absurd (none-some _ a
 
 pub is_renaming : (world : World) → IsRenaming swap (at_most world (pos 4)) (swapped world)
 is_renaming world = record { nodes = renames; hypotheses = refl; goal = refl }
+
+-- x + 1 is x and 1 more, 3 has no base, and x <= 3 is itself
+pub sum_is_on_x : offset_of (nodes_to (pos 4)) 4 ≡ record { base = Some 0; constant = pos 1 }
+unfolding offsets
+sum_is_on_x = refl
+
+pub three_has_no_base : offset_of (nodes_to (pos 4)) 1 ≡ record { base = None; constant = pos 3 }
+unfolding offsets
+three_has_no_base = refl
+
+pub comparison_is_itself : offset_of (nodes_to (pos 4)) 2 ≡ record { base = Some 2; constant = pos 0 }
+unfolding offsets
+comparison_is_itself = refl

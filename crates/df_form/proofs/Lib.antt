@@ -1,9 +1,11 @@
 pub mod Same
 pub mod Tables
 pub mod Keys
+pub mod Interning
 pub mod Fronts
+pub mod KeyedNodes
 pub mod Offsets
-pub mod Inserting
+pub mod Pushing
 pub mod Walks
 pub mod Drafts
 pub mod Examples

@@ -1,7 +1,7 @@
 -- What nodes are as sums of another node and a number: more nodes change none, and no base comes later than its node.
 use Rattle.std.proofs.Common.{◌≡◌, ⊎_elim, ℕ, zero, suc, ◌-◌, ◌<◌, ◌≤◌, ◌+ℤ◌, Bool, true, false, cond, nat_lt, List, [], ◌∷◌, ◌++◌, take, drop, length, slice_get, Option, None, Some, refl, sym, ap, subst, ◌∙◌, arith, append-nil, append_assoc, length-take}
 use Rattle.std.specs.List.{list_all}
-use Rattle.std.specs.Option.{unwrap_or, is_some}
+use Rattle.std.specs.Option.{unwrap_or}
 use Rattle.std.proofs.lemmas.Bool.{and_parts, cases_lt, ltb-true}
 use Rattle.std.proofs.lemmas.List.{length-take-le, take-append-drop, take_at, take_all}
 use Rattle.std.proofs.lemmas.Option.{slice_get_within, slice_get_past, same_Some, none-some}
@@ -9,11 +9,9 @@ use Rattle.df_lemmas.proofs.Lists.{get_grown, get_last, get_below, get_split}
 use Rattle.df_form.specs.declared.node.Op.{Op}
 use Rattle.df_form.specs.declared.node.Op.TheVariants as ops
 use Rattle.df_form.specs.declared.offset.Offset.{Offset}
-use Rattle.df_form.specs.Node.{Node, number_of}
-use Rattle.df_form.specs.Made.{Made, made}
+use Rattle.df_form.specs.Node.{Node}
 use Rattle.df_form.specs.Offset.{fits, itself, on_base, of_sum, of_parts, offset_at, offsets_after, offsets, offset_of}
 use Rattle.df_form.proofs.Fronts.{get_ahead, get_past, get_taken, take_both}
-use Rattle.df_form.proofs.Tables.{made_old, made_new}
 use Rattle.df_form.proofs.Values.{AreSorted, parts_below}
 
 onto : (known : List Offset) (nodes : List Node) → (rest : List Offset) × (offsets_after known nodes ≡ known ++ rest) × (length rest ≡ length nodes)
@@ -72,10 +70,6 @@ AreBehind front own items = offsets (front ++ own) ≡ offsets front ++ items
 pub none_behind : (front own : List Node) (items : List Offset) → own ≡ [] → items ≡ [] → AreBehind front own items
 none_behind front own items no_own no_items = ap (λ z. offsets (front ++ z)) no_own ∙ ap offsets (append-nil front) ∙ sym (append-nil (offsets front)) ∙ ap (λ z. offsets front ++ z) (sym no_items)
 
-pub no_front : (front own : List Node) (items : List Offset) → length front ≡ 0 → AreBehind front own items → offsets own ≡ items
-no_front [] own items none behind = behind ∙ ap (λ z. z ++ items) no_offsets
-no_front (node ∷ front) own items none behind = absurd (omega arith)
-
 pub ahead-read : (front own now : List Node) (items : List Offset) (n : ℕ) → AreBehind front own items → front ++ own ≡ now → n < length front → slice_get (offsets front) n ≡ slice_get (offsets now) n
 ahead-read front own now items n behind is less = sym (get_ahead (offsets front) items n (omega (arith, length-offsets front))) ∙ ap (λ z. slice_get z n) (sym behind ∙ ap offsets is)
 
@@ -87,25 +81,6 @@ pub fewer-behind : (front own : List Node) (items : List Offset) (k : ℕ) → A
 fewer-behind front own items k behind =
     ap offsets (sym (take_both front own k)) ∙ offsets_take (front ++ own) k ∙ ap (take k) behind ∙ take_both (offsets front) items k
     ∙ (λ i. sym (offsets_take front k) i ++ take (k - length-offsets front i) items)
-
--- one more node behind, where it is new
-pub more-behind : (front own after : List Node) (node : Node) (n : ℕ) (items new : List Offset) (next : Offset) → AreBehind front own items → made own node ≡ record { nodes = after; number = n } → new ≡ cond (is_some (number_of own node)) items (items ++ next ∷ []) → next ≡ of_parts (offset_of (front ++ own)) (length (front ++ own)) node.op node.parts → AreBehind front after new
-more-behind front own after node n items new next behind is grown is_next = by (number_of own node) refl
-  where
-    by : (r : Option ℕ) → number_of own node ≡ r → AreBehind front after new
-    by (Some m) e =
-        let same : ◌≡◌ {A = Made} (record { nodes = own; number = m }) (record { nodes = after; number = n }) = sym (made_old own node m e) ∙ is in
-        let kept : items ≡ new = sym (grown ∙ ap (λ o. cond (is_some o) items (items ++ next ∷ [])) e) in
-        ap (λ (x : Made). offsets (front ++ x.nodes)) (sym same) ∙ behind ∙ ap (λ z. offsets front ++ z) kept
-    by None e =
-        let same : ◌≡◌ {A = Made} (record { nodes = own ++ node ∷ []; number = length own }) (record { nodes = after; number = n }) = sym (made_new own node e) ∙ is in
-        let longer : items ++ next ∷ [] ≡ new = sym (grown ∙ ap (λ o. cond (is_some o) items (items ++ next ∷ [])) e) in
-        ap (λ (x : Made). offsets (front ++ x.nodes)) (sym same)
-        ∙ ap offsets (sym (append_assoc front own (node ∷ [])))
-        ∙ offsets_pushed (front ++ own) node
-        ∙ (λ i. behind i ++ sym is_next i ∷ [])
-        ∙ append_assoc (offsets front) items (next ∷ [])
-        ∙ ap (λ z. offsets front ++ z) longer
 
 -- what a node is, by its parts
 pub two_below : (a b n : ℕ) → list_all (λ part. nat_lt part n) (a ∷ b ∷ []) ≡ true → (a < n) × (b < n)

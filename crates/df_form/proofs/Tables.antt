@@ -9,7 +9,7 @@ use Rattle.std.specs.Prelude.{position}
 use Rattle.std.specs.List.{position_or_len, prefix_len}
 use Rattle.std.proofs.lemmas.Option.{slice_get_within, slice_get-get_or, get_or_from_slice_get, slice_get_cases, same_Some, none-some}
 use Rattle.std.proofs.lemmas.Bool.{cases_lt}
-use Rattle.df_lemmas.proofs.Lists.{get_grown, get_last}
+use Rattle.df_lemmas.proofs.Lists.{get_below, get_grown, get_last}
 use Rattle.df_form.specs.Node.{Node, same_node, number_of}
 use Rattle.df_form.specs.Sorting.{IsTable, is_well_sorted}
 use Rattle.df_form.specs.Made.{Made, made, made_where}
@@ -79,6 +79,10 @@ number_of_new nodes node distinct = by (number_of nodes node) refl
         let within = slice_get_within nodes m node at in
         absurd (omega (arith, within, same))
 
+-- within the nodes there is one
+pub none_within : (nodes : List Node) (n : ℕ) → None ≡ slice_get nodes n → n < length nodes → ⊥
+none_within nodes n none less = let there = get_below nodes n less in none-some there.0 (none ∙ there.1)
+
 -- one more node
 get-before : (nodes : List Node) (node x : Node) (n : ℕ) → n < length nodes → slice_get (nodes ++ node ∷ []) n ≡ Some x → slice_get nodes n ≡ Some x
 get-before nodes node x n less at =
@@ -103,7 +107,7 @@ pub table-append : (nodes : List Node) (node : Node) → IsTable nodes → is_we
 table-append nodes node table sorted distinct = record { sorted = sorted-append nodes node table sorted; distinct = distinct }
 
 -- fewer nodes
-pub get-take : (nodes : List Node) (k n : ℕ) (x : Node) → slice_get (take k nodes) n ≡ Some x → (n < k) × (slice_get nodes n ≡ Some x)
+pub get-take : {A : Type 0} (nodes : List A) (k n : ℕ) (x : A) → slice_get (take k nodes) n ≡ Some x → (n < k) × (slice_get nodes n ≡ Some x)
 get-take nodes k n x at =
     let within = slice_get_within (take k nodes) n x at in
     let less : n < k = omega (arith, within, length-take k nodes) in
@@ -136,8 +140,8 @@ copied-whole nodes copy so_far past = so_far ∙ take_all (length copy) nodes (b
     by (inl there) = absurd (none-some _ (sym past ∙ there.2))
     by (inr there) = there.0
 
-pub copied-none : (nodes copy : List Node) → copy ≡ [] → copy ≡ take (length copy) nodes
-copied-none nodes copy none = none ∙ ap (λ xs. take (length xs) nodes) (sym none)
+pub copied_none : (nodes copy : List Node) → copy ≡ [] → copy ≡ take (length copy) nodes
+copied_none nodes copy none = none ∙ ap (λ xs. take (length xs) nodes) (sym none)
 
 -- with a node that is not there yet nodes stay distinct
 pub distinct-append : (nodes : List Node) (node : Node) → IsDistinct nodes → number_of nodes node ≡ None → IsDistinct (nodes ++ node ∷ [])

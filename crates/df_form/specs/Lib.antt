@@ -3,6 +3,8 @@ pub mod World
 pub mod WorldView
 pub mod Types
 pub mod Node
+pub mod PartLists
+pub mod Keyed
 pub mod Made
 pub mod Offset
 pub mod Sorting

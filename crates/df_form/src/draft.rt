@@ -5,8 +5,10 @@ ghost use Rattle.std.specs.List.{list_all};
 ghost use Rattle.df_form.specs.Sorting.{IsTable, is_formula};
 ghost use Rattle.df_form.specs.Sequent.{Walk};
 
+use crate::arena::Arena;
 use crate::formulas::Formulas;
-use crate::node::{Formula, Node, Op, Term};
+use crate::front::Front;
+use crate::node::{Formula, Op, Term};
 use crate::nodes::Nodes;
 use crate::sequent::Sequent;
 use crate::world::World;
@@ -62,10 +64,9 @@ impl<'a> Draft<'a> {
         ensures world { self.new.world ≡ self.old.world }
     {
         let start = self.stack.len() - count;
-        let parts = Vec::from_slice(*self.stack.allocator(), &self.stack[start..])?;
         // With this room the last push cannot fail: the node would stand already.
         self.stack.reserve(1)?;
-        let number = self.nodes.add(Node { op, parts })?;
+        let number = self.nodes.add(op, &self.stack[start..])?;
         self.stack.truncate(start);
         self.stack.push(number)?;
         Ok(())
@@ -149,7 +150,7 @@ impl<'a> Draft<'a> {
         let formulas = Vec::from_slice(alloc, self.hypotheses.as_slice())?;
         Ok(Sequent {
             world: self.world,
-            nodes: self.nodes.copy(alloc)?,
+            nodes: Front::copy_of(alloc, &self.nodes)?,
             hypotheses: Formulas::new(alloc, formulas)?,
             goal: self.stack[0],
         })

@@ -1,11 +1,10 @@
 //! Nodes as sums of another node, their base, and a number.
 
 ghost use Rattle.std.specs.Prelude.{◌≡◌, length, slice_get};
-ghost use Rattle.df_form.specs.Node.{node_of};
 ghost use Rattle.df_form.specs.Offset.{itself, on_base, of_sum, of_parts, offset_of};
 
-use crate::node::{Node, Op, Term};
-use crate::nodes::Nodes;
+use crate::node::{Op, Term};
+use crate::node_table::NodeTable;
 
 /// What a node is: another one, its base, and so much more; or a number, where it has no base.
 #[derive(Clone, Copy)]
@@ -26,7 +25,7 @@ pub(crate) fn read(offsets: &[Offset], place: usize) -> Option<Offset>
 
 impl Offset {
     /// The node itself.
-    fn itself(number: Term) -> Offset
+    pub(crate) fn itself(number: Term) -> Offset
         ensures { result ≡ itself number }
     {
         Offset {
@@ -60,30 +59,17 @@ impl Offset {
     }
 }
 
-impl Nodes {
-    /// What the node of a number is: a literal has no base, and a sum of which one side has none has that of the other side;
-    /// any other node is its own base, as is a sum whose constant is past 128 bits.
-    pub fn offset(&self, number: Term) -> Offset
-        ensures { result ≡ offset_of self.now number }
-    {
-        match self.known_offset(number) {
-            Some(offset) => offset,
-            None => Offset::itself(number),
-        }
-    }
-
-    /// What a node would be that comes next.
-    pub(crate) fn next_offset(&self, node: &Node) -> Offset
-        ensures { result ≡ of_parts (offset_of self.now) (length self.now) (node_of node.now).op (node_of node.now).parts }
-    {
-        let number = self.len();
-        match (node.op, node.parts.as_slice()) {
-            (Op::Number(constant), _) => Offset {
-                base: None,
-                constant,
-            },
-            (Op::Plus, [a, b]) => Offset::of_sum(number, self.offset(*a), self.offset(*b)),
-            _ => Offset::itself(number),
-        }
+/// What the operation on these parts would be that comes next.
+pub(crate) fn next_offset<A: NodeTable>(nodes: &A, op: Op, parts: &[Term]) -> Offset
+    ensures { result ≡ of_parts (offset_of (A.nodes nodes.now)) (length (A.nodes nodes.now)) op parts.now }
+{
+    let number = nodes.len();
+    match (op, parts) {
+        (Op::Number(constant), _) => Offset {
+            base: None,
+            constant,
+        },
+        (Op::Plus, [a, b]) => Offset::of_sum(number, nodes.offset(*a), nodes.offset(*b)),
+        _ => Offset::itself(number),
     }
 }

@@ -4,8 +4,8 @@ ghost use Rattle.df_form.specs.World.{world_of};
 ghost use Rattle.df_form.specs.Sequent.{IsSequent, IsNumbered};
 
 use crate::formulas::Formulas;
+use crate::front::Front;
 use crate::node::Formula;
-use crate::nodes::Nodes;
 use crate::world::World;
 
 /// Formulas of a program, by the numbers of their nodes: a goal, and the hypotheses
@@ -15,7 +15,7 @@ use crate::world::World;
 pub struct Sequent<'a> {
     /// What they know of the program.
     pub world: World<'a>,
-    pub nodes: Nodes,
+    pub nodes: Front,
     pub hypotheses: Formulas,
     pub goal: Formula,
     pub ghost is_sequent: { IsSequent (record { world = world_of world; nodes = nodes; hypotheses = hypotheses; goal = goal }) },

@@ -4,7 +4,7 @@ use crate::ends::{Ends, ends_at};
 use crate::made::{Made, is_operation, made_like};
 use crate::offset::{Offset, offset_at, offset_of};
 use crate::width::{width_at, width_of};
-use df_form::{Nodes, Sequent, World};
+use df_form::{Front, NodeTable, Sequent, World};
 use std::alloc::{AllocError, Global};
 use std::collections::HashMap;
 
@@ -49,14 +49,14 @@ impl Index {
     }
 
     /// Meets a node as a test for a type, if it is one.
-    fn meet_test(&mut self, world: World, nodes: &Nodes, number: usize) -> Result<(), AllocError> {
+    fn meet_test(&mut self, world: World, nodes: &Front, number: usize) -> Result<(), AllocError> {
         if let Some(ends) = ends_at(world, nodes, number) {
             self.ends.insert(number, ends)?;
         }
         Ok(())
     }
 
-    fn meet_node(&mut self, nodes: &Nodes, number: usize) -> Result<(), AllocError> {
+    fn meet_node(&mut self, nodes: &Front, number: usize) -> Result<(), AllocError> {
         if self.first_operation.is_none() && is_operation(nodes, number) {
             self.first_operation = Some(number);
         }

@@ -1,6 +1,6 @@
 //! Nodes that clauses may make.
 
-use df_form::{Nodes, Op, Sort};
+use df_form::{Front, NodeTable, Op, Sort};
 
 /// A node that clauses may make.
 #[derive(Clone, Copy, PartialEq, Eq, Hash)]
@@ -42,7 +42,7 @@ impl Made {
 }
 
 /// What the node of a number is, where clauses could make one like it.
-pub(crate) fn made_like(nodes: &Nodes, number: usize) -> Option<Made> {
+pub(crate) fn made_like(nodes: &Front, number: usize) -> Option<Made> {
     let node = nodes.get(number)?;
     match (node.op, node.parts.as_slice()) {
         (Op::Number(number), _) => Some(Made::Number(number)),
@@ -52,7 +52,7 @@ pub(crate) fn made_like(nodes: &Nodes, number: usize) -> Option<Made> {
     }
 }
 
-fn is_literal(nodes: &Nodes, number: usize) -> bool {
+fn is_literal(nodes: &Front, number: usize) -> bool {
     match nodes.get(number) {
         Some(node) => matches!(node.op, Op::Number(_)),
         None => false,
@@ -60,7 +60,7 @@ fn is_literal(nodes: &Nodes, number: usize) -> bool {
 }
 
 /// Whether the node is a product, a quotient, a remainder or a character, or the code of one.
-pub(crate) fn is_operation(nodes: &Nodes, number: usize) -> bool {
+pub(crate) fn is_operation(nodes: &Front, number: usize) -> bool {
     let Some(node) = nodes.get(number) else {
         return false;
     };

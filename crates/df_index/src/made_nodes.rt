@@ -2,7 +2,7 @@
 //! their numbers, and nodes of these sequents may be like them.
 
 use crate::made::{Made, made_like};
-use df_form::Nodes;
+use df_form::{Front, NodeTable};
 use std::alloc::{AllocError, Global};
 use std::collections::HashMap;
 
@@ -96,7 +96,7 @@ impl MadeNodes {
     }
 
     /// Compares the nodes of a sequent that were not compared yet.
-    pub fn compare(&mut self, nodes: &Nodes) -> Result<(), AllocError> {
+    pub fn compare(&mut self, nodes: &Front) -> Result<(), AllocError> {
         for node in self.compared..nodes.len() {
             self.compare_node(nodes, node)?;
         }
@@ -104,7 +104,7 @@ impl MadeNodes {
         Ok(())
     }
 
-    fn compare_node(&mut self, nodes: &Nodes, node: usize) -> Result<(), AllocError> {
+    fn compare_node(&mut self, nodes: &Front, node: usize) -> Result<(), AllocError> {
         let Some(made) = made_like(nodes, node) else {
             return Ok(());
         };

@@ -1,6 +1,6 @@
 //! Sums of a node and a number: a chain of them is one such sum.
 
-use df_form::{Nodes, Op};
+use df_form::{Front, NodeTable, Op};
 
 /// What a node is: another one and so much more, or a number where there is no other.
 #[derive(Clone, Copy)]
@@ -50,7 +50,7 @@ fn multiple(factor: i128, number: Offset) -> Option<Offset> {
 }
 
 /// The number of a literal.
-fn literal(nodes: &Nodes, number: usize) -> Option<i128> {
+fn literal(nodes: &Front, number: usize) -> Option<i128> {
     match nodes.get(number)?.op {
         Op::Number(number) => Some(number),
         _ => None,
@@ -58,7 +58,7 @@ fn literal(nodes: &Nodes, number: usize) -> Option<i128> {
 }
 
 /// What the node of a number is, by what those before it are.
-pub(crate) fn offset_of(nodes: &Nodes, offsets: &[Offset], number: usize) -> Offset {
+pub(crate) fn offset_of(nodes: &Front, offsets: &[Offset], number: usize) -> Offset {
     let Some(node) = nodes.get(number) else {
         return itself(number);
     };

@@ -5,7 +5,7 @@ use crate::index::Index;
 use crate::made::Made;
 use crate::made_nodes::MadeNodes;
 use crate::offset::Offset;
-use df_form::{Nodes, Op, Sort};
+use df_form::{Front, NodeTable, Op, Sort};
 use std::alloc::{AllocError, Global};
 use std::mem::replace;
 
@@ -47,7 +47,7 @@ const FAR: usize = usize::MAX / 2;
 /// The nodes of a sequent by their numbers, and past them those that clauses make.
 #[derive(Drop)]
 pub struct Terms<'a> {
-    nodes: &'a Nodes,
+    nodes: &'a Front,
     index: &'a Index,
     made: MadeNodes,
     /// Whether the sequent has products, quotients, remainders or characters.
@@ -56,7 +56,7 @@ pub struct Terms<'a> {
 
 impl<'a> Terms<'a> {
     /// The nodes of a sequent that the index has met.
-    pub fn new(alloc: Global, nodes: &'a Nodes, index: &'a Index) -> Terms<'a> {
+    pub fn new(alloc: Global, nodes: &'a Front, index: &'a Index) -> Terms<'a> {
         let count = nodes.len();
         let has_operations = index.has_operations(count);
         let first = if has_operations { count } else { FAR };
@@ -70,7 +70,7 @@ impl<'a> Terms<'a> {
 
     /// The same, with nodes that clauses made for a sequent without operations, all whose nodes this one has: they are to
     /// be compared.
-    pub fn again(nodes: &'a Nodes, index: &'a Index, made: MadeNodes) -> Terms<'a> {
+    pub fn again(nodes: &'a Front, index: &'a Index, made: MadeNodes) -> Terms<'a> {
         Terms {
             nodes,
             index,

@@ -1,6 +1,6 @@
 //! How wide nodes are as sums.
 
-use df_form::{Nodes, Op};
+use df_form::{Front, NodeTable, Op};
 
 /// The width of a node, by those of the nodes before it.
 pub(crate) fn width_at(widths: &[usize], number: usize) -> usize {
@@ -21,7 +21,7 @@ fn widest(widths: &[usize], numbers: &[usize]) -> usize {
 
 /// How many members a number has as a sum, or what a comparison compares, at most; any other node is as wide as its widest
 /// part.
-pub(crate) fn width_of(nodes: &Nodes, widths: &[usize], number: usize) -> usize {
+pub(crate) fn width_of(nodes: &Front, widths: &[usize], number: usize) -> usize {
     let Some(node) = nodes.get(number) else {
         return 0;
     };

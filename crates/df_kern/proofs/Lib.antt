@@ -3,3 +3,4 @@ pub mod Checks
 pub mod Links
 pub mod Joining
 pub mod Refusals
+pub mod Splitting

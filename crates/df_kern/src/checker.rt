@@ -12,7 +12,7 @@ ghost use Rattle.df_rules.specs.Propagation.{is_empty};
 use crate::accepted::Accepted;
 use crate::fault::KernFault;
 use crate::line::{add_line, kind_of};
-use df_form::{Lit, Nodes, Sequent, Step};
+use df_form::{Arena, Lit, NodeTable, Over, Sequent, Step};
 use std::alloc::{AllocError, Global};
 
 /// A derivation so far: its sequent, the nodes and the clauses by their numbers, and how many steps it
@@ -20,7 +20,7 @@ use std::alloc::{AllocError, Global};
 #[derive(Drop)]
 pub struct Checker<'a> {
     pub sequent: &'a Sequent<'a>,
-    pub nodes: Nodes,
+    pub nodes: Over<'a>,
     pub clauses: Vec<Vec<Lit>>,
     pub taken: u64,
     alloc: Global,
@@ -57,10 +57,9 @@ impl<'a> Checker<'a> {
     pub fn new(alloc: Global, sequent: &'a Sequent<'a>) -> Result<Checker<'a>, AllocError>
         ensures { IfOk result (IsBegun sequent.now) }
     {
-        let nodes = sequent.nodes.copy(alloc)?;
         Ok(Checker {
             sequent,
-            nodes,
+            nodes: sequent.nodes.over(alloc),
             clauses: Vec::new(alloc),
             taken: 0,
             alloc,

@@ -12,7 +12,7 @@ use crate::classes::Classes;
 use crate::equality::{has_equality, negative_equalities};
 use crate::number::{has_two_numbers, members};
 use crate::opposite::has_opposites;
-use df_form::{Lit, Nodes, Pair};
+use df_form::{Lit, NodeTable, Over, Pair};
 use std::alloc::{AllocError, Global};
 
 /// Whether arguments are in one class place by place.
@@ -39,7 +39,7 @@ fn are_together(
 }
 
 /// Whether two nodes are of one operation, with arguments in one class.
-fn is_congruent(nodes: &Nodes, classes: &mut Classes, pair: Pair) -> Result<bool, AllocError>
+fn is_congruent(nodes: &Over, classes: &mut Classes, pair: Pair) -> Result<bool, AllocError>
     ensures congruent { IfOk result (λ yes. yes ≡ is_congruent_pair nodes.now (class_of classes.old) pair) }
     ensures same { OnOk result (class_of classes.new ≡ class_of classes.old) }
 {
@@ -54,7 +54,7 @@ fn is_congruent(nodes: &Nodes, classes: &mut Classes, pair: Pair) -> Result<bool
 }
 
 /// Closes the classes by pairs, where each is congruent in its turn.
-fn close(nodes: &Nodes, classes: &mut Classes, pairs: &[Pair]) -> Result<bool, AllocError>
+fn close(nodes: &Over, classes: &mut Classes, pairs: &[Pair]) -> Result<bool, AllocError>
     ensures { IfOk result (Closes nodes.now (class_of classes.old) (class_of classes.new) pairs.now) }
 {
     for pair in pairs {
@@ -69,7 +69,7 @@ fn close(nodes: &Nodes, classes: &mut Classes, pairs: &[Pair]) -> Result<bool, A
 /// Whether the classes, whose nodes these are, close the clause.
 fn closes(
     alloc: Global,
-    nodes: &Nodes,
+    nodes: &Over,
     classes: &mut Classes,
     clause: &[Lit],
     members: &[usize],
@@ -85,7 +85,7 @@ fn closes(
 /// Whether the conclusion holds by congruence, with these pairs in their order.
 pub(crate) fn is_congruence(
     alloc: Global,
-    nodes: &Nodes,
+    nodes: &Over,
     conclusion: &[Lit],
     pairs: &[Pair],
 ) -> Result<bool, AllocError>

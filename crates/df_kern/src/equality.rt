@@ -6,11 +6,11 @@ ghost use Rattle.df_rules.specs.CongruenceLine.{is_paired, has_equality as has_e
 ghost use Rattle.df_kern.specs.ClassesView.{class_of};
 
 use crate::classes::Classes;
-use df_form::{Lit, Nodes, Op, Pair};
+use df_form::{Lit, NodeTable, Op, Over, Pair};
 use std::alloc::{AllocError, Global};
 
 /// The sides of an equality.
-fn equality(nodes: &Nodes, number: usize) -> Option<Pair>
+fn equality(nodes: &Over, number: usize) -> Option<Pair>
     ensures { result ≡ equality_of nodes.now number }
 {
     let node = nodes.get(number)?;
@@ -23,7 +23,7 @@ fn equality(nodes: &Nodes, number: usize) -> Option<Pair>
     }
 }
 
-fn negative_equality(nodes: &Nodes, literal: Lit) -> Option<Pair>
+fn negative_equality(nodes: &Over, literal: Lit) -> Option<Pair>
     ensures { result ≡ negative_equality_of nodes.now literal }
 {
     if literal.positive {
@@ -35,7 +35,7 @@ fn negative_equality(nodes: &Nodes, literal: Lit) -> Option<Pair>
 /// The sides of the negative equalities of a clause.
 pub(crate) fn negative_equalities(
     alloc: Global,
-    nodes: &Nodes,
+    nodes: &Over,
     clause: &[Lit],
 ) -> Result<Vec<Pair>, AllocError>
     ensures { IfOk result (λ pairs. pairs.items ≡ negative_equalities_of nodes.now clause.now) }
@@ -50,7 +50,7 @@ pub(crate) fn negative_equalities(
 }
 
 /// Whether the sides of an equality are in one class.
-fn is_equality(nodes: &Nodes, classes: &mut Classes, literal: Lit) -> Result<bool, AllocError>
+fn is_equality(nodes: &Over, classes: &mut Classes, literal: Lit) -> Result<bool, AllocError>
     ensures equality { IfOk result (λ yes. yes ≡ (literal.positive && is_paired (class_of classes.old) (equality_of nodes.now literal.node))) }
     ensures same { OnOk result (class_of classes.new ≡ class_of classes.old) }
 {
@@ -65,7 +65,7 @@ fn is_equality(nodes: &Nodes, classes: &mut Classes, literal: Lit) -> Result<boo
 
 /// Whether a positive equality of the clause is in the classes.
 pub(crate) fn has_equality(
-    nodes: &Nodes,
+    nodes: &Over,
     classes: &mut Classes,
     clause: &[Lit],
 ) -> Result<bool, AllocError>

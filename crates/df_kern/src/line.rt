@@ -18,7 +18,7 @@ use crate::congruence::is_congruence;
 use crate::propagation::is_propagation;
 use crate::step::{goal_clause, hypothesis_clause, make, split_clause};
 use df_axiom::clause;
-use df_form::{Combination, Lit, Nodes, Pair, Sequent, Step, World};
+use df_form::{Combination, Lit, Over, Pair, Sequent, Step, World};
 use df_row::is_linear;
 use df_rules::connective_clause_of;
 use std::alloc::{AllocError, Global};
@@ -43,7 +43,7 @@ pub(crate) fn kind_of(step: &Step) -> u8
 fn schema_clause(
     alloc: Global,
     world: World,
-    nodes: &mut Nodes,
+    nodes: &mut Over,
     schema: u8,
     number: u32,
     terms: &[usize],
@@ -56,7 +56,7 @@ fn schema_clause(
 
 fn propagation_clause(
     alloc: Global,
-    nodes: &Nodes,
+    nodes: &Over,
     clauses: &[Vec<Lit>],
     numbers: &[usize],
     conclusion: &[Lit],
@@ -72,7 +72,7 @@ fn propagation_clause(
 
 fn congruence_clause(
     alloc: Global,
-    nodes: &Nodes,
+    nodes: &Over,
     conclusion: &[Lit],
     pairs: &[Pair],
 ) -> Result<Option<Vec<Lit>>, AllocError>
@@ -87,7 +87,7 @@ fn congruence_clause(
 
 fn linear_clause(
     alloc: Global,
-    nodes: &Nodes,
+    nodes: &Over,
     conclusion: &[Lit],
     combinations: &[Combination],
 ) -> Result<Option<Vec<Lit>>, AllocError>
@@ -104,7 +104,7 @@ fn linear_clause(
 fn clause_of(
     alloc: Global,
     sequent: &Sequent,
-    nodes: &mut Nodes,
+    nodes: &mut Over,
     clauses: &[Vec<Lit>],
     step: &Step,
 ) -> Result<Option<Vec<Lit>>, AllocError>
@@ -140,7 +140,7 @@ fn clause_of(
 pub(crate) fn add_line(
     alloc: Global,
     sequent: &Sequent,
-    nodes: &mut Nodes,
+    nodes: &mut Over,
     clauses: &mut Vec<Vec<Lit>>,
     step: &Step,
 ) -> Result<bool, AllocError>
@@ -148,7 +148,7 @@ pub(crate) fn add_line(
     ensures longer { IfOk result (λ taken. OnTrue taken (length nodes.old + vec_len clauses.old < length nodes.new + vec_len clauses.new)) }
 {
     match step {
-        Step::Make(node) => make(alloc, sequent.world, nodes, node),
+        Step::Make(node) => make(sequent.world, nodes, node),
         Step::Hypothesis(_)
         | Step::Goal
         | Step::Connective { .. }

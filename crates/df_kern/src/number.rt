@@ -9,12 +9,12 @@ ghost use Rattle.df_rules.specs.CongruenceLine.{number_at, number_in, are_differ
 ghost use Rattle.df_kern.specs.ClassesView.{class_of};
 
 use crate::classes::Classes;
-use df_form::{Nodes, Op, Pair};
+use df_form::{NodeTable, Op, Over, Pair};
 use std::alloc::{AllocError, Global};
 use std::collections::BTreeMap;
 
 /// The number that a node is.
-fn number(nodes: &Nodes, node: usize) -> Option<i128>
+fn number(nodes: &Over, node: usize) -> Option<i128>
     ensures { result ≡ number_at nodes.now node }
 {
     match nodes.get(node)?.op {
@@ -50,7 +50,7 @@ pub(crate) fn members(
 
 /// The number of a node, beside those of other classes.
 fn add_number(
-    nodes: &Nodes,
+    nodes: &Over,
     classes: &mut Classes,
     numbers: &mut BTreeMap<usize, i128>,
     member: usize,
@@ -68,7 +68,7 @@ fn add_number(
 /// The last number of each class among some nodes.
 fn numbers(
     alloc: Global,
-    nodes: &Nodes,
+    nodes: &Over,
     classes: &mut Classes,
     members: &[usize],
 ) -> Result<BTreeMap<usize, i128>, AllocError>
@@ -93,7 +93,7 @@ fn are_different_numbers(first: Option<i128>, second: Option<i128>) -> bool
 
 /// Whether a node is another number than its class has.
 fn differs(
-    nodes: &Nodes,
+    nodes: &Over,
     classes: &mut Classes,
     numbers: &BTreeMap<usize, i128>,
     member: usize,
@@ -108,7 +108,7 @@ fn differs(
 
 /// Whether one of some nodes is.
 fn has_other_number(
-    nodes: &Nodes,
+    nodes: &Over,
     classes: &mut Classes,
     numbers: &BTreeMap<usize, i128>,
     members: &[usize],
@@ -127,7 +127,7 @@ fn has_other_number(
 /// Whether two different numbers are in one class.
 pub(crate) fn has_two_numbers(
     alloc: Global,
-    nodes: &Nodes,
+    nodes: &Over,
     classes: &mut Classes,
     members: &[usize],
 ) -> Result<bool, AllocError>

@@ -7,7 +7,7 @@ ghost use Rattle.df_rules.specs.Propagation.{propagation_line};
 ghost use Rattle.df_rules.specs.Known.{IsSetOf};
 ghost use Rattle.df_rules.specs.Learning.{Learns, refutes};
 
-use df_form::{Lit, Nodes};
+use df_form::{Lit, NodeTable, Over};
 use df_rules::Known;
 use std::alloc::{AllocError, Global};
 
@@ -50,7 +50,7 @@ fn is_refuted(known: &Known, clauses: &[Vec<Lit>], number: usize) -> bool
 /// Whether the conclusion follows from the clauses of these numbers by unit propagation.
 pub(crate) fn is_propagation(
     alloc: Global,
-    nodes: &Nodes,
+    nodes: &Over,
     clauses: &[Vec<Lit>],
     numbers: &[usize],
     conclusion: &[Lit],

@@ -1,17 +1,18 @@
 //! The lines that are neither connectives, schemas, propagation nor arithmetic.
 
-ghost use Rattle.std.specs.Prelude.{◌≡◌, ◌<◌, ◌≤◌, length, IfOk, ◌∷◌, [], slice_get, Some};
+ghost use Rattle.std.specs.Prelude.{◌≡◌, ◌<◌, ◌≤◌, ◌+ℤ◌, pos, length, IfOk, ◌∷◌, [], slice_get, Some};
 ghost use Rattle.std.specs.Bool.{OnTrue};
 ghost use Rattle.std.specs.Option.{option_map};
 ghost use Rattle.df_form.specs.Node.{node_of, same_sort};
 ghost use Rattle.df_form.specs.SequentView.{sequent_of};
 ghost use Rattle.df_form.specs.World.{world_of};
 ghost use Rattle.df_form.specs.Clause.{yes, no};
+ghost use Rattle.df_row.specs.RowView.{narrow};
 ghost use Rattle.df_rules.specs.Derivation.{split_line, made_line, is_number as is_number_of, is_undeclared as is_undeclared_in, is_unknown as is_unknown_in, is_foreign as is_foreign_in};
 ghost use Rattle.df_rules.specs.Answers.{Gives, Adds, Makes};
 
 use crate::bound::{at_least_of, at_most_of};
-use df_form::{Lit, Node, Nodes, Op, Sequent, Sort, World};
+use df_form::{Arena, Lit, Node, NodeTable, Op, Over, Sequent, Sort, World};
 use df_lang::Ty;
 use df_rules::{no_of, yes_of};
 use std::alloc::{AllocError, Global};
@@ -37,28 +38,35 @@ pub(crate) fn goal_clause(alloc: Global, sequent: &Sequent) -> Result<Option<Vec
     Ok(Some(vec![in alloc; no_of(sequent.goal)]?))
 }
 
+/// The next number, where it has 128 bits.
+fn next_of(bound: i128) -> Option<i128>
+    ensures { result ≡ narrow (bound +ℤ pos 1) }
+{
+    bound.checked_add(1)
+}
+
 /// A number is at most a bound, or at least the next number.
 pub(crate) fn split_clause(
     alloc: Global,
-    nodes: &mut Nodes,
+    nodes: &mut Over,
     number: usize,
     bound: i128,
 ) -> Result<Option<Vec<Lit>>, AllocError>
     ensures adds { Adds nodes.old nodes.new result (split_line nodes.old number bound) }
     ensures longer { length nodes.old ≤ length nodes.new }
 {
-    let Some(next) = bound.checked_add(1) else {
+    let Some(next) = next_of(bound) else {
         return Ok(None);
     };
     if !is_number(nodes, number) {
         return Ok(None);
     }
-    let below = at_most_of(alloc, nodes, number, bound)?;
-    let above = at_least_of(alloc, nodes, next, number)?;
+    let below = at_most_of(nodes, number, bound)?;
+    let above = at_least_of(nodes, next, number)?;
     Ok(Some(vec![in alloc; yes_of(below), yes_of(above)]?))
 }
 
-fn is_number(nodes: &Nodes, number: usize) -> bool
+fn is_number(nodes: &Over, number: usize) -> bool
     ensures { result ≡ is_number_of nodes.now number }
 {
     number < nodes.len() && is_numeric(nodes.sort(number))
@@ -118,20 +126,14 @@ fn is_foreign(world: World, op: Op) -> bool
 }
 
 /// Makes a node that differs from all before. Whether it could.
-pub(crate) fn make(
-    alloc: Global,
-    world: World,
-    nodes: &mut Nodes,
-    node: &Node,
-) -> Result<bool, AllocError>
+pub(crate) fn make(world: World, nodes: &mut Over, node: &Node) -> Result<bool, AllocError>
     ensures makes { Makes nodes.old nodes.new result (made_line (world_of world.entry) nodes.old (node_of node.now)) }
     ensures longer { IfOk result (λ made. OnTrue made (length nodes.old < length nodes.new)) }
 {
-    if is_foreign(world, node.op) || !nodes.admits(node) {
+    if is_foreign(world, node.op) || !nodes.admits(node.op, &node.parts) {
         return Ok(false);
     }
     let before = nodes.len();
-    let parts = Vec::from_slice(alloc, &node.parts)?;
-    let number = nodes.add(Node { op: node.op, parts })?;
+    let number = nodes.add(node.op, &node.parts)?;
     Ok(number == before)
 }

@@ -1,4 +1,4 @@
--- Newtypes as contracts see them.
+-- Newtypes as contracts see them; when two types are one, and which have no bound.
 use Rattle.std.specs.Prelude.{ℕ, ℤ, List, Bool, true, false, ◌==◌}
 use Rattle.df_base.specs.declared.pos.Pos.{Pos}
 use Rattle.df_lang.specs.declared.ty.Ty.{Ty}
@@ -17,6 +17,7 @@ pub record Newtype : Type 0 where
   pub high : ℤ
   pub default : ℤ
 
+-- two types are one
 abbrev pub same_type : Ty → Ty → Bool
 same_type (types.Newtype a) (types.Newtype b) = a == b
 same_type types.Int types.Int = true

@@ -17,10 +17,10 @@ ghost use Rattle.df_logbuild.specs.Front.{IsFront};
 ghost use Rattle.df_logbuild.specs.Runs.{Runs, state_of};
 
 use crate::derivation::Derivation;
-use df_form::{Combination, Lit, Node, Pair, Step};
-use std::alloc::{AllocError, Global};
+use df_form::{Arena, Combination, Lit, Node, NodeTable, Pair, Step};
+use std::alloc::AllocError;
 
-impl Derivation {
+impl<'a> Derivation<'a> {
     /// Adds a line that makes no node; its clause has the number that is told. An error adds nothing.
     fn add(&mut self, line: Step) -> Result<usize, AllocError>
         ensures number { IfOk result (λ number. number ≡ self.old.clauses) }
@@ -109,7 +109,7 @@ impl Derivation {
 
     /// The number of a node, which a line makes where it does not stand yet. It is no free term and no test
     /// of a newtype, and is well sorted after the nodes. An error makes nothing.
-    pub fn make(&mut self, alloc: Global, node: Node) -> Result<usize, AllocError>
+    pub fn make(&mut self, node: Node) -> Result<usize, AllocError>
         requires sorted { is_well_sorted self.old.nodes (node_of node) ≡ true }
         requires own { (world : World) → is_foreign world (node_of node).op ≡ false }
         ensures made { IfOk result (λ number. made self.old.nodes (node_of node) ≡ record { nodes = self.new.nodes; number = number }) }
@@ -121,12 +121,10 @@ impl Derivation {
         ensures grows { IsFront self.old.lines.items self.new.lines.items }
     {
         let before = self.nodes.len();
-        let parts = Vec::from_slice(alloc, node.parts.as_slice())?;
-        let line = Step::Make(Node { op: node.op, parts });
         self.lines.reserve(1)?;
-        let number = self.nodes.add(node)?;
+        let number = self.nodes.add(node.op, node.parts.as_slice())?;
         if self.nodes.len() > before {
-            self.lines.push(line)?;
+            self.lines.push(Step::Make(node))?;
         }
         Ok(number)
     }

@@ -9,7 +9,7 @@ ghost use Rattle.df_model.specs.TableNumbers.{basis_of, has_true, free_number, f
 use crate::parts::{
     are_all_true, is_any_true, is_part_true, is_same_truth, number_at, number_of_truth, part,
 };
-use df_form::{Free, Lit, Node, Nodes, Op, Sort};
+use df_form::{Free, Lit, Node, Op, Over, Sort};
 use df_table::literal;
 
 /// The label of a node; what is no node has its own number.
@@ -74,7 +74,7 @@ fn formula_truth(table: &[i128], op: Op, parts: &[usize]) -> bool
 }
 
 /// The number of the first part, where it is a literal.
-fn first_factor(nodes: &Nodes, parts: &[usize]) -> Option<i128>
+fn first_factor(nodes: &Over, parts: &[usize]) -> Option<i128>
     ensures { result ≡ first_factor nodes.now parts.now }
 {
     match parts {
@@ -95,7 +95,7 @@ fn product_number(factor: Option<i128>, number: i128, own: i128) -> Option<i128>
 
 /// The number of the node that comes next after those of the table, where it has 128 bits.
 pub(crate) fn next_number(
-    nodes: &Nodes,
+    nodes: &Over,
     numbers: &[i128],
     labels: &[usize],
     facts: &[Lit],

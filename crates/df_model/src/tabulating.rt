@@ -6,7 +6,7 @@ ghost use Rattle.df_model.specs.Valuation.{assignment_by, Tabulates};
 
 use crate::number::next_number;
 use crate::outcome::Valuation;
-use df_form::{Nodes, World};
+use df_form::{NodeTable, Over, World};
 use df_rules::Known;
 use df_table::Table;
 use std::alloc::{AllocError, Global};
@@ -17,7 +17,7 @@ use std::alloc::{AllocError, Global};
 pub fn valuation(
     alloc: Global,
     world: World,
-    nodes: &Nodes,
+    nodes: &Over,
     numbers: &[i128],
     known: &Known,
 ) -> Result<Valuation, AllocError>

@@ -7,7 +7,7 @@ ghost use Rattle.df_model.specs.TableNumbers.{basis_of};
 ghost use Rattle.df_model.specs.Tabulation.{IsApart, TellsTable, unlike, TellsTabulation};
 
 use crate::entry::{label_at, next_number};
-use df_form::{Lit, Nodes, Pair};
+use df_form::{Lit, NodeTable, Over, Pair};
 use df_table::{Table, disagreement};
 use std::alloc::{AllocError, Global};
 
@@ -27,7 +27,7 @@ pub enum Tabulation {
 /// The numbers of all nodes; `None` where one is past 128 bits.
 fn numbers_of_nodes(
     alloc: Global,
-    nodes: &Nodes,
+    nodes: &Over,
     numbers: &[i128],
     labels: &[usize],
     facts: &[Lit],
@@ -63,7 +63,7 @@ fn unlike(labels: &[usize], first: &[usize], second: &[usize]) -> Option<Pair>
 }
 
 /// The terms that are apart where two nodes disagree.
-fn apart(nodes: &Nodes, labels: &[usize], pair: Pair) -> Pair
+fn apart(nodes: &Over, labels: &[usize], pair: Pair) -> Pair
     ensures { (table : List ℤ) → Disagree nodes.now table pair.left pair.right → IsApart nodes.now (label_at labels.now) table result.left result.right }
 {
     match (nodes.get(pair.left), nodes.get(pair.right)) {
@@ -81,7 +81,7 @@ fn apart(nodes: &Nodes, labels: &[usize], pair: Pair) -> Pair
 /// as 1 where it is true, and else as 0.
 pub fn tabulate(
     alloc: Global,
-    nodes: &Nodes,
+    nodes: &Over,
     numbers: &[i128],
     labels: &[usize],
     facts: &[Lit],

@@ -9,12 +9,12 @@ ghost use Rattle.df_nenc.specs.Tree.{op_of, tree_at};
 ghost use Rattle.df_nenc.specs.Growing.{Grows};
 ghost use Rattle.df_nenc.specs.Standing.{IsTerm, Stands};
 
-use df_form::{Formula, Node, Nodes, Op, Term};
+use df_form::{Arena, Formula, NodeTable, Nodes, Op, Term};
 use std::alloc::{AllocError, Global};
 
 /// The number of the operation on these parts, which is added last where it does not stand yet.
 pub(crate) fn make(
-    alloc: Global,
+    _alloc: Global,
     nodes: &mut Nodes,
     op: Op,
     parts: &[Term],
@@ -24,8 +24,7 @@ pub(crate) fn make(
     ensures grows { Grows nodes.old nodes.new }
 {
     let _ = nodes.len();
-    let parts = Vec::from_slice(alloc, parts)?;
-    nodes.add(Node { op, parts })
+    nodes.add(op, parts)
 }
 
 /// The number of an operation that takes no parts.

@@ -23,7 +23,7 @@ ghost use Rattle.df_nterm.specs.Term.{sort_of_type};
 
 use crate::passed::Passed;
 use crate::way::Arrived;
-use df_form::{Formula, Term};
+use df_form::{Formula, NodeTable, Term};
 use df_lang::Ty;
 use df_nenc::one_of;
 use df_nledger::Ledger;

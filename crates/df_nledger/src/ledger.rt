@@ -12,7 +12,7 @@ ghost use Rattle.df_nterm.specs.Term.{Numbers, Truths, Characters, sort_of_type}
 
 use crate::said::Said;
 use df_base::Pos;
-use df_form::{Formula, Kind, Nodes, Sort, Term};
+use df_form::{Formula, Kind, NodeTable, Nodes, Sort, Term};
 use df_lang::{Expr, Ty};
 use df_nenc::{
     Condition, defined, equal_in, free, is_of, literal, narrowed_path, number_in, on_path, value_in,

@@ -17,7 +17,7 @@ ghost use Rattle.df_nterm.specs.Term.{Truths};
 
 use crate::numbering::{Numbering, numbered};
 use crate::obligation::{MethodObligations, Obligation, Obligations};
-use df_form::{Formula, Formulas, Nodes};
+use df_form::{Formula, Formulas, Front, NodeTable, Nodes};
 use df_lang::{Decl, DeclId, Method, Program};
 use df_nflow::{Passage, method as pass};
 use df_nledger::Said;
@@ -150,7 +150,7 @@ fn numbered_anew(
     let obligations = with_goals(alloc, &listed.obligations, &formulas)?;
     Ok(MethodObligations {
         declaration,
-        nodes: nodes.shared(alloc)?,
+        nodes: Front::new(alloc, nodes)?,
         known: Formulas::new(alloc, formulas)?,
         counts,
         obligations,

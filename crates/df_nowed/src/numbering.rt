@@ -12,7 +12,7 @@ ghost use Rattle.df_nterm.specs.Term as trees;
 ghost use Rattle.df_nowed.specs.Counts.{AreCounts};
 ghost use Rattle.df_nowed.specs.Renumbering.{AreTerms, Leads, LeadsOn, stack_of, hypotheses_of, steps_of, steps_left, all_steps_left};
 
-use df_form::{Draft, Formula, Node, Nodes, Term, World};
+use df_form::{Draft, Formula, Node, NodeTable, Nodes, Term, World};
 use df_lang::Program;
 use std::alloc::{AllocError, Global};
 

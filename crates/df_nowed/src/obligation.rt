@@ -7,7 +7,7 @@ ghost use Rattle.df_nowed.specs.Counts.{AreCounts};
 ghost use Rattle.df_nowed.specs.Owed.{IsOwed};
 
 use df_base::Pos;
-use df_form::{Formula, Formulas, Kind, Nodes};
+use df_form::{Formula, Formulas, Front, Kind};
 use df_lang::DeclId;
 
 /// What is to be shown at a position: the goal is true where so many of the formulas are that its declaration knows, the
@@ -42,7 +42,7 @@ impl Obligation {
 #[derive(Drop)]
 pub struct MethodObligations {
     pub declaration: DeclId,
-    pub nodes: Nodes,
+    pub nodes: Front,
     pub known: Formulas,
     /// How many nodes there are before the first formula and behind each.
     pub counts: Vec<usize>,

@@ -30,7 +30,7 @@ fn check_part(
     ensures derived { OnOk result (IsDerived (program_of program.now) (obligation_in owed.now.declaration owed.now.nodes owed.now.known obligation.now) (log_of part.now)) }
     ensures broken { IfErr result (IsBrokenBy (program_of program.now) (obligation_in owed.now.declaration owed.now.nodes owed.now.known obligation.now) (log_of part.now) number) }
 {
-    let Ok(sequent) = owed.sequent(alloc, program, obligation) else {
+    let Ok(sequent) = owed.sequent(program, obligation) else {
         return Err(CheckFault::Memory);
     };
     match check(alloc, &sequent, part) {

@@ -137,7 +137,7 @@ fn add(
     requires owed { IsOwed entry.now.owed.now.known obligation.now }
     ensures { OnOk result (Adds (program_of entry.now.program.now) (map param_of entry.now.params.now) budget (obligation_in entry.now.owed.now.declaration entry.now.owed.now.nodes entry.now.owed.now.known obligation.now) (map failure_of failures.old.items) (map failure_of failures.new.items) proofs.old.items proofs.new.items) }
 {
-    let sequent = entry.owed.sequent(alloc, entry.program, obligation)?;
+    let sequent = entry.owed.sequent(entry.program, obligation)?;
     settle(
         alloc, entry, engine, failures, proofs, obligation, &sequent, budget,
     )

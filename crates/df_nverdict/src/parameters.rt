@@ -6,7 +6,7 @@ ghost use Rattle.df_lang.specs.DeclView.{param_of};
 ghost use Rattle.df_report.specs.View.{parameter_of};
 ghost use Rattle.df_nverdict.specs.Verdict.{is_numeric as is_numeric_type, is_free as is_free_in, free_number as number_of_free, number_of, numbers_of};
 
-use df_form::{Nodes, Op, Sort};
+use df_form::{Front, NodeTable, Op, Sort};
 use df_lang::{Param, Ty};
 use df_report::Parameter;
 use df_table::Table;
@@ -33,7 +33,7 @@ fn is_free(number: usize, op: Op) -> bool
 }
 
 /// Whether there is a node of this number, and its operation is the free number.
-fn is_free_at(nodes: &Nodes, index: usize, number: usize) -> bool
+fn is_free_at(nodes: &Front, index: usize, number: usize) -> bool
     ensures { result ≡ option_map_or (λ node. is_free_in number node.op) (slice_get nodes.now index) false }
 {
     match nodes.get(index) {
@@ -43,7 +43,7 @@ fn is_free_at(nodes: &Nodes, index: usize, number: usize) -> bool
 }
 
 /// The first node of a free number.
-fn node_of(nodes: &Nodes, number: usize) -> Option<usize>
+fn node_of(nodes: &Front, number: usize) -> Option<usize>
     ensures { result ≡ position (λ node. is_free_in number node.op) nodes.now }
 {
     for index in 0..nodes.len() {
@@ -55,7 +55,7 @@ fn node_of(nodes: &Nodes, number: usize) -> Option<usize>
 }
 
 /// The number of a free term in a table; 0 where no node has it.
-fn free_number(nodes: &Nodes, table: &Table, number: usize) -> i128
+fn free_number(nodes: &Front, table: &Table, number: usize) -> i128
     ensures { result ≡ number_of_free nodes.now table.now number }
 {
     match node_of(nodes, number) {
@@ -66,7 +66,7 @@ fn free_number(nodes: &Nodes, table: &Table, number: usize) -> i128
 
 fn parameter(
     alloc: Global,
-    nodes: &Nodes,
+    nodes: &Front,
     table: &Table,
     param: &Param,
     number: usize,
@@ -82,7 +82,7 @@ fn parameter(
 /// Adds a parameter with the number of the free term that stands for it, if its type is one of numbers.
 fn add(
     alloc: Global,
-    nodes: &Nodes,
+    nodes: &Front,
     table: &Table,
     param: &Param,
     number: usize,
@@ -99,7 +99,7 @@ fn add(
 /// The parameters of types of numbers, with the numbers of the free terms that stand for them.
 pub(crate) fn parameters(
     alloc: Global,
-    nodes: &Nodes,
+    nodes: &Front,
     table: &Table,
     params: &[Param],
 ) -> Result<Vec<Parameter>, AllocError>

@@ -7,7 +7,7 @@ ghost use Rattle.df_table.specs.TableModel.{number_at};
 ghost use Rattle.df_table.specs.Testing.{same_numbers, agree_at, agree, agrees_with_all, is_congruent};
 
 use crate::table::Table;
-use df_form::{Node, Nodes, Op};
+use df_form::{Node, NodeTable, Op, Over};
 
 fn is_same_number(table: &Table, x: usize, y: usize) -> bool
     ensures { result ≡ int_eq (number_at table.now x) (number_at table.now y) }
@@ -45,7 +45,7 @@ fn agree_at(table: &Table, m: usize, n: usize, a: &Node, b: &Node) -> bool
         || !same_numbers(table, a.parts.as_slice(), b.parts.as_slice())
 }
 
-pub(crate) fn agree(nodes: &Nodes, table: &Table, m: usize, n: usize) -> bool
+pub(crate) fn agree(nodes: &Over, table: &Table, m: usize, n: usize) -> bool
     ensures { result ≡ agree nodes.now table.now m n }
 {
     match (nodes.get(m), nodes.get(n)) {
@@ -55,7 +55,7 @@ pub(crate) fn agree(nodes: &Nodes, table: &Table, m: usize, n: usize) -> bool
 }
 
 #[tactic(auto, using(crate::proofs::Below::below_more, crate::proofs::Below::below_fails))]
-fn agrees_with_all(nodes: &Nodes, table: &Table, m: usize) -> bool
+fn agrees_with_all(nodes: &Over, table: &Table, m: usize) -> bool
     ensures { result ≡ agrees_with_all nodes.now table.now m }
 {
     for n in 0..nodes.len() {
@@ -68,7 +68,7 @@ fn agrees_with_all(nodes: &Nodes, table: &Table, m: usize) -> bool
 
 /// Whether any two nodes of one operation with equal arguments have equal numbers.
 #[tactic(auto, using(crate::proofs::Below::below_more, crate::proofs::Below::below_fails))]
-pub(crate) fn is_congruent(nodes: &Nodes, table: &Table) -> bool
+pub(crate) fn is_congruent(nodes: &Over, table: &Table) -> bool
     ensures { result ≡ is_congruent nodes.now table.now }
 {
     for m in 0..nodes.len() {

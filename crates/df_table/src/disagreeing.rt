@@ -5,11 +5,11 @@ ghost use Rattle.df_table.specs.Testing.{FindsOther, FindsTwo};
 
 use crate::congruence::agree;
 use crate::table::Table;
-use df_form::{Nodes, Pair};
+use df_form::{NodeTable, Over, Pair};
 
 /// A node that disagrees with this one.
 #[tactic(auto, using(crate::proofs::Below::below_more))]
-fn other(nodes: &Nodes, table: &Table, node: usize) -> Option<usize>
+fn other(nodes: &Over, table: &Table, node: usize) -> Option<usize>
     ensures { FindsOther nodes.now table.now node result }
 {
     for other in 0..nodes.len() {
@@ -22,7 +22,7 @@ fn other(nodes: &Nodes, table: &Table, node: usize) -> Option<usize>
 
 /// Two nodes that disagree.
 #[tactic(auto, using(crate::proofs::Below::below_more))]
-fn two(nodes: &Nodes, table: &Table) -> Option<Pair>
+fn two(nodes: &Over, table: &Table) -> Option<Pair>
     ensures { FindsTwo nodes.now table.now result }
 {
     for left in 0..nodes.len() {
@@ -35,7 +35,7 @@ fn two(nodes: &Nodes, table: &Table) -> Option<Pair>
 
 /// Two nodes of one operation whose arguments have equal numbers, and that have other numbers; `None`
 /// exactly where the table is congruent.
-pub fn disagreement(nodes: &Nodes, table: &Table) -> Option<Pair>
+pub fn disagreement(nodes: &Over, table: &Table) -> Option<Pair>
     ensures { TellsDisagreement nodes.now table.now result }
 {
     two(nodes, table)

@@ -9,7 +9,7 @@ ghost use Rattle.df_table.specs.TableModel.{is_multiple, is_exact};
 ghost use Rattle.df_table.specs.Testing.{exact_at, are_exact};
 
 use crate::table::Table;
-use df_form::{Node, Nodes, Op};
+use df_form::{Node, NodeTable, Op, Over};
 
 fn is_sum(a: i128, b: i128, total: i128) -> bool
     ensures { result ≡ int_eq (a +ℤ b) total }
@@ -24,7 +24,7 @@ fn is_product(a: i128, b: i128, total: i128) -> bool
 }
 
 /// The number of a literal; `None` where the node is none.
-pub fn literal(nodes: &Nodes, node: usize) -> Option<i128>
+pub fn literal(nodes: &Over, node: usize) -> Option<i128>
     ensures { result ≡ literal_number (slice_get nodes.now node) }
 {
     match nodes.get(node)?.op {
@@ -62,7 +62,7 @@ fn is_same_truth(a: bool, b: bool) -> bool
     a == b
 }
 
-fn is_exact(nodes: &Nodes, table: &Table, number: usize, node: &Node) -> bool
+fn is_exact(nodes: &Over, table: &Table, number: usize, node: &Node) -> bool
     ensures { result ≡ is_exact nodes.now table.now number node.now.op node.now.parts.items }
 {
     match (node.op, node.parts.as_slice()) {
@@ -85,7 +85,7 @@ fn is_exact(nodes: &Nodes, table: &Table, number: usize, node: &Node) -> bool
     }
 }
 
-fn exact_at(nodes: &Nodes, table: &Table, number: usize) -> bool
+fn exact_at(nodes: &Over, table: &Table, number: usize) -> bool
     ensures { result ≡ exact_at nodes.now table.now number }
 {
     match nodes.get(number) {
@@ -97,7 +97,7 @@ fn exact_at(nodes: &Nodes, table: &Table, number: usize) -> bool
 /// Whether literals, sums and constant multiples are exact, and comparisons are true just where the
 /// numbers compare so.
 #[tactic(auto, using(crate::proofs::Below::below_more, crate::proofs::Below::below_fails))]
-pub(crate) fn are_exact(nodes: &Nodes, table: &Table) -> bool
+pub(crate) fn are_exact(nodes: &Over, table: &Table) -> bool
     ensures { result ≡ are_exact nodes.now table.now }
 {
     for number in 0..nodes.len() {

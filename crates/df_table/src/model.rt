@@ -12,7 +12,7 @@ use crate::congruence::is_congruent;
 use crate::exactness::are_exact;
 use crate::table::Table;
 use df_clause::{ClauseSet, Ground, GroundClause};
-use df_form::Lit;
+use df_form::{Lit, NodeTable};
 
 fn is_literal_true(table: &Table, literal: Lit) -> bool
     ensures { result ≡ literal_truth (is_true table.now) literal }

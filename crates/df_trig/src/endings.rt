@@ -4,11 +4,11 @@ ghost use Rattle.std.specs.Prelude.{◌≡◌, ◌+◌, length, IfOk, OnOk};
 ghost use Rattle.df_trig.specs.Endings.{last_part, AreEndings};
 
 use df_classes::Lists;
-use df_form::{Nodes, Term};
+use df_form::{NodeTable, Over, Term};
 use std::alloc::{AllocError, Global};
 
 /// The last part of the node of a number.
-pub(crate) fn last_part(nodes: &Nodes, number: Term) -> Option<Term>
+pub(crate) fn last_part(nodes: &Over, number: Term) -> Option<Term>
     ensures { result ≡ last_part nodes.now number }
 {
     match nodes.get(number)?.parts.last() {
@@ -18,7 +18,7 @@ pub(crate) fn last_part(nodes: &Nodes, number: Term) -> Option<Term>
 }
 
 /// Adds the node of a number to those with its last part, where it has one.
-fn add_ending(lists: &mut Lists, nodes: &Nodes, number: Term) -> Result<(), AllocError>
+fn add_ending(lists: &mut Lists, nodes: &Over, number: Term) -> Result<(), AllocError>
     requires { AreEndings nodes.now number lists.old }
     ensures { OnOk result (AreEndings nodes.now (number + 1) lists.new) }
 {
@@ -32,7 +32,7 @@ fn add_ending(lists: &mut Lists, nodes: &Nodes, number: Term) -> Result<(), Allo
 }
 
 /// For each node the nodes whose last part it is, in order.
-pub(crate) fn endings(alloc: Global, nodes: &Nodes) -> Result<Lists, AllocError>
+pub(crate) fn endings(alloc: Global, nodes: &Over) -> Result<Lists, AllocError>
     ensures { IfOk result (AreEndings nodes.now (length nodes.now)) }
 {
     let mut lists = Lists::new(alloc, nodes.len())?;

@@ -26,7 +26,7 @@ use crate::pattern::{Named, Pattern, named_terms, patterns};
 use df_axiom::{AxiomFault, Schemas};
 use df_classes::Lists;
 use df_clause::{Ground, clauses};
-use df_form::{Lit, Nodes, Op, Sequent, Step, Term, World};
+use df_form::{Lit, NodeTable, Op, Over, Sequent, Step, Term, World};
 use std::alloc::{AllocError, Global};
 
 /// So many instances are too many.
@@ -46,7 +46,7 @@ fn tell_few(ground: &Ground) -> Result<(), TrigFault>
 fn clause_of<X: Schemas>(
     alloc: Global,
     world: World,
-    nodes: &mut Nodes,
+    nodes: &mut Over,
     schemas: &X,
     pattern: &Pattern,
     terms: &[Term],
@@ -68,11 +68,6 @@ fn add_clause<X: Schemas>(
     ensures { Adds (sequent_of sequent.now) (Schema pattern.now.schema pattern.now.clause terms.now) (set_of ground.old) (set_of ground.new) result }
 {
     let copy = Vec::from_slice(alloc, terms)?;
-    let line = Step::Schema {
-        schema: pattern.schema,
-        clause: pattern.clause,
-        terms: copy,
-    };
     let before = ground.nodes.len();
     match clause_of(
         alloc,
@@ -82,7 +77,14 @@ fn add_clause<X: Schemas>(
         pattern,
         terms,
     ) {
-        Ok(literals) => ground.keep(before, line, None, literals),
+        Ok(literals) => {
+            let line = Step::Schema {
+                schema: pattern.schema,
+                clause: pattern.clause,
+                terms: copy,
+            };
+            ground.keep(before, line, None, literals)
+        }
         Err(AxiomFault::NoSuch) => Ok(()),
         Err(AxiomFault::Memory) => Err(AllocError),
     }
@@ -239,7 +241,7 @@ fn add_patterns<X: Schemas>(
 }
 
 /// The operation of the node of a number.
-fn op_at(nodes: &Nodes, number: Term) -> Option<Op>
+fn op_at(nodes: &Over, number: Term) -> Option<Op>
     ensures { result ≡ option_map (λ (node : PureNode). node.op) (slice_get nodes.now number) }
 {
     Some(nodes.get(number)?.op)
@@ -392,18 +394,18 @@ pub fn round<X: Schemas>(
 }
 
 /// The ground set of a sequent with so many rounds of instances. It is `Many` where one of the rounds is.
-pub fn instances<X: Schemas>(
+pub fn instances<'a, X: Schemas>(
     alloc: Global,
-    sequent: &Sequent,
+    sequent: &'a Sequent<'a>,
     schemas: &X,
     rounds: u32,
-) -> Result<Ground, TrigFault>
+) -> Result<Ground<'a>, TrigFault>
     ensures set { Instantiates (sequent_of sequent.now) rounds result }
     ensures lines { IfOk result (λ g. length g.clauses ≡ length g.lines.items) }
 {
     let mut ground = clauses(alloc, sequent)?;
     for _done in 0..rounds {
-        round(alloc, &mut ground, sequent, schemas)?;
+        round(alloc, &mut ground, &*sequent, schemas)?;
     }
     // The nodes are a table.
     let _nodes = ground.nodes.len();

@@ -1,4 +1,4 @@
-use Rattle.std.proofs.Common.{◌≡◌, ℕ, ◌-◌, List, [], ◌∷◌, ◌++◌, length, take, drop, true, cond, sym, ap, ◌∙◌, subst, arith}
+use Rattle.std.proofs.Common.{◌≡◌, ℕ, ◌-◌, List, [], ◌∷◌, ◌++◌, length, take, drop, true, cond, refl, sym, ap, ◌∙◌, subst, arith}
 use Rattle.std.proofs.Math.Logic.{∥∥₁_map}
 use Rattle.std.proofs.lemmas.List.{take-append-drop}
 use Rattle.std.specs.Result.{is_ok}
@@ -11,8 +11,9 @@ pub add-requires : goal.add-requires
 add-requires c =
     let k = length c.args.self.now.stack.items - c.args.count in
     let start : c.len.result - c.args.count ≡ k = omega arith in
-    let parts = last_is c.args.self.now.stack.items c.deref.result.now c.in_ok-parts.parts.items (c.len.result - c.args.count) k c.in_ok-parts.ensures.items c.deref.ensures.value start in
-    sorted_parts c.args.self.now.nodes c.args.op c.args.self.now.stack.items c.in_ok-parts.parts.items k c.args.self.now.known parts c.requires.takes
+    let seen = c.deref.ensures.value ∙ c.in_ok-reserve.ensures.items in
+    let parts = last_is c.args.self.now.stack.items c.deref.result.now _ (c.len.result - c.args.count) k refl seen start in
+    sorted_parts c.args.self.now.nodes c.args.op c.args.self.now.stack.items _ k c.args.self.now.known parts c.requires.takes
 
 -- where the parts begin
 abbrev begin : goal.After-push → ℕ
@@ -28,7 +29,7 @@ begins : (c : goal.After-push) → c.len.result - c.args.count ≡ begin c
 begins c = omega arith
 
 made_is : (c : goal.After-push) → made c.args.self.now.nodes (node c) ≡ record { nodes = c.add.new.self; number = c.in_ok-number.number }
-made_is c = made_on c.args.self.now.nodes c.args.op c.args.self.now.stack.items c.deref.result.now c.in_ok-parts.parts.items (c.len.result - c.args.count) (begin c) _ c.in_ok-parts.ensures.items c.deref.ensures.value (begins c) c.in_ok-number.ensures.made
+made_is c = made_on c.args.self.now.nodes c.args.op c.args.self.now.stack.items c.deref.result.now _ (c.len.result - c.args.count) (begin c) _ refl (c.deref.ensures.value ∙ c.in_ok-reserve.ensures.items) (begins c) c.in_ok-number.ensures.made
 
 is_pushed : (c : goal.After-push) → is_ok c.push.result ≡ true
 is_pushed c = c.push.ensures.succeeds (omega (arith, c.in_ok-reserve.ensures.ok))
@@ -57,7 +58,7 @@ invariant_of-self-2-clause-walked c =
     subst (IsWalked c.add.new.self c.args.self.now.hypotheses.items) (sym (stack_is c)) ((now c).walked whole))
 
 made_at_end : (c : goal.In_ok-push) → made c.args.self.now.nodes (record { op = c.args.op; parts = drop (length c.args.self.now.stack.items - c.args.count) c.args.self.now.stack.items }) ≡ record { nodes = c.add.new.self; number = c.in_ok-number.number }
-made_at_end c = made_on c.args.self.now.nodes c.args.op c.args.self.now.stack.items c.deref.result.now c.in_ok-parts.parts.items (c.len.result - c.args.count) _ _ c.in_ok-parts.ensures.items c.deref.ensures.value (omega arith) c.in_ok-number.ensures.made
+made_at_end c = made_on c.args.self.now.nodes c.args.op c.args.self.now.stack.items c.deref.result.now _ (c.len.result - c.args.count) _ _ refl (c.deref.ensures.value ∙ c.in_ok-reserve.ensures.items) (omega arith) c.in_ok-number.ensures.made
 
 abbrev front_at_end : goal.In_ok-push → List ℕ
 front_at_end c = take (length c.args.self.now.stack.items - c.args.count) c.args.self.now.stack.items

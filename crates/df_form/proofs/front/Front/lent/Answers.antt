@@ -1,0 +1,8 @@
+use Rattle.std.proofs.Common.{◌≤◌, take, length, sym, ap, subst, ◌∙◌}
+use Rattle.df_form.proofs.front.Front.lent.Goals as goal
+
+pub new-requires : goal.new-requires
+new-requires c = subst (λ nodes. c.self.inside.count ≤ length nodes) (sym c.deref.ensures) c.self.invariant
+
+pub returns : goal.returns
+returns c = c.new.ensures ∙ ap (take c.self.inside.count) c.deref.ensures ∙ c.self.view_is

@@ -1,0 +1,8 @@
+use Rattle.std.proofs.Common.{ap, ◌∙◌}
+use Rattle.df_form.specs.Node.{Node, number_of}
+use Rattle.df_form.proofs.nodes.NodesNodeTable.find.Goals as goal
+
+pub returns : goal.returns
+returns c =
+    let node : Node = record { op = c.args.op.now; parts = c.args.parts.now } in
+    c.number_of.ensures ∙ ap (λ nodes. number_of nodes node) c.self.view_is
