@@ -4,7 +4,8 @@
 mod answer;
 mod range;
 mod substitution;
-mod value;
+mod values;
 
 pub use answer::Back;
 pub use substitution::back;
+pub use values::value;

@@ -7,7 +7,7 @@ ghost use Rattle.df_level.specs.Levels.{rows_of};
 ghost use Rattle.df_back.specs.BackView.{numbers_of};
 ghost use Rattle.df_back.specs.Ranges.{AreInside, IsGreater, IsLesser, TellsChoice, TellsLast, TellsNarrowed, TellsNearest, TellsRange, TellsRowBound};
 
-use crate::value::value;
+use crate::values::value;
 use df_level::Row;
 
 /// Bounds of a node.

@@ -35,7 +35,7 @@ use Rattle.df_elim.specs.Elimination.{IsWhole, TellsElimination}
 use Rattle.df_level.specs.Elimination.{AreRefuted}
 use Rattle.df_branch.specs.Facts.{TellsRows}
 use Rattle.df_branch.specs.Filling.{TellsOpen, IsOpenMember}
-use Rattle.df_branch.specs.Overflow.{at_row, at_level}
+use Rattle.df_branch.specs.Overflow.{in_row, in_level, of_rows}
 use Rattle.df_branch.specs.Place.{IsPlace}
 use Rattle.df_branch.specs.Leaf.{IsUnsolvable, IsIncongruent, IsWideLeaf, IsManyLeaf, IsOpenLeaf}
 use Rattle.df_branch.specs.ClosedPlace.{IsClosedPlace, IsClosedAt}
@@ -147,7 +147,7 @@ module _ (set : List Node) (clauses : List GroundClause) (nodes : List Node) (br
       closed = at.closed;
       formulas = formulas_of;
       quiet = labels_of.quiet;
-      overflows = at_row (ap (rows_of nodes) (sym at.facts_are) ∙ none);
+      overflows = of_rows (in_row (ap (rows_of nodes) (sym at.facts_are) ∙ none));
     }
 
     -- what comes of its rows
@@ -164,7 +164,7 @@ module _ (set : List Node) (clauses : List GroundClause) (nodes : List Node) (br
       )
 
       pub wide : TellsElimination rows answers.Wide → IsWideLeaf set clauses nodes branch
-      wide tells = record { reasons = reasons; learned = at.learned; closed = at.closed; formulas = formulas_of; quiet = labels_of.quiet; overflows = at_level rows rows_of_known tells }
+      wide tells = record { reasons = reasons; learned = at.learned; closed = at.closed; formulas = formulas_of; quiet = labels_of.quiet; overflows = of_rows (in_level rows rows_of_known tells) }
 
       pub many : (count : ℕ) → TellsElimination rows (answers.Many count) → IsManyLeaf clauses nodes branch count
       many count tells = record { is = tells.0; reasons = reasons; learned = at.learned; closed = at.closed; formulas = formulas_of; quiet = labels_of.quiet; rows = rows; rows_are = rows_of_known; many = tells.1 }

@@ -20,7 +20,8 @@ use Rattle.df_closure.specs.Closure.{GroundClause, after}
 use Rattle.df_branch.specs.Evidence.{AreUnrefuted}
 use Rattle.df_branch.specs.Leaf.{IsUnsolvable}
 use Rattle.df_branch.specs.ClosedPlace.{IsClosedAt}
-use Rattle.df_branch.specs.Standing.{AllHold, AreMet, HasStanding, in_row, in_level, IsWideList, IsManyList}
+use Rattle.df_branch.specs.Overflow.{in_row, in_level}
+use Rattle.df_branch.specs.Standing.{AllHold, AreMet, HasStanding, IsWideList, IsManyList}
 use Rattle.df_branch.proofs.Holding.{none_refuted, row_is_met}
 use Rattle.df_branch.proofs.Points.{index_of}
 

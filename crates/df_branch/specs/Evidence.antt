@@ -58,7 +58,7 @@ pub data IsShut (nodes : List Node) (clauses : List GroundClause) (list : List L
   by_congruence : (reasons : List ℕ) (learned : List Lit) → IsClosed clauses list reasons learned → are_literals nodes (after list learned) ≡ true → IsContradicted nodes (map negation (after list learned)) → IsShut nodes clauses list
   by_rows : (reasons : List ℕ) (learned : List Lit) (rows : List Row) → IsClosed clauses list reasons learned → are_literals nodes (after list learned) ≡ true → rows_of nodes (after list learned) ≡ Some rows → AreRefuted rows → IsShut nodes clauses list
 
--- rows that aren't refuted, and of which no others are
+-- no rows among these are refuted
 abbrev pub AreUnrefuted : List Row → Type 0
 AreUnrefuted rows = (some : List Row) → AreAmong some rows → AreRefuted some → ⊥
 

@@ -13,11 +13,15 @@ use Rattle.df_cong.specs.Congruence.{HasLabels}
 use Rattle.df_model.specs.TableNumbers.{basis_of}
 use Rattle.df_model.specs.Tabulation.{IsWideTable}
 
--- In a row of a known literal, by elimination, by back substitution, or by putting the numbers of back substitution into the
+-- in a row of a known literal, or by elimination, a number past 128 bits comes
+pub data RowsOverflow (nodes : List Node) (known : List Lit) : Type 0 where
+  in_row : rows_of nodes known ≡ None → RowsOverflow nodes known
+  in_level : (rows : List Row) → rows_of nodes known ≡ Some rows → AreOverflowing rows → RowsOverflow nodes known
+
+-- There, by back substitution, or by putting the numbers of back substitution into the
 -- sums and constant multiples of the ground set, a number past 128 bits comes.
 pub data Overflows (set nodes : List Node) (known : List Lit) : Type 0 where
-  at_row : rows_of nodes known ≡ None → Overflows set nodes known
-  at_level : (rows : List Row) → rows_of nodes known ≡ Some rows → AreOverflowing rows → Overflows set nodes known
+  of_rows : RowsOverflow nodes known → Overflows set nodes known
   at_value : (rows first : List Row) (variables : List ℕ) (levels : List (List Row)) (count : ℕ) → rows_of nodes known ≡ Some rows → IsElimination rows first variables levels → ((row : Row) → Stands row first → IsWithin count row)
       → IsPastWidth count first variables levels → Overflows set nodes known
   at_node : (rows first : List Row) (variables : List ℕ) (levels : List (List Row)) (count : ℕ) (numbers : List ℤ) (labels : List ℕ) → rows_of nodes known ≡ Some rows → IsElimination rows first variables levels

@@ -1,5 +1,5 @@
 -- What the rows of a list come to, whatever clauses are open beside it.
-use Rattle.std.specs.Prelude.{◌≡◌, ℕ, ℤ, true, List, map, None, Some}
+use Rattle.std.specs.Prelude.{◌≡◌, ℕ, ℤ, true, List, map, Some}
 use Rattle.df_form.specs.declared.log.Lit.{Lit}
 use Rattle.df_form.specs.Node.{Node}
 use Rattle.df_form.specs.Clause.{are_literals}
@@ -9,12 +9,13 @@ use Rattle.df_row.specs.RowView.{IsWithin}
 use Rattle.df_row.specs.Value.{row_holds}
 use Rattle.df_row.specs.Linear.{rows_of, refutes}
 use Rattle.df_level.specs.Levels.{Stands, row_limit}
-use Rattle.df_level.specs.Elimination.{AreOverflowing, AreMany}
+use Rattle.df_level.specs.Elimination.{AreMany}
 use Rattle.df_closure.specs.Closure.{GroundClause, after, IsClosed, IsRefuted}
 use Rattle.df_branch.specs.declared.standing.Standing.{Standing}
 use Rattle.df_branch.specs.declared.standing.Standing.TheVariants as standings
 use Rattle.df_branch.specs.Evidence.{AreUnrefuted}
 use Rattle.df_branch.specs.Leaf.{IsUnsolvable}
+use Rattle.df_branch.specs.Overflow.{RowsOverflow}
 
 -- each row holds at the numbers
 abbrev pub AllHold : (ℕ → ℤ) → List Row → Type 0
@@ -33,11 +34,6 @@ pub record HasStanding (clauses : List GroundClause) (nodes : List Node) (list :
   pub rows : List Row
   pub rows_are : rows_of nodes (after list learned) ≡ Some rows
   pub unrefuted : AreUnrefuted rows
-
--- in a row of a known literal, or by elimination, a number past 128 bits comes
-pub data RowsOverflow (nodes : List Node) (known : List Lit) : Type 0 where
-  in_row : rows_of nodes known ≡ None → RowsOverflow nodes known
-  in_level : (rows : List Row) → rows_of nodes known ≡ Some rows → AreOverflowing rows → RowsOverflow nodes known
 
 -- such a number comes of the closed list
 pub record IsWideList (clauses : List GroundClause) (nodes : List Node) (list : List Lit) : Type 0 where

@@ -6,7 +6,7 @@ ghost use Rattle.df_row.specs.Linear.{rows_of};
 ghost use Rattle.df_closure.specs.Closure.{after};
 ghost use Rattle.df_branch.specs.Facts.{TellsRows, AreSparse};
 
-use df_form::{Lit, Nodes};
+use df_form::{Lit, Over};
 use df_level::Row;
 use df_row::{RowFault, rows_of_literals};
 use std::alloc::{AllocError, Global};
@@ -40,7 +40,7 @@ fn sparse(alloc: Global, rows: &[df_row::Row]) -> Result<Vec<Row>, AllocError>
 /// The rows of literals; `None` exactly where a number of one is past 128 bits.
 pub(crate) fn rows(
     alloc: Global,
-    nodes: &Nodes,
+    nodes: &Over,
     literals: &[Lit],
 ) -> Result<Option<Vec<Row>>, AllocError>
     ensures { IfOk result (TellsRows nodes.now literals.now) }

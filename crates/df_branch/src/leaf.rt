@@ -25,7 +25,7 @@ use df_clause::GroundClause;
 use df_closure::{Closure, close};
 use df_cong::{Congruence, Reason, congruence};
 use df_elim::{Elimination, Levels, eliminate};
-use df_form::{Combination, Lit, Nodes};
+use df_form::{Combination, Lit, NodeTable, Over};
 use df_level::{Level, Row};
 use df_model::{Tabulation, tabulate};
 use df_refutation::refuting;
@@ -78,8 +78,8 @@ pub enum Leaf {
 /// A list where no clause is open, and its rows have levels without a false one.
 fn filled_leaf(
     alloc: Global,
-    set: &Nodes,
-    nodes: &Nodes,
+    set: &Over,
+    nodes: &Over,
     levels: &Levels,
     labels: &[usize],
     facts: &[Lit],
@@ -124,8 +124,8 @@ pub(crate) fn combinations(
 /// What comes next where a list is closed and no clause is open beside it.
 fn full_leaf(
     alloc: Global,
-    set: &Nodes,
-    nodes: &Nodes,
+    set: &Over,
+    nodes: &Over,
     labels: &[usize],
     reasons: Vec<usize>,
     facts: Vec<Lit>,
@@ -152,9 +152,9 @@ fn full_leaf(
 /// What comes next where a list is closed: an open clause comes before any row.
 fn closed_leaf(
     alloc: Global,
-    set: &Nodes,
+    set: &Over,
     clauses: &[GroundClause],
-    nodes: &Nodes,
+    nodes: &Over,
     known: &Known,
     reasons: Vec<usize>,
     facts: Vec<Lit>,
@@ -184,9 +184,9 @@ fn closed_leaf(
 /// by now.
 pub fn leaf_at(
     alloc: Global,
-    set: &Nodes,
+    set: &Over,
     clauses: &[GroundClause],
-    nodes: &Nodes,
+    nodes: &Over,
     branch: &[Lit],
 ) -> Result<Leaf, AllocError>
     requires { IsPlace set.now (map ground_of clauses.now) nodes.now branch.now }

@@ -1,52 +1,15 @@
 //! Rows at points.
 
-ghost use Rattle.std.specs.Prelude.{◌≡◌, ◌+ℤ◌, ◌*ℤ◌, ℕ, pos, true, IsTrue, slice_index_or};
-ghost use Rattle.df_row.specs.RowView.{narrow, IsWithin};
+ghost use Rattle.std.specs.Prelude.{◌≡◌, ℕ, true, IsTrue};
+ghost use Rattle.df_row.specs.RowView.{IsWithin};
 ghost use Rattle.df_row.specs.Value.{row_holds};
 ghost use Rattle.df_level.specs.Row.{function_row};
 ghost use Rattle.df_level.specs.Levels.{rows_of};
 ghost use Rattle.df_back.specs.BackView.{numbers_of};
-ghost use Rattle.df_back.specs.Ranges.{TellsValue};
 ghost use Rattle.df_branch.specs.Standing.{AllHold};
 
+use df_back::value;
 use df_level::Row;
-
-/// The number of the node, 0 past the end.
-fn number_at(numbers: &[i128], node: usize) -> i128
-    ensures { result ≡ numbers_of numbers.now node }
-{
-    match numbers.get(node) {
-        Some(number) => *number,
-        None => 0,
-    }
-}
-
-/// The product, where it has 128 bits.
-fn product(a: i128, b: i128) -> Option<i128>
-    ensures { result ≡ narrow (a *ℤ b) }
-{
-    a.checked_mul(b)
-}
-
-/// The sum, where it has 128 bits.
-fn sum(a: i128, b: i128) -> Option<i128>
-    ensures { result ≡ narrow (a +ℤ b) }
-{
-    a.checked_add(b)
-}
-
-/// The value of the row at the numbers. It is `None` only where a number on the way is past 128 bits.
-fn value(row: &Row, numbers: &[i128]) -> Option<i128>
-    ensures { (count : ℕ) → IsWithin count (function_row row.now) → TellsValue count (numbers_of numbers.now) (function_row row.now) result }
-{
-    let mut value = row.constant();
-    for entry in row.entries() {
-        let term = product(entry.1, number_at(numbers, entry.0))?;
-        let next = sum(value, term)?;
-        value = next;
-    }
-    Some(value)
-}
 
 /// Whether the row is seen to hold at the numbers.
 fn holds(row: &Row, numbers: &[i128]) -> bool

@@ -21,14 +21,14 @@ use df_back::{Back, back};
 use df_clause::GroundClause;
 use df_closure::{Closure, close};
 use df_elim::{Elimination, Levels, eliminate};
-use df_form::{Combination, Lit, Nodes};
+use df_form::{Combination, Lit, NodeTable, Over};
 use df_level::Row;
 use std::alloc::{AllocError, Global};
 
 /// What the rows of a list come to.
 #[derive(Drop)]
 pub enum Standing {
-    /// They aren't refuted. The numbers, if there are any, are a point of them.
+    /// They aren't refuted. The numbers, if there are any, are proposed as a point of them.
     Stands(Option<Vec<i128>>),
     /// Propagation through the clauses of these numbers leaves nothing of the last one.
     Refuted(Vec<usize>),
@@ -54,7 +54,7 @@ fn are_met(rows: &[Row], point: &[i128]) -> bool
 }
 
 /// The point of back substitution, where there is one.
-fn point_of(alloc: Global, nodes: &Nodes, levels: &Levels) -> Result<Option<Vec<i128>>, AllocError>
+fn point_of(alloc: Global, nodes: &Over, levels: &Levels) -> Result<Option<Vec<i128>>, AllocError>
     requires chain { Eliminates 0 (level_rows levels.now.first) levels.now.variables.items (map level_rows levels.now.others.items) }
     requires stands { HasFalse (last_level (level_rows levels.now.first) (map level_rows levels.now.others.items)) → ⊥ }
     requires within { (row : FunctionRow) → Stands row (level_rows levels.now.first) → IsWithin (length nodes.now) row }
@@ -74,7 +74,7 @@ fn point_of(alloc: Global, nodes: &Nodes, levels: &Levels) -> Result<Option<Vec<
 /// What elimination makes of the rows of a closed list.
 fn eliminated(
     alloc: Global,
-    nodes: &Nodes,
+    nodes: &Over,
     rows: &[Row],
     reasons: Vec<usize>,
     facts: Vec<Lit>,
@@ -99,7 +99,7 @@ fn eliminated(
 /// What the rows of a closed list come to: elimination is asked where they aren't met at once.
 fn closed_standing(
     alloc: Global,
-    nodes: &Nodes,
+    nodes: &Over,
     point: &[i128],
     reasons: Vec<usize>,
     facts: Vec<Lit>,
@@ -122,7 +122,7 @@ fn closed_standing(
 pub fn standing_at(
     alloc: Global,
     clauses: &[GroundClause],
-    nodes: &Nodes,
+    nodes: &Over,
     list: &[Lit],
     point: &[i128],
 ) -> Result<Standing, AllocError>

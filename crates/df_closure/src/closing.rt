@@ -43,7 +43,7 @@ pub(crate) struct Closing {
 }
 
 /// The set of the literals of a list.
-fn known_of(alloc: Global, literals: &[Lit]) -> Result<Known, AllocError>
+pub fn known_of(alloc: Global, literals: &[Lit]) -> Result<Known, AllocError>
     ensures { IfOk result (IsSetOf literals.now) }
 {
     let mut known = Known::new(alloc);

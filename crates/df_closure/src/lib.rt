@@ -7,6 +7,7 @@ mod closure;
 mod filling;
 mod law;
 
+pub use closing::known_of;
 pub use closure::{Closure, close};
 pub use filling::{later_nodes_leave_rows, rows_are_of_numbers};
 pub use law::{

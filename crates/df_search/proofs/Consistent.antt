@@ -14,7 +14,7 @@ use Rattle.df_trail.specs.Trail.{literals_of, branch_of, IsUndecided, AreDecided
 pub none_consistent : IsConsistent []
 none_consistent l here there = absurd (true_is_not_false false here refl)
 
-among_last : (literals : List Lit) (l m : Lit) → is_among (literals ++ l ∷ []) m ≡ true → (is_among literals m ≡ true) ⊎ (m ≡ l)
+pub among_last : (literals : List Lit) (l m : Lit) → is_among (literals ++ l ∷ []) m ≡ true → (is_among literals m ≡ true) ⊎ (m ≡ l)
 among_last [] l m e = ⊎_elim (λ same. inr (same_literal_is m l same)) (λ f. absurd (true_is_not_false false f refl)) (or_cases (same_literal m l) false e)
 among_last (n ∷ literals) l m e =
     ⊎_elim (λ same. inl (or_left (same_literal m n) (is_among literals m) same))

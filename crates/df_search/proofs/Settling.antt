@@ -17,9 +17,9 @@ use Rattle.df_trail.proofs.Retreated.{take_last, decided_grown}
 use Rattle.df_logbuild.proofs.Added.{mapped_append}
 use Rattle.df_branch.specs.Evidence.{IsUnshut, IsBranch}
 use Rattle.df_branch.specs.Next.{IsQuiet, ComesNext}
-use Rattle.df_branch.specs.Overflow.{Overflows, at_row, at_level}
+use Rattle.df_branch.specs.Overflow.{of_rows}
 use Rattle.df_branch.specs.Leaf.{IsUnsolvable, IsWideLeaf, IsManyLeaf}
-use Rattle.df_branch.specs.Standing.{HasStanding, RowsOverflow, in_row, in_level, IsWideList, IsManyList}
+use Rattle.df_branch.specs.Standing.{HasStanding, IsWideList, IsManyList}
 use Rattle.df_search.specs.declared.searching.State.{State}
 use Rattle.df_search.specs.declared.searching.End.{End}
 use Rattle.df_search.specs.declared.searching.End.TheVariants as ends
@@ -50,10 +50,6 @@ module _ (nodes : List Node) (clauses : List GroundClause) (list learned : List 
     unrefuted = is.unrefuted;
   }
 
-  overflow : (set : List Node) (known : List Lit) → RowsOverflow nodes known → Overflows set nodes known
-  overflow set known (in_row none) = at_row none
-  overflow set known (in_level rows rows_are wide) = at_level rows rows_are wide
-
   pub wide_here : (set : List Node) → IsWideList clauses nodes list → IsWideLeaf set clauses nodes list
   wide_here set is = record {
     reasons = is.reasons;
@@ -61,7 +57,7 @@ module _ (nodes : List Node) (clauses : List GroundClause) (list learned : List 
     closed = is.closed;
     formulas = is.formulas;
     quiet = quiet_before nodes clauses list learned quiet list is.learned is.reasons (covers_self list) is.closed;
-    overflows = overflow set _ is.overflows;
+    overflows = of_rows is.overflows;
   }
 
   pub many_here : (count : ℕ) → IsManyList clauses nodes list count → IsManyLeaf clauses nodes list count

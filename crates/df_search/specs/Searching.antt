@@ -149,7 +149,7 @@ pub record IsPlaced (state : State) : Type 0 where
   pub place : IsPlace state.set (clauses_of state) state.derivation.nodes (branch_of state.trail)
   pub places : length state.places.items ≡ length state.clauses.items
 
--- lines were added to the log, and nothing else but them
+-- the same nodes, clauses, places and decisions, whatever the lines of the log are
 pub record IsSame (old new : State) : Type 0 where
   pub set : new.set ≡ old.set
   pub clauses : new.clauses ≡ old.clauses
@@ -157,7 +157,8 @@ pub record IsSame (old new : State) : Type 0 where
   pub nodes : new.derivation.nodes ≡ old.derivation.nodes
   pub trail : new.trail ≡ old.trail
 
--- The branch without its last decision ends so; or the list without that is not shut.
+-- However the old branch ends, the new one ends so; or it ends as the old one did, and no list of its first literals, but
+-- all, is shut.
 abbrev pub Shortens : State → State → Option End → Type 0
 Shortens old new (Some shorter) = (s : Sequent) (rounds : ℕ) (ending : End) → EndsAt s rounds old ending → EndsAt s rounds new shorter
 Shortens old new None = (s : Sequent) (rounds : ℕ) (ending : End) → EndsAt s rounds old ending → EndsAt s rounds new ending × HasBranch new
@@ -171,7 +172,7 @@ abbrev pub Lessens : State → State → Option End → Type 0
 Lessens old new (Some shorter) = length new.trail.decisions.items < length old.trail.decisions.items
 Lessens old new None = Unit {0}
 
--- how many lines the log lacks of what an end adds
+-- an end that no line has told yet counts as a line
 abbrev pub owed : End → ℕ
 owed (ends.Closed conflict) = 0
 owed ends.Wide = 1

@@ -1,13 +1,14 @@
-//! Facts whose rows combinations take.
+//! Fewer facts for a line of linear arithmetic: those whose rows its combinations take. They are a proposal, which is
+//! checked.
 
-ghost use Rattle.std.specs.Prelude.{◌≡◌, IfOk, IfSome, map};
+ghost use Rattle.std.specs.Prelude.{IfOk, OnOk, IfSome, map};
 ghost use Rattle.df_form.specs.Log.{combination_of};
 ghost use Rattle.df_trail.specs.Trail.{HasAll};
-ghost use Rattle.df_search.specs.Lessening.{IsLine, IsLess, IsOf};
+ghost use Rattle.df_search.specs.Lessening.{AddsOnly, IsLine, IsLess, IsOf};
 
-use df_form::{Combination, Lit, Multiple, Nodes};
+use df_form::{Combination, Lit, Multiple, Over};
 use df_row::{RowFault, is_linear, rows_of_literals};
-use df_trail::{holds, negations};
+use df_trail::negations;
 use std::alloc::{AllocError, Global};
 use std::collections::BTreeSet;
 
@@ -19,7 +20,7 @@ pub(crate) struct Linear {
 }
 
 /// How many rows the fact has.
-fn row_count(alloc: Global, nodes: &Nodes, fact: Lit) -> Result<usize, AllocError> {
+fn row_count(alloc: Global, nodes: &Over, fact: Lit) -> Result<usize, AllocError> {
     match rows_of_literals(alloc, nodes, &[fact]) {
         Ok(rows) => Ok(rows.len()),
         Err(RowFault::Refused) => Ok(0),
@@ -54,57 +55,32 @@ fn is_taken(rows: &BTreeSet<usize>, start: usize, count: usize) -> bool {
     false
 }
 
-/// Facts that are kept, and the new numbers of rows.
+/// The new numbers of rows.
 #[derive(Drop)]
-struct Kept {
-    facts: Vec<Lit>,
+struct Numbers {
     /// The new number of each row of a fact, where that is kept.
     numbers: Vec<Option<usize>>,
     /// How many rows the kept facts have.
     count: usize,
 }
 
-impl Kept {
-    /// Gives numbers to so many rows, where they are kept.
-    fn number(&mut self, count: usize, kept: bool) -> Result<(), AllocError> {
+impl Numbers {
+    /// Gives numbers to so many rows of a fact that is kept.
+    fn keep(&mut self, count: usize) -> Result<(), AllocError> {
         for _place in 0..count {
             let number = self.count;
-            if kept {
-                self.numbers.push(Some(number))?;
-                self.count = number.saturating_add(1);
-            } else {
-                self.numbers.push(None)?;
-            }
+            self.numbers.push(Some(number))?;
+            self.count = number.saturating_add(1);
         }
         Ok(())
     }
 
-    /// Goes on to a fact with so many rows. It is kept where one of them is taken.
-    fn add(&mut self, rows: &BTreeSet<usize>, fact: Lit, count: usize) -> Result<(), AllocError> {
-        let kept = is_taken(rows, self.numbers.len(), count);
-        if kept {
-            self.facts.push(fact)?;
+    /// Goes over so many rows of a fact that is not kept.
+    fn skip(&mut self, count: usize) -> Result<(), AllocError> {
+        for _place in 0..count {
+            self.numbers.push(None)?;
         }
-        self.number(count, kept)
-    }
-
-    /// The facts of which a row is taken.
-    fn of(
-        alloc: Global,
-        nodes: &Nodes,
-        facts: &[Lit],
-        rows: &BTreeSet<usize>,
-    ) -> Result<Kept, AllocError> {
-        let mut kept = Kept {
-            facts: Vec::new(alloc),
-            numbers: Vec::new(alloc),
-            count: 0,
-        };
-        for fact in facts {
-            let count = row_count(alloc, nodes, *fact)?;
-            kept.add(rows, *fact, count)?;
-        }
-        Ok(kept)
+        Ok(())
     }
 
     /// The new number of a row: of a fact's, or of one that an earlier combination gives.
@@ -154,23 +130,55 @@ impl Kept {
     }
 }
 
-/// The literals of the facts that are among others.
-fn held(alloc: Global, facts: &[Lit], kept: &[Lit]) -> Result<Vec<Lit>, AllocError>
-    ensures { IfOk result (λ held. HasAll facts.now held.items) }
-{
-    let mut held = Vec::new(alloc);
-    for fact in facts {
-        if holds(kept, *fact) {
-            held.push(*fact)?;
+/// Facts that are kept, and the new numbers of rows.
+#[derive(Drop)]
+struct Kept {
+    facts: Vec<Lit>,
+    rows: Numbers,
+}
+
+impl Kept {
+    /// Goes on to a fact with so many rows. It is kept where one of them is taken.
+    fn add(&mut self, taken: &BTreeSet<usize>, fact: Lit, count: usize) -> Result<(), AllocError>
+        ensures { OnOk result (AddsOnly self.old.facts.items fact self.new.facts.items) }
+    {
+        if !is_taken(taken, self.rows.numbers.len(), count) {
+            self.rows.skip(count)?;
+            return Ok(());
         }
+        self.rows.keep(count)?;
+        self.facts.push(fact)?;
+        Ok(())
     }
-    Ok(held)
+
+    /// The facts of which a row is taken.
+    fn of(
+        alloc: Global,
+        nodes: &Over,
+        facts: &[Lit],
+        taken: &BTreeSet<usize>,
+    ) -> Result<Kept, AllocError>
+        ensures { IfOk result (λ kept. HasAll facts.now kept.facts.items) }
+    {
+        let mut kept = Kept {
+            facts: Vec::new(alloc),
+            rows: Numbers {
+                numbers: Vec::new(alloc),
+                count: 0,
+            },
+        };
+        for fact in facts {
+            let count = row_count(alloc, nodes, *fact)?;
+            kept.add(taken, *fact, count)?;
+        }
+        Ok(kept)
+    }
 }
 
 /// The facts whose rows are taken, with the combinations by their new numbers.
-fn taken(
+fn of_taken_rows(
     alloc: Global,
-    nodes: &Nodes,
+    nodes: &Over,
     facts: &[Lit],
     combinations: &[Combination],
 ) -> Result<Option<Linear>, AllocError>
@@ -178,12 +186,11 @@ fn taken(
 {
     let rows = taken_rows(alloc, combinations)?;
     let kept = Kept::of(alloc, nodes, facts, &rows)?;
-    let Some(combinations) = kept.combinations(alloc, combinations)? else {
+    let Some(combinations) = kept.rows.combinations(alloc, combinations)? else {
         return Ok(None);
     };
-    let facts = held(alloc, facts, &kept.facts)?;
     Ok(Some(Linear {
-        facts,
+        facts: kept.facts,
         combinations,
     }))
 }
@@ -191,13 +198,13 @@ fn taken(
 /// The same, where these combinations are seen to refute the rows of these facts.
 fn fewer(
     alloc: Global,
-    nodes: &Nodes,
+    nodes: &Over,
     facts: &[Lit],
     combinations: &[Combination],
 ) -> Result<Option<Linear>, AllocError>
     ensures { IfOk result (λ found. IfSome found (IsLine nodes.now facts.now)) }
 {
-    let Some(linear) = taken(alloc, nodes, facts, combinations)? else {
+    let Some(linear) = of_taken_rows(alloc, nodes, facts, combinations)? else {
         return Ok(None);
     };
     let conclusion = negations(alloc, &linear.facts)?;
@@ -211,7 +218,7 @@ fn fewer(
 /// Facts of those that are given, and combinations that refute their rows where the given ones do.
 pub(crate) fn lessened(
     alloc: Global,
-    nodes: &Nodes,
+    nodes: &Over,
     facts: Vec<Lit>,
     combinations: Vec<Combination>,
 ) -> Result<Linear, AllocError>

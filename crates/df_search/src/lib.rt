@@ -2,6 +2,9 @@
 #![tactic(auto)]
 
 mod confirming;
+mod conflicts;
+mod decisions;
+mod ends;
 mod engine;
 mod exhausting;
 mod found;

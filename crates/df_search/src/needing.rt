@@ -6,6 +6,7 @@ ghost use Rattle.df_rules.specs.Known.{knows};
 ghost use Rattle.df_trail.specs.Trail.{HasAll};
 
 use df_clause::GroundClause;
+use df_closure::known_of;
 use df_form::Lit;
 use df_rules::{Known, no_of, yes_of};
 use std::alloc::{AllocError, Global};
@@ -16,15 +17,6 @@ fn taught_by(clauses: &[GroundClause], known: &Known, number: usize) -> Option<L
         Some(clause) => known.only_left(&clause.literals),
         None => None,
     }
-}
-
-/// The set of the literals.
-fn known_of(alloc: Global, literals: &[Lit]) -> Result<Known, AllocError> {
-    let mut known = Known::new(alloc);
-    for literal in literals {
-        known.insert(*literal)?;
-    }
-    Ok(known)
 }
 
 /// What the clauses of these numbers teach beside the list, one after another, as long as they teach.

@@ -53,7 +53,7 @@ returns-in_ok-conflict-in-Refuted-clause-shortens c = λ s rounds ending h.
     let before = c.args.before.now in
     let has = c.requires.fresh in
     let trail = c.take_back.new.self in
-    let taken = c.take_back.ensures has.0.kept (decided has.0.literal) has.0.is in
+    let taken = c.take_back.ensures.kept has.0.kept (decided has.0.literal) has.0.is in
     let is = subst (TellsStanding (clauses_of old) old.derivation.nodes before) c.in-Refuted.is c.in_ok-standing.ensures in
     c.in_ok-conflict-in-Refuted.ensures.refutes s rounds (shorter_searches s rounds old before has trail taken (ends_searches s rounds old ending h))
     (refuted_there s rounds old before has trail taken c.deref.result.now (subst (λ (ns : List ℕ). IsRefuted (clauses_of old) before ns) (sym c.deref.ensures.value) is))
@@ -63,7 +63,7 @@ returns-in_ok-conflict-in-Refuted-clause-placed c =
     let old = c.args.self.now in
     let has = c.requires.fresh in
     let trail = c.take_back.new.self in
-    let taken = c.take_back.ensures has.0.kept (decided has.0.literal) has.0.is in
+    let taken = c.take_back.ensures.kept has.0.kept (decided has.0.literal) has.0.is in
     placed_same (record old { trail = trail }) c.refute.new.self c.refute.ensures.same (placed_shorter old c.args.before.now has trail taken c.requires.placed)
 
 pub returns-in_ok-conflict-in-Refuted-clause-less : goal.returns-in_ok-conflict-in-Refuted-clause-less
@@ -71,7 +71,7 @@ returns-in_ok-conflict-in-Refuted-clause-less c =
     let old = c.args.self.now in
     let has = c.requires.fresh in
     let trail = c.take_back.new.self in
-    let less = fewer old c.args.before.now has trail (c.take_back.ensures has.0.kept (decided has.0.literal) has.0.is) in
+    let less = fewer old c.args.before.now has trail (c.take_back.ensures.kept has.0.kept (decided has.0.literal) has.0.is) in
     omega (arith, less, ap (λ (t : Trail). length t.decisions.items) c.refute.ensures.same.trail)
 
 pub returns-in_ok-conflict-in-Refuted-clause-grown : goal.returns-in_ok-conflict-in-Refuted-clause-grown
@@ -95,7 +95,7 @@ returns-in_ok-conflict-in-Unsolvable-clause-shortens c = λ s rounds ending h.
     let before = c.args.before.now in
     let has = c.requires.fresh in
     let trail = c.take_back-in-Unsolvable.new.self in
-    let taken = c.take_back-in-Unsolvable.ensures has.0.kept (decided has.0.literal) has.0.is in
+    let taken = c.take_back-in-Unsolvable.ensures.kept has.0.kept (decided has.0.literal) has.0.is in
     let tells = subst (TellsStanding (clauses_of old) old.derivation.nodes before) c.in-Unsolvable.is c.in_ok-standing.ensures in
     let is = subst (λ (ns : List ℕ). IsUnsolvable (clauses_of old) old.derivation.nodes before ns c.in-Unsolvable.facts.items tells.0) (sym c.deref-in-Unsolvable.ensures.value) tells.1 in
     c.in_ok-conflict-in-Unsolvable.ensures.solves s rounds tells.0 (shorter_searches s rounds old before has trail taken (ends_searches s rounds old ending h)) (unsolvable_there s rounds old before has trail taken c.deref-in-Unsolvable.result.now c.in-Unsolvable.facts.items tells.0 is) tells.2
@@ -105,7 +105,7 @@ returns-in_ok-conflict-in-Unsolvable-clause-placed c =
     let old = c.args.self.now in
     let has = c.requires.fresh in
     let trail = c.take_back-in-Unsolvable.new.self in
-    let taken = c.take_back-in-Unsolvable.ensures has.0.kept (decided has.0.literal) has.0.is in
+    let taken = c.take_back-in-Unsolvable.ensures.kept has.0.kept (decided has.0.literal) has.0.is in
     placed_same (record old { trail = trail }) c.solve.new.self c.solve.ensures.same (placed_shorter old c.args.before.now has trail taken c.requires.placed)
 
 pub returns-in_ok-conflict-in-Unsolvable-clause-less : goal.returns-in_ok-conflict-in-Unsolvable-clause-less
@@ -113,7 +113,7 @@ returns-in_ok-conflict-in-Unsolvable-clause-less c =
     let old = c.args.self.now in
     let has = c.requires.fresh in
     let trail = c.take_back-in-Unsolvable.new.self in
-    let less = fewer old c.args.before.now has trail (c.take_back-in-Unsolvable.ensures has.0.kept (decided has.0.literal) has.0.is) in
+    let less = fewer old c.args.before.now has trail (c.take_back-in-Unsolvable.ensures.kept has.0.kept (decided has.0.literal) has.0.is) in
     omega (arith, less, ap (λ (t : Trail). length t.decisions.items) c.solve.ensures.same.trail)
 
 pub returns-in_ok-conflict-in-Unsolvable-clause-grown : goal.returns-in_ok-conflict-in-Unsolvable-clause-grown
@@ -126,34 +126,34 @@ returns-in-Wide-clause-shortens c =
     let old = c.args.self.now in
     let has = c.requires.fresh in
     let wide = subst (TellsStanding (clauses_of old) old.derivation.nodes c.args.before.now) c.in-Wide.is c.in_ok-standing.ensures in
-    shortens_wide old c.args.before.now has c.take_back-in-Wide.new.self (c.take_back-in-Wide.ensures has.0.kept (decided has.0.literal) has.0.is) wide
+    shortens_wide old c.args.before.now has c.take_back-in-Wide.new.self (c.take_back-in-Wide.ensures.kept has.0.kept (decided has.0.literal) has.0.is) wide
 
 pub returns-in-Wide-clause-placed : goal.returns-in-Wide-clause-placed
 returns-in-Wide-clause-placed c =
     let has = c.requires.fresh in
-    placed_shorter c.args.self.now c.args.before.now has c.take_back-in-Wide.new.self (c.take_back-in-Wide.ensures has.0.kept (decided has.0.literal) has.0.is) c.requires.placed
+    placed_shorter c.args.self.now c.args.before.now has c.take_back-in-Wide.new.self (c.take_back-in-Wide.ensures.kept has.0.kept (decided has.0.literal) has.0.is) c.requires.placed
 
 pub returns-in-Wide-clause-less : goal.returns-in-Wide-clause-less
 returns-in-Wide-clause-less c =
     let has = c.requires.fresh in
-    fewer c.args.self.now c.args.before.now has c.take_back-in-Wide.new.self (c.take_back-in-Wide.ensures has.0.kept (decided has.0.literal) has.0.is)
+    fewer c.args.self.now c.args.before.now has c.take_back-in-Wide.new.self (c.take_back-in-Wide.ensures.kept has.0.kept (decided has.0.literal) has.0.is)
 
 pub returns-in-Many-clause-shortens : goal.returns-in-Many-clause-shortens
 returns-in-Many-clause-shortens c =
     let old = c.args.self.now in
     let has = c.requires.fresh in
     let many = subst (TellsStanding (clauses_of old) old.derivation.nodes c.args.before.now) c.in-Many.is c.in_ok-standing.ensures in
-    shortens_many old c.args.before.now has c.take_back-in-Many.new.self (c.take_back-in-Many.ensures has.0.kept (decided has.0.literal) has.0.is) c.in-Many.count many
+    shortens_many old c.args.before.now has c.take_back-in-Many.new.self (c.take_back-in-Many.ensures.kept has.0.kept (decided has.0.literal) has.0.is) c.in-Many.count many
 
 pub returns-in-Many-clause-placed : goal.returns-in-Many-clause-placed
 returns-in-Many-clause-placed c =
     let has = c.requires.fresh in
-    placed_shorter c.args.self.now c.args.before.now has c.take_back-in-Many.new.self (c.take_back-in-Many.ensures has.0.kept (decided has.0.literal) has.0.is) c.requires.placed
+    placed_shorter c.args.self.now c.args.before.now has c.take_back-in-Many.new.self (c.take_back-in-Many.ensures.kept has.0.kept (decided has.0.literal) has.0.is) c.requires.placed
 
 pub returns-in-Many-clause-less : goal.returns-in-Many-clause-less
 returns-in-Many-clause-less c =
     let has = c.requires.fresh in
-    fewer c.args.self.now c.args.before.now has c.take_back-in-Many.new.self (c.take_back-in-Many.ensures has.0.kept (decided has.0.literal) has.0.is)
+    fewer c.args.self.now c.args.before.now has c.take_back-in-Many.new.self (c.take_back-in-Many.ensures.kept has.0.kept (decided has.0.literal) has.0.is)
 
 pub returns-in-Wide-clause-grown : goal.returns-in-Wide-clause-grown
 returns-in-Wide-clause-grown c = omega arith

@@ -5,7 +5,7 @@ use Rattle.df_row.specs.RowView.{narrow}
 use Rattle.df_level.specs.Row.{function_row}
 use Rattle.df_back.proofs.Additions.{IsAdding, adding_begins, goes_at, product_wide_at, sum_wide_at, done_at, not_narrow, narrowed, tells_wide}
 use Rattle.df_back.specs.BackView.{numbers_of}
-use Rattle.df_branch.proofs.point.value.Goals as goal
+use Rattle.df_back.proofs.values.value.Goals as goal
 
 pub loop-entry-init : goal.loop-entry-init
 loop-entry-init c = λ count within. adding_begins count (numbers_of c.args.numbers.now) (function_row c.args.row.now) within _ _ c.entries-entry-items.ensures.ordered c.entries-entry-items.ensures.coefficients (search (rules, c.constant-value.ensures))

@@ -1,6 +1,6 @@
 use Rattle.std.proofs.Common.{refl}
 use Rattle.df_search.proofs.Apart.{first_apart, second_apart}
-use Rattle.df_search.proofs.searching.is_apart.Goals as goal
+use Rattle.df_search.proofs.ends.is_apart.Goals as goal
 
 pub returns-then-lacks_last : goal.returns-then-lacks_last
 returns-then-lacks_last c = λ holds. first_apart c.args.branch.now c.args.other.now (c.if-lacks_last.ensures refl)
