@@ -90,14 +90,15 @@ RetreatsFrom old_log old conflict new_log new retreat = (s : Sequent) (front : L
 abbrev pub others_of : Lit → List Lit → List Lit
 others_of literal literals = filter (λ l. not (same_literal l literal)) literals
 
--- A conflict needs the negation of a literal, another one the literal, and else both need literals of a list. The log then
--- says that what they need else is not all true.
+-- Beside a branch a literal is undecided. A conflict needs its negation, and else literals of the branch; another one needs
+-- literals of the branch, and it may need the literal.
 pub record AreSides (all : List Clause) (branch : List Lit) (literal : Lit) (other conflict : Conflict) : Type 0 where
   pub undecided : IsUndecided branch literal
   pub first : IsConflict all (branch ++ negation literal ∷ []) other
   pub needs : is_among other.needed.items (negation literal) ≡ true
   pub second : IsConflict all (branch ++ literal ∷ []) conflict
 
+-- the log then says that literals of the branch are not all true
 abbrev pub JoinsSides : Lit → Conflict → Conflict → Derivation → Derivation → Conflict → Type 0
 JoinsSides literal other conflict old new joined =
     (s : Sequent) (all : List Clause) (branch : List Lit) → Runs s old all → are_literals old.nodes branch ≡ true → AreSides all branch literal other conflict

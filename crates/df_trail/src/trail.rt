@@ -82,9 +82,10 @@ impl Trail {
         Ok(Some(before))
     }
 
-    /// Takes back the last decision.
+    /// Takes back the last decision. Where there is none, none stays.
     pub fn take_back(&mut self)
-        ensures { (kept : List Decided) (last : Decided) → self.old.decisions.items ≡ kept ++ last ∷ [] → self.new.decisions.items ≡ kept }
+        ensures kept { (kept : List Decided) (last : Decided) → self.old.decisions.items ≡ kept ++ last ∷ [] → self.new.decisions.items ≡ kept }
+        ensures none { self.old.decisions.items ≡ [] → self.new.decisions.items ≡ [] }
     {
         let _last = self.decisions.pop();
     }
