@@ -46,20 +46,22 @@ fn of_stmt(callees: &mut Vec<usize>, stmt: &Stmt) -> Result<(), Memory>
     ensures { OnOk result (callees.new.items ≡ callees.old.items ++ pure.callees (stmt_of stmt.now)) }
 {
     match stmt {
-        Stmt::Block { body, .. } | Stmt::While { body, .. } => of_stmts(callees, body)?,
-        Stmt::Var { update, .. } | Stmt::Return { update, .. } => of_update(callees, update)?,
-        Stmt::Assign { update, .. } => of_sources(callees, &update.sources)?,
-        Stmt::Call(call) => callees.push(call.callee)?,
+        Stmt::Block { body, .. } | Stmt::While { body, .. } => of_stmts(callees, body),
+        Stmt::Var { update, .. } | Stmt::Return { update, .. } => of_update(callees, update),
+        Stmt::Assign { update, .. } => of_sources(callees, &update.sources),
+        Stmt::Call(call) => {
+            callees.push(call.callee)?;
+            Ok(())
+        }
         Stmt::If {
             branches,
             otherwise,
         } => {
             of_branches(callees, branches)?;
-            of_stmts(callees, otherwise)?;
+            of_stmts(callees, otherwise)
         }
-        Stmt::Break { .. } | Stmt::Assert { .. } | Stmt::Print { .. } => {}
+        Stmt::Break { .. } | Stmt::Assert { .. } | Stmt::Print { .. } => Ok(()),
     }
-    Ok(())
 }
 
 /// Adds what statements call.

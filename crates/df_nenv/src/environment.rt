@@ -42,6 +42,16 @@ pub enum Inferred {
     Fixed(Option<Ty>),
 }
 
+/// Whether this fixes no type.
+fn is_open(inferred: Inferred) -> bool
+    ensures { result ≡ rules.is_unfixed (Some (inferred_of inferred)) }
+{
+    match inferred {
+        Inferred::Open | Inferred::Used => true,
+        Inferred::Fixed(_) => false,
+    }
+}
+
 /// What fixes a type from here on, where this fixes it so.
 fn fixed(before: Inferred, fixing: Inferred) -> Inferred
     ensures { inferred_of result ≡ if_open (Some (inferred_of before)) (inferred_of fixing) }
@@ -159,8 +169,8 @@ impl Environment<'_> {
         ensures { result ≡ rules.is_unfixed (slice_get self.now.types number) }
     {
         match self.types.get(number) {
-            Some(Inferred::Open | Inferred::Used) => true,
-            Some(Inferred::Fixed(_)) | None => false,
+            Some(inferred) => is_open(*inferred),
+            None => false,
         }
     }
 

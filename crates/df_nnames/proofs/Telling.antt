@@ -1,5 +1,6 @@
 -- The first fault of a list, part by part.
-use Rattle.std.proofs.Common.{◌≡◌, ℕ, ◌+◌, ◌<◌, ◌≤◌, List, [], ◌∷◌, ◌++◌, length, get_or, drop, Result, sym, ap, subst, ◌∙◌, append_assoc}
+use Rattle.std.proofs.Common.{◌≡◌, ℕ, ◌+◌, ◌<◌, ◌≤◌, List, [], ◌∷◌, ◌++◌, map, length, get_or, drop, Result, sym, ap, subst, ◌∙◌, append_assoc}
+use Rattle.std.specs.List.{flat_map}
 use Rattle.std.proofs.lemmas.List.{drop_all, drop_more}
 use Rattle.df_base.specs.declared.refusal.Refusal.{Refusal}
 use Rattle.df_base.specs.declared.refusal.Stop.{Stop}
@@ -34,6 +35,18 @@ module _ {S A : Type 0} (all : S → List A → List Refusal) (each : S → A �
 
   pub is_done : (i : ℕ) (s : S) → length items ≤ i → all s (drop i items) ≡ total → total ≡ []
   is_done i s le so_far = sym so_far ∙ ap (all s) (drop_all i items le) ∙ none s
+
+-- A walk along a list without a state.
+module _ {A B : Type 0} (faults : B → List Refusal) (view : A → B) (items : List A) (i : ℕ) (x : A) (total : List Refusal) (lt : i < length items) (is : x ≡ get_or items i x)
+    (so_far : flat_map faults (map view (drop i items)) ≡ total) where
+  row_here : flat_map faults (map view (drop i items)) ≡ faults (view x) ++ flat_map faults (map view (drop (i + 1) items))
+  row_here = ap (λ (l : List A). flat_map faults (map view l)) (drop_more items i x lt ∙ ap (λ y. y ∷ drop (i + 1) items) (sym is))
+
+  pub row_goes_on : faults (view x) ≡ [] → flat_map faults (map view (drop (i + 1) items)) ≡ total
+  row_goes_on clear = ap (λ (l : List Refusal). l ++ flat_map faults (map view (drop (i + 1) items))) (sym clear) ∙ sym row_here ∙ so_far
+
+  pub row_stops_at : (stop : Stop) → IsTold stop (faults (view x)) → IsTold stop total
+  row_stops_at stop told = subst (IsTold stop) (sym row_here ∙ so_far) (told_left stop (faults (view x)) (flat_map faults (map view (drop (i + 1) items))) told)
 
 -- what is told of two parts is told where more follows the second
 pub told_both : (stop : Stop) (a b c : List Refusal) → IsTold stop (a ++ b) → IsTold stop (a ++ (b ++ c))

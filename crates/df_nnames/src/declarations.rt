@@ -149,22 +149,24 @@ fn behaviour(
     block(globals, both, &method.body)
 }
 
-/// Looks up the names of a method in its two scopes, which are empty before.
+/// Looks up the names of a method, the declaration of this number, in its two scopes, which are empty before.
 fn method_within(
     alloc: Global,
     globals: &Globals,
     before: &mut Scope,
     both: &mut Scope,
+    id: DeclId,
     method: &MethodDeclaration,
-) -> Result<Signature, Stop>
+) -> Result<Method, Stop>
     requires before { before.old ≡ no_locals }
     requires both { both.old ≡ no_locals }
     ensures faults { Tells result (method_faults (meanings_of globals.now) (method_of method.now)) }
-    ensures signature { IfOk result (λ made. signature_of made ≡ signature_meant (meanings_of globals.now) (method_of method.now)) }
+    ensures id { IfOk result (λ made. made.id ≡ id) }
+    ensures signature { IfOk result (λ made. signature_of made.signature ≡ signature_meant (meanings_of globals.now) (method_of method.now)) }
 {
     let signature = signature(alloc, globals, before, both, method)?;
     behaviour(globals, before, both, method)?;
-    Ok(signature)
+    Ok(Method { id, signature })
 }
 
 /// Looks up the names of a method, the declaration of this number.
@@ -180,8 +182,7 @@ fn method(
 {
     let mut before = Scope::new(alloc);
     let mut both = Scope::new(alloc);
-    let signature = method_within(alloc, globals, &mut before, &mut both, method)?;
-    Ok(Method { id, signature })
+    method_within(alloc, globals, &mut before, &mut both, id, method)
 }
 
 /// Looks up the names of a newtype's predicate, which sees the variable.

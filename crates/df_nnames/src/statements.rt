@@ -27,15 +27,22 @@ pub(crate) fn new(scope: &Scope, ident: &Ident) -> Result<(), Stop>
     }
 }
 
+/// Looks up the names of one thing that is printed.
+fn operand(globals: &Globals, scope: &Scope, operand: &PrintOperand) -> Result<(), Stop>
+    ensures { Tells result (operand_faults (meanings_of globals.now) scope.now (operand_of operand.now)) }
+{
+    match operand {
+        PrintOperand::Text(_) => Ok(()),
+        PrintOperand::Value(e) => expr(globals, scope, e),
+    }
+}
+
 /// Looks up the names of what is printed.
 fn operands(globals: &Globals, scope: &Scope, all: &[PrintOperand]) -> Result<(), Stop>
     ensures { Tells result (flat_map (operand_faults (meanings_of globals.now) scope.now) (map operand_of all.now)) }
 {
-    for operand in all {
-        match operand {
-            PrintOperand::Text(_) => {}
-            PrintOperand::Value(e) => expr(globals, scope, e)?,
-        }
+    for each in all {
+        operand(globals, scope, each)?;
     }
     Ok(())
 }

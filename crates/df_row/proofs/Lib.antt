@@ -3,6 +3,7 @@ pub mod Offsets
 pub mod RowEntries
 pub mod RowFold
 pub mod RowSums
+pub mod RowAdded
 pub mod RowQuotients
 pub mod RowNarrow
 pub mod LinearRows

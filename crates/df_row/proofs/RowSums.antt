@@ -109,7 +109,7 @@ nothing : {A : Type 0} (b : Bool) → let none : Option A = None in cond b none 
 nothing true = refl
 nothing false = refl
 
-unfit : {A : Type 0} (z : ℤ) (o : Option A) → narrow z ≡ None → if_fits z o ≡ None
+pub unfit : {A : Type 0} (z : ℤ) (o : Option A) → narrow z ≡ None → if_fits z o ≡ None
 unfit z o e = by (fits z) e
   where
     by : (b : Bool) → cond b (Some z) None ≡ None → cond b o None ≡ None

@@ -7,7 +7,7 @@ ghost use Rattle.df_row.specs.RowView.{row_of, Finds, IsWithin, IsLastBelow, ter
 ghost use Rattle.df_row.specs.ExpansionView.{expansion_of};
 
 use crate::row::{Row, RowFault, are_table};
-use df_form::{Nodes, Offset, Op};
+use df_form::{NodeTable, Offset, Op, Over};
 use df_integer::Integer;
 use std::alloc::{AllocError, Global};
 use std::collections::BTreeMap;
@@ -23,7 +23,7 @@ enum Term {
 }
 
 /// The number of a literal.
-fn literal(nodes: &Nodes, node: usize) -> Option<i128>
+fn literal(nodes: &Over, node: usize) -> Option<i128>
     ensures { result ≡ literal_number (slice_get nodes.now node) }
 {
     match nodes.get(node)?.op {
@@ -32,7 +32,7 @@ fn literal(nodes: &Nodes, node: usize) -> Option<i128>
     }
 }
 
-fn term_at(nodes: &Nodes, node: usize) -> Term
+fn term_at(nodes: &Over, node: usize) -> Term
     ensures { result ≡ term_of nodes.now (slice_get nodes.now node) }
 {
     let Some(found) = nodes.get(node) else {
@@ -130,7 +130,7 @@ impl Expansion {
     }
 
     /// Puts what a node stands for in its place.
-    fn expand_at(&mut self, alloc: Global, nodes: &Nodes, node: usize) -> Result<(), AllocError>
+    fn expand_at(&mut self, alloc: Global, nodes: &Over, node: usize) -> Result<(), AllocError>
         ensures { IfOk result (λ _. expansion_of self.new ≡ expanded_at nodes.now node (slice_get nodes.now node) (expansion_of self.old)) }
     {
         match term_at(nodes, node) {
@@ -163,7 +163,7 @@ impl Expansion {
 
     /// Makes literals part of the constant, and puts their parts in the place of sums and of literals
     /// times a node. Parts have lower numbers, so one way down is enough.
-    fn expand(&mut self, alloc: Global, nodes: &Nodes) -> Result<(), AllocError>
+    fn expand(&mut self, alloc: Global, nodes: &Over) -> Result<(), AllocError>
         ensures { IfOk result (λ _. expansion_of self.new ≡ expanded_below nodes.now (length nodes.now) (expansion_of self.old)) }
     {
         let mut bound = nodes.len();
@@ -177,7 +177,7 @@ impl Expansion {
     /// b - a + k. It begins with the bases of the two, so a long chain of additions is one step.
     pub(crate) fn difference(
         alloc: Global,
-        nodes: &Nodes,
+        nodes: &Over,
         a: usize,
         b: usize,
         k: i128,

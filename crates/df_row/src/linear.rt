@@ -10,7 +10,7 @@ ghost use Rattle.df_row.specs.Linear.{rows_of, combined, refutes as refutes_by, 
 ghost use Rattle.df_row.specs.LinearView.{comparison_of, rows_of_comparison, IsComparisonBelow, AreWithin, Tells, are_refuted};
 
 use crate::row::{Row, RowFault, are_table};
-use df_form::{Combination, Lit, Nodes, Op, Sort};
+use df_form::{Combination, Lit, NodeTable, Op, Over, Sort};
 use std::alloc::{AllocError, Global};
 
 /// What a literal says of two numbers.
@@ -24,7 +24,7 @@ enum Comparison {
     Other,
 }
 
-fn comparison_at(nodes: &Nodes, positive: bool, node: usize) -> Comparison
+fn comparison_at(nodes: &Over, positive: bool, node: usize) -> Comparison
     ensures { result ≡ comparison_of nodes.now positive (slice_get nodes.now node) }
 {
     let Some(found) = nodes.get(node) else {
@@ -44,7 +44,7 @@ fn comparison_at(nodes: &Nodes, positive: bool, node: usize) -> Comparison
 /// Adds the row of 0 <= b - a + k.
 fn push_difference(
     alloc: Global,
-    nodes: &Nodes,
+    nodes: &Over,
     a: usize,
     b: usize,
     k: i128,
@@ -61,7 +61,7 @@ fn push_difference(
 /// Adds the rows of a comparison.
 fn push_rows(
     alloc: Global,
-    nodes: &Nodes,
+    nodes: &Over,
     comparison: Comparison,
     rows: &mut Vec<Row>,
 ) -> Result<(), RowFault>
@@ -82,11 +82,7 @@ fn push_rows(
 /// The rows of the literals, in order: a <= b is 0 <= b - a, its negation is 0 <= a - b - 1, and an
 /// equality of numbers is both ways of <=. Other literals have none. It is `Refused` exactly where a
 /// number of a row is past 128 bits.
-pub fn rows_of_literals(
-    alloc: Global,
-    nodes: &Nodes,
-    literals: &[Lit],
-) -> Result<Vec<Row>, RowFault>
+pub fn rows_of_literals(alloc: Global, nodes: &Over, literals: &[Lit]) -> Result<Vec<Row>, RowFault>
     ensures { Finds (λ rows. map row_of rows.items) result (rows_of nodes.now literals.now) }
 {
     are_table(nodes);
@@ -110,7 +106,7 @@ fn negations(alloc: Global, literals: &[Lit]) -> Result<Vec<Lit>, AllocError>
 }
 
 /// The rows of the negated literals, in order.
-fn rows_of_negations(alloc: Global, nodes: &Nodes, conclusion: &[Lit]) -> Result<Vec<Row>, RowFault>
+fn rows_of_negations(alloc: Global, nodes: &Over, conclusion: &[Lit]) -> Result<Vec<Row>, RowFault>
     ensures { Finds (λ rows. map row_of rows.items) result (rows_of nodes.now (map negation conclusion.now)) }
 {
     let negated = negations(alloc, conclusion)?;
@@ -150,7 +146,7 @@ fn refutes(
 
 fn is_refuted(
     alloc: Global,
-    nodes: &Nodes,
+    nodes: &Over,
     conclusion: &[Lit],
     combinations: &[Combination],
 ) -> Result<bool, RowFault>
@@ -164,7 +160,7 @@ fn is_refuted(
 /// Whether the line is one: combinations refute the rows of the negated literals of the conclusion.
 pub fn is_linear(
     alloc: Global,
-    nodes: &Nodes,
+    nodes: &Over,
     conclusion: &[Lit],
     combinations: &[Combination],
 ) -> Result<bool, AllocError>

@@ -10,7 +10,7 @@ ghost use Rattle.std.specs.List.{list_all};
 ghost use Rattle.std.specs.BTreeMap.{values, IsOrdered};
 
 use crate::expansion::Expansion;
-use df_form::Nodes;
+use df_form::{NodeTable, Over};
 use std::alloc::{AllocError, AllocFailed, Global};
 use std::collections::BTreeMap;
 
@@ -46,7 +46,7 @@ impl<T: Drop> From<AllocFailed<T>> for RowFault {
 }
 
 /// The nodes are a table.
-pub(crate) fn are_table(nodes: &Nodes)
+pub(crate) fn are_table(nodes: &Over)
     ensures { IsTable nodes.now }
 {
     let _ = nodes.len();
@@ -143,7 +143,7 @@ impl Row {
     /// 0 <= b - a + k.
     pub(crate) fn difference(
         alloc: Global,
-        nodes: &Nodes,
+        nodes: &Over,
         a: usize,
         b: usize,
         k: i128,

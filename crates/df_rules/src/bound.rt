@@ -6,25 +6,16 @@ ghost use Rattle.df_form.specs.Sorting.{is_well_sorted};
 ghost use Rattle.df_rules.specs.Bound.{at_most};
 ghost use Rattle.df_rules.specs.Growth.{Grows, IsNumber};
 
-use df_form::{Node, Nodes, Op};
-use std::alloc::{AllocError, Global};
+use df_form::{Arena, Op, Over};
+use std::alloc::AllocError;
 
 /// The number of `left <= right`, which is made where it does not stand yet.
-pub fn comparison(
-    alloc: Global,
-    nodes: &mut Nodes,
-    left: usize,
-    right: usize,
-) -> Result<usize, AllocError>
+pub fn comparison(nodes: &mut Over, left: usize, right: usize) -> Result<usize, AllocError>
     requires left { IsNumber nodes.old left }
     requires right { IsNumber nodes.old right }
     ensures made { IfOk result (λ n. made nodes.old (at_most left right) ≡ record { nodes = nodes.new; number = n }) }
     ensures grows { Grows nodes.old nodes.new }
     ensures longer { length nodes.old ≤ length nodes.new }
 {
-    let parts = vec![in alloc; left, right]?;
-    nodes.add(Node {
-        op: Op::AtMost,
-        parts,
-    })
+    nodes.add(Op::AtMost, &[left, right])
 }

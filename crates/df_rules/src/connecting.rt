@@ -9,7 +9,7 @@ ghost use Rattle.df_rules.specs.Growth.{IsNumber};
 
 use crate::bound::comparison;
 use crate::literal::{no_of, with_each, with_no_each, yes_of};
-use df_form::{Lit, Node, Nodes, Op, Sort};
+use df_form::{Lit, Node, NodeTable, Op, Over, Sort};
 use std::alloc::{AllocError, Global};
 
 fn not_clause(
@@ -140,7 +140,7 @@ fn plain_clause_of(
 }
 
 /// The two sides, where the node is an equality of numbers.
-fn sides(nodes: &Nodes, number: usize) -> Option<(usize, usize)>
+fn sides(nodes: &Over, number: usize) -> Option<(usize, usize)>
     ensures sides { result ≡ equality_of nodes.now number }
     ensures numbers { IfSome result (λ sides. IsNumber nodes.now sides.0 × IsNumber nodes.now sides.1) }
 {
@@ -157,7 +157,7 @@ fn sides(nodes: &Nodes, number: usize) -> Option<(usize, usize)>
 /// A clause of an equality, which counts as the `and` of two comparisons.
 fn equality_clause(
     alloc: Global,
-    nodes: &mut Nodes,
+    nodes: &mut Over,
     number: usize,
     sides: (usize, usize),
     clause: usize,
@@ -170,16 +170,16 @@ fn equality_clause(
     let (a, b) = sides;
     match clause {
         0 => {
-            let up = comparison(alloc, nodes, a, b)?;
+            let up = comparison(nodes, a, b)?;
             Ok(Some(vec![in alloc; no_of(number), yes_of(up)]?))
         }
         1 => {
-            let down = comparison(alloc, nodes, b, a)?;
+            let down = comparison(nodes, b, a)?;
             Ok(Some(vec![in alloc; no_of(number), yes_of(down)]?))
         }
         2 => {
-            let up = comparison(alloc, nodes, a, b)?;
-            let down = comparison(alloc, nodes, b, a)?;
+            let up = comparison(nodes, a, b)?;
+            let down = comparison(nodes, b, a)?;
             Ok(Some(vec![in alloc; yes_of(number), no_of(up), no_of(down)]?))
         }
         _ => Ok(None),
@@ -188,7 +188,7 @@ fn equality_clause(
 
 fn plain_clause_at(
     alloc: Global,
-    nodes: &Nodes,
+    nodes: &Over,
     number: usize,
     clause: usize,
 ) -> Result<Option<Vec<Lit>>, AllocError>
@@ -204,7 +204,7 @@ fn plain_clause_at(
 /// where there is none. For want of memory the nodes stand as before up to those that were made.
 pub fn connective_clause_of(
     alloc: Global,
-    nodes: &mut Nodes,
+    nodes: &mut Over,
     number: usize,
     clause: usize,
 ) -> Result<Option<Vec<Lit>>, AllocError>

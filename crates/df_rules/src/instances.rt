@@ -7,7 +7,7 @@ ghost use Rattle.df_rules.specs.Instance.{Instantiates};
 
 use crate::connecting::connective_clause_of;
 use df_axiom::{AxiomFault, settle};
-use df_form::{Lit, Nodes};
+use df_form::{Lit, NodeTable, Over};
 use std::alloc::Global;
 
 /// The clause of this number of what the connective of a node means; an equality of numbers counts as
@@ -15,7 +15,7 @@ use std::alloc::Global;
 /// made; after a fault the nodes stand as before.
 pub fn connective(
     alloc: Global,
-    nodes: &mut Nodes,
+    nodes: &mut Over,
     node: usize,
     clause: usize,
 ) -> Result<Vec<Lit>, AxiomFault>

@@ -1,6 +1,6 @@
-use Rattle.std.proofs.Common.{◌≡◌, ◌∙◌, ℕ, List, [], Option, length, drop, sym, ap, subst, map, rules, arith}
+use Rattle.std.proofs.Common.{◌≡◌, ◌∙◌, ◌+◌, ℕ, List, [], ◌∷◌, Option, length, get_or, drop, sym, ap, subst, map, rules, arith}
 use Rattle.std.specs.Option.{unwrap_or}
-use Rattle.std.proofs.lemmas.List.{drop_all}
+use Rattle.std.proofs.lemmas.List.{drop_all, drop_more}
 use Rattle.std.proofs.lemmas.Result.{IfOk-weaker}
 use Rattle.df_groups.specs.GraphView.{lists_of, targets_of}
 use Rattle.df_groups.specs.Grouping.{IsGrouping, AreComponents}
@@ -15,6 +15,18 @@ loop-root-init c = record {
       c.in_ok-back.ensures c.deref-root-items.ensures.value c.len.ensures (c.in_ok-vec.ensures.items_if_clones_equal (λ y e. search rules)) c.in_ok-order.ensures.order c.in_ok-order.ensures.all;
   few = omega arith;
 }
+
+pub loop-root-preserved : goal.loop-root-preserved
+loop-root-preserved c =
+    let items = c.deref-root-items.result.now in
+    let i = c.loop-root.root-index in
+    let P : List ℕ → Type 0 = λ left. IsGrouping (targets_of c.args.graph.now) (targets_of c.in_ok-back.back) (length (lists_of c.args.graph.now)) left c.loop-root.grouping.count c.loop-root.grouping.groups.items in
+    let here : IsGrouping (targets_of c.args.graph.now) (targets_of c.in_ok-back.back) (length (lists_of c.args.graph.now)) (get_or items i 0 ∷ drop (i + 1) items) c.loop-root.grouping.count c.loop-root.grouping.groups.items =
+    subst P (drop_more items i 0 c.loop-root-test.true) c.loop-root.invariant.grouping in
+    record {
+      grouping = c.in_ok-begin.ensures.keeps (lists_of c.in_ok-back.back) (drop (i + 1) items) c.in_ok-back.ensures here;
+      few = omega (arith, c.loop-root.invariant.few);
+    }
 
 pub returns : goal.returns
 returns c =

@@ -5,6 +5,6 @@ use Rattle.df_nnames.specs.Faults.{operand_faults}
 use Rattle.df_nnames.specs.Meanings.{meanings_of}
 use Rattle.df_nnames.proofs.statements.operands.Given as goal
 
-abbrev pub invariant-loop-operand : goal.invariant-loop-operand
-invariant-loop-operand l =
-    flat_map (operand_faults (meanings_of l.globals) l.scope) (map operand_of (drop l.operand-index l.all)) ≡ flat_map (operand_faults (meanings_of l.globals) l.scope) (map operand_of l.all)
+abbrev pub invariant-loop-each : goal.invariant-loop-each
+invariant-loop-each l =
+    flat_map (operand_faults (meanings_of l.globals) l.scope) (map operand_of (drop l.each-index l.all)) ≡ flat_map (operand_faults (meanings_of l.globals) l.scope) (map operand_of l.all)
