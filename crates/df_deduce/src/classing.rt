@@ -210,7 +210,9 @@ impl<'a> State<'a> {
     ) -> Result<Option<usize>, AllocError> {
         self.spend(literals.len());
         self.spend(pairs.len());
-        let number = self.solver.book.add(literals, Origin::Congruence(pairs))?;
-        Ok(Some(number))
+        self.solver
+            .book
+            .add(literals, Origin::Congruence(pairs))
+            .map(Some)
     }
 }

@@ -31,7 +31,7 @@ impl<'a> State<'a> {
                 self.spend(literals.len());
                 self.spend(combinations.len().saturating_mul(8));
                 let origin = Origin::Linear(combinations);
-                Ok(Some(self.solver.book.add(literals, origin)?))
+                self.solver.book.add(literals, origin).map(Some)
             }
             None => {
                 self.is_lost = true;
@@ -74,7 +74,7 @@ impl<'a> State<'a> {
     ) -> Result<Option<usize>, AllocError> {
         let origin = Origin::of_first_row(self.alloc)?;
         match vec![in self.alloc; literal] {
-            Ok(literals) => Ok(Some(self.solver.book.add(literals, origin)?)),
+            Ok(literals) => self.solver.book.add(literals, origin).map(Some),
             Err(_) => Err(AllocError),
         }
     }

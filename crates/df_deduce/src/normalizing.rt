@@ -105,26 +105,26 @@ impl<'a> State<'a> {
 
     /// The plan of a product of normal forms, of which the first is no literal.
     fn plan_product(&mut self, node: usize, a: usize, b: usize) -> Result<Plan, AllocError> {
-        if self.terms.number(b).is_some() {
-            self.instantiate(LITERAL_FIRST, 0, &[node])?;
-            return Ok(Plan::Is(self.two(Op::Times, b, a)?));
-        }
         match (self.terms.shape(a), self.terms.shape(b)) {
+            (_, Shape::Number(_)) => {
+                self.instantiate(LITERAL_FIRST, 0, &[node])?;
+                self.two(Op::Times, b, a).map(Plan::Is)
+            }
             (_, Shape::Sum(c, d)) => {
                 self.instantiate(GO_IN, 0, &[node])?;
                 let left = self.two(Op::Times, a, c)?;
                 let right = self.two(Op::Times, a, d)?;
-                Ok(Plan::IsThatOf(self.two(Op::Plus, left, right)?))
+                self.two(Op::Plus, left, right).map(Plan::IsThatOf)
             }
             (_, Shape::Multiple(factor, c)) => {
                 let turned = self.turn(node, a, b)?;
                 self.instantiate(JOIN, 0, &[turned])?;
                 let inner = self.two(Op::Times, c, a)?;
                 let factor = self.terms.add_number(factor)?;
-                Ok(Plan::IsThatOf(self.two(Op::Times, factor, inner)?))
+                self.two(Op::Times, factor, inner).map(Plan::IsThatOf)
             }
             (Shape::Sum(..) | Shape::Multiple(..), _) => {
-                Ok(Plan::IsThatOf(self.turn(node, a, b)?))
+                self.turn(node, a, b).map(Plan::IsThatOf)
             }
             _ => self.plan_monomial(node, a, b),
         }
@@ -160,7 +160,7 @@ impl<'a> State<'a> {
                 let turned = self.turn(node, a, b)?;
                 self.join(turned, factors, a)
             }
-            None if b < a => Ok(Plan::Is(self.turn(node, a, b)?)),
+            None if b < a => self.turn(node, a, b).map(Plan::Is),
             _ => Ok(Plan::Is(node)),
         }
     }
@@ -169,6 +169,7 @@ impl<'a> State<'a> {
     fn join(&mut self, node: usize, factors: Factors, b: usize) -> Result<Plan, AllocError> {
         self.instantiate(JOIN, 0, &[node])?;
         let inner = self.two(Op::Times, factors.second, b)?;
-        Ok(Plan::IsThatOf(self.two(Op::Times, factors.first, inner)?))
+        self.two(Op::Times, factors.first, inner)
+            .map(Plan::IsThatOf)
     }
 }

@@ -2,7 +2,7 @@
 
 use df_clauses::{GROUND, Instances, Literal, Origin, Reason, Solver};
 use df_egraph::Graph;
-use df_form::Nodes;
+use df_form::Front;
 use df_simplex::{Cause, Check, Need, Side};
 use df_theory::{Atom, Index, Kept, Meaning, Shape, Terms, Theory, Variables};
 use std::alloc::{AllocError, Global};
@@ -36,7 +36,7 @@ pub struct State<'a> {
 impl<'a> State<'a> {
     pub fn new(
         alloc: Global,
-        nodes: &'a Nodes,
+        nodes: &'a Front,
         index: &'a Index,
         fuel: u64,
         rounds: u32,
@@ -63,7 +63,7 @@ impl<'a> State<'a> {
     /// nodes this one has all. It is to begin.
     pub fn again(
         alloc: Global,
-        nodes: &'a Nodes,
+        nodes: &'a Front,
         index: &'a Index,
         kept: Kept,
         fuel: u64,

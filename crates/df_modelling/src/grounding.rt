@@ -3,7 +3,7 @@
 use crate::candidate::Candidate;
 use crate::codes::{Codes, is_code};
 use crate::operations::{Key, number_of};
-use df_form::{Nodes, Op};
+use df_form::{NodeTable, Op, Over};
 use df_theory::Made;
 use std::alloc::AllocError;
 use std::collections::BTreeMap;
@@ -51,7 +51,7 @@ fn part_number(numbers: &[i128], parts: &[usize], place: usize) -> i128 {
 }
 
 /// What the parts of a node give, where these are the numbers of the nodes before it.
-fn computed(nodes: &Nodes, numbers: &[i128], number: usize) -> i128 {
+fn computed(nodes: &Over, numbers: &[i128], number: usize) -> i128 {
     let Some(node) = nodes.get(number) else {
         return 0;
     };
@@ -64,7 +64,7 @@ fn computed(nodes: &Nodes, numbers: &[i128], number: usize) -> i128 {
 
 impl<'a> Candidate<'a> {
     /// The term that is like a node, where those like the nodes before it are these.
-    fn term_like(&self, nodes: &Nodes, terms: &[Option<usize>], number: usize) -> Option<usize> {
+    fn term_like(&self, nodes: &Over, terms: &[Option<usize>], number: usize) -> Option<usize> {
         let node = nodes.get(number)?;
         let made = match (node.op, node.parts.as_slice()) {
             (Op::Number(value), _) => Made::Number(value),
@@ -78,7 +78,7 @@ impl<'a> Candidate<'a> {
     /// The terms that are like these nodes, of which so many first ones are the sequent's.
     pub(crate) fn terms_like(
         &self,
-        nodes: &Nodes,
+        nodes: &Over,
         own: usize,
     ) -> Result<Vec<Option<usize>>, AllocError> {
         let mut terms: Vec<Option<usize>> = Vec::new(self.alloc);
@@ -146,7 +146,7 @@ impl<'a> Candidate<'a> {
     /// else what their parts give.
     pub(crate) fn grounded(
         &self,
-        nodes: &Nodes,
+        nodes: &Over,
         terms: &[Option<usize>],
     ) -> Result<Grounding, AllocError> {
         let mut grounding = self.known_operations()?;
@@ -158,7 +158,7 @@ impl<'a> Candidate<'a> {
     fn ground_all(
         &self,
         grounding: &mut Grounding,
-        nodes: &Nodes,
+        nodes: &Over,
         terms: &[Option<usize>],
     ) -> Result<(), AllocError> {
         for number in 0..nodes.len() {
@@ -171,7 +171,7 @@ impl<'a> Candidate<'a> {
     fn ground_next(
         &self,
         grounding: &mut Grounding,
-        nodes: &Nodes,
+        nodes: &Over,
         number: usize,
         term: Option<usize>,
     ) -> Result<(), AllocError> {
@@ -212,7 +212,7 @@ impl Grounding {
     }
 
     /// The operation of the next node and the numbers of its parts, where it is one on two numbers.
-    fn next_key(&self, nodes: &Nodes) -> Option<Key> {
+    fn next_key(&self, nodes: &Over) -> Option<Key> {
         let node = nodes.get(self.numbers.len())?;
         match (node.op, node.parts.as_slice()) {
             (Op::Times | Op::Div | Op::Mod, [first, second]) => Some(Key {
@@ -225,7 +225,7 @@ impl Grounding {
     }
 
     /// The label of the character of which the next node is the code.
-    fn next_character(&self, nodes: &Nodes) -> Option<usize> {
+    fn next_character(&self, nodes: &Over) -> Option<usize> {
         let node = nodes.get(self.numbers.len())?;
         match (node.op, node.parts.as_slice()) {
             (Op::Code, [part]) => self.labels.get(*part).copied(),
@@ -234,7 +234,7 @@ impl Grounding {
     }
 
     /// The number of the next node.
-    fn number_of_next(&mut self, nodes: &Nodes) -> Result<i128, AllocError> {
+    fn number_of_next(&mut self, nodes: &Over) -> Result<i128, AllocError> {
         if let Some(label) = self.next_character(nodes) {
             return self.codes.code(label);
         }
@@ -250,7 +250,7 @@ impl Grounding {
     }
 
     /// The number of which the next node is the character.
-    fn next_code(&self, nodes: &Nodes) -> Option<i128> {
+    fn next_code(&self, nodes: &Over) -> Option<i128> {
         let node = nodes.get(self.numbers.len())?;
         match (node.op, node.parts.as_slice()) {
             (Op::Chr, [part]) => self.numbers.get(*part).copied(),
@@ -259,7 +259,7 @@ impl Grounding {
     }
 
     /// The label of the next node; this one, where it is like no other node.
-    fn label_of_next(&mut self, nodes: &Nodes, own: usize) -> Result<usize, AllocError> {
+    fn label_of_next(&mut self, nodes: &Over, own: usize) -> Result<usize, AllocError> {
         let Some(number) = self.next_code(nodes) else {
             return Ok(own);
         };

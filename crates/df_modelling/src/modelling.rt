@@ -6,7 +6,7 @@ use crate::codes::{Codes, is_code};
 use crate::grounding::term_at;
 use df_axiom::Written;
 use df_clause::Ground;
-use df_form::{Lit, Nodes, Op, Pair, Sequent, Sort, World};
+use df_form::{Lit, NodeTable, Op, Over, Pair, Sequent, Sort, World};
 use df_model::{Tabulation, Valuation, tabulate, valuation};
 use df_rules::Known;
 use df_table::Table;
@@ -37,7 +37,11 @@ fn is_counterexample(sequent: &Sequent, table: &Table) -> bool {
 }
 
 /// The ground set with so many rounds of instances, if these are not too many.
-fn ground_of(alloc: Global, sequent: &Sequent, rounds: u32) -> Result<Option<Ground>, AllocError> {
+fn ground_of<'a>(
+    alloc: Global,
+    sequent: &'a Sequent<'a>,
+    rounds: u32,
+) -> Result<Option<Ground<'a>>, AllocError> {
     match instances(alloc, sequent, &Written {}, rounds) {
         Ok(ground) => Ok(Some(ground)),
         Err(TrigFault::Many(_)) => Ok(None),
@@ -54,7 +58,8 @@ pub(crate) fn counterexample_of(
     numbers: &[i128],
     known: &Known,
 ) -> Result<Option<Table>, AllocError> {
-    match valued_table(alloc, sequent.world, &sequent.nodes, numbers, known)? {
+    let nodes = sequent.nodes.over(alloc);
+    match valued_table(alloc, sequent.world, &nodes, numbers, known)? {
         Some(own) => {
             if is_counterexample(sequent, &own) {
                 with_instances(alloc, sequent, rounds, numbers, known, own)
@@ -86,7 +91,7 @@ fn with_instances(
 fn valued_table(
     alloc: Global,
     world: World,
-    nodes: &Nodes,
+    nodes: &Over,
     numbers: &[i128],
     known: &Known,
 ) -> Result<Option<Table>, AllocError> {
@@ -222,7 +227,7 @@ impl<'a> Candidate<'a> {
     /// sequent's, and which are like these terms.
     fn tabulated(
         &self,
-        nodes: &Nodes,
+        nodes: &Over,
         terms: &[Option<usize>],
         own: usize,
     ) -> Result<Tabulation, AllocError> {
@@ -241,7 +246,7 @@ impl<'a> Candidate<'a> {
 
     /// The table of these nodes, of which the sequent's are the first, where operations have the numbers
     /// that the engine gave them.
-    fn table_of(&self, sequent: &Sequent, nodes: &Nodes) -> Result<Tabled, AllocError> {
+    fn table_of(&self, sequent: &Sequent, nodes: &Over) -> Result<Tabled, AllocError> {
         let own = sequent.nodes.len();
         let terms = self.terms_like(nodes, own)?;
         match self.tabulated(nodes, &terms, own)? {
@@ -261,7 +266,8 @@ impl<'a> Candidate<'a> {
     /// The table where operations have the numbers that the engine gave them, and the nodes of instances
     /// those that their parts give: first of the sequent's own nodes.
     pub fn tabled(&self, sequent: &Sequent) -> Result<Tabled, AllocError> {
-        match self.table_of(sequent, &sequent.nodes)? {
+        let nodes = sequent.nodes.over(self.alloc);
+        match self.table_of(sequent, &nodes)? {
             Tabled::Table(_) => self.tabled_in_ground(sequent),
             Tabled::Apart(pair) => Ok(Tabled::Apart(pair)),
             Tabled::Nothing => Ok(Tabled::Nothing),

@@ -2,7 +2,7 @@
 //! nodes what these give.
 
 use crate::modelling::counterexample_of;
-use df_form::{Free, Lit, Nodes, Op, Sequent, Sort};
+use df_form::{Free, Front, Lit, NodeTable, Op, Sequent, Sort};
 use df_rules::Known;
 use df_table::Table;
 use std::alloc::{AllocError, Global};
@@ -50,7 +50,7 @@ struct Sample {
 }
 
 /// The free terms among the nodes.
-fn places(alloc: Global, nodes: &Nodes) -> Result<Vec<Place>, AllocError> {
+fn places(alloc: Global, nodes: &Front) -> Result<Vec<Place>, AllocError> {
     let mut places = Vec::new(alloc);
     for node in 0..nodes.len() {
         if let Some(found) = nodes.get(node) {

@@ -347,8 +347,8 @@ impl<'a> Eraser<'a> {
                 }))
             }
             Stmt::While { guard, body, .. } => {
-                let guard = self.expr(guard)?;
                 let body = self.stmts(body)?;
+                let guard = self.expr(guard)?;
                 Ok(Some(df_nplain::Stmt::While { guard, body }))
             }
             Stmt::Break { .. } => Ok(Some(df_nplain::Stmt::Break)),
@@ -391,8 +391,8 @@ impl<'a> Eraser<'a> {
         ensures guard { IfOk result (λ erased. (plain_stmt.branch_of erased).guard ≡ erasing.erase_expr (program_in self.now) (branch_of branch.now).guard) }
         ensures body { IfOk result (λ erased. (plain_stmt.branch_of erased).body ≡ erasing.erase_stmts (program_in self.now) (branch_of branch.now).body) }
     {
-        let guard = self.expr(&branch.guard)?;
         let body = self.stmts(&branch.body)?;
+        let guard = self.expr(&branch.guard)?;
         Ok(df_nplain::Branch { guard, body })
     }
 

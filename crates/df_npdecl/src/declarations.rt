@@ -172,14 +172,19 @@ fn newtype(cursor: &mut Cursor, alloc: Global) -> Result<NewtypeDeclaration, Sto
     let (name, variable) = newtype_head(cursor)?;
     let is_typed = typed(cursor)?;
     let predicate = predicate(cursor, alloc)?;
-    let witness = witness(cursor, alloc)?;
-    Ok(NewtypeDeclaration {
-        name,
-        variable,
-        is_typed,
-        predicate,
-        witness,
-    })
+    match witness(cursor, alloc) {
+        Ok(witness) => Ok(NewtypeDeclaration {
+            name,
+            variable,
+            is_typed,
+            predicate,
+            witness,
+        }),
+        Err(stop) => {
+            drop(predicate);
+            Err(stop)
+        }
+    }
 }
 
 /// Takes a declaration.

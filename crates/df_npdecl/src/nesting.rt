@@ -121,8 +121,13 @@ fn branch(cursor: &mut Cursor, alloc: Global, room: usize) -> Result<Branch, Sto
 {
     let pos = cursor.pos_of_word(Word::If)?;
     let guard = cursor.expression(alloc, room)?;
-    let body = block(cursor, alloc, room)?;
-    Ok(Branch { pos, guard, body })
+    match block(cursor, alloc, room) {
+        Ok(body) => Ok(Branch { pos, guard, body }),
+        Err(stop) => {
+            drop(guard);
+            Err(stop)
+        }
+    }
 }
 
 /// Takes `while guard`, the clauses and the body.

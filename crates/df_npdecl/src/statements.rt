@@ -82,8 +82,13 @@ pub(crate) fn assertion(cursor: &mut Cursor, alloc: Global, room: usize) -> Resu
 {
     let pos = cursor.pos_of_word(Word::Assert)?;
     let condition = cursor.expression(alloc, room)?;
-    cursor.sign(Sign::Semicolon)?;
-    Ok(Statement::Assert { pos, condition })
+    match cursor.sign(Sign::Semicolon) {
+        Ok(()) => Ok(Statement::Assert { pos, condition }),
+        Err(stop) => {
+            drop(condition);
+            Err(stop)
+        }
+    }
 }
 
 /// Takes `break;`.
@@ -232,6 +237,7 @@ fn alone(mut targets: Vec<Expr>) -> Option<Statement>
     if targets.is_empty() {
         Some(Statement::Expression(value))
     } else {
+        drop(value);
         None
     }
 }
@@ -242,10 +248,13 @@ fn expression_statement(cursor: &mut Cursor, targets: Vec<Expr>) -> Result<State
     ensures { Reads (λ x. (statement_of x, rest_of cursor.new)) result (expression_begins (map expr_of targets.items) (rest_of cursor.old)) }
 {
     match alone(targets) {
-        Some(statement) => {
-            cursor.sign(Sign::Semicolon)?;
-            Ok(statement)
-        }
+        Some(statement) => match cursor.sign(Sign::Semicolon) {
+            Ok(()) => Ok(statement),
+            Err(stop) => {
+                drop(statement);
+                Err(stop)
+            }
+        },
         None => Err(syntax(cursor.pos())),
     }
 }

@@ -48,8 +48,13 @@ impl Cursor<'_, '_> {
         match self.operator_in(level) {
             None => Ok(first),
             Some(operator) => {
-                let row = self.operations(alloc, room, level, operator.group(), first.height)?;
-                self.operations_of(alloc, room, first.tree, row)
+                match self.operations(alloc, room, level, operator.group(), first.height) {
+                    Ok(row) => self.operations_of(alloc, room, first.tree, row),
+                    Err(stop) => {
+                        drop(first);
+                        Err(stop)
+                    }
+                }
             }
         }
     }
@@ -112,8 +117,13 @@ impl Cursor<'_, '_> {
         ensures { Reads (λ x. (part_of x, rest_of self.new)) result (cast_by room (expr_at room levels.Unary) (rest_of self.old)) }
     {
         let operand = self.level(alloc, room, Level::Unary)?;
-        let types = self.casts(alloc)?;
-        self.cast_of(alloc, room, operand, types)
+        match self.casts(alloc) {
+            Ok(types) => self.cast_of(alloc, room, operand, types),
+            Err(stop) => {
+                drop(operand);
+                Err(stop)
+            }
+        }
     }
 
     /// Takes an operand with the signs before it.
@@ -184,8 +194,13 @@ impl Cursor<'_, '_> {
         ensures { Reads (λ x. (part_of x, rest_of self.new)) result (parentheses_by room (expr_at (room - 1) levels.Equivalence) pos (rest_of self.old)) }
     {
         let inner = self.level(alloc, room - 1, Level::Equivalence)?;
-        self.sign(Sign::CloseParenthesis)?;
-        self.parentheses_of(alloc, room, pos, inner)
+        match self.sign(Sign::CloseParenthesis) {
+            Ok(()) => self.parentheses_of(alloc, room, pos, inner),
+            Err(stop) => {
+                drop(inner);
+                Err(stop)
+            }
+        }
     }
 
     /// Takes the arguments of the next call, or nothing where no parenthesis opens.

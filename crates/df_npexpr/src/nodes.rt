@@ -81,9 +81,10 @@ impl Cursor<'_, '_> {
     ) -> Result<Part, Stop>
         ensures { Reads part_of result (operations_of room (expr_of first) (row_of row)) }
     {
+        let first = Box::new(alloc, first)?;
         let height = self.deeper(room, row.height)?;
         let tree = Expr::Operations {
-            first: Box::new(alloc, first)?,
+            first,
             rest: row.operations,
         };
         Ok(Part { tree, height })
@@ -103,9 +104,10 @@ impl Cursor<'_, '_> {
         if types.is_empty() {
             return Ok(operand);
         }
+        let boxed = Box::new(alloc, operand.tree)?;
         let height = self.deeper(room, operand.height)?;
         let tree = Expr::Cast {
-            operand: Box::new(alloc, operand.tree)?,
+            operand: boxed,
             types,
         };
         Ok(Part { tree, height })
@@ -123,9 +125,16 @@ impl Cursor<'_, '_> {
     ) -> Result<Part, Stop>
         ensures { Reads part_of result (signed_of room operator pos (part_of operand)) }
     {
-        let height = self.deeper(room, operand.height)?;
-        let tree = signed(alloc, operator, pos, operand.tree)?;
-        Ok(Part { tree, height })
+        match self.deeper(room, operand.height) {
+            Ok(height) => {
+                let tree = signed(alloc, operator, pos, operand.tree)?;
+                Ok(Part { tree, height })
+            }
+            Err(stop) => {
+                drop(operand);
+                Err(stop)
+            }
+        }
     }
 
     /// A call.
@@ -139,9 +148,10 @@ impl Cursor<'_, '_> {
     ) -> Result<Part, Stop>
         ensures { Reads part_of result (call_of room (part_of callee) (parts_of arguments)) }
     {
+        let boxed = Box::new(alloc, callee.tree)?;
         let height = self.deeper(room, larger(callee.height, arguments.height))?;
         let tree = Expr::Call {
-            callee: Box::new(alloc, callee.tree)?,
+            callee: boxed,
             arguments: arguments.trees,
         };
         Ok(Part { tree, height })
@@ -158,11 +168,9 @@ impl Cursor<'_, '_> {
     ) -> Result<Part, Stop>
         ensures { Reads part_of result (parentheses_of room pos (part_of inner)) }
     {
+        let boxed = Box::new(alloc, inner.tree)?;
         let height = self.deeper(room, inner.height)?;
-        let tree = Expr::Parentheses {
-            pos,
-            inner: Box::new(alloc, inner.tree)?,
-        };
+        let tree = Expr::Parentheses { pos, inner: boxed };
         Ok(Part { tree, height })
     }
 }

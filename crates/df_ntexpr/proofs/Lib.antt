@@ -1,4 +1,5 @@
 mod Turning
+mod TypedParts
 mod Opening
 mod LastWrong
 mod ArgumentsSoFar

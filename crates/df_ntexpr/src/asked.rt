@@ -37,6 +37,7 @@ fn given(alloc: Global, env: &Environment<'_>, place: Ty, e: &Expr) -> Result<Op
             if goes_to(&operand, Some(place)) {
                 Ok(operand)
             } else {
+                drop(operand);
                 Err(breach(Rule::Given, pos_of(e), true))
             }
         }
@@ -54,6 +55,7 @@ fn asked(alloc: Global, env: &Environment<'_>, e: &Expr) -> Result<Option<Typed>
             if is_truth_side(type_of(&operand)) {
                 Ok(operand)
             } else {
+                drop(operand);
                 Err(breach(Rule::Truths, pos_of(e), true))
             }
         }

@@ -78,8 +78,8 @@ pub(crate) fn opened(alloc: Global, ty: Ty, e: &tree::Expr) -> Result<Typed, All
         }
         tree::Expr::Operations { first, rest } => {
             let ty = counted(ty);
-            let head = opened(alloc, ty, first)?;
             let parts = opened_parts(alloc, ty, rest)?;
+            let head = opened(alloc, ty, first)?;
             let expr = sum_or_product(alloc, first_group(rest), ty, head.expr, parts)?;
             Ok(Typed { ty, expr })
         }

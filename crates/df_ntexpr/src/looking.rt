@@ -68,6 +68,7 @@ fn negated(alloc: Global, pos: Pos, e: &Expr, operand: Option<Typed>) -> Result<
         return Ok(None);
     };
     if !is_integer(typed.ty) {
+        drop(typed);
         return Err(breach(Rule::Arithmetic, pos, true));
     }
     let ty = counted(typed.ty);
@@ -87,6 +88,7 @@ fn denied(alloc: Global, pos: Pos, operand: Option<Typed>) -> Result<Option<Type
         return Err(breach(Rule::Truths, pos, true));
     };
     if !is_truth(typed.ty) {
+        drop(typed);
         return Err(breach(Rule::Truths, pos, true));
     }
     let operand = Box::new(alloc, typed.expr)?;
@@ -122,9 +124,11 @@ fn cast_to(
     ensures { Gives typed_of result (cast_to pos (typed_of typed) target is_whole) }
 {
     let Some(target) = target else {
+        drop(typed);
         return Err(breach(Rule::Casts, pos, is_whole));
     };
     if !casts(typed.ty, target) {
+        drop(typed);
         return Err(breach(Rule::Casts, pos, is_whole));
     }
     let source = typed.ty;
@@ -284,6 +288,7 @@ fn signed_row<'e>(
             typed: operand,
         })
     } else {
+        drop(operand);
         Err(breach(rule_of(operation.operator), operation.pos, is_whole))
     }
 }
@@ -334,9 +339,16 @@ fn run(
 ) -> Result<Option<Typed>, Halt>
     ensures { Gives operand_of result (looking.run_in group (tree.expr_of first.now) (operand_of head) (tree.members_of (map tree.operation_of rest.now)) (map row_of rows.entry.items)) }
 {
-    whole_run(group, type_of(&head), rest, &rows)?;
-    let run = run_of(alloc, group, first, head, rows)?;
-    Ok(run)
+    match whole_run(group, type_of(&head), rest, &rows) {
+        Ok(()) => {
+            let run = run_of(alloc, group, first, head, rows)?;
+            Ok(run)
+        }
+        Err(halt) => {
+            drop(head);
+            Err(halt)
+        }
+    }
 }
 
 /// A run that begins with its sign, whose operands were looked at.
@@ -406,8 +418,13 @@ pub(crate) fn look(alloc: Global, env: &Environment<'_>, e: &Expr) -> Result<Opt
         Expr::Operations { first, rest } => {
             let group = first_group(rest);
             let head = part(alloc, env, first)?;
-            let rows = rows(alloc, env, group, type_of(&head), rest)?;
-            run(alloc, group, first, head, rest, rows)
+            match rows(alloc, env, group, type_of(&head), rest) {
+                Ok(rows) => run(alloc, group, first, head, rest, rows),
+                Err(halt) => {
+                    drop(head);
+                    Err(halt)
+                }
+            }
         }
         Expr::Leading { operations } => {
             let group = first_group(operations);
@@ -457,7 +474,9 @@ fn argument(alloc: Global, env: &Environment<'_>, place: Option<Ty>, e: &Expr) -
 {
     match look(alloc, env, e) {
         Ok(typed) => {
-            if goes_to(&typed, place) {
+            let goes = goes_to(&typed, place);
+            drop(typed);
+            if goes {
                 Ok(())
             } else {
                 Err(breach(Rule::Given, pos_of(e), false))
@@ -522,7 +541,10 @@ fn broken_inside(alloc: Global, env: &Environment<'_>, e: &Expr) -> Result<(), H
     ensures { Gives (λ done. done) result (void (inside (look env.now (tree.expr_of e.now)))) }
 {
     match look(alloc, env, e) {
-        Ok(_) => Ok(()),
+        Ok(typed) => {
+            drop(typed);
+            Ok(())
+        }
         Err(Halt::Broken(broken)) => Err(breach(broken.rule, broken.pos, false)),
         Err(Halt::Memory) => Err(Halt::Memory),
     }

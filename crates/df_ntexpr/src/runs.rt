@@ -111,8 +111,8 @@ fn links(alloc: Global, parts: Vec<Part>) -> Result<Vec<Link>, AllocError>
 pub(crate) fn sum(alloc: Global, ty: Ty, first: Expr, parts: Vec<Part>) -> Result<Expr, AllocError>
     ensures { IfOk result (λ e. typed.expr_of e ≡ pure.Sum ty (typed.expr_of first) (addends_of (map part_of parts.items))) }
 {
-    let rest = addends(alloc, parts)?;
     let first = Box::new(alloc, first)?;
+    let rest = addends(alloc, parts)?;
     Ok(Expr::Sum { ty, first, rest })
 }
 
@@ -125,8 +125,8 @@ pub(crate) fn product(
 ) -> Result<Expr, AllocError>
     ensures { IfOk result (λ e. typed.expr_of e ≡ pure.Product ty (typed.expr_of first) (factors_of (map part_of parts.items))) }
 {
-    let rest = factors(alloc, parts)?;
     let first = Box::new(alloc, first)?;
+    let rest = factors(alloc, parts)?;
     Ok(Expr::Product { ty, first, rest })
 }
 
@@ -134,8 +134,8 @@ pub(crate) fn product(
 fn chain(alloc: Global, ty: Ty, first: Expr, parts: Vec<Part>) -> Result<Expr, AllocError>
     ensures { IfOk result (λ e. typed.expr_of e ≡ pure.Chain ty (typed.expr_of first) (links_of (map part_of parts.items))) }
 {
-    let rest = links(alloc, parts)?;
     let first = Box::new(alloc, first)?;
+    let rest = links(alloc, parts)?;
     Ok(Expr::Chain { ty, first, rest })
 }
 
@@ -147,8 +147,8 @@ fn junction(
 ) -> Result<Expr, AllocError>
     ensures { IfOk result (λ e. typed.expr_of e ≡ pure.Junction junction (typed.expr_of first) (members_of (map part_of parts.items))) }
 {
-    let rest = members(alloc, parts)?;
     let first = Box::new(alloc, first)?;
+    let rest = members(alloc, parts)?;
     Ok(Expr::Junction {
         junction,
         first,
@@ -159,8 +159,8 @@ fn junction(
 fn implies(alloc: Global, first: Expr, parts: Vec<Part>) -> Result<Expr, AllocError>
     ensures { IfOk result (λ e. typed.expr_of e ≡ pure.Implies arrows.Implies (typed.expr_of first) (members_of (map part_of parts.items))) }
 {
-    let rest = members(alloc, parts)?;
     let first = Box::new(alloc, first)?;
+    let rest = members(alloc, parts)?;
     Ok(Expr::Implies {
         arrow: Arrow::Implies,
         first,
@@ -171,8 +171,8 @@ fn implies(alloc: Global, first: Expr, parts: Vec<Part>) -> Result<Expr, AllocEr
 fn iff(alloc: Global, first: Expr, parts: Vec<Part>) -> Result<Expr, AllocError>
     ensures { IfOk result (λ e. typed.expr_of e ≡ pure.Iff (typed.expr_of first) (members_of (map part_of parts.items))) }
 {
-    let rest = members(alloc, parts)?;
     let first = Box::new(alloc, first)?;
+    let rest = members(alloc, parts)?;
     Ok(Expr::Iff { first, rest })
 }
 

@@ -351,14 +351,22 @@ pub(crate) fn run_of(
 {
     let known = or_side(type_of(&head), first_type(&rows));
     if is_arithmetic(group) && known.is_none() {
+        drop(head);
         return Ok(None);
     }
     let of = type_of_run(known);
     let first = settled(alloc, of, first, head)?;
-    let parts = settled_parts(alloc, of, rows)?;
-    let expr = run_expr(alloc, group, of, first, parts)?;
-    Ok(Some(Typed {
-        ty: run_ty(group, of),
-        expr,
-    }))
+    match settled_parts(alloc, of, rows) {
+        Ok(parts) => {
+            let expr = run_expr(alloc, group, of, first, parts)?;
+            Ok(Some(Typed {
+                ty: run_ty(group, of),
+                expr,
+            }))
+        }
+        Err(error) => {
+            drop(first);
+            Err(error)
+        }
+    }
 }

@@ -120,7 +120,7 @@ fn unnamed_call(
 ) -> Result<Call, Stop>
     ensures { Replies call_of result (sides.unnamed_call_in env.now (tree.expr_of callee.now) (tree.arguments_of (map tree.expr_of all.now))) }
 {
-    walked(alloc, env, Wanted::Nothing, callee)?;
+    drop(walked(alloc, env, Wanted::Nothing, callee)?);
     arguments(alloc, env, &[], all)?;
     Err(broken(Rule::Calls, beginning_of(callee)))
 }

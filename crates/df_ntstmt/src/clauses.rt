@@ -189,8 +189,13 @@ fn clause(alloc: Global, env: &Environment<'_>, owner: Owner, clause: &Clause) -
             condition: e,
         } => {
             let said = condition(alloc, env, *kind, e)?;
-            unless(belongs(owner, clause), Rule::Clauses, *pos)?;
-            Ok(said)
+            match unless(belongs(owner, clause), Rule::Clauses, *pos) {
+                Ok(()) => Ok(said),
+                Err(stop) => {
+                    drop(said);
+                    Err(stop)
+                }
+            }
         }
         Clause::Decreases { pos, values } => {
             let measures = measures(alloc, env, values)?;

@@ -117,7 +117,7 @@ fn named(env: &Environment<'_>, ident: &Ident) -> Result<Place, Stop>
 fn unnamed(alloc: Global, env: &Environment<'_>, e: &Expr) -> Result<Place, Stop>
     ensures { Replies (λ place. place) result (sides.unnamed_place_in env.now (tree.expr_of e.now)) }
 {
-    walked(alloc, env, Wanted::Nothing, e)?;
+    drop(walked(alloc, env, Wanted::Nothing, e)?);
     Err(broken(Rule::Assigned, beginning_of(e)))
 }
 

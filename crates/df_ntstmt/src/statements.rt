@@ -61,6 +61,27 @@ fn var(
     })
 }
 
+/// The same, and the locals are in scope behind it.
+fn declaring(
+    alloc: Global,
+    env: &mut Environment<'_>,
+    pos: Pos,
+    locals: &[Local],
+    values: &[Expr],
+) -> Result<Stmt, Stop>
+    ensures stmt { Replies view.stmt_of result (statement_in env.old (source.Var pos locals.now (map expr_of values.now))) }
+    ensures env { OnOk result (env.new ≡ environment.declare_variables env.old locals.now) }
+{
+    let stmt = var(alloc, env, pos, locals, values)?;
+    match declare_all(env, locals) {
+        Ok(()) => Ok(stmt),
+        Err(_) => {
+            drop(stmt);
+            Err(Stop::Memory)
+        }
+    }
+}
+
 /// Where the first of expressions begins.
 fn begin(targets: &[Expr]) -> Pos
     ensures { result ≡ or_start (beginning_of_first (map expr_of targets.now)) }
@@ -90,7 +111,7 @@ fn assign(
 fn no_call(alloc: Global, env: &Environment<'_>, e: &Expr) -> Result<Stmt, Stop>
     ensures { Replies view.stmt_of result (mirror.no_call_in env.now (expr_of e.now)) }
 {
-    walked(alloc, env, Wanted::Nothing, e)?;
+    drop(walked(alloc, env, Wanted::Nothing, e)?);
     Err(broken(Rule::Calls, beginning_of(e)))
 }
 
@@ -200,26 +221,36 @@ fn loop_heading(
     ensures measured { IfOk result (λ heading. heading.is_measured ≡ mirror.is_measured env.now (expr_of guard.now) (map source.clause_of clauses.now)) }
 {
     let condition = walked(alloc, env, Wanted::Truth, guard)?;
-    let all = loop_clauses(alloc, env, clauses)?;
-    Ok(Heading {
-        guard: condition,
-        clauses: all,
-        is_measured: is_measured(env, guard, clauses),
-    })
+    match loop_clauses(alloc, env, clauses) {
+        Ok(all) => Ok(Heading {
+            guard: condition,
+            clauses: all,
+            is_measured: is_measured(env, guard, clauses),
+        }),
+        Err(stop) => {
+            drop(condition);
+            Err(stop)
+        }
+    }
 }
 
 /// The loop of these parts, if it has a measure.
 fn looped(heading: Heading, pos: Pos, body: Vec<Stmt>) -> Result<Stmt, Stop>
     ensures { Replies view.stmt_of result (mirror.looped_in heading.is_measured (heading_of heading) pos (view.stmts_of (map view.stmt_of body.items))) }
 {
-    unless(heading.is_measured, Rule::Clauses, pos)?;
-    Ok(Stmt::While {
-        pos,
-        guard: heading.guard.expr,
-        invariants: heading.clauses.invariants,
-        decreases: heading.clauses.decreases,
-        body,
-    })
+    match unless(heading.is_measured, Rule::Clauses, pos) {
+        Ok(()) => Ok(Stmt::While {
+            pos,
+            guard: heading.guard.expr,
+            invariants: heading.clauses.invariants,
+            decreases: heading.clauses.decreases,
+            body,
+        }),
+        Err(stop) => {
+            drop(heading.guard);
+            Err(stop)
+        }
+    }
 }
 
 /// A statement. What it declares is in scope behind it.
@@ -240,11 +271,7 @@ fn statement(alloc: Global, env: &mut Environment<'_>, statement: &Statement) ->
             pos,
             locals,
             values,
-        } => {
-            let stmt = var(alloc, env, *pos, locals, values)?;
-            declare_all(env, locals)?;
-            Ok(stmt)
-        }
+        } => declaring(alloc, env, *pos, locals, values),
         Statement::Assign { targets, values } => assign(alloc, env, targets, values),
         Statement::Expression(e) => whole(alloc, env, e),
         Statement::If {
@@ -333,12 +360,17 @@ fn branch(alloc: Global, env: &mut Environment<'_>, branch: &tree::Branch) -> Re
     ensures env { OnOk result (env.new ≡ past env.old (locals_in_all (source.branch_of branch.now).body.statements)) }
 {
     let condition = walked(alloc, env, Wanted::Truth, &branch.guard)?;
-    let body = typed_block(alloc, env, &branch.body)?;
-    Ok(Branch {
-        pos: branch.pos,
-        guard: condition.expr,
-        body,
-    })
+    match typed_block(alloc, env, &branch.body) {
+        Ok(body) => Ok(Branch {
+            pos: branch.pos,
+            guard: condition.expr,
+            body,
+        }),
+        Err(stop) => {
+            drop(condition);
+            Err(stop)
+        }
+    }
 }
 
 /// A run of `else if`.

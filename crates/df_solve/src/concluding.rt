@@ -87,7 +87,7 @@ impl<'a> Search<'a> {
             return Ok(None);
         }
         let conflict = self.state.ask_for_operations()?;
-        Ok(Some(self.after(conflict)?))
+        self.after(conflict).map(Some)
     }
 
     /// Has comparisons of products be known, if there are any.
@@ -106,7 +106,7 @@ impl<'a> Search<'a> {
         if conflict.is_none() && !is_new {
             return Ok(Some(Turn::GaveUp));
         }
-        Ok(Some(self.after(conflict)?))
+        self.after(conflict).map(Some)
     }
 
     /// Decides that two numbers are equal. Whether that was open.

@@ -3,7 +3,7 @@
 use crate::intake::Intake;
 use crate::searching::{Search, Turn};
 use df_deduce::{Kept, State};
-use df_form::{Sequent, Step};
+use df_form::{NodeTable, Sequent, Step};
 use df_modelling::sampled;
 use df_record::{Recorder, log_of};
 use df_table::Table;
@@ -84,14 +84,19 @@ impl Engine {
     /// What stayed, if it serves the sequent; nothing stays from here on.
     fn take_stay(&mut self, sequent: &Sequent) -> Option<Stay> {
         if !self.serves(sequent) {
-            self.stay = None;
+            self.leave(None);
         }
         self.stay.take()
     }
 
+    /// This stays from here on.
+    fn leave(&mut self, stay: Option<Stay>) {
+        self.stay = stay;
+    }
+
     /// Keeps what stays. What was found.
     fn keep(&mut self, ended: Ended) -> Counted {
-        self.stay = ended.stay;
+        self.leave(ended.stay);
         ended.counted
     }
 }
@@ -121,11 +126,12 @@ pub fn propose_counted(
     let fuel = steps.saturating_mul(WORK).saturating_add(BASE);
     if let Some(stay) = engine.take_stay(sequent) {
         let ended = look_again(alloc, &engine.index, &*sequent, stay, fuel / SHARE)?;
-        if let Some(ended) = ended {
-            return Ok(engine.keep(ended));
+        let counted = engine.keep(ended);
+        if let Proposal::Proved(_) = &counted.proposal {
+            return Ok(counted);
         }
     }
-    let ended = look(alloc, &engine.index, &*sequent, fuel, rounds)?;
+    let ended = look_anew(alloc, &engine.index, &*sequent, fuel, rounds)?;
     Ok(engine.keep(ended))
 }
 
@@ -137,29 +143,14 @@ fn look_again<'a>(
     sequent: &'a Sequent<'a>,
     stay: Stay,
     fuel: u64,
-) -> Result<Option<Ended>, AllocError> {
+) -> Result<Ended, AllocError> {
     let Stay { kept, intake } = stay;
     let state = State::again(alloc, &sequent.nodes, index, kept, fuel);
-    let formulas = sequent.hypotheses.as_slice();
-    let mut search = Search::new(state, intake, formulas, sequent.goal);
-    search.is_for_proof = true;
-    log_alone(&mut search, sequent, fuel)
-}
-
-/// The log that a search finds.
-fn log_alone(
-    search: &mut Search,
-    sequent: &Sequent,
-    fuel: u64,
-) -> Result<Option<Ended>, AllocError> {
-    match run(search, sequent, fuel)? {
-        Turn::Refuted(clause) => Ok(Some(proved(search, clause)?)),
-        Turn::On | Turn::Whole(_) | Turn::Complete | Turn::GaveUp => Ok(None),
-    }
+    look(state, intake, sequent, fuel, None)
 }
 
 /// Looks for a log or a table over an index that has met the nodes of the sequent.
-fn look<'a>(
+fn look_anew<'a>(
     alloc: Global,
     index: &'a Index,
     sequent: &'a Sequent<'a>,
@@ -167,9 +158,34 @@ fn look<'a>(
     rounds: u32,
 ) -> Result<Ended, AllocError> {
     let state = State::new(alloc, &sequent.nodes, index, fuel, rounds);
+    look(state, Intake::new(alloc), sequent, fuel, Some(rounds))
+}
+
+/// Looks for a log, and for a table of so many rounds of instances if a number of them is given.
+fn look<'a>(
+    state: State<'a>,
+    intake: Intake,
+    sequent: &'a Sequent<'a>,
+    fuel: u64,
+    rounds: Option<u32>,
+) -> Result<Ended, AllocError> {
     let formulas = sequent.hypotheses.as_slice();
-    let mut search = Search::new(state, Intake::new(alloc), formulas, sequent.goal);
-    log_or_table(&mut search, sequent, fuel, rounds)
+    let mut search = Search::new(state, intake, formulas, sequent.goal);
+    match rounds {
+        Some(rounds) => log_or_table(&mut search, sequent, fuel, rounds),
+        None => log_alone(&mut search, sequent, fuel),
+    }
+}
+
+/// The log that a search finds that looks for nothing else.
+fn log_alone(search: &mut Search, sequent: &Sequent, fuel: u64) -> Result<Ended, AllocError> {
+    search.is_for_proof = true;
+    match run(search, sequent, fuel)? {
+        Turn::Refuted(clause) => proved(search, clause),
+        Turn::On | Turn::Whole(_) | Turn::Complete | Turn::GaveUp => {
+            Ok(tabled(search.learned, None))
+        }
+    }
 }
 
 /// The log or the table that a search finds.

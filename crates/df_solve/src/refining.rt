@@ -92,8 +92,7 @@ impl<'a> Search<'a> {
             .instances
             .set_round(node, round.saturating_add(1))?;
         self.state.meet(node)?;
-        self.state.normalize(node)?;
-        Ok(())
+        self.state.normalize(node)
     }
 
     /// The node of a side.

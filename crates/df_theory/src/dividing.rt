@@ -117,7 +117,7 @@ impl Theory {
     ) -> Result<Option<Vec<Derivation>>, AllocError> {
         let rest = residues(self.alloc, members, divisor)?;
         if is_indivisible(&self.bounds, &rest, divisor) {
-            return Ok(Some(exclusion(self.alloc, &rest, divisor)?));
+            return exclusion(self.alloc, &rest, divisor).map(Some);
         }
         let parts = self.parts(&rest)?;
         if let Some(found) = self.gathered(&parts, None, divisor)? {
@@ -170,20 +170,30 @@ impl Theory {
         difference: Option<usize>,
         divisor: i128,
     ) -> Result<Option<Vec<Derivation>>, AllocError> {
-        let mut sum = Vec::from_slice(self.alloc, parts.fixed.as_slice())?;
-        let open = match difference {
-            None => Vec::from_slice(self.alloc, parts.open.as_slice())?,
-            Some(form) => match self.replaced(&parts.open, form, &mut sum)? {
-                Some(open) => open,
-                None => return Ok(None),
+        let mut fixed = Vec::from_slice(self.alloc, parts.fixed.as_slice())?;
+        match difference {
+            None => self.gathered_with(&mut fixed, &parts.open, divisor),
+            Some(form) => match self.replaced(&parts.open, form, &mut fixed)? {
+                Some(open) => self.gathered_with(&mut fixed, &open, divisor),
+                None => Ok(None),
             },
-        };
-        match self.forms.find(&open)? {
-            Some(entry) => sum.push(entry)?,
-            None => return Ok(None),
         }
-        if is_indivisible(&self.bounds, &sum, divisor) {
-            Ok(Some(exclusion(self.alloc, &sum, divisor)?))
+    }
+
+    /// The combinations that exclude each other where what is not fixed of a sum is one column.
+    fn gathered_with(
+        &self,
+        fixed: &mut Vec<Entry>,
+        open: &[Entry],
+        divisor: i128,
+    ) -> Result<Option<Vec<Derivation>>, AllocError> {
+        let Some(entry) = self.forms.find(open)? else {
+            return Ok(None);
+        };
+        fixed.push(entry)?;
+        let sum = fixed.as_slice();
+        if is_indivisible(&self.bounds, sum, divisor) {
+            exclusion(self.alloc, sum, divisor).map(Some)
         } else {
             Ok(None)
         }

@@ -229,22 +229,44 @@ impl<'a> Facts<'a> {
         limits: Limits,
     ) -> Result<Option<Explained>, AllocError> {
         let mut explanation = Explanation::new(self.alloc);
+        self.explain(&mut explanation, derivations, also, limits)
+    }
+
+    /// The same, in an explanation that has nothing yet.
+    fn explain(
+        &self,
+        explanation: &mut Explanation,
+        derivations: &[Derivation],
+        also: Option<Giver>,
+        limits: Limits,
+    ) -> Result<Option<Explained>, AllocError> {
+        if self.combine_all(explanation, derivations, also, limits)? {
+            explanation.finish().map(Some)
+        } else {
+            Ok(None)
+        }
+    }
+
+    /// The last combinations, and all bounds that they want. Whether they could be derived.
+    fn combine_all(
+        &self,
+        explanation: &mut Explanation,
+        derivations: &[Derivation],
+        also: Option<Giver>,
+        limits: Limits,
+    ) -> Result<bool, AllocError> {
         let wanted = match derivations {
             [_] => Some(-1),
             _ => None,
         };
         for derivation in derivations {
-            let members = self.combined(&mut explanation, derivation, also, wanted, limits)?;
+            let members = self.combined(explanation, derivation, also, wanted, limits)?;
             match members {
                 Some(members) => explanation.end(derivation.divisor, members)?,
-                None => return Ok(None),
+                None => return Ok(false),
             }
         }
-        if self.derive_all(&mut explanation, limits)? {
-            Ok(Some(explanation.finish()?))
-        } else {
-            Ok(None)
-        }
+        self.derive_all(explanation, limits)
     }
 
     /// The clause that is false where combinations of bounds have a sum below 0.

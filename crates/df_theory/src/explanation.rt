@@ -5,6 +5,7 @@ use df_clauses::Literal;
 use df_form::{Combination, Multiple};
 use std::alloc::{AllocError, Global};
 use std::collections::BTreeMap;
+use std::mem::replace;
 
 /// What a row of an explanation is that of.
 #[derive(Clone, Copy)]
@@ -175,11 +176,12 @@ impl Explanation {
         Ok(())
     }
 
-    /// The clause, and the combinations that show it.
-    pub fn finish(self) -> Result<Explained, AllocError> {
+    /// The clause, and the combinations that show it. No literals are left.
+    pub fn finish(&mut self) -> Result<Explained, AllocError> {
         let combinations = self.combinations()?;
+        let none = Vec::new(self.alloc);
         Ok(Explained {
-            literals: self.literals,
+            literals: replace(&mut self.literals, none),
             combinations,
         })
     }

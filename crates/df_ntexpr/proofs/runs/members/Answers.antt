@@ -1,8 +1,19 @@
-use Rattle.std.proofs.Common.{◌≡◌, [], map, sym, ap, ◌∙◌, append-nil}
+use Rattle.std.proofs.Common.{◌≡◌, [], length, map, sym, ap, ◌∙◌, append-nil, arith}
 use Rattle.std.specs.Vec.Iter.{into_iter_items}
 use Rattle.df_lang.specs.ExprView as typed
+use Rattle.df_ntexpr.specs.TypedViews.{member_of}
+use Rattle.df_ntexpr.proofs.TypedParts.{made_member, one_more}
 use Rattle.df_ntexpr.proofs.Turning.{member_from, members_from, nothing_left}
 use Rattle.df_ntexpr.proofs.runs.members.Goals as goal
+
+pub loop-part-preserved : goal.loop-part-preserved
+loop-part-preserved c =
+    let at = c.loop-part in
+    let part = c.in-Some.part in
+    let steps = c.in-Some.ensures.steps in (
+      one_more member_of member_from at.members.items c.push.new.self.items _ part (into_iter_items at.part-iterator) (into_iter_items c.next.new.self) _ (made_member _) c.in_ok-push.ensures.items steps.0 at.invariant.0,
+      omega (arith, steps.1, ap length steps.0, at.invariant.1),
+    )
 
 pub returns : goal.returns
 returns c =
