@@ -5,7 +5,7 @@
 mod texts;
 
 use df_base::Pos;
-use df_form::{Combination, Draft, Free, Lit, Multiple, Node, Op, Sequent, Sort, World};
+use df_form::{Combination, Draft, Free, Lit, Multiple, NodeTable, Op, Sequent, Sort, World};
 use df_lang::{Decl, Declared, Interval, Newtype, Program, Ty};
 use df_level::Row;
 use std::alloc::{AllocError, Global};
@@ -136,10 +136,7 @@ fn put_term(draft: &mut Draft, op: Op, count: usize) -> bool {
         return false;
     }
     let start = draft.stack.len() - count;
-    let Ok(parts) = Vec::from_slice(*draft.stack.allocator(), &draft.stack[start..]) else {
-        return false;
-    };
-    if !draft.nodes.admits(&Node { op, parts }) {
+    if !draft.nodes.admits(op, &draft.stack[start..]) {
         return false;
     }
     draft.apply(op, count).is_ok()

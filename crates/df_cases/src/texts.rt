@@ -2,7 +2,7 @@
 //! goal. Nodes by their texts, a word and the numbers of parts, as `plus 0 1`. And the text of literals, as `+1 -2`.
 
 use crate::{BYTE, CHAR, I8, INT, NAT, P, Q, UNDECLARED, X, Y, Z, assume, conclude, draft};
-use df_form::{Draft, Lit, Node, Nodes, Op, Sequent};
+use df_form::{Arena, Draft, Lit, Node, NodeTable, Nodes, Op, Sequent};
 use std::alloc::{AllocError, Global};
 
 /// A number; `min` and `max` are the ends of 128 bits.
@@ -240,17 +240,15 @@ fn node_of(alloc: Global, line: &str) -> Option<Node> {
     }
 }
 
-fn add(nodes: &mut Nodes, node: Node) -> bool {
-    if !nodes.admits(&node) {
-        return false;
-    }
-    nodes.add(node).is_ok()
+fn add(nodes: &mut Nodes, node: &Node) -> bool {
+    let parts = node.parts.as_slice();
+    nodes.admits(node.op, parts) && nodes.add(node.op, parts).is_ok()
 }
 
 /// Adds the node of a text. Whether it is one whose parts are of their sorts.
 pub fn add_line(alloc: Global, nodes: &mut Nodes, line: &str) -> bool {
     match node_of(alloc, line) {
-        Some(node) => add(nodes, node),
+        Some(node) => add(nodes, &node),
         None => false,
     }
 }

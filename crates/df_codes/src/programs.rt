@@ -1,11 +1,12 @@
 //! Methods of small programs in one code, as the emitter lays them out.
 
-ghost use Rattle.std.specs.Prelude.{◌≡◌, [], ◌∷◌, IfOk};
+ghost use Rattle.std.specs.Prelude.{◌≡◌, ◌++◌, [], ◌∷◌, true, map, IfOk, OnOk};
 ghost use Rattle.df_codes.specs.Programs.{parity_rows, seven_rows, loop_rows, nest_rows, count_rows, fib_rows, programs};
-ghost use Rattle.df_nmach.specs.View.{code_of};
+ghost use Rattle.df_nmach.specs.Name.{is_name};
+ghost use Rattle.df_nmach.specs.View.{code_of, method_of};
 
 use crate::parts::{BITS, method, shapes};
-use df_nmach::{BinaryOperator, Code, Instruction, UnaryOperator};
+use df_nmach::{BinaryOperator, Code, Instruction, Method, UnaryOperator};
 use std::alloc::{AllocError, Global};
 
 /// Whether a number is even, or odd: at 0 so, and else as the other method says of the number before.
@@ -206,30 +207,67 @@ fn fib_instructions(alloc: Global) -> Result<Vec<Instruction>, AllocError>
     Ok(instructions)
 }
 
+/// Adds a method of this name with so many parameters, results and further locals.
+fn push_method(
+    alloc: Global,
+    methods: &mut Vec<Method>,
+    name: &str,
+    counts: (usize, usize, usize),
+    instructions: Vec<Instruction>,
+) -> Result<(), AllocError>
+    requires { is_name name.now ≡ true }
+    ensures { OnOk result (map method_of methods.new.items ≡ map method_of methods.old.items ++ (record { name = name.now; parameters = counts.0; results = counts.1; locals = counts.2; instructions = instructions.items }) ∷ []) }
+{
+    let method = method(alloc, name, counts, instructions)?;
+    methods.push(method)?;
+    Ok(())
+}
+
+/// Adds the methods to none.
+fn push_methods(alloc: Global, methods: &mut Vec<Method>) -> Result<(), AllocError>
+    requires { methods.old.items ≡ [] }
+    ensures { OnOk result (map method_of methods.new.items ≡ programs.methods) }
+{
+    push_method(
+        alloc,
+        methods,
+        "Even",
+        (1, 1, 2),
+        parity_instructions(alloc, true, 1)?,
+    )?;
+    push_method(
+        alloc,
+        methods,
+        "Odd",
+        (1, 1, 2),
+        parity_instructions(alloc, false, 0)?,
+    )?;
+    push_method(
+        alloc,
+        methods,
+        "Main",
+        (0, 0, 2),
+        seven_instructions(alloc)?,
+    )?;
+    push_method(alloc, methods, "Loop", (0, 0, 2), loop_instructions(alloc)?)?;
+    push_method(alloc, methods, "Nest", (0, 0, 4), nest_instructions(alloc)?)?;
+    push_method(
+        alloc,
+        methods,
+        "Count",
+        (1, 1, 2),
+        count_instructions(alloc)?,
+    )?;
+    push_method(alloc, methods, "Fib", (1, 1, 4), fib_instructions(alloc)?)
+}
+
 /// The code: method 0 and 1 tell whether a number is even or odd, 2 prints whether 7 is even, 3 and 4 print in loops, 5
 /// counts up to its parameter, and 6 tells whether a Fibonacci number is odd.
 pub fn program_code(alloc: Global) -> Result<Code, AllocError>
     ensures { IfOk result (λ code. code_of code ≡ programs) }
 {
-    let even = method(
-        alloc,
-        "Even",
-        (1, 1, 2),
-        parity_instructions(alloc, true, 1)?,
-    )?;
-    let odd = method(
-        alloc,
-        "Odd",
-        (1, 1, 2),
-        parity_instructions(alloc, false, 0)?,
-    )?;
-    let seven = method(alloc, "Main", (0, 0, 2), seven_instructions(alloc)?)?;
-    let printing = method(alloc, "Loop", (0, 0, 2), loop_instructions(alloc)?)?;
-    let nest = method(alloc, "Nest", (0, 0, 4), nest_instructions(alloc)?)?;
-    let count = method(alloc, "Count", (1, 1, 2), count_instructions(alloc)?)?;
-    let fib = method(alloc, "Fib", (1, 1, 4), fib_instructions(alloc)?)?;
-    Ok(Code {
-        methods: Vec::from_array(alloc, [even, odd, seven, printing, nest, count, fib])?,
-        shapes: shapes(alloc)?,
-    })
+    let shapes = shapes(alloc)?;
+    let mut methods = Vec::new(alloc);
+    push_methods(alloc, &mut methods)?;
+    Ok(Code { methods, shapes })
 }

@@ -3,7 +3,7 @@
 use crate::expecting::expect;
 use crate::verdicts::are_equal;
 use df_cases::{Sparse, Sum, combinations, nodes_of, row, rows};
-use df_form::{Combination, Lit, Nodes};
+use df_form::{Combination, Lit, Over};
 use df_level::{Level, LevelFault, Row, RowFault};
 use df_row::rows_of_literals;
 use std::alloc::Global;
@@ -159,7 +159,7 @@ fn is_only(alloc: Global, rows: &[df_row::Row], wanted: Sparse) -> bool {
 }
 
 /// Whether the literals have this row alone.
-fn have_row(alloc: Global, nodes: &Nodes, literals: &[Lit], wanted: Sparse) -> bool {
+fn have_row(alloc: Global, nodes: &Over, literals: &[Lit], wanted: Sparse) -> bool {
     match rows_of_literals(alloc, nodes, literals) {
         Ok(rows) => is_only(alloc, &rows, wanted),
         Err(_) => false,
@@ -169,6 +169,7 @@ fn have_row(alloc: Global, nodes: &Nodes, literals: &[Lit], wanted: Sparse) -> b
 #[test]
 fn takes_rows_of_literals(rt: HostRuntime) -> Result<(), Fail> {
     let nodes = nodes_of(rt.alloc(), COMPARISON)?;
+    let nodes = Over::new(rt.alloc(), &nodes);
     for (positive, wanted) in OF_LITERALS {
         let literals = [Lit { positive, node: 3 }];
         assert!(rt; have_row(rt.alloc(), &nodes, &literals, wanted));

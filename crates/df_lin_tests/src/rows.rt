@@ -2,7 +2,7 @@
 
 use crate::expecting::expect;
 use df_cases::{Signed, Sum, combinations, literals, nodes_of};
-use df_form::Nodes;
+use df_form::{Nodes, Over};
 use df_row::{Row, RowFault, is_linear, rows_of_literals};
 use std::alloc::Global;
 use std::process::Abort;
@@ -99,7 +99,7 @@ fn all_nodes(alloc: Global) -> Result<Nodes, &'static str> {
 }
 
 /// Whether the combinations refute the negation of the clause.
-fn refute(alloc: Global, nodes: &Nodes, clause: &[Signed], sums: &[Sum]) -> Option<bool> {
+fn refute(alloc: Global, nodes: &Over, clause: &[Signed], sums: &[Sum]) -> Option<bool> {
     let literals = literals(alloc, clause)?;
     let combinations = combinations(alloc, sums)?;
     is_linear(alloc, nodes, &literals, &combinations).ok()
@@ -109,7 +109,7 @@ fn apart() -> &'static [Signed] {
     APART
 }
 
-fn tells_each(rt: &impl Abort, alloc: Global, nodes: &Nodes, table: &[Combined]) {
+fn tells_each(rt: &impl Abort, alloc: Global, nodes: &Over, table: &[Combined]) {
     for (number, (sums, wanted)) in table.iter().enumerate() {
         let told = refute(alloc, nodes, apart(), *sums);
         expect(rt, number, told == Some(*wanted));
@@ -117,16 +117,16 @@ fn tells_each(rt: &impl Abort, alloc: Global, nodes: &Nodes, table: &[Combined])
 }
 
 /// What is said of each combination: here and below a function names a table alone, since it carries it.
-fn tells_of_combinations(rt: &impl Abort, alloc: Global, nodes: &Nodes) {
+fn tells_of_combinations(rt: &impl Abort, alloc: Global, nodes: &Over) {
     tells_each(rt, alloc, nodes, &COMBINATIONS);
 }
 
-fn halves_refute(alloc: Global, nodes: &Nodes, clause: &[Signed]) -> Option<bool> {
+fn halves_refute(alloc: Global, nodes: &Over, clause: &[Signed]) -> Option<bool> {
     refute(alloc, nodes, clause, &[HALF, OTHER_HALF, BOTH])
 }
 
 /// What refutes the first two comparisons refutes no such clause.
-fn tells_of_none(rt: &impl Abort, alloc: Global, nodes: &Nodes) {
+fn tells_of_none(rt: &impl Abort, alloc: Global, nodes: &Over) {
     for (number, clause) in UNTOLD.iter().enumerate() {
         let told = halves_refute(alloc, nodes, *clause);
         expect(rt, number, told == Some(false));
@@ -136,6 +136,7 @@ fn tells_of_none(rt: &impl Abort, alloc: Global, nodes: &Nodes) {
 #[test]
 fn refutes_by_combinations(rt: HostRuntime) -> Result<(), Fail> {
     let nodes = all_nodes(rt.alloc())?;
+    let nodes = Over::new(rt.alloc(), &nodes);
     tells_of_combinations(&rt, rt.alloc(), &nodes);
     tells_of_none(&rt, rt.alloc(), &nodes);
     Ok(())
@@ -169,7 +170,7 @@ fn are_all_rows(rows: &[Row], wanted: Option<&[(Option<i128>, i128)]>) -> bool {
 /// Whether the literals have these rows, or a number of one is past 128 bits where there are none.
 fn have_rows(
     alloc: Global,
-    nodes: &Nodes,
+    nodes: &Over,
     signed: &[Signed],
     wanted: Option<&[(Option<i128>, i128)]>,
 ) -> bool {
@@ -182,20 +183,21 @@ fn have_rows(
     }
 }
 
-fn finds_each(rt: &impl Abort, alloc: Global, nodes: &Nodes, table: &[Given]) {
+fn finds_each(rt: &impl Abort, alloc: Global, nodes: &Over, table: &[Given]) {
     for (number, given) in table.iter().enumerate() {
         let (signed, wanted) = *given;
         expect(rt, number, have_rows(alloc, nodes, signed, wanted));
     }
 }
 
-fn finds_rows(rt: &impl Abort, alloc: Global, nodes: &Nodes) {
+fn finds_rows(rt: &impl Abort, alloc: Global, nodes: &Over) {
     finds_each(rt, alloc, nodes, &ROWS);
 }
 
 #[test]
 fn finds_rows_of_literals(rt: HostRuntime) -> Result<(), Fail> {
     let nodes = all_nodes(rt.alloc())?;
+    let nodes = Over::new(rt.alloc(), &nodes);
     finds_rows(&rt, rt.alloc(), &nodes);
     Ok(())
 }

@@ -2,7 +2,7 @@
 
 use crate::assignment::Assignment;
 use crate::declarations::Head;
-use df_form::{Free, Node, Nodes, Op, Sort, Term};
+use df_form::{Free, Front, Node, NodeTable, Op, Sort, Term};
 use df_lang::{DeclId, Ty};
 use std::alloc::{AllocError, Global};
 
@@ -231,7 +231,7 @@ fn value_at(
     heads: &[Head],
     assignment: &Assignment,
     values: &[Option<Value>],
-    nodes: &Nodes,
+    nodes: &Front,
     number: usize,
 ) -> Option<Value> {
     match nodes.get(number) {
@@ -245,7 +245,7 @@ fn push_values(
     values: &mut Vec<Option<Value>>,
     heads: &[Head],
     assignment: &Assignment,
-    nodes: &Nodes,
+    nodes: &Front,
 ) -> Result<(), AllocError> {
     for number in 0..nodes.len() {
         let value = value_at(heads, assignment, values.as_slice(), nodes, number);
@@ -259,7 +259,7 @@ pub(crate) fn values(
     alloc: Global,
     heads: &[Head],
     assignment: &Assignment,
-    nodes: &Nodes,
+    nodes: &Front,
 ) -> Result<Vec<Option<Value>>, AllocError> {
     let mut values = Vec::new(alloc);
     push_values(&mut values, heads, assignment, nodes)?;

@@ -30,7 +30,7 @@ fn is_seen(
 ) -> bool
     requires { IsOwed method.now.known obligation.now }
 {
-    match method.sequent(alloc, program, obligation) {
+    match method.sequent(program, obligation) {
         Ok(sequent) => is_looked_at(alloc, engine, &sequent),
         Err(_) => false,
     }

@@ -1,7 +1,7 @@
 //! Terms and formulas in words.
 
 use crate::declarations::{Head, name_of};
-use df_form::{Node, Nodes, Op, Term};
+use df_form::{Front, Node, NodeTable, Op, Term};
 use df_lang::Ty;
 use std::alloc::{AllocError, Global};
 
@@ -126,7 +126,7 @@ fn push_nodes(
     alloc: Global,
     texts: &mut Vec<String>,
     heads: &[Head],
-    nodes: &Nodes,
+    nodes: &Front,
 ) -> Result<(), AllocError> {
     for number in 0..nodes.len() {
         if let Some(node) = nodes.get(number) {
@@ -140,7 +140,7 @@ fn push_nodes(
 pub(crate) fn texts(
     alloc: Global,
     heads: &[Head],
-    nodes: &Nodes,
+    nodes: &Front,
 ) -> Result<Vec<String>, AllocError> {
     let mut texts = Vec::new(alloc);
     push_nodes(alloc, &mut texts, heads, nodes)?;

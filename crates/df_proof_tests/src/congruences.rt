@@ -6,7 +6,7 @@ ghost use Rattle.std.specs.Prelude.{◌≡◌, []};
 use crate::expecting::expect;
 use df_cases::{Signed, literals, nodes_of};
 use df_cong::{Answer, Classes, Congruence, Theory, congruence};
-use df_form::{Lit, Nodes};
+use df_form::{Lit, NodeTable, Over};
 use std::alloc::Global;
 use std::test::Fail;
 
@@ -36,7 +36,7 @@ const CASES: [Case; 6] = [
 
 /// Holds a further literal. Whether there is a conflict then; nothing where the node is no formula, or memory is
 /// refused, as below.
-fn hold(classes: &mut Classes, nodes: &Nodes, signed: Signed) -> Option<bool>
+fn hold(classes: &mut Classes, nodes: &Over, signed: Signed) -> Option<bool>
     requires { classes.old.table ≡ nodes.now }
     ensures { classes.new.table ≡ nodes.now }
 {
@@ -52,7 +52,7 @@ fn hold(classes: &mut Classes, nodes: &Nodes, signed: Signed) -> Option<bool>
 }
 
 /// How many of the literals are held when the next one contradicts them.
-fn quiet_count(classes: &mut Classes, nodes: &Nodes, case: Case) -> Option<usize>
+fn quiet_count(classes: &mut Classes, nodes: &Over, case: Case) -> Option<usize>
     requires { classes.old.table ≡ nodes.now }
 {
     let (first, second, third, _) = case;
@@ -69,7 +69,7 @@ fn quiet_count(classes: &mut Classes, nodes: &Nodes, case: Case) -> Option<usize
 }
 
 /// Whether as many of the literals are held as the case says.
-fn is_right(alloc: Global, nodes: &Nodes, case: Case) -> bool {
+fn is_right(alloc: Global, nodes: &Over, case: Case) -> bool {
     let (_, _, _, wanted) = case;
     match Classes::new(alloc, nodes) {
         Ok(mut classes) => quiet_count(&mut classes, nodes, case) == Some(wanted),
@@ -80,6 +80,7 @@ fn is_right(alloc: Global, nodes: &Nodes, case: Case) -> bool {
 #[test]
 fn tells_of_conflicts(rt: HostRuntime) -> Result<(), Fail> {
     let nodes = nodes_of(rt.alloc(), NODES)?;
+    let nodes = Over::new(rt.alloc(), &nodes);
     for (number, case) in CASES.iter().enumerate() {
         expect(&rt, number, is_right(rt.alloc(), &nodes, *case));
     }
@@ -87,7 +88,7 @@ fn tells_of_conflicts(rt: HostRuntime) -> Result<(), Fail> {
 }
 
 /// Whether a literal contradicts another one that is held, and no more once that one is taken back.
-fn goes_back(classes: &mut Classes, nodes: &Nodes) -> Option<bool>
+fn goes_back(classes: &mut Classes, nodes: &Over) -> Option<bool>
     requires table { classes.old.table ≡ nodes.now }
     requires literals { classes.old.literals ≡ [] }
 {
@@ -100,7 +101,7 @@ fn goes_back(classes: &mut Classes, nodes: &Nodes) -> Option<bool>
 }
 
 /// Whether what is held is taken back.
-fn is_taken_back(alloc: Global, nodes: &Nodes) -> bool {
+fn is_taken_back(alloc: Global, nodes: &Over) -> bool {
     match Classes::new(alloc, nodes) {
         Ok(mut classes) => goes_back(&mut classes, nodes) == Some(true),
         Err(_) => false,
@@ -110,6 +111,7 @@ fn is_taken_back(alloc: Global, nodes: &Nodes) -> bool {
 #[test]
 fn takes_literals_back(rt: HostRuntime) -> Result<(), Fail> {
     let nodes = nodes_of(rt.alloc(), NODES)?;
+    let nodes = Over::new(rt.alloc(), &nodes);
     assert!(rt; is_taken_back(rt.alloc(), &nodes));
     Ok(())
 }
@@ -139,7 +141,7 @@ fn have_one_label(labels: &[usize], left: usize, right: usize) -> bool {
 /// Whether literals make two nodes equal as wanted.
 fn tells(
     alloc: Global,
-    nodes: &Nodes,
+    nodes: &Over,
     literals: &[Lit],
     left: usize,
     right: usize,
@@ -155,7 +157,7 @@ fn tells(
     }
 }
 
-fn is_told(alloc: Global, nodes: &Nodes, list: List) -> bool {
+fn is_told(alloc: Global, nodes: &Over, list: List) -> bool {
     let (signed, left, right, wanted) = list;
     match literals(alloc, signed) {
         Some(literals) => tells(alloc, nodes, &literals, left, right, wanted),
@@ -166,6 +168,7 @@ fn is_told(alloc: Global, nodes: &Nodes, list: List) -> bool {
 #[test]
 fn tells_of_equal_nodes(rt: HostRuntime) -> Result<(), Fail> {
     let nodes = nodes_of(rt.alloc(), NODES)?;
+    let nodes = Over::new(rt.alloc(), &nodes);
     for (number, list) in LISTS.iter().enumerate() {
         expect(&rt, number, is_told(rt.alloc(), &nodes, *list));
     }

@@ -4,7 +4,7 @@ use crate::expecting::{expect, expect_no_row};
 use crate::lines::steps_of;
 use df_axiom::instance;
 use df_cases::{P, X, are_literals, nodes_of, sequent_of, trimmed, world};
-use df_form::{Node, Nodes, Op, Sequent, Step, World};
+use df_form::{Node, NodeTable, Nodes, Op, Over, Sequent, Step, World};
 use df_kern::{Checker, KernFault, check};
 use df_rules::connective;
 use std::alloc::Global;
@@ -506,7 +506,7 @@ fn no_i8(alloc: Global) -> Result<Nodes, &'static str> {
 }
 
 /// Whether the last clause of what i8 means, for node 1, is of these literals, and four nodes are made for it.
-fn is_type_clause(world: World, alloc: Global, nodes: &mut Nodes, wanted: &str) -> bool {
+fn is_type_clause(world: World, alloc: Global, nodes: &mut Over, wanted: &str) -> bool {
     match instance(alloc, world, nodes, 74, 2, &[1]) {
         Ok(clause) => are_literals(alloc, clause.as_slice(), wanted) && nodes.len() == 7,
         Err(_) => false,
@@ -516,7 +516,7 @@ fn is_type_clause(world: World, alloc: Global, nodes: &mut Nodes, wanted: &str) 
 /// Whether the type's clause is of these literals.
 fn has_type_clause_in(world: World, alloc: Global, wanted: &str) -> bool {
     match no_i8(alloc) {
-        Ok(mut nodes) => is_type_clause(world, alloc, &mut nodes, wanted),
+        Ok(nodes) => is_type_clause(world, alloc, &mut Over::new(alloc, &nodes), wanted),
         Err(_) => false,
     }
 }
@@ -534,7 +534,7 @@ fn gives_clauses_of_types(rt: HostRuntime) {
 }
 
 /// Whether the second clause of node 2 is of these literals.
-fn is_connective_clause(alloc: Global, nodes: &mut Nodes, wanted: &str) -> bool {
+fn is_connective_clause(alloc: Global, nodes: &mut Over, wanted: &str) -> bool {
     match connective(alloc, nodes, 2, 1) {
         Ok(clause) => are_literals(alloc, clause.as_slice(), wanted),
         Err(_) => false,
@@ -543,7 +543,8 @@ fn is_connective_clause(alloc: Global, nodes: &mut Nodes, wanted: &str) -> bool 
 
 #[test]
 fn gives_clauses_of_connectives(rt: HostRuntime) -> Result<(), Fail> {
-    let mut nodes = no_i8(rt.alloc())?;
+    let nodes = no_i8(rt.alloc())?;
+    let mut nodes = Over::new(rt.alloc(), &nodes);
     assert!(rt; is_connective_clause(rt.alloc(), &mut nodes, "+2 +1"));
     Ok(())
 }

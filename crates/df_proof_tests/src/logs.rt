@@ -2,22 +2,17 @@
 
 use crate::lines::steps_of;
 use df_cases::{Signed, Sum, combinations, literals, sequent_of};
-use df_form::{Lit, Node, Op, Sequent};
+use df_form::{Lit, Node, NodeTable, Op, Sequent};
 use df_kern::check;
 use df_logbuild::{Derivation, logs_end_with_empty_clauses};
 use df_trail::{Conflict, Retreat, Trail, negations};
 use std::alloc::Global;
 
 /// A log of these lines, each of which adds a clause.
-fn begun(alloc: Global, sequent: &Sequent, lines: &str) -> Option<Derivation> {
+fn begun<'a>(alloc: Global, sequent: &'a Sequent<'a>, lines: &str) -> Option<Derivation<'a>> {
     let lines = steps_of(alloc, lines, "")?;
-    match sequent.nodes.copy(alloc) {
-        Ok(nodes) => {
-            let count = lines.len();
-            Some(Derivation::new(nodes, lines, count))
-        }
-        Err(_) => None,
-    }
+    let count = lines.len();
+    Some(Derivation::new(sequent.nodes.over(alloc), lines, count))
 }
 
 /// The number of the clause that follows through clauses by propagation.
@@ -55,10 +50,10 @@ fn make_seven(alloc: Global, derivation: &mut Derivation) -> Option<usize> {
         op: Op::Number(7),
         parts: Vec::new(alloc),
     };
-    if !derivation.nodes.admits(&seven) {
+    if !derivation.nodes.admits(seven.op, &seven.parts) {
         return None;
     }
-    derivation.make(alloc, seven).ok()
+    derivation.make(seven).ok()
 }
 
 /// Adds lines to the hypothesis and the negated goal, up to the empty clause: whether the lines and the nodes have

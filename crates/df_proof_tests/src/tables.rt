@@ -3,7 +3,7 @@
 use crate::expecting::{expect, expect_no_row};
 use df_cases::{add_line, nodes_of, sequent_of, trimmed, world};
 use df_clause::{Ground, clauses};
-use df_form::{Lit, Nodes, Sequent, World};
+use df_form::{Lit, Nodes, Over, Sequent, World};
 use df_model::{Valuation, valuation};
 use df_rules::Known;
 use df_table::{Table, is_model};
@@ -214,7 +214,7 @@ fn tabulated(alloc: Global, rows: &str) -> Option<Nodes> {
 }
 
 /// The table of nodes where node 2 is true.
-fn table_of(world: World, alloc: Global, nodes: &Nodes) -> Option<Table> {
+fn table_of(world: World, alloc: Global, nodes: &Over) -> Option<Table> {
     let mut known = Known::new(alloc);
     let second = Lit {
         positive: true,
@@ -231,7 +231,7 @@ fn table_of(world: World, alloc: Global, nodes: &Nodes) -> Option<Table> {
 
 fn table_in(world: World, alloc: Global, rows: &str) -> Option<Table> {
     match tabulated(alloc, rows) {
-        Some(nodes) => table_of(world, alloc, &nodes),
+        Some(nodes) => table_of(world, alloc, &Over::new(alloc, &nodes)),
         None => None,
     }
 }
@@ -292,7 +292,7 @@ const WIDE: [(&str, [i128; 2], bool); 10] = [
 ];
 
 /// Whether the nodes of the operation on the numbers have no numbers, since one is past 128 bits.
-fn are_wide(world: World, alloc: Global, nodes: &Nodes, numbers: &[i128]) -> Option<bool> {
+fn are_wide(world: World, alloc: Global, nodes: &Over, numbers: &[i128]) -> Option<bool> {
     let known = Known::new(alloc);
     match valuation(alloc, world, nodes, numbers, &known) {
         Ok(valuation) => Some(matches!(valuation, Valuation::Wide)),
@@ -302,7 +302,7 @@ fn are_wide(world: World, alloc: Global, nodes: &Nodes, numbers: &[i128]) -> Opt
 
 fn is_wide_in(world: World, alloc: Global, lines: &str, numbers: &[i128]) -> Option<bool> {
     match nodes_of(alloc, lines) {
-        Ok(nodes) => are_wide(world, alloc, &nodes, numbers),
+        Ok(nodes) => are_wide(world, alloc, &Over::new(alloc, &nodes), numbers),
         Err(_) => None,
     }
 }

@@ -4,7 +4,7 @@ use crate::expecting::expect;
 use df_axiom::Written;
 use df_cases::{P, Q, assume, conclude, draft, push_literals, sequent_of};
 use df_clause::{Ground, GroundClause, clauses};
-use df_form::{Draft, Nodes, Op, Sequent, Step};
+use df_form::{Draft, NodeTable, Op, Over, Sequent, Step};
 use df_kern::Checker;
 use df_trig::instances;
 use std::alloc::{AllocError, Global};
@@ -105,7 +105,7 @@ fn are_listed(alloc: Global, clauses: &[GroundClause], wanted: &str) -> bool {
     text.as_str() == wanted
 }
 
-fn is_number(nodes: &Nodes, node: usize, value: i128) -> bool {
+fn is_number(nodes: &Over, node: usize, value: i128) -> bool {
     match nodes.get(node) {
         Some(made) => made.op == Op::Number(value),
         None => false,
@@ -113,7 +113,7 @@ fn is_number(nodes: &Nodes, node: usize, value: i128) -> bool {
 }
 
 /// Whether these nodes are these numbers.
-fn are_numbers(nodes: &Nodes, numbers: &[(usize, i128)]) -> bool {
+fn are_numbers(nodes: &Over, numbers: &[(usize, i128)]) -> bool {
     for (node, value) in numbers {
         if !is_number(nodes, *node, *value) {
             return false;

@@ -6,7 +6,7 @@ use crate::grounds::has_lines;
 use df_axiom::{AxiomFault, Schemas, Written, instance};
 use df_cases::sequent_of;
 use df_clause::{Ground, clauses};
-use df_form::{Lit, Nodes, Sequent, Term, World};
+use df_form::{Arena, Lit, Sequent, Term, World};
 use df_trig::{TrigFault, instances, round};
 use std::alloc::Global;
 
@@ -81,11 +81,11 @@ fn adds_each_match_once(rt: HostRuntime) {
 struct Refused {}
 
 impl Schemas for Refused {
-    fn instance(
+    fn instance<A: Arena>(
         &self,
         alloc: Global,
         world: World,
-        nodes: &mut Nodes,
+        nodes: &mut A,
         schema: u8,
         number: u32,
         terms: &[Term],
