@@ -1,5 +1,5 @@
 -- A decision at a bound.
-use Rattle.std.proofs.Common.{◌≡◌, inl, ⊎_elim, ℕ, ◌<◌, ℤ, true, false, List, [], ◌∷◌, ◌++◌, length, Some, slice_get, nat_lt, refl, sym, ap, ◌∙◌, subst, arith, ltb-true, lt-ltb, Option}
+use Rattle.std.proofs.Common.{◌≡◌, inl, inr, ⊎_elim, Bool, ℕ, ◌<◌, ℤ, true, false, List, [], ◌∷◌, ◌++◌, length, Some, slice_get, nat_lt, refl, sym, ap, ◌∙◌, subst, arith, ltb-true, lt-ltb, Option}
 use Rattle.std.specs.Option.{option_map_or}
 use Rattle.std.proofs.lemmas.Bool.{and_from, cases_Bool, and_parts}
 use Rattle.std.proofs.lemmas.Option.{slice_get_within}
@@ -20,8 +20,8 @@ use Rattle.df_logbuild.specs.declared.derivation.Derivation.{Derivation}
 use Rattle.df_logbuild.specs.Runs.{Runs}
 use Rattle.df_trail.specs.declared.trail.Trail.{Trail}
 use Rattle.df_trail.specs.Trail.{branch_of, decided}
-use Rattle.df_branch.specs.Evidence.{of_split}
-use Rattle.df_branch.specs.Next.{ComesNext}
+use Rattle.df_branch.specs.Evidence.{IsDecision, of_split}
+use Rattle.df_branch.specs.Next.{IsQuiet, ComesNext}
 use Rattle.df_branch.specs.Leaf.{IsBetweenLeaf}
 use Rattle.df_search.specs.declared.searching.State.{State}
 use Rattle.df_search.specs.Searching.{clauses_of, Searches}
@@ -65,30 +65,39 @@ module _ (set : List Node) (clauses : List GroundClause) (nodes middle more : Li
   facts : List Lit
   facts = after branch leaf.learned
 
-  pub bound_follows : ComesNext set more clauses branch (yes m)
+  stays_quiet : IsQuiet more clauses branch leaf.learned
+  stays_quiet = quiet_list_later nodes more more_table grows clauses branch leaf.learned (quiet_of leaf.unshut)
+
+  not_above : is_among facts (yes m) ≡ false
+  not_above = unknown nodes more table grows facts leaf.unshut.formulas term place m bound place_is m_is (yes m) refl (λ p q. leaf.not_true place m p q)
+
+  not_below : is_among facts (no m) ≡ false
+  not_below = unknown nodes more table grows facts leaf.unshut.formulas term place m bound place_is m_is (no m) refl (λ p q. leaf.not_false place m p q)
+
+  is_decision : IsDecision set more clauses branch leaf.learned (yes m)
   unfolding facts
-  bound_follows = record {
-    learned = leaf.learned;
-    quiet = quiet_list_later nodes more more_table grows clauses branch leaf.learned (quiet_of leaf.unshut);
-    not_true = unknown nodes more table grows facts leaf.unshut.formulas term place m bound place_is m_is (yes m) refl (λ p q. leaf.not_true place m p q);
-    not_false = unknown nodes more table grows facts leaf.unshut.formulas term place m bound place_is m_is (no m) refl (λ p q. leaf.not_false place m p q);
-    decision = inl (of_split leaf.filled (record {
-      rows = leaf.unshut.rows;
-      rows_are = rows_later nodes more more_table grows facts leaf.unshut.formulas ∙ leaf.unshut.rows_are;
-      first = leaf.first;
-      variables = leaf.variables;
-      levels = leaf.levels;
-      elimination = leaf.elimination;
-      count = leaf.count;
-      within = leaf.within;
-      term = term;
-      bound = bound;
-      between = leaf.between;
-      place = place;
-      is_bound = place_is;
-      is_comparison = m_is;
-    }));
-  }
+  is_decision = of_split leaf.filled (record {
+    rows = leaf.unshut.rows;
+    rows_are = rows_later nodes more more_table grows facts leaf.unshut.formulas ∙ leaf.unshut.rows_are;
+    first = leaf.first;
+    variables = leaf.variables;
+    levels = leaf.levels;
+    elimination = leaf.elimination;
+    count = leaf.count;
+    within = leaf.within;
+    term = term;
+    bound = bound;
+    between = leaf.between;
+    place = place;
+    is_bound = place_is;
+    is_comparison = m_is;
+  })
+
+  -- either side
+  pub bound_follows : (positive : Bool) → ComesNext set more clauses branch (record { positive = positive; node = m })
+  unfolding facts
+  bound_follows true = record { learned = leaf.learned; quiet = stays_quiet; not_true = not_above; not_false = not_below; decision = inl is_decision }
+  bound_follows false = record { learned = leaf.learned; quiet = stays_quiet; not_true = not_below; not_false = not_above; decision = inr is_decision }
 
 -- a node whose value is a truth
 pub truth_formula : (nodes : List Node) (m : ℕ) (node : Node) → slice_get nodes m ≡ Some node → sort_of node.op ≡ sorts.Truth → is_formula nodes m ≡ true
@@ -96,11 +105,11 @@ truth_formula nodes m node e is =
     and_from (nat_lt m (length nodes)) (same_sort (sort_at nodes m) sorts.Truth) (lt-ltb m (length nodes) (slice_get_within nodes m node e))
     (ap (λ (o : Option Node). same_sort (option_map_or (λ (node : Node). sort_of node.op) o sorts.Number) sorts.Truth) e ∙ ap (λ (sort : Sort). same_sort sort sorts.Truth) is)
 
-pub splits : (s : Sequent) (rounds : ℕ) (old : State) → Searches s rounds old → (term place m : ℕ) (bound : ℤ) (first second : Derivation) (trail : Trail) → IsBetweenLeaf (clauses_of old) old.derivation.nodes (branch_of old.trail) term bound
+pub splits : (s : Sequent) (rounds : ℕ) (old : State) → Searches s rounds old → (term place m : ℕ) (bound : ℤ) (positive : Bool) (first second : Derivation) (trail : Trail) → IsBetweenLeaf (clauses_of old) old.derivation.nodes (branch_of old.trail) term bound
     → made old.derivation.nodes (number bound) ≡ record { nodes = first.nodes; number = place } → ((s : Sequent) (all : List Clause) → Runs s old.derivation all → Runs s first all)
     → made first.nodes (at_most term place) ≡ record { nodes = second.nodes; number = m } → ((s : Sequent) (all : List Clause) → Runs s first all → Runs s second all)
-    → trail.decisions.items ≡ old.trail.decisions.items ++ decided (yes m) ∷ [] → Searches s rounds (record old { derivation = second; trail = trail })
-splits s rounds old searches term place m bound first second trail leaf made_first runs_first made_second runs_second trail_is =
+    → trail.decisions.items ≡ old.trail.decisions.items ++ decided (record { positive = positive; node = m }) ∷ [] → Searches s rounds (record old { derivation = second; trail = trail })
+splits s rounds old searches term place m bound positive first second trail leaf made_first runs_first made_second runs_second trail_is =
     let all = searches.all in
     let nodes = old.derivation.nodes in
     let one = makes_node s rounds all old searches.is (number bound) refl refl refl first (makes nodes (number bound) first.nodes place made_first) (runs_first s all searches.is.runs) in
@@ -112,5 +121,5 @@ splits s rounds old searches term place m bound first second trail leaf made_fir
     let at_m = made-at first.nodes (at_most term place) (record { nodes = second.nodes; number = m }) made_second in
     let is_number_there = number-made nodes bound (record { nodes = first.nodes; number = place }) made_first in
     let follows = bound_follows old.set (clauses_of old) nodes first.nodes second.nodes (branch_of old.trail) term place m bound leaf searches.is.standing.place.table two.standing.place.table (grows-trans nodes first.nodes second.nodes grows_one grows_two)
-    (get-grows first.nodes second.nodes place grows_two is_number_there.0 ∙ at_place) at_m in
-    record { all = all; is = decides s rounds all (record old { derivation = second }) two (yes m) follows (truth_formula second.nodes m (at_most term place) at_m refl) trail trail_is }
+    (get-grows first.nodes second.nodes place grows_two is_number_there.0 ∙ at_place) at_m positive in
+    record { all = all; is = decides s rounds all (record old { derivation = second }) two (record { positive = positive; node = m }) follows (truth_formula second.nodes m (at_most term place) at_m refl) trail trail_is }

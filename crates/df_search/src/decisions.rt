@@ -54,7 +54,8 @@ fn operation(
 }
 
 impl<'a> State<'a> {
-    /// Decides that the number is at most the bound.
+    /// Decides whether the number is at most the bound, or at least the next one: the side on which 0 is comes first.
+    /// So a number is not divided further and further away from 0 before a branch is closed.
     pub(crate) fn split(&mut self, node: usize, bound: i128) -> Result<(), AllocError>
         requires { is_number self.old.derivation.nodes node ≡ true }
         ensures splits { OnOk result (SplitsAt self.old node bound self.new) }
@@ -67,7 +68,11 @@ impl<'a> State<'a> {
             parts: Vec::new(self.alloc),
         })?;
         let comparison = operation(self.alloc, &mut self.derivation, Op::AtMost, node, place)?;
-        self.trail.decide(yes(comparison))
+        let side = Lit {
+            positive: bound >= 0,
+            node: comparison,
+        };
+        self.trail.decide(side)
     }
 
     /// Adds a clause that an equality means, bound to it.
