@@ -5,6 +5,7 @@
 
 mod analyzing;
 mod classing;
+mod cutting;
 mod defining;
 mod explaining;
 mod instantiating;
@@ -15,5 +16,6 @@ mod state;
 mod units;
 
 pub use analyzing::Lesson;
+pub use cutting::Division;
 pub use df_theory::Kept;
 pub use state::State;

@@ -119,6 +119,12 @@ impl Bounds {
         Some(bound.constant)
     }
 
+    /// How far apart the bounds of a column are, where it has both.
+    pub fn width(&self, column: usize) -> Option<i128> {
+        let lower = self.constant(column, Side::Lower)?;
+        lower.checked_add(self.constant(column, Side::Upper)?)
+    }
+
     /// The constant of the tightest bound that there is before all decisions.
     pub fn settled(&self, column: usize, side: Side) -> Option<i128> {
         let end = match self.starts.get(GROUND) {

@@ -4,7 +4,7 @@
 use crate::bounds::{Bounds, Side};
 use crate::linear::{Entry, combine};
 use crate::rows::{Derivation, Need};
-use crate::tableau::Tableau;
+use crate::tableau::{Fraction, Tableau};
 use std::alloc::{AllocError, Global};
 
 /// A sum of multiples of columns: the sums of the constants of their bounds from above and from below.
@@ -79,19 +79,17 @@ fn span_of(bounds: &Bounds, rest: &[Entry]) -> Option<Span> {
     Some(span)
 }
 
-/// Whether no multiple of the divisor lies in the span.
-fn is_between(span: Span, divisor: i128) -> Option<bool> {
+/// How far apart the first and the last multiple of the divisor are that a sum may be, as so many times the divisor,
+/// where its members have both bounds; below 0 where it may be none.
+pub fn room_of(bounds: &Bounds, rest: &[Entry], divisor: i128) -> Option<i128> {
+    let span = span_of(bounds, rest)?;
     let above = span.above.checked_div_euclid(divisor)?;
-    let below = span.below.checked_div_euclid(divisor)?;
-    Some(above.checked_add(below)? < 0)
+    above.checked_add(span.below.checked_div_euclid(divisor)?)
 }
 
 /// Whether a sum, which is a multiple of the divisor, lies strictly between two of its multiples.
 pub fn is_indivisible(bounds: &Bounds, rest: &[Entry], divisor: i128) -> bool {
-    match span_of(bounds, rest) {
-        Some(span) if divisor > 1 => is_between(span, divisor).unwrap_or(false),
-        _ => false,
-    }
+    divisor > 1 && room_of(bounds, rest, divisor).unwrap_or(0) < 0
 }
 
 /// The bounds of a sum from above or from below.
@@ -128,6 +126,53 @@ pub fn exclusion(
 impl Tableau {
     pub fn row_count(&self) -> usize {
         self.rows.len()
+    }
+
+    /// The basic column of a row, so many times as its factor says.
+    pub fn basic(&self, row: usize) -> Option<Entry> {
+        let row = self.rows.get(row)?;
+        Some(Entry {
+            column: row.basic,
+            coefficient: row.factor,
+        })
+    }
+
+    /// The other members of a row: their sum is that of its basic column, so many times.
+    pub fn others(&self, row: usize) -> Option<&[Entry]> {
+        match self.rows.get(row) {
+            Some(row) => Some(row.entries.as_slice()),
+            None => None,
+        }
+    }
+
+    /// Whether the value of a row's basic column is not whole.
+    pub fn is_fractional(&self, row: usize) -> bool {
+        match self.basic(row) {
+            Some(basic) => !self.fraction(basic.column).is_whole(),
+            None => false,
+        }
+    }
+
+    /// Whether the value of some column is not whole.
+    pub fn has_fraction(&self) -> bool {
+        for row in 0..self.rows.len() {
+            if self.is_fractional(row) {
+                return true;
+            }
+        }
+        false
+    }
+
+    /// The value of a sum of columns.
+    pub fn fraction_of(&self, entries: &[Entry]) -> Option<Fraction> {
+        let mut sum = Fraction {
+            numerator: 0,
+            denominator: 1,
+        };
+        for entry in entries {
+            sum = sum.plus(entry.coefficient, self.fraction(entry.column))?;
+        }
+        Some(sum)
     }
 
     /// The members of a row in the order of columns: their sum is 0.

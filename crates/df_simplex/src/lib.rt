@@ -12,7 +12,7 @@ mod tableau;
 mod tableau_row;
 
 pub use bounds::{Bound, Bounds, Cause, Side};
-pub use dividing::{exclusion, is_fixed, is_indivisible, residues};
+pub use dividing::{exclusion, is_fixed, is_indivisible, residues, room_of};
 pub use linear::{Entry, Linear, coefficient_at, combine, content, divided, weighted};
 pub use rows::{Derivation, Given, Need, Propagation, Rows};
 pub use simplex::Check;

@@ -15,6 +15,30 @@ pub struct Fraction {
     pub denominator: i128,
 }
 
+impl Fraction {
+    /// The sum with another one, so many times.
+    pub(crate) fn plus(self, times: i128, other: Fraction) -> Option<Fraction> {
+        let own = self.numerator.checked_mul(other.denominator)?;
+        let more = times
+            .checked_mul(other.numerator)?
+            .checked_mul(self.denominator)?;
+        Some(Fraction {
+            numerator: own.checked_add(more)?,
+            denominator: self.denominator.checked_mul(other.denominator)?,
+        })
+    }
+
+    /// Whether it is a whole number.
+    pub fn is_whole(self) -> bool {
+        self.numerator.checked_rem(self.denominator) == Some(0)
+    }
+
+    /// The greatest whole number that is not above it.
+    pub fn floor(self) -> Option<i128> {
+        self.numerator.checked_div_euclid(self.denominator)
+    }
+}
+
 /// The tableau.
 #[derive(Drop)]
 pub struct Tableau {

@@ -15,9 +15,9 @@ const SUMS: usize = 64;
 
 /// A sum: what is fixed of it, and what is not.
 #[derive(Drop)]
-struct Parts {
-    fixed: Vec<Entry>,
-    open: Vec<Entry>,
+pub(crate) struct Parts {
+    pub fixed: Vec<Entry>,
+    pub open: Vec<Entry>,
 }
 
 impl Theory {
@@ -135,7 +135,7 @@ impl Theory {
     }
 
     /// What is fixed of a sum, and what is not.
-    fn parts(&self, rest: &[Entry]) -> Result<Parts, AllocError> {
+    pub(crate) fn parts(&self, rest: &[Entry]) -> Result<Parts, AllocError> {
         let mut parts = Parts {
             fixed: Vec::new(self.alloc),
             open: Vec::new(self.alloc),
@@ -152,7 +152,7 @@ impl Theory {
 
     /// A form of two columns that has one value.
     fn fixed_difference(&self, column: usize) -> Option<usize> {
-        let [_, _] = self.forms.entries(column)? else {
+        let [_, _] = self.forms.members(column)? else {
             return None;
         };
         if is_fixed(&self.bounds, column) {
@@ -207,7 +207,7 @@ impl Theory {
         form: usize,
         fixed: &mut Vec<Entry>,
     ) -> Result<Option<Vec<Entry>>, AllocError> {
-        let Some(entries) = self.forms.entries(form) else {
+        let Some(entries) = self.forms.members(form) else {
             return Ok(None);
         };
         for member in entries {

@@ -19,6 +19,8 @@ pub enum Column {
     Node(usize),
     /// The form of this number.
     Form(usize),
+    /// The form of this number, which no comparison made.
+    Cut(usize),
 }
 
 /// What a comparison says of a column: it is true where the column has a bound on the side, and false
@@ -84,11 +86,29 @@ impl Forms {
         self.columns.get(column).copied()
     }
 
-    /// The entries of a column that is a form.
+    /// The entries of a column that is a form which a comparison made.
     pub fn entries(&self, column: usize) -> Option<&[Entry]> {
         match self.column(column)? {
-            Column::Node(_) => None,
+            Column::Node(_) | Column::Cut(_) => None,
             Column::Form(form) => Some(self.forms.get_index(form)?.entries.as_slice()),
+        }
+    }
+
+    /// The entries of a column that is a form.
+    pub fn members(&self, column: usize) -> Option<&[Entry]> {
+        match self.column(column)? {
+            Column::Node(_) => None,
+            Column::Form(form) | Column::Cut(form) => {
+                Some(self.forms.get_index(form)?.entries.as_slice())
+            }
+        }
+    }
+
+    /// The node of a column that is no form.
+    pub fn node(&self, column: usize) -> Option<usize> {
+        match self.column(column)? {
+            Column::Node(node) => Some(node),
+            Column::Form(_) | Column::Cut(_) => None,
         }
     }
 
@@ -227,7 +247,11 @@ impl Forms {
     }
 
     /// The column of entries whose coefficients have no common divisor, the first one above 0.
-    fn column_of_entries(&mut self, entries: Vec<Entry>) -> Result<usize, AllocError> {
+    pub(crate) fn column_of_entries(
+        &mut self,
+        entries: Vec<Entry>,
+        is_cut: bool,
+    ) -> Result<usize, AllocError> {
         if let [entry] = entries.as_slice() {
             return Ok(entry.column);
         }
@@ -237,7 +261,11 @@ impl Forms {
             return Ok(self.column_of.get(form).copied().unwrap_or(0));
         }
         let column = self.columns.len();
-        self.columns.push(Column::Form(form))?;
+        self.columns.push(if is_cut {
+            Column::Cut(form)
+        } else {
+            Column::Form(form)
+        })?;
         self.column_of.push(column)?;
         Ok(column)
     }
@@ -300,7 +328,7 @@ impl Forms {
         let Some(entries) = divided(self.alloc, &sum.entries, signed)? else {
             return Ok(Meaning::Nothing);
         };
-        let column = self.column_of_entries(entries)?;
+        let column = self.column_of_entries(entries, false)?;
         Ok(atom_of(column, first.coefficient < 0, divisor, sum.constant))
     }
 }

@@ -4,6 +4,7 @@
 #![tactic(auto)]
 
 mod choosing;
+mod cutting;
 mod dividing;
 mod explaining;
 mod explanation;
@@ -13,6 +14,7 @@ mod theory;
 mod variables;
 
 pub use choosing::Facts;
+pub use cutting::Cut;
 pub use df_index::{Ends, Index, Made, MadeNodes, Shape, Terms, definition, definitions};
 pub use explanation::Explained;
 pub use forms::{Atom, Column, Forms, Meaning};

@@ -1,5 +1,6 @@
 //! Linear arithmetic over whole numbers: the columns, their bounds, the rows and the tableau.
 
+use crate::cutting::Placed;
 use crate::forms::{Atom, Forms, Meaning};
 use df_index::Terms;
 use df_simplex::{Bounds, Entry, Fraction, Rows, Side, Tableau};
@@ -26,6 +27,7 @@ pub struct Theory {
     pub tableau: Tableau,
     /// By column, the variables that speak of it.
     speakers: Vec<Vec<usize>>,
+    pub(crate) cuts: Vec<Placed>,
 }
 
 impl Theory {
@@ -37,6 +39,7 @@ impl Theory {
             rows: Rows::new(alloc),
             tableau: Tableau::new(alloc),
             speakers: Vec::new(alloc),
+            cuts: Vec::new(alloc),
         }
     }
 
@@ -54,7 +57,7 @@ impl Theory {
     }
 
     /// The columns of forms that are new.
-    fn add_columns(&mut self) -> Result<(), AllocError> {
+    pub(crate) fn add_columns(&mut self) -> Result<(), AllocError> {
         for column in self.bounds.columns()..self.forms.len() {
             self.add_column(column)?;
         }
@@ -103,7 +106,7 @@ impl Theory {
         self.rows.add_column()?;
         self.tableau.add_column()?;
         self.speakers.push(Vec::new(self.alloc))?;
-        let Some(entries) = self.forms.entries(column) else {
+        let Some(entries) = self.forms.members(column) else {
             return Ok(());
         };
         let members = Vec::from_slice(self.alloc, entries)?;
