@@ -199,6 +199,14 @@ impl<'a> Candidate<'a> {
     }
 
     fn comparison(&self, product: &Product, products: &[Product]) -> Option<Comparison> {
+        match self.lasting_comparison(product, products) {
+            Some(found) => Some(found),
+            None => self.comparison_with_number(product, [Kind::End, Kind::Own]),
+        }
+    }
+
+    /// The comparison with another product, or with a number that no decision gave.
+    fn lasting_comparison(&self, product: &Product, products: &[Product]) -> Option<Comparison> {
         for is_turned in [false, true] {
             let view = product.view(is_turned)?;
             for other in products {
@@ -210,14 +218,24 @@ impl<'a> Candidate<'a> {
                 }
             }
         }
-        self.comparison_with_number(product)
+        self.comparison_with_number(product, [Kind::SettledEnd, Kind::Small])
     }
 
-    /// The comparison with a number: first with one that is a bound for good, last with what a factor is now.
-    fn comparison_with_number(&self, product: &Product) -> Option<Comparison> {
+    /// Whether a product that is not right has a comparison with another one, or with a number that no decision gave.
+    pub fn has_lasting_comparison(&self, products: &[Product]) -> bool {
+        for product in products {
+            if !product.is_right() && self.lasting_comparison(product, products).is_some() {
+                return true;
+            }
+        }
+        false
+    }
+
+    /// The comparison with a number of these kinds, of which the first comes first.
+    fn comparison_with_number(&self, product: &Product, kinds: [Kind; 2]) -> Option<Comparison> {
         let straight = product.view(false)?;
         let turned = product.view(true)?;
-        for kind in [Kind::SettledEnd, Kind::Small, Kind::End, Kind::Own] {
+        for kind in kinds {
             for view in [straight, turned] {
                 let found = self.comparison_of(&view, kind);
                 if found.is_some() {

@@ -3,7 +3,7 @@
 use crate::candidate::candidate_of;
 use crate::searching::Search;
 use df_form::{Op, Pair};
-use df_modelling::{Comparison, Factor, Operand};
+use df_modelling::{Comparison, Factor, Operand, Product};
 use df_theory::{Made, Shape};
 use std::alloc::AllocError;
 
@@ -11,23 +11,91 @@ use std::alloc::AllocError;
 const SUMS: usize = 32;
 
 impl<'a> Search<'a> {
+    /// The products that instances may name, with either factor first.
+    fn comparable(&self) -> Result<Vec<Product>, AllocError> {
+        let mut found = Vec::new(self.state.alloc);
+        let products = candidate_of(&self.state).products()?;
+        for product in products.iter() {
+            if self.may_compare(product) {
+                found.push(*product)?;
+            }
+        }
+        Ok(found)
+    }
+
+    fn may_compare(&self, product: &Product) -> bool {
+        let round = self.round_of_product(product.left, product.right);
+        let turned = self.round_of_product(product.right, product.left);
+        self.state.instances.is_within(round.max(turned))
+    }
+
+    /// The round of a product of two terms, which need not stand yet.
+    fn round_of_product(&self, left: usize, right: usize) -> u32 {
+        match self.state.terms.find(Made::Two(Op::Times, left, right)) {
+            Some(node) => self.state.instances.round(node),
+            None => self.round_of_pair(Pair { left, right }),
+        }
+    }
+
     /// Comparisons that exclude the signs that products have.
     pub fn comparisons_of_signs(&self) -> Result<Vec<Comparison>, AllocError> {
-        let candidate = candidate_of(&self.state);
-        let products = candidate.products()?;
-        candidate.comparisons_of_signs(&products)
+        let products = self.comparable()?;
+        candidate_of(&self.state).comparisons_of_signs(&products)
     }
 
     /// Comparisons that exclude the numbers that products have.
     pub fn comparisons(&mut self) -> Result<Vec<Comparison>, AllocError> {
-        let products = candidate_of(&self.state).products()?;
+        let products = self.comparable()?;
         self.state
             .spend(products.len().saturating_mul(products.len()));
         candidate_of(&self.state).comparisons(&products)
     }
 
-    /// Products, each of a term of one that is not right and of a sum that is equal to its other factor.
+    /// Products that are to be known: those with sums in place of factors. Where a sum has products itself, it comes only
+    /// where no comparison with another product, or with a number that no decision gave, excludes what products are.
     pub fn substitutions(&mut self) -> Result<Vec<Pair>, AllocError> {
+        let sums = self.sums()?;
+        if sums.is_empty() {
+            return Ok(sums);
+        }
+        let plain = self.without_products(&sums)?;
+        if self.may_multiply_one(&plain) || self.has_lasting_comparison()? {
+            Ok(plain)
+        } else {
+            Ok(sums)
+        }
+    }
+
+    /// Those of which the sum has no products.
+    fn without_products(&self, pairs: &[Pair]) -> Result<Vec<Pair>, AllocError> {
+        let mut found = Vec::new(self.state.alloc);
+        for pair in pairs {
+            if self.products_in(pair.right)?.is_empty() {
+                found.push(*pair)?;
+            }
+        }
+        Ok(found)
+    }
+
+    /// Whether one of these products may be made.
+    fn may_multiply_one(&self, pairs: &[Pair]) -> bool {
+        for pair in pairs {
+            if self.may_multiply(*pair) {
+                return true;
+            }
+        }
+        false
+    }
+
+    fn has_lasting_comparison(&mut self) -> Result<bool, AllocError> {
+        let products = self.comparable()?;
+        self.state
+            .spend(products.len().saturating_mul(products.len()));
+        Ok(candidate_of(&self.state).has_lasting_comparison(&products))
+    }
+
+    /// Products, each of a term of one that is not right and of a sum that is equal to its other factor.
+    fn sums(&mut self) -> Result<Vec<Pair>, AllocError> {
         let products = candidate_of(&self.state).products()?;
         let mut found = Vec::new(self.state.alloc);
         for product in products.iter() {
@@ -39,7 +107,8 @@ impl<'a> Search<'a> {
         Ok(found)
     }
 
-    /// Sums that are equal to a factor, beside the other one.
+    /// Sums that are equal to a factor, beside the other one, but for those of which a member is a product of that
+    /// factor again.
     fn substitute(
         &mut self,
         other: usize,
@@ -53,17 +122,7 @@ impl<'a> Search<'a> {
                 break;
             }
             self.state.spend(1);
-            let is_sum = matches!(
-                self.state.terms.shape(sum),
-                Shape::Sum(..) | Shape::Multiple(..)
-            );
-            if is_sum
-                && self
-                    .state
-                    .terms
-                    .find(Made::Two(Op::Times, other, sum))
-                    .is_none()
-            {
+            if self.is_new_sum(other, sum) && !self.leads_back(sum, factor)? {
                 found.push(Pair {
                     left: other,
                     right: sum,
@@ -71,6 +130,59 @@ impl<'a> Search<'a> {
             }
         }
         Ok(())
+    }
+
+    /// Whether a term is a sum, and its product with another one does not stand yet.
+    fn is_new_sum(&self, other: usize, sum: usize) -> bool {
+        let is_sum = matches!(
+            self.state.terms.shape(sum),
+            Shape::Sum(..) | Shape::Multiple(..)
+        );
+        is_sum
+            && self
+                .state
+                .terms
+                .find(Made::Two(Op::Times, other, sum))
+                .is_none()
+    }
+
+    /// Whether a sum has a product of a number that is equal to this one.
+    fn leads_back(&self, sum: usize, factor: usize) -> Result<bool, AllocError> {
+        let products = self.products_in(sum)?;
+        for product in products.iter() {
+            for place in [0, 1] {
+                if let Some(part) = self.state.terms.part(*product, place) {
+                    if self.state.graph.are_equal(part, factor) {
+                        return Ok(true);
+                    }
+                }
+            }
+        }
+        Ok(false)
+    }
+
+    /// The members of a sum that are products of unknowns, as far as it is looked at.
+    fn products_in(&self, sum: usize) -> Result<Vec<usize>, AllocError> {
+        let mut found = Vec::new(self.state.alloc);
+        let mut waiting = vec![in self.state.alloc; sum]?;
+        for _ in 0..SUMS {
+            let Some(term) = waiting.pop() else {
+                break;
+            };
+            match self.state.terms.shape(term) {
+                Shape::Sum(a, b) => {
+                    waiting.push(a)?;
+                    waiting.push(b)?;
+                }
+                Shape::Multiple(_, a) => waiting.push(a)?,
+                _ => {
+                    if self.state.terms.op(term) == Some(Op::Times) {
+                        found.push(term)?;
+                    }
+                }
+            }
+        }
+        Ok(found)
     }
 
     fn round_of_pair(&self, pair: Pair) -> u32 {
