@@ -71,6 +71,20 @@ pub(crate) fn counterexample_of(
     }
 }
 
+/// Whether these free terms are a counterexample, where all operations are what their parts make them.
+fn is_counterexample_of(
+    alloc: Global,
+    sequent: &Sequent,
+    numbers: &[i128],
+    known: &Known,
+) -> Result<bool, AllocError> {
+    let nodes = sequent.nodes.over(alloc);
+    match valued_table(alloc, sequent.world, &nodes, numbers, known)? {
+        Some(own) => Ok(is_counterexample(sequent, &own)),
+        None => Ok(false),
+    }
+}
+
 /// The table of the nodes of instances, unless these are too many; then the one of the sequent's own nodes.
 fn with_instances(
     alloc: Global,
@@ -207,6 +221,15 @@ impl<'a> Candidate<'a> {
         let numbers = self.numbers_and_codes(sequent.nodes.len())?;
         match self.known() {
             Ok(known) => counterexample_of(self.alloc, sequent, self.rounds, &numbers, &known),
+            Err(error) => Err(error),
+        }
+    }
+
+    /// Whether the engine's free terms are a counterexample, where all operations are what their parts make them.
+    pub fn is_counterexample(&self, sequent: &Sequent) -> Result<bool, AllocError> {
+        let numbers = self.numbers_and_codes(sequent.nodes.len())?;
+        match self.known() {
+            Ok(known) => is_counterexample_of(self.alloc, sequent, &numbers, &known),
             Err(error) => Err(error),
         }
     }

@@ -1,9 +1,13 @@
 //! Products that are not what their factors make them: which comparisons of products exclude that.
 
 use crate::candidate::Candidate;
-use df_form::Op;
+use df_form::{Op, Pair};
 use df_simplex::Side;
+use df_theory::Made;
 use std::alloc::AllocError;
+
+/// How many products that do not stand are thought of.
+const CROSSES: usize = 64;
 
 /// A product of two terms, and the numbers of all three.
 #[derive(Clone, Copy)]
@@ -12,6 +16,13 @@ pub struct Product {
     pub right: usize,
     left_number: i128,
     right_number: i128,
+    number: i128,
+}
+
+/// A term and its number.
+#[derive(Clone, Copy)]
+struct Numbered {
+    term: usize,
     number: i128,
 }
 
@@ -72,6 +83,56 @@ impl Product {
     /// Whether the number is what those of the factors make it.
     pub fn is_right(&self) -> bool {
         self.left_number.checked_mul(self.right_number) == Some(self.number)
+    }
+
+    /// What the factors make the product.
+    fn made(&self) -> Option<i128> {
+        self.left_number.checked_mul(self.right_number)
+    }
+
+    fn factor(&self, is_right: bool) -> Numbered {
+        if is_right {
+            Numbered {
+                term: self.right,
+                number: self.right_number,
+            }
+        } else {
+            Numbered {
+                term: self.left,
+                number: self.left_number,
+            }
+        }
+    }
+
+    /// Whether one of the factors is a factor of another product.
+    fn shares_factor(&self, other: &Product) -> bool {
+        let is_left = self.left == other.left || self.left == other.right;
+        is_left || self.right == other.left || self.right == other.right
+    }
+
+    /// Whether the product is less far above one of other factors than their factors make it.
+    fn is_too_near(&self, low: &Product) -> Option<bool> {
+        if self.shares_factor(low) {
+            return None;
+        }
+        let distance = self.number.checked_sub(low.number)?;
+        let wanted = self.made()?.checked_sub(low.made()?)?;
+        Some(distance < wanted)
+    }
+
+    /// A factor of this product and one of a lower one, if their product lies between what the factors of each make it.
+    fn cross(&self, low: &Product, is_right: bool, is_low_right: bool) -> Option<Pair> {
+        let factor = self.factor(is_right);
+        let other = low.factor(is_low_right);
+        let product = factor.number.checked_mul(other.number)?;
+        if low.made()? <= product && product <= self.made()? {
+            Some(Pair {
+                left: factor.term,
+                right: other.term,
+            })
+        } else {
+            None
+        }
     }
 
     /// The product with one of its factors as the second.
@@ -289,5 +350,45 @@ impl<'a> Candidate<'a> {
             }
         }
         Ok(comparisons)
+    }
+
+    /// Factors, each of one of two products that are too near to each other, by whose product these two are to be compared.
+    pub fn crosses(&self, products: &[Product]) -> Result<Vec<Pair>, AllocError> {
+        let mut crosses = Vec::new(self.alloc);
+        for product in products {
+            for low in products {
+                if crosses.len() < CROSSES && product.is_too_near(low) == Some(true) {
+                    self.add_crosses(product, low, &mut crosses)?;
+                }
+            }
+        }
+        Ok(crosses)
+    }
+
+    /// Adds the factors of two products whose product lies between them, and does not stand yet.
+    fn add_crosses(
+        &self,
+        product: &Product,
+        low: &Product,
+        crosses: &mut Vec<Pair>,
+    ) -> Result<(), AllocError> {
+        for is_right in [false, true] {
+            for is_low_right in [false, true] {
+                if let Some(pair) = product.cross(low, is_right, is_low_right) {
+                    if !self.stands(pair) {
+                        crosses.push(pair)?;
+                    }
+                }
+            }
+        }
+        Ok(())
+    }
+
+    /// Whether a product of two terms stands, with either factor first.
+    fn stands(&self, pair: Pair) -> bool {
+        let Pair { left, right } = pair;
+        let straight = self.terms.find(Made::Two(Op::Times, left, right));
+        let turned = self.terms.find(Made::Two(Op::Times, right, left));
+        straight.is_some() || turned.is_some()
     }
 }

@@ -1,5 +1,6 @@
 //! What the engine proposes.
 
+use crate::candidate::candidate_of;
 use crate::intake::Intake;
 use crate::searching::{Search, Turn};
 use df_deduce::{Kept, State};
@@ -197,12 +198,24 @@ fn log_or_table(
 ) -> Result<Ended, AllocError> {
     match run(search, sequent, fuel)? {
         Turn::Refuted(clause) => proved(search, clause),
-        Turn::Complete => Ok(tabled(search.learned, search.table.take())),
+        Turn::Complete => best_table(search, sequent, rounds),
         Turn::On | Turn::Whole(_) | Turn::GaveUp => {
             let table = sampled(search.state.alloc, sequent, rounds)?;
             Ok(tabled(search.learned, table))
         }
     }
+}
+
+/// The table that a search has; one of small numbers, where its free terms are no counterexample if operations are what
+/// their parts make them.
+fn best_table(search: &mut Search, sequent: &Sequent, rounds: u32) -> Result<Ended, AllocError> {
+    if !candidate_of(&search.state).is_counterexample(sequent)? {
+        let table = sampled(search.state.alloc, sequent, rounds)?;
+        if table.is_some() {
+            return Ok(tabled(search.learned, table));
+        }
+    }
+    Ok(tabled(search.learned, search.table.take()))
 }
 
 /// A search begins, and goes on as long as there is fuel. What it comes to.

@@ -10,20 +10,63 @@ use std::alloc::AllocError;
 /// How many terms of a class are looked at.
 const SUMS: usize = 32;
 
+/// So many of the products that may be made are left to sums.
+const LEFT: usize = 48;
+
 impl<'a> Search<'a> {
     /// The products that instances may name, with either factor first.
     fn comparable(&self) -> Result<Vec<Product>, AllocError> {
         let mut found = Vec::new(self.state.alloc);
         let products = candidate_of(&self.state).products()?;
         for product in products.iter() {
-            if self.may_compare(product) {
+            if self.is_within(product) && !self.is_multiple(product) {
                 found.push(*product)?;
             }
         }
         Ok(found)
     }
 
-    fn may_compare(&self, product: &Product) -> bool {
+    /// Whether a product was made with a multiple as a factor: then it is a multiple of another one, which says as much.
+    fn is_multiple(&self, product: &Product) -> bool {
+        self.is_made(product)
+            && (self.is_multiple_term(product.left) || self.is_multiple_term(product.right))
+    }
+
+    fn is_multiple_term(&self, term: usize) -> bool {
+        matches!(self.state.terms.shape(term), Shape::Multiple(..))
+    }
+
+    /// Whether a product was made with a sum as a factor: then it is a sum of others.
+    fn is_sum(&self, product: &Product) -> bool {
+        self.is_made(product) && (self.is_sum_term(product.left) || self.is_sum_term(product.right))
+    }
+
+    fn is_sum_term(&self, term: usize) -> bool {
+        matches!(self.state.terms.shape(term), Shape::Sum(..))
+    }
+
+    /// Whether the sequent does not have a product.
+    fn is_made(&self, product: &Product) -> bool {
+        let made = Made::Two(Op::Times, product.left, product.right);
+        match self.state.terms.find(made) {
+            Some(node) => self.state.terms.own_count() <= node,
+            None => false,
+        }
+    }
+
+    /// The same, but for those that are sums of others.
+    fn comparable_alone(&self) -> Result<Vec<Product>, AllocError> {
+        let mut found = Vec::new(self.state.alloc);
+        let products = self.comparable()?;
+        for product in products.iter() {
+            if !self.is_sum(product) {
+                found.push(*product)?;
+            }
+        }
+        Ok(found)
+    }
+
+    fn is_within(&self, product: &Product) -> bool {
         let round = self.round_of_product(product.left, product.right);
         let turned = self.round_of_product(product.right, product.left);
         self.state.instances.is_within(round.max(turned))
@@ -52,18 +95,34 @@ impl<'a> Search<'a> {
     }
 
     /// Products that are to be known: those with sums in place of factors. Where a sum has products itself, it comes only
-    /// where no comparison with another product, or with a number that no decision gave, excludes what products are.
+    /// where no comparison with another product, or with a number that no decision gave, excludes what products are; and
+    /// where there is no such sum either, a product between two others.
     pub fn substitutions(&mut self) -> Result<Vec<Pair>, AllocError> {
         let sums = self.sums()?;
-        if sums.is_empty() {
-            return Ok(sums);
-        }
         let plain = self.without_products(&sums)?;
         if self.may_multiply_one(&plain) || self.has_lasting_comparison()? {
             Ok(plain)
-        } else {
+        } else if self.may_multiply_one(&sums) || self.products <= LEFT {
             Ok(sums)
+        } else {
+            self.crosses()
         }
+    }
+
+    /// The first product between two others that may have instances.
+    fn crosses(&mut self) -> Result<Vec<Pair>, AllocError> {
+        let products = self.comparable_alone()?;
+        self.state
+            .spend(products.len().saturating_mul(products.len()));
+        let crosses = candidate_of(&self.state).crosses(&products)?;
+        let mut found = Vec::new(self.state.alloc);
+        for pair in crosses.iter() {
+            let round = self.round_of_pair(*pair).saturating_add(1);
+            if found.is_empty() && self.state.instances.is_within(round) {
+                found.push(*pair)?;
+            }
+        }
+        Ok(found)
     }
 
     /// Those of which the sum has no products.
@@ -88,7 +147,7 @@ impl<'a> Search<'a> {
     }
 
     fn has_lasting_comparison(&mut self) -> Result<bool, AllocError> {
-        let products = self.comparable()?;
+        let products = self.comparable_alone()?;
         self.state
             .spend(products.len().saturating_mul(products.len()));
         Ok(candidate_of(&self.state).has_lasting_comparison(&products))
@@ -99,7 +158,7 @@ impl<'a> Search<'a> {
         let products = candidate_of(&self.state).products()?;
         let mut found = Vec::new(self.state.alloc);
         for product in products.iter() {
-            if !product.is_right() {
+            if !product.is_right() && !self.is_multiple(product) {
                 self.substitute(product.left, product.right, &mut found)?;
                 self.substitute(product.right, product.left, &mut found)?;
             }
