@@ -2,7 +2,7 @@
 
 use crate::candidate::candidate_of;
 use crate::intake::Intake;
-use crate::searching::{Search, Turn};
+use crate::searching::{Preference, Search, Turn};
 use df_deduce::{Kept, State};
 use df_form::{NodeTable, Sequent, Step};
 use df_modelling::sampled;
@@ -35,8 +35,16 @@ const WORK: u64 = 1_000;
 /// and how much comes on top.
 const BASE: u64 = 10_000_000;
 
-/// What stayed gets this part of the work, before a new search gets all.
+/// What stayed gets this part of the work, before a new search gets all; and so does a search with each preference, before
+/// the first one gets half.
 const SHARE: u64 = 4;
+
+/// What a search looks for.
+#[derive(Clone, Copy)]
+enum Aim {
+    Log,
+    LogOrTable(Preference),
+}
 
 /// An engine for the sequents of a declaration in order, of which each has the nodes and the hypotheses of those before
 /// it. Each node is met once, and what is known of the hypotheses stays.
@@ -58,6 +66,17 @@ struct Stay {
 struct Ended {
     counted: Counted,
     stay: Option<Stay>,
+    /// Whether it is a log, or a table in which all operations are what their parts make them.
+    is_settled: bool,
+}
+
+impl Ended {
+    fn has_table(&self) -> bool {
+        match &self.counted.proposal {
+            Proposal::Modelled(_) => true,
+            Proposal::Proved(_) | Proposal::GaveUp => false,
+        }
+    }
 }
 
 impl Engine {
@@ -132,8 +151,63 @@ pub fn propose_counted(
             return Ok(counted);
         }
     }
-    let ended = look_anew(alloc, &engine.index, &*sequent, fuel, rounds)?;
+    let ended = if engine.index.has_operations(sequent.nodes.len()) {
+        look_in_turn(alloc, &engine.index, &*sequent, fuel, rounds)?
+    } else {
+        look_anew(
+            alloc,
+            &engine.index,
+            &*sequent,
+            fuel,
+            rounds,
+            Preference::Sums,
+        )?
+    };
+    let ended = or_small(alloc, &*sequent, rounds, ended)?;
     Ok(engine.keep(ended))
+}
+
+/// Looks with each preference in turn. Where neither finds a log, nor a table, the first one goes on with half of the work.
+fn look_in_turn<'a>(
+    alloc: Global,
+    index: &'a Index,
+    sequent: &'a Sequent<'a>,
+    fuel: u64,
+    rounds: u32,
+) -> Result<Ended, AllocError> {
+    let part = fuel / SHARE;
+    let first = look_anew(alloc, index, sequent, part, rounds, Preference::Sums)?;
+    if first.is_settled {
+        return Ok(first);
+    }
+    let second = look_anew(alloc, index, sequent, part, rounds, Preference::Comparisons)?;
+    if second.is_settled {
+        return Ok(second);
+    }
+    if first.has_table() {
+        return Ok(first);
+    }
+    if second.has_table() {
+        return Ok(second);
+    }
+    look_anew(alloc, index, sequent, fuel / 2, rounds, Preference::Sums)
+}
+
+/// What was found; or else, where this is no log and no table of real operations, a counterexample of small numbers, if
+/// there is one.
+fn or_small(
+    alloc: Global,
+    sequent: &Sequent,
+    rounds: u32,
+    ended: Ended,
+) -> Result<Ended, AllocError> {
+    if ended.is_settled {
+        return Ok(ended);
+    }
+    match sampled(alloc, sequent, rounds)? {
+        Some(table) => Ok(tabled(ended.counted.conflicts, Some(table), true)),
+        None => Ok(ended),
+    }
 }
 
 /// Looks for a log over an index that has met the nodes of the sequent, with what stayed. A table is looked for by a new
@@ -147,7 +221,7 @@ fn look_again<'a>(
 ) -> Result<Ended, AllocError> {
     let Stay { kept, intake } = stay;
     let state = State::again(alloc, &sequent.nodes, index, kept, fuel);
-    look(state, intake, sequent, fuel, None)
+    look(state, intake, sequent, fuel, Aim::Log)
 }
 
 /// Looks for a log or a table over an index that has met the nodes of the sequent.
@@ -157,24 +231,29 @@ fn look_anew<'a>(
     sequent: &'a Sequent<'a>,
     fuel: u64,
     rounds: u32,
+    preference: Preference,
 ) -> Result<Ended, AllocError> {
     let state = State::new(alloc, &sequent.nodes, index, fuel, rounds);
-    look(state, Intake::new(alloc), sequent, fuel, Some(rounds))
+    let aim = Aim::LogOrTable(preference);
+    look(state, Intake::new(alloc), sequent, fuel, aim)
 }
 
-/// Looks for a log, and for a table of so many rounds of instances if a number of them is given.
+/// Looks for what is wanted.
 fn look<'a>(
     state: State<'a>,
     intake: Intake,
     sequent: &'a Sequent<'a>,
     fuel: u64,
-    rounds: Option<u32>,
+    aim: Aim,
 ) -> Result<Ended, AllocError> {
     let formulas = sequent.hypotheses.as_slice();
     let mut search = Search::new(state, intake, formulas, sequent.goal);
-    match rounds {
-        Some(rounds) => log_or_table(&mut search, sequent, fuel, rounds),
-        None => log_alone(&mut search, sequent, fuel),
+    match aim {
+        Aim::Log => log_alone(&mut search, sequent, fuel),
+        Aim::LogOrTable(preference) => {
+            search.preference = preference;
+            log_or_table(&mut search, sequent, fuel)
+        }
     }
 }
 
@@ -184,38 +263,21 @@ fn log_alone(search: &mut Search, sequent: &Sequent, fuel: u64) -> Result<Ended,
     match run(search, sequent, fuel)? {
         Turn::Refuted(clause) => proved(search, clause),
         Turn::On | Turn::Whole(_) | Turn::Complete | Turn::GaveUp => {
-            Ok(tabled(search.learned, None))
+            Ok(tabled(search.learned, None, false))
         }
     }
 }
 
 /// The log or the table that a search finds.
-fn log_or_table(
-    search: &mut Search,
-    sequent: &Sequent,
-    fuel: u64,
-    rounds: u32,
-) -> Result<Ended, AllocError> {
+fn log_or_table(search: &mut Search, sequent: &Sequent, fuel: u64) -> Result<Ended, AllocError> {
     match run(search, sequent, fuel)? {
         Turn::Refuted(clause) => proved(search, clause),
-        Turn::Complete => best_table(search, sequent, rounds),
-        Turn::On | Turn::Whole(_) | Turn::GaveUp => {
-            let table = sampled(search.state.alloc, sequent, rounds)?;
-            Ok(tabled(search.learned, table))
+        Turn::Complete => {
+            let is_real = candidate_of(&search.state).is_counterexample(sequent)?;
+            Ok(tabled(search.learned, search.table.take(), is_real))
         }
+        Turn::On | Turn::Whole(_) | Turn::GaveUp => Ok(tabled(search.learned, None, false)),
     }
-}
-
-/// The table that a search has; one of small numbers, where its free terms are no counterexample if operations are what
-/// their parts make them.
-fn best_table(search: &mut Search, sequent: &Sequent, rounds: u32) -> Result<Ended, AllocError> {
-    if !candidate_of(&search.state).is_counterexample(sequent)? {
-        let table = sampled(search.state.alloc, sequent, rounds)?;
-        if table.is_some() {
-            return Ok(tabled(search.learned, table));
-        }
-    }
-    Ok(tabled(search.learned, search.table.take()))
 }
 
 /// A search begins, and goes on as long as there is fuel. What it comes to.
@@ -249,6 +311,7 @@ fn proved(search: &mut Search, clause: usize) -> Result<Ended, AllocError> {
     Ok(Ended {
         counted,
         stay: stay_of(search),
+        is_settled: true,
     })
 }
 
@@ -274,8 +337,8 @@ fn stay_of(search: &mut Search) -> Option<Stay> {
     }
 }
 
-/// What a search without a log found, after so many conflicts.
-fn tabled(conflicts: u64, table: Option<Table>) -> Ended {
+/// What a search without a log found, after so many conflicts, and whether that settles it.
+fn tabled(conflicts: u64, table: Option<Table>, is_settled: bool) -> Ended {
     let proposal = match table {
         Some(table) => Proposal::Modelled(table),
         None => Proposal::GaveUp,
@@ -287,5 +350,6 @@ fn tabled(conflicts: u64, table: Option<Table>) -> Ended {
     Ended {
         counted,
         stay: None,
+        is_settled,
     }
 }

@@ -1,7 +1,7 @@
 //! Products that are not what their factors make them: has the engine know what excludes that.
 
 use crate::candidate::candidate_of;
-use crate::searching::Search;
+use crate::searching::{Preference, Search};
 use df_form::{Op, Pair};
 use df_modelling::{Comparison, Factor, Operand, Product};
 use df_theory::{Made, Shape};
@@ -14,11 +14,19 @@ const SUMS: usize = 32;
 const LEFT: usize = 48;
 
 impl<'a> Search<'a> {
-    /// The products that instances may name, with either factor first.
+    /// The products that are compared.
     fn comparable(&self) -> Result<Vec<Product>, AllocError> {
-        let mut found = Vec::new(self.state.alloc);
         let products = candidate_of(&self.state).products()?;
-        for product in products.iter() {
+        match self.preference {
+            Preference::Sums => Ok(products),
+            Preference::Comparisons => self.without_multiples(&products),
+        }
+    }
+
+    /// The products that instances may name, with either factor first, and that are no multiples of others.
+    fn without_multiples(&self, products: &[Product]) -> Result<Vec<Product>, AllocError> {
+        let mut found = Vec::new(self.state.alloc);
+        for product in products {
             if self.is_within(product) && !self.is_multiple(product) {
                 found.push(*product)?;
             }
@@ -54,7 +62,7 @@ impl<'a> Search<'a> {
         }
     }
 
-    /// The same, but for those that are sums of others.
+    /// The products that are compared, but for those that are sums of others.
     fn comparable_alone(&self) -> Result<Vec<Product>, AllocError> {
         let mut found = Vec::new(self.state.alloc);
         let products = self.comparable()?;
@@ -94,11 +102,19 @@ impl<'a> Search<'a> {
         candidate_of(&self.state).comparisons(&products)
     }
 
-    /// Products that are to be known: those with sums in place of factors. Where a sum has products itself, it comes only
-    /// where no comparison with another product, or with a number that no decision gave, excludes what products are; and
-    /// where there is no such sum either, a product between two others.
+    /// Products that are to be known: those with sums in place of factors.
     pub fn substitutions(&mut self) -> Result<Vec<Pair>, AllocError> {
         let sums = self.sums()?;
+        match self.preference {
+            Preference::Sums => Ok(sums),
+            Preference::Comparisons => self.after_comparisons(sums),
+        }
+    }
+
+    /// Those of which the sum has no products. The others come only where no comparison with another product, or with a
+    /// number that no decision gave, excludes what products are; and where there is no such sum either, a product between
+    /// two others.
+    fn after_comparisons(&mut self, sums: Vec<Pair>) -> Result<Vec<Pair>, AllocError> {
         let plain = self.without_products(&sums)?;
         if self.may_multiply_one(&plain) || self.has_lasting_comparison()? {
             Ok(plain)
@@ -158,7 +174,7 @@ impl<'a> Search<'a> {
         let products = candidate_of(&self.state).products()?;
         let mut found = Vec::new(self.state.alloc);
         for product in products.iter() {
-            if !product.is_right() && !self.is_multiple(product) {
+            if !product.is_right() && self.may_hold_sums(product) {
                 self.substitute(product.left, product.right, &mut found)?;
                 self.substitute(product.right, product.left, &mut found)?;
             }
@@ -166,8 +182,12 @@ impl<'a> Search<'a> {
         Ok(found)
     }
 
-    /// Sums that are equal to a factor, beside the other one, but for those of which a member is a product of that
-    /// factor again.
+    /// Whether sums may be put in place of the factors of a product.
+    fn may_hold_sums(&self, product: &Product) -> bool {
+        self.preference == Preference::Sums || !self.is_multiple(product)
+    }
+
+    /// Sums that are equal to a factor, beside the other one.
     fn substitute(
         &mut self,
         other: usize,
@@ -181,7 +201,7 @@ impl<'a> Search<'a> {
                 break;
             }
             self.state.spend(1);
-            if self.is_new_sum(other, sum) && !self.leads_back(sum, factor)? {
+            if self.is_new_sum(other, sum) && self.may_stand_for(sum, factor)? {
                 found.push(Pair {
                     left: other,
                     right: sum,
@@ -203,6 +223,15 @@ impl<'a> Search<'a> {
                 .terms
                 .find(Made::Two(Op::Times, other, sum))
                 .is_none()
+    }
+
+    /// Whether a sum may be put in place of a factor. Where comparisons come first, one with a product of that factor may
+    /// not.
+    fn may_stand_for(&self, sum: usize, factor: usize) -> Result<bool, AllocError> {
+        match self.preference {
+            Preference::Sums => Ok(true),
+            Preference::Comparisons => Ok(!self.leads_back(sum, factor)?),
+        }
     }
 
     /// Whether a sum has a product of a number that is equal to this one.

@@ -18,6 +18,15 @@ const WIDTH: usize = 8;
 /// How many conflicts come before the first restart.
 const RESTART: u64 = 100;
 
+/// What comes first where a product is not what its factors make it.
+#[derive(Clone, Copy, PartialEq, Eq)]
+pub(crate) enum Preference {
+    /// Sums in place of factors.
+    Sums,
+    /// Comparisons with other products, and with numbers that no decision gave.
+    Comparisons,
+}
+
 /// A search so far.
 #[derive(Drop)]
 pub(crate) struct Search<'a> {
@@ -28,6 +37,7 @@ pub(crate) struct Search<'a> {
     conclusion: usize,
     /// Whether it is for a log alone.
     pub is_for_proof: bool,
+    pub preference: Preference,
     /// The table of a counterexample.
     pub table: Option<Table>,
     /// The clause of the negated goal.
@@ -90,6 +100,7 @@ impl<'a> Search<'a> {
             formulas,
             conclusion,
             is_for_proof: false,
+            preference: Preference::Sums,
             table: None,
             goal: 0,
             intake,

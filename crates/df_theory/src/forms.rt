@@ -23,6 +23,13 @@ pub enum Column {
     Cut(usize),
 }
 
+/// What makes a form a column.
+#[derive(Clone, Copy)]
+pub(crate) enum Maker {
+    Comparison,
+    Cut,
+}
+
 /// What a comparison says of a column: it is true where the column has a bound on the side, and false
 /// where it has one on the other side.
 #[derive(Clone, Copy)]
@@ -250,7 +257,7 @@ impl Forms {
     pub(crate) fn column_of_entries(
         &mut self,
         entries: Vec<Entry>,
-        is_cut: bool,
+        maker: Maker,
     ) -> Result<usize, AllocError> {
         if let [entry] = entries.as_slice() {
             return Ok(entry.column);
@@ -261,11 +268,11 @@ impl Forms {
             return Ok(self.column_of.get(form).copied().unwrap_or(0));
         }
         let column = self.columns.len();
-        self.columns.push(if is_cut {
-            Column::Cut(form)
-        } else {
-            Column::Form(form)
-        })?;
+        let made = match maker {
+            Maker::Comparison => Column::Form(form),
+            Maker::Cut => Column::Cut(form),
+        };
+        self.columns.push(made)?;
         self.column_of.push(column)?;
         Ok(column)
     }
@@ -328,7 +335,7 @@ impl Forms {
         let Some(entries) = divided(self.alloc, &sum.entries, signed)? else {
             return Ok(Meaning::Nothing);
         };
-        let column = self.column_of_entries(entries, false)?;
+        let column = self.column_of_entries(entries, Maker::Comparison)?;
         Ok(atom_of(column, first.coefficient < 0, divisor, sum.constant))
     }
 }

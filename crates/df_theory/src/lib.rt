@@ -9,6 +9,7 @@ mod dividing;
 mod explaining;
 mod explanation;
 mod forms;
+mod grouping;
 mod kept;
 mod theory;
 mod variables;
