@@ -69,9 +69,11 @@ module _ (set : List Node) (clauses : List GroundClause) (nodes middle more : Li
   stays_quiet = quiet_list_later nodes more more_table grows clauses branch leaf.learned (quiet_of leaf.unshut)
 
   not_above : is_among facts (yes m) ≡ false
+  unfolding facts
   not_above = unknown nodes more table grows facts leaf.unshut.formulas term place m bound place_is m_is (yes m) refl (λ p q. leaf.not_true place m p q)
 
   not_below : is_among facts (no m) ≡ false
+  unfolding facts
   not_below = unknown nodes more table grows facts leaf.unshut.formulas term place m bound place_is m_is (no m) refl (λ p q. leaf.not_false place m p q)
 
   is_decision : IsDecision set more clauses branch leaf.learned (yes m)

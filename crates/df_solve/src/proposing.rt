@@ -35,9 +35,14 @@ const WORK: u64 = 1_000;
 /// and how much comes on top.
 const BASE: u64 = 10_000_000;
 
-/// What stayed gets this part of the work, before a new search gets all; and so does a search with each preference, before
-/// the first one gets half.
+/// What stayed gets this part of the work, before a new search gets all.
 const SHARE: u64 = 4;
+
+/// Where a sequent has operations, a first search gets this part of the work,
+const FIRST: u64 = 32;
+
+/// and one with the other preference this one, before the first one gets the rest.
+const SECOND: u64 = 8;
 
 /// What a search looks for.
 #[derive(Clone, Copy)]
@@ -167,7 +172,8 @@ pub fn propose_counted(
     Ok(engine.keep(ended))
 }
 
-/// Looks with each preference in turn. Where neither finds a log, nor a table, the first one goes on with half of the work.
+/// Looks with each preference in turn. Where neither finds a log or a table of real operations, and the first one gave up,
+/// it begins anew with the rest of the work.
 fn look_in_turn<'a>(
     alloc: Global,
     index: &'a Index,
@@ -175,22 +181,33 @@ fn look_in_turn<'a>(
     fuel: u64,
     rounds: u32,
 ) -> Result<Ended, AllocError> {
-    let part = fuel / SHARE;
-    let first = look_anew(alloc, index, sequent, part, rounds, Preference::Sums)?;
+    let early = fuel / FIRST;
+    let first = look_anew(alloc, index, sequent, early, rounds, Preference::Sums)?;
     if first.is_settled {
         return Ok(first);
     }
-    let second = look_anew(alloc, index, sequent, part, rounds, Preference::Comparisons)?;
+    let other = fuel / SECOND;
+    let second = look_anew(
+        alloc,
+        index,
+        sequent,
+        other,
+        rounds,
+        Preference::Comparisons,
+    )?;
     if second.is_settled {
         return Ok(second);
     }
     if first.has_table() {
         return Ok(first);
     }
-    if second.has_table() {
-        return Ok(second);
+    let rest = fuel.saturating_sub(early).saturating_sub(other);
+    let last = look_anew(alloc, index, sequent, rest, rounds, Preference::Sums)?;
+    if last.is_settled || !second.has_table() {
+        Ok(last)
+    } else {
+        Ok(second)
     }
-    look_anew(alloc, index, sequent, fuel / 2, rounds, Preference::Sums)
 }
 
 /// What was found; or else, where this is no log and no table of real operations, a counterexample of small numbers, if
