@@ -5,7 +5,6 @@
 
 mod analyzing;
 mod classing;
-mod cutting;
 mod defining;
 mod explaining;
 mod instantiating;
@@ -16,6 +15,5 @@ mod state;
 mod units;
 
 pub use analyzing::Lesson;
-pub use cutting::Division;
 pub use df_theory::Kept;
 pub use state::State;

@@ -105,7 +105,7 @@ impl<'a> Search<'a> {
     }
 
     /// Adds the clause that a number is at most a bound, or at least the next number, and decides the side of 0.
-    fn split(&mut self, node: usize, bound: i128) -> Result<Turn, AllocError> {
+    pub fn split(&mut self, node: usize, bound: i128) -> Result<Turn, AllocError> {
         let Some(next) = bound.checked_add(1) else {
             return Ok(Turn::GaveUp);
         };

@@ -7,6 +7,7 @@
 mod candidate;
 mod completing;
 mod concluding;
+mod dividing;
 mod intake;
 mod probing;
 mod proposing;

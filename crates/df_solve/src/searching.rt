@@ -3,7 +3,7 @@
 use crate::intake::Intake;
 use crate::probing::Reach;
 use df_clauses::{GROUND, Literal};
-use df_deduce::{Division, Lesson, State};
+use df_deduce::{Lesson, State};
 use df_simplex::Check;
 use df_table::Table;
 use df_theory::Meaning;
@@ -271,15 +271,6 @@ impl<'a> Search<'a> {
             }
         }
         self.divide()
-    }
-
-    /// Adds a cut or splits a column with near bounds, where one is not whole; without that all columns are to be whole.
-    fn divide(&mut self) -> Result<Turn, AllocError> {
-        match self.state.divide()? {
-            Division::Nothing => self.complete(),
-            Division::More => Ok(Turn::On),
-            Division::Conflict(clause) => self.learn(clause),
-        }
     }
 
     /// What a variable is decided to be: an atom what it is at the tableau's values.

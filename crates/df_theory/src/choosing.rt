@@ -2,11 +2,9 @@
 //! level, and of these the weakest.
 
 use crate::explanation::{Row, Used};
-use crate::forms::Meaning;
 use crate::theory::Theory;
-use crate::variables::Variables;
 use df_clauses::{Book, Literal, Origin, Reason, Trail};
-use df_index::{Shape, Terms};
+use df_linear::{Meaning, Shape, Terms, Variables};
 use df_simplex::{Cause, Side};
 use std::alloc::Global;
 

@@ -1,8 +1,8 @@
 //! Cuts: what the columns of a row without narrow bounds are together is a multiple of what divides their coefficients.
 //! So many times a new column it is, whose bounds those of the others give, rounded.
 
-use crate::forms::Maker;
 use crate::theory::Theory;
+use df_linear::Maker;
 use df_simplex::{Entry, combine, content, divided, residues, room_of};
 use std::alloc::AllocError;
 

@@ -3,8 +3,8 @@
 
 use crate::choosing::{Choice, Facts, Giver, Limits};
 use crate::explanation::{Explained, Explanation, Member, Row, Source, Used};
-use crate::forms::Meaning;
 use df_clauses::Literal;
+use df_linear::Meaning;
 use df_simplex::{Bound, Cause, Derivation, Need};
 use std::alloc::AllocError;
 

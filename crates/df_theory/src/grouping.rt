@@ -1,7 +1,7 @@
 //! Rows of the tableau that are looked at together, and solved.
 
-use crate::forms::Column;
 use crate::theory::Theory;
+use df_linear::Column;
 use df_simplex::{Entry, coefficient_at, combine, content, divided, is_fixed};
 use std::alloc::AllocError;
 

@@ -1,9 +1,8 @@
 //! What stays of an engine for further sequents.
 
 use crate::theory::Theory;
-use crate::variables::Variables;
 use df_clauses::Solver;
-use df_index::MadeNodes;
+use df_linear::{MadeNodes, Variables};
 
 /// What an engine knows at the lowest level by the hypotheses of a sequent without operations, and what it has learned
 /// from them. The goal is in none of it.

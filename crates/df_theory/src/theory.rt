@@ -1,8 +1,7 @@
 //! Linear arithmetic over whole numbers: the columns, their bounds, the rows and the tableau.
 
 use crate::cutting::Placed;
-use crate::forms::{Atom, Forms, Meaning};
-use df_index::Terms;
+use df_linear::{Atom, Forms, Meaning, Terms};
 use df_simplex::{Bounds, Entry, Fraction, Rows, Side, Tableau};
 use std::alloc::{AllocError, Global};
 
@@ -173,17 +172,6 @@ impl Theory {
         match atom.side {
             Side::Lower => limit.saturating_add(value.numerator) >= 0,
             Side::Upper => value.numerator <= limit,
-        }
-    }
-}
-
-impl Atom {
-    /// The side and the constant of the bound that the atom gives, or its negation.
-    pub fn bound(&self, positive: bool) -> (Side, i128) {
-        if positive {
-            (self.side, self.if_true)
-        } else {
-            (self.side.opposite(), self.if_false)
         }
     }
 }

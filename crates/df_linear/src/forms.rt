@@ -25,7 +25,7 @@ pub enum Column {
 
 /// What makes a form a column.
 #[derive(Clone, Copy)]
-pub(crate) enum Maker {
+pub enum Maker {
     Comparison,
     Cut,
 }
@@ -40,6 +40,17 @@ pub struct Atom {
     pub if_false: i128,
     /// By how much the row of the comparison is divided to be that of the bound.
     pub divisor: i128,
+}
+
+impl Atom {
+    /// The side and the constant of the bound that the atom gives, or its negation.
+    pub fn bound(&self, positive: bool) -> (Side, i128) {
+        if positive {
+            (self.side, self.if_true)
+        } else {
+            (self.side.opposite(), self.if_false)
+        }
+    }
 }
 
 /// What a formula says to arithmetic.
@@ -254,7 +265,7 @@ impl Forms {
     }
 
     /// The column of entries whose coefficients have no common divisor, the first one above 0.
-    pub(crate) fn column_of_entries(
+    pub fn column_of_entries(
         &mut self,
         entries: Vec<Entry>,
         maker: Maker,
