@@ -184,30 +184,83 @@ fn look_in_turn<'a>(
     let early = fuel / FIRST;
     let first = look_anew(alloc, index, sequent, early, rounds, Preference::Sums)?;
     if first.is_settled {
-        return Ok(first);
+        Ok(first)
+    } else if first.has_table() {
+        or_other(alloc, index, sequent, fuel, rounds, first)
+    } else {
+        look_longer(alloc, index, sequent, fuel, rounds)
     }
-    let other = fuel / SECOND;
-    let second = look_anew(
+}
+
+/// What the other preference settles, or else the table that was found.
+fn or_other<'a>(
+    alloc: Global,
+    index: &'a Index,
+    sequent: &'a Sequent<'a>,
+    fuel: u64,
+    rounds: u32,
+    found: Ended,
+) -> Result<Ended, AllocError> {
+    let other = look_other(alloc, index, sequent, fuel, rounds)?;
+    if other.is_settled {
+        Ok(other)
+    } else {
+        Ok(found)
+    }
+}
+
+/// Looks with the other preference, and where this settles nothing, anew with the rest of the work.
+fn look_longer<'a>(
+    alloc: Global,
+    index: &'a Index,
+    sequent: &'a Sequent<'a>,
+    fuel: u64,
+    rounds: u32,
+) -> Result<Ended, AllocError> {
+    let other = look_other(alloc, index, sequent, fuel, rounds)?;
+    if other.is_settled {
+        Ok(other)
+    } else {
+        look_last(alloc, index, sequent, fuel, rounds, other)
+    }
+}
+
+/// What the rest of the work settles or finds, or else the table that was found.
+fn look_last<'a>(
+    alloc: Global,
+    index: &'a Index,
+    sequent: &'a Sequent<'a>,
+    fuel: u64,
+    rounds: u32,
+    found: Ended,
+) -> Result<Ended, AllocError> {
+    let rest = fuel
+        .saturating_sub(fuel / FIRST)
+        .saturating_sub(fuel / SECOND);
+    let last = look_anew(alloc, index, sequent, rest, rounds, Preference::Sums)?;
+    if last.is_settled || !found.has_table() {
+        Ok(last)
+    } else {
+        Ok(found)
+    }
+}
+
+/// Looks with the other preference.
+fn look_other<'a>(
+    alloc: Global,
+    index: &'a Index,
+    sequent: &'a Sequent<'a>,
+    fuel: u64,
+    rounds: u32,
+) -> Result<Ended, AllocError> {
+    look_anew(
         alloc,
         index,
         sequent,
-        other,
+        fuel / SECOND,
         rounds,
         Preference::Comparisons,
-    )?;
-    if second.is_settled {
-        return Ok(second);
-    }
-    if first.has_table() {
-        return Ok(first);
-    }
-    let rest = fuel.saturating_sub(early).saturating_sub(other);
-    let last = look_anew(alloc, index, sequent, rest, rounds, Preference::Sums)?;
-    if last.is_settled || !second.has_table() {
-        Ok(last)
-    } else {
-        Ok(second)
-    }
+    )
 }
 
 /// What was found; or else, where this is no log and no table of real operations, a counterexample of small numbers, if
