@@ -11,7 +11,6 @@ pub mod GroundPlaces
 pub mod LaterMeanings
 pub mod Equalities
 pub mod Leaves
-pub mod Holding
 pub mod Unrefuted
 pub mod Consistency
 pub mod Points

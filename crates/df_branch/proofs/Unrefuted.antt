@@ -15,6 +15,7 @@ use Rattle.df_level.specs.Levels.{Stands}
 use Rattle.df_level.specs.Elimination.{AreRefuted, IsElimination}
 use Rattle.df_elim.specs.declared.elimination.Elimination.TheVariants as answers
 use Rattle.df_elim.specs.Elimination.{TellsElimination}
+use Rattle.df_elim.proofs.Holding.{none_refuted, row_is_met}
 use Rattle.df_elim.proofs.Keeping.{stay_refuted}
 use Rattle.df_closure.specs.Closure.{GroundClause, after}
 use Rattle.df_branch.specs.Evidence.{AreUnrefuted}
@@ -22,7 +23,6 @@ use Rattle.df_branch.specs.Leaf.{IsUnsolvable}
 use Rattle.df_branch.specs.ClosedPlace.{IsClosedAt}
 use Rattle.df_branch.specs.Overflow.{in_row, in_level}
 use Rattle.df_branch.specs.Standing.{AllHold, AreMet, HasStanding, IsWideList, IsManyList}
-use Rattle.df_branch.proofs.Holding.{none_refuted, row_is_met}
 use Rattle.df_branch.proofs.Points.{index_of}
 
 pub eliminated_unrefuted : (rows first : List Row) (variables : List ℕ) (levels : List (List Row)) → IsElimination rows first variables levels → AreUnrefuted rows

@@ -24,7 +24,8 @@ use Rattle.df_form.proofs.Same.{same_sort_equal}
 use Rattle.df_rules.proofs.SoundClauses.{same_literal_is}
 use Rattle.df_closure.specs.Comparisons.{IsComparison, at_most, equal, AreComparisonsTrue}
 use Rattle.df_closure.specs.Reading.{IsReading}
-use Rattle.df_closure.proofs.Expansions.{both_inside, difference_value}
+use Rattle.df_rules.proofs.SoundRows.{difference_value}
+use Rattle.df_closure.proofs.Expansions.{both_inside, exact_is_linear}
 use Rattle.df_closure.proofs.Readings.{equal_is_both}
 
 same_bools : (a b : Bool) → (a ≡ true → b ≡ true) → (b ≡ true → a ≡ true) → a ≡ b
@@ -64,7 +65,7 @@ module _ (nodes : List Node) (sorted : AreSorted nodes) (v : ℕ → ℤ) (t : �
   Hold rows = rows_hold (length nodes) v rows
 
   value_is : (a b : ℕ) (k : ℤ) (row : Row) → a < length nodes → b < length nodes → difference nodes (length nodes) a b k ≡ Some row → row_value (length nodes) v row +ℤ v a ≡ v b +ℤ k
-  value_is a b k row p q e = difference_value nodes sorted v reading.exact a b k row p q e
+  value_is a b k row p q e = difference_value nodes v (exact_is_linear nodes sorted v reading.exact) a b k row p q e
 
   up_to : (a b : ℕ) (row : Row) → a < length nodes → b < length nodes → difference nodes (length nodes) a b (pos 0) ≡ Some row → row_holds (length nodes) v row ≡ int_le (v a) (v b)
   up_to a b row p q e = at_least_difference (row_value (length nodes) v row) (v a) (v b) (value_is a b (pos 0) row p q e)
@@ -87,15 +88,15 @@ module _ (nodes : List Node) (sorted : AreSorted nodes) (v : ℕ → ℤ) (t : �
   -- the rows of a comparison hold where it is true
   at_most_same : (n a b : ℕ) (positive : Bool) (rows : List Row) → slice_get nodes n ≡ Some (record { op = ops.AtMost; parts = a ∷ b ∷ [] }) → comparison_rows nodes positive ops.AtMost a b ≡ Some rows → Hold rows ≡ same_truth positive (t n)
   at_most_same n a b true rows at e =
-      let under = both_inside nodes sorted v reading.exact n a b ops.AtMost at in
+      let under = both_inside nodes sorted n a b ops.AtMost at in
       one_holds (difference nodes (length nodes) a b (pos 0)) rows (int_le (v a) (v b)) (λ row found. up_to a b row under.0 under.1 found) e ∙ sym (reading.at_most n a b at)
   at_most_same n a b false rows at e =
-      let under = both_inside nodes sorted v reading.exact n a b ops.AtMost at in
+      let under = both_inside nodes sorted n a b ops.AtMost at in
       one_holds (difference nodes (length nodes) b a (negsuc 0)) rows (not (int_le (v a) (v b))) (λ row found. above a b row under.0 under.1 found) e ∙ ap not (sym (reading.at_most n a b at))
 
   equal_same : (n a b : ℕ) (rows : List Row) → slice_get nodes n ≡ Some (record { op = ops.Equal; parts = a ∷ b ∷ [] }) → sort_at nodes a ≡ sorts.Number → comparison_rows nodes true ops.Equal a b ≡ Some rows → Hold rows ≡ t n
   equal_same n a b rows at sort e =
-      let under = both_inside nodes sorted v reading.exact n a b ops.Equal at in
+      let under = both_inside nodes sorted n a b ops.Equal at in
       two_hold (difference nodes (length nodes) a b (pos 0)) (difference nodes (length nodes) b a (pos 0)) rows (int_le (v a) (v b)) (int_le (v b) (v a))
       (λ row found. up_to a b row under.0 under.1 found) (λ row found. up_to b a row under.1 under.0 found) e
       ∙ sym (reading.equal n a b at sort ∙ equal_is_both (v a) (v b))

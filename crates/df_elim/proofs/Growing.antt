@@ -34,7 +34,7 @@ passes_more : (low n from : ℕ) (rows level after : List Row) → Passes low ro
 passes_more low n from rows level after at_once v x = passing v x at_once
 passes_more low n from rows level after (passing {n = m} {after = second} w y rest) v x = passing w y (passes_more (suc m) n from second level after rest v x)
 
-reaches : (low from : ℕ) (rows level : List Row) → Passes low rows from level → Reaches low rows from level
+pub reaches : (low from : ℕ) (rows level : List Row) → Passes low rows from level → Reaches low rows from level
 reaches low from rows level at_once = here
 reaches low from rows level (passing {n = m} {after = second} w y rest) = further w y.is_next (reaches (suc m) from second level rest)
 

@@ -1,4 +1,5 @@
 pub mod Variables
 pub mod Growing
 pub mod Keeping
+pub mod Holding
 pub mod Telling

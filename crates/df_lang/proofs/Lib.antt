@@ -1,4 +1,5 @@
 pub mod Samples
+pub mod Carrying
 mod TypingRows
 mod AssignmentRows
 mod NativeRows

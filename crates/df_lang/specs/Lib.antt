@@ -9,6 +9,7 @@ pub mod Measures
 pub mod Marks
 pub mod Typing
 pub mod Assignment
+pub mod Flow
 pub mod Native
 pub mod DeclView
 pub mod View

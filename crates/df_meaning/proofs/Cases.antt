@@ -1,5 +1,7 @@
 -- What holds of what is given, where something is.
-use Rattle.std.proofs.Common.{◌≡◌, Bool, true, false, ◌&&◌, if◌then◌else◌, refl, subst}
+use Rattle.std.proofs.Common.{◌≡◌, Bool, true, false, if◌then◌else◌, refl, subst}
+pub use Rattle.std.proofs.lemmas.Bool.{and_parts as both, and_from as joined}
+pub use Rattle.df_lemmas.proofs.Truths.{three, four}
 use Rattle.df_meaning.specs.Outcome.{Outcome, Gives, Wrong, TooDeep, NoChoice, Dismissed, after}
 
 abbrev pub IfGives : {A : Type 0} → (A → Type 0) → Outcome A → Type 0
@@ -41,19 +43,3 @@ choice P false x y p q = q
 pub guarded : {A : Type 0} (P : A → Type 0) (test : Bool) (x y : A) → (test ≡ true → P x) → P y → P (if test then x else y)
 guarded P true x y p q = p refl
 guarded P false x y p q = q
-
-pub both : (a b : Bool) → (a && b) ≡ true → (a ≡ true) × (b ≡ true)
-both true b e = (refl, e)
-both false b e = cc
-
-pub three : (a b c : Bool) → (a && b && c) ≡ true → (a ≡ true) × (b ≡ true) × (c ≡ true)
-three true b c e = let rest = both b c e in (refl, rest.0, rest.1)
-three false b c e = absurd (let f : false ≡ true = e in cc)
-
-pub four : (a b c d : Bool) → (a && b && c && d) ≡ true → (a ≡ true) × (b ≡ true) × (c ≡ true) × (d ≡ true)
-four true b c d e = let rest = three b c d e in (refl, rest.0, rest.1, rest.2)
-four false b c d e = absurd (let f : false ≡ true = e in cc)
-
-pub joined : (a b : Bool) → a ≡ true → b ≡ true → (a && b) ≡ true
-joined true b e f = f
-joined false b e f = cc

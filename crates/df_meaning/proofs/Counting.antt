@@ -112,6 +112,40 @@ pub assigned_has : (before : Assigned) (s : State) (local : ℕ) → AreAssigned
 assigned_has Unreached s local h e = absurd h
 assigned_has (Reached set) s local h e = h local e
 
+-- ---- the measure of a loop
+
+module _ (before : Assigned) where
+  -- what may be there reads what has a value
+  abbrev MayRead : Option Expr → Type 0
+  MayRead None = Unit {0}
+  MayRead (Some e) = unassigned before (reads e) ≡ []
+
+  distance_reads : (ty : Ty) (at : Pos) (low high : Expr) → unassigned before (reads low) ≡ [] → unassigned before (reads high) ≡ [] → unassigned before (reads (distance ty at low high)) ≡ []
+  distance_reads ty at low high h k = joined_uses before (reads high) (reads low ++ []) k (joined_uses before (reads low) [] h refl)
+
+  comparison_reads : (ty : Ty) (at : Pos) (a : Expr) (comparison : Comparison) (b : Expr) → unassigned before (reads a) ≡ [] → unassigned before (reads b) ≡ [] → MayRead (comparison_measure ty at a comparison b)
+  comparison_reads types.Bool at a comparison b h k = tt
+  comparison_reads types.Char at a comparison b h k = tt
+  comparison_reads ty at a comparisons.Less b h k = distance_reads ty at a b h k
+  comparison_reads ty at a comparisons.AtMost b h k = distance_reads ty at a b h k
+  comparison_reads ty at a comparisons.Greater b h k = distance_reads ty at b a k h
+  comparison_reads ty at a comparisons.AtLeast b h k = distance_reads ty at b a k h
+  comparison_reads ty at a comparison b h k = tt
+
+  guard_reads : (guard : Expr) → unassigned before (reads guard) ≡ [] → MayRead (guard_measure guard)
+  guard_reads (Chain ty first (link comparison at operand no_link)) h =
+      let h = parted before (reads first) (reads operand ++ []) h in comparison_reads ty at first comparison operand h.0 (parted before (reads operand) [] h.1).0
+  guard_reads (Junction junctions.And first rest) h = guard_reads first (parted before (reads first) (reads_of_members rest) h).0
+  guard_reads guard h = tt
+
+  number_reads : (o : Option Expr) → MayRead o → unassigned before (reads_of_measures (Some (measure_of_number o))) ≡ []
+  number_reads None h = refl
+  number_reads (Some e) h = joined_uses before (reads e) [] h refl
+
+  pub loop_measure_reads : (guard : Expr) (decreases : Option (List Measure)) → unassigned before (reads guard) ≡ [] → unassigned before (reads_of_measures decreases) ≡ [] → unassigned before (reads_of_measures (Some (loop_measure guard decreases))) ≡ []
+  loop_measure_reads guard None h k = number_reads (guard_measure guard) (guard_reads guard h)
+  loop_measure_reads guard (Some measures) h k = k
+
 -- ---- values
 
 range_counts : (p : Program) (ty : Ty) (at : Pos) (z : ℤ) → Counts IsValue (in_range p ty at z)
@@ -227,37 +261,9 @@ module _ (m : Meaning) (before : Assigned) (s : State) (assigned : AreAssigned b
       then_counts AreValues (evaluate m s measure.value) _ (evaluate_counts measure.value h.0) (λ v.
       after_counts AreValues AreValues (measure_values m s others) _ (measures_count others h.1) (λ vs k. tt))
 
-  -- what may be there reads what has a value
-  abbrev MayRead : Option Expr → Type 0
-  MayRead None = Unit {0}
-  MayRead (Some e) = unassigned before (reads e) ≡ []
-
-  distance_reads : (ty : Ty) (at : Pos) (low high : Expr) → unassigned before (reads low) ≡ [] → unassigned before (reads high) ≡ [] → unassigned before (reads (distance ty at low high)) ≡ []
-  distance_reads ty at low high h k = joined_uses before (reads high) (reads low ++ []) k (joined_uses before (reads low) [] h refl)
-
-  comparison_reads : (ty : Ty) (at : Pos) (a : Expr) (comparison : Comparison) (b : Expr) → unassigned before (reads a) ≡ [] → unassigned before (reads b) ≡ [] → MayRead (comparison_measure ty at a comparison b)
-  comparison_reads types.Bool at a comparison b h k = tt
-  comparison_reads types.Char at a comparison b h k = tt
-  comparison_reads ty at a comparisons.Less b h k = distance_reads ty at a b h k
-  comparison_reads ty at a comparisons.AtMost b h k = distance_reads ty at a b h k
-  comparison_reads ty at a comparisons.Greater b h k = distance_reads ty at b a k h
-  comparison_reads ty at a comparisons.AtLeast b h k = distance_reads ty at b a k h
-  comparison_reads ty at a comparison b h k = tt
-
-  guard_reads : (guard : Expr) → unassigned before (reads guard) ≡ [] → MayRead (guard_measure guard)
-  guard_reads (Chain ty first (link comparison at operand no_link)) h =
-      let h = parted before (reads first) (reads operand ++ []) h in comparison_reads ty at first comparison operand h.0 (parted before (reads operand) [] h.1).0
-  guard_reads (Junction junctions.And first rest) h = guard_reads first (parted before (reads first) (reads_of_members rest) h).0
-  guard_reads guard h = tt
-
-  default_counts : (o : Option Expr) → MayRead o → Counts AreValues (measure_values m s (measure_of_number o))
-  default_counts None h = tt
-  default_counts (Some e) h = then_counts AreValues (evaluate m s e) _ (evaluate_counts e h) (λ v. tt)
-
   pub loop_measure_counts : (guard : Expr) (decreases : Option (List Measure)) → unassigned before (reads guard) ≡ [] → unassigned before (reads_of_measures decreases) ≡ []
       → Counts AreValues (measure_values m s (loop_measure guard decreases))
-  loop_measure_counts guard None h k = default_counts (guard_measure guard) (guard_reads guard h)
-  loop_measure_counts guard (Some measures) h k = measures_count measures k
+  loop_measure_counts guard decreases h k = measures_count (loop_measure guard decreases) (loop_measure_reads before guard decreases h k)
 
 pub conversions_count : (m : Meaning) (at : Pos) (cs : List Conversion) (vs : List Value) → length cs ≡ length vs → Counts (λ (ws : List Value). length ws ≡ length cs) (convert_all m at cs vs)
 conversions_count m at [] vs e = refl

@@ -28,7 +28,7 @@ use Rattle.df_meaning.proofs.Cases.{choice, both, three, four}
 use Rattle.df_meaning.proofs.Wholes.{types_length}
 use Rattle.df_meaning.proofs.Kept.{StaysAt, call_stays, source_stays, sources_stay}
 use Rattle.df_meaning.proofs.Counting.{after_counts, IsValue, then_counts, counts_more, counts_both, nothing_missing, parted, use_has, assigned_has, evaluate_counts, values_count, checks_count, conversions_count}
-use Rattle.df_meaning.proofs.Assigning.{place, carries, all_carry, all_grow, branches_grow, declared_more}
+use Rattle.df_lang.proofs.Carrying.{place, carries, all_carry, all_grow, branches_grow, declared_more}
 
 -- ---- states and what is assigned
 

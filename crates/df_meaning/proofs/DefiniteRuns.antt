@@ -24,7 +24,8 @@ use Rattle.df_meaning.proofs.Wholes.{method_typed, types_length, program_of_dept
 use Rattle.df_meaning.proofs.Kept.{AgreesBut, FlowAgrees, KeepsTurns, all_kept, wholes_keep}
 use Rattle.df_meaning.proofs.Changing.{from_on, all_past}
 use Rattle.df_meaning.proofs.Counting.{after_counts, counts_more, counts_both, nothing_missing, evaluate_counts, checks_count, owed_counts}
-use Rattle.df_meaning.proofs.Assigning.{place, clauses_read, method_measure_reads}
+use Rattle.df_lang.proofs.Carrying.{place}
+use Rattle.df_meaning.proofs.TypedReads.{clauses_read, method_measure_reads}
 use Rattle.df_meaning.proofs.Definite.{all_results, AreLeft, AreResults, IsLoopAssigned, MeaningCounts, types_have, stmt_counts, stmts_count, turn_counts, guard_counts}
 
 -- ---- methods

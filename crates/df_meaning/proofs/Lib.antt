@@ -19,7 +19,7 @@ pub mod Endless
 pub mod Simultaneous
 pub mod Division
 pub mod Counting
-pub mod Assigning
+pub mod TypedReads
 pub mod Definite
 pub mod DefiniteRuns
 mod RowStates

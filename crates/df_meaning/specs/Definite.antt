@@ -5,6 +5,7 @@ use Rattle.df_lang.specs.Stmt.{Stmt}
 use Rattle.df_lang.specs.Program.{Method, Program, method_at, types_of}
 use Rattle.df_lang.specs.Typing.{Setting, is_stmt, is_well_typed}
 use Rattle.df_lang.specs.Assignment.{Assigned, Unreached, Reached, Flowing, flow, IsDefinitelyAssigned}
+pub use Rattle.df_lang.specs.Flow.{AreDeclared}
 use Rattle.df_meaning.specs.Value.{Value}
 use Rattle.df_meaning.specs.Types.{have_types}
 use Rattle.df_meaning.specs.Outcome.{Outcome, Gives, Wrong, TooDeep, NoChoice, Dismissed}
@@ -29,11 +30,6 @@ HasValue s local = is_some (value_at s local) ≡ true
 abbrev pub AreAssigned : Assigned → State → Type 0
 AreAssigned Unreached s = ⊥
 AreAssigned (Reached set) s = (local : ℕ) → set local ≡ true → HasValue s local
-
--- the flow says so of the first locals alone, as many as are declared
-abbrev pub AreDeclared : ℕ → Assigned → Type 0
-AreDeclared size Unreached = Unit {0}
-AreDeclared size (Reached set) = (local : ℕ) → set local ≡ true → local < size
 
 abbrev pub HaveResults : Method → State → Type 0
 HaveResults m s = (local : ℕ) → length m.parameters ≤ local → local < length m.parameters + length m.results → HasValue s local

@@ -1,7 +1,7 @@
 -- Well-typed statements are so over the locals of the whole method.
 use Rattle.df_nflow.proofs.Words.{◌≡◌, Bool, true, false, ◌&&◌, List, ◌++◌, map, nat_le, length, slice_get, Option, None, Some, refl, option_map_or, list_all, flat_map, and_parts, and_from, Ty, Expr, Operand, Text, Value, Target, Call, Source, Single, Results, Update, Measure, Stmt, Block, Var, Assign, CallOf, If, While, Break, Return, Assert, Print, Stmts, done, next, Branches, no_branch, branch, Method, Program, method_at, types_of, same_type, are_same_types, is_type, is_expr, are_exprs, are_clauses, are_measures, is_operand, is_call, are_results, is_source, source_types, is_target, is_update, may_update, are_numbered, variable_numbers, variable_types, locals_after, locals_after_all, locals_after_branches, is_measured, is_stmt, are_stmts, are_branches, plain_meaning, Within, before_all, before_branches, return_updates, changed_outside, changed_outside_if, are_at, is_operand_over, is_target_over, is_update_over, may_update_over, is_over, are_over, are_branches_over, is_call_over, is_source_over, all_weaker}
 use Rattle.df_lang.specs.declared.ty.Ty.TheVariants as types
-use Rattle.df_meaning.proofs.Assigning.{place}
+use Rattle.df_lang.proofs.Carrying.{place}
 use Rattle.df_meaning.proofs.Cases.{both, three, four}
 use Rattle.df_meaning.proofs.Changing.{stmt_there}
 use Rattle.df_npass.proofs.Altering.{outside_there, if_there}

@@ -4,7 +4,6 @@ mod Firsts
 mod Uses
 mod Sets
 mod Counting
-mod Carrying
 mod Ways
 mod Points
 mod Finds

@@ -23,7 +23,7 @@ use Rattle.df_nghost.specs.mirror.Way.{Known, known, look, go_all}
 use Rattle.df_nghost.specs.mirror.Refusals.{IsTyped, TellsOf}
 use Rattle.df_nghost.proofs.Firsts.{none_contained, none_missing, IsFirst, first_is}
 use Rattle.df_nghost.proofs.Uses.{pick_least}
-use Rattle.df_nghost.proofs.Carrying.{place}
+use Rattle.df_lang.proofs.Carrying.{place}
 use Rattle.df_nghost.proofs.Ways.{with_first, behind, all_go}
 
 parameter_count : (params : List Param) → length (types_of params) ≡ length params

@@ -16,7 +16,8 @@ use Rattle.df_nghost.specs.mirror.Uses.{least, pick}
 use Rattle.df_nghost.specs.mirror.Way.{Known, look, way_of, begun, go, go_all, go_branches}
 use Rattle.df_nghost.proofs.Uses.{least_append, pick_least}
 use Rattle.df_nghost.proofs.Sets.{join_assoc, join_kept}
-use Rattle.df_nghost.proofs.Carrying.{AreDeclared, declared_more, place, all_grow, branches_grow, carries, all_carry}
+use Rattle.df_lang.specs.Flow.{AreDeclared}
+use Rattle.df_lang.proofs.Carrying.{declared_more, place, all_grow, branches_grow, carries, all_carry}
 
 abbrev pub with_first : Assigned → Option Use → Known
 with_first at first = record { at = at; first = first }

@@ -9,4 +9,5 @@ pub use Rattle.df_npass.proofs.Flowing.{all_flows, Flows, Parts, behind_reaches,
 pub use Rattle.df_npass.proofs.Coming.{AllOff, OneSits, off_moves, path_same, sorted_moves, reached_mark, reached_left, reached_right, join_left, join_right, one_left, one_right, one_less, sits_moves, off_lead, sits_less, one_reached, assigned_make, sits_change}
 pub use Rattle.df_npass.proofs.Turning.{list_once, once_there, any_typed, all_may, turned_state, turned_is, turned_store, turned_local}
 pub use Rattle.df_npass.proofs.Declaring.{all_declare, is_declared, few, HasParameters, back, back_has, update_keeps}
-pub use Rattle.df_npass.proofs.Measures.{method_measure_typed, get_at, one_longer, AreTyped, loop_measure_typed, loop_measure_reads}
+pub use Rattle.df_npass.proofs.Measures.{method_measure_typed, get_at, one_longer, AreTyped, loop_measure_typed}
+pub use Rattle.df_meaning.proofs.Counting.{loop_measure_reads}

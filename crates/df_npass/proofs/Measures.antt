@@ -1,5 +1,5 @@
--- Measures of well-typed loops and methods are well typed, and read what has a value.
-use Rattle.df_npass.proofs.Words.{◌≡◌, ℕ, suc, true, false, ◌&&◌, List, [], ◌∷◌, ◌++◌, length, slice_get, unwrap_or, Option, None, Some, refl, sym, ap, ◌∙◌, subst, append_assoc, list_all, option_map_or, Pos, Ty, Comparison, Expr, Junction, Chain, no_link, link, Measure, Param, Method, Program, types_of, distance, comparison_measure, guard_measure, measure_of_number, loop_measure, parameters_from, method_measure, same_type, is_type, is_integer, compares, is_expr, are_members, are_links, are_measures, reads, reads_of_members, reads_of_measures, Assigned, unassigned, both, three, joined, parted, joined_uses, same_self}
+-- Measures of well-typed loops and methods are well typed.
+use Rattle.df_npass.proofs.Words.{◌≡◌, ℕ, suc, true, false, ◌&&◌, List, [], ◌∷◌, ◌++◌, length, slice_get, unwrap_or, Option, None, Some, refl, sym, ap, ◌∙◌, subst, append_assoc, list_all, option_map_or, Pos, Ty, Comparison, Expr, Junction, Chain, no_link, link, Measure, Param, Method, Program, types_of, distance, comparison_measure, guard_measure, measure_of_number, loop_measure, parameters_from, method_measure, same_type, is_type, is_integer, compares, is_expr, are_members, are_links, are_measures, both, three, joined, same_self}
 use Rattle.df_lang.specs.declared.ty.Ty.TheVariants as types
 use Rattle.df_lang.specs.declared.expr.Junction.TheVariants as junctions
 use Rattle.df_lang.specs.declared.expr.Comparison.TheVariants as comparisons
@@ -78,35 +78,3 @@ module _ (p : Program) (locals : List Ty) where
   pub loop_measure_typed : (guard : Expr) (decreases : Option (List Measure)) → is_expr p locals types.Bool guard ≡ true → are_measures p locals decreases ≡ true → AreTyped p locals (loop_measure guard decreases)
   loop_measure_typed guard None is are = number_typed (guard_measure guard) (guard_typed guard is)
   loop_measure_typed guard (Some measures) is are = clause_typed p locals measures are
-
-module _ (before : Assigned) where
-  -- what may be there reads what has a value
-  abbrev MayRead : Option Expr → Type 0
-  MayRead None = Unit {0}
-  MayRead (Some e) = unassigned before (reads e) ≡ []
-
-  distance_reads : (ty : Ty) (at : Pos) (low high : Expr) → unassigned before (reads low) ≡ [] → unassigned before (reads high) ≡ [] → unassigned before (reads (distance ty at low high)) ≡ []
-  distance_reads ty at low high h k = joined_uses before (reads high) (reads low ++ []) k (joined_uses before (reads low) [] h refl)
-
-  comparison_reads : (ty : Ty) (at : Pos) (a : Expr) (comparison : Comparison) (b : Expr) → unassigned before (reads a) ≡ [] → unassigned before (reads b) ≡ [] → MayRead (comparison_measure ty at a comparison b)
-  comparison_reads types.Bool at a comparison b h k = tt
-  comparison_reads types.Char at a comparison b h k = tt
-  comparison_reads ty at a comparisons.Less b h k = distance_reads ty at a b h k
-  comparison_reads ty at a comparisons.AtMost b h k = distance_reads ty at a b h k
-  comparison_reads ty at a comparisons.Greater b h k = distance_reads ty at b a k h
-  comparison_reads ty at a comparisons.AtLeast b h k = distance_reads ty at b a k h
-  comparison_reads ty at a comparison b h k = tt
-
-  guard_reads : (guard : Expr) → unassigned before (reads guard) ≡ [] → MayRead (guard_measure guard)
-  guard_reads (Chain ty first (link comparison at operand no_link)) h =
-      let h = parted before (reads first) (reads operand ++ []) h in comparison_reads ty at first comparison operand h.0 (parted before (reads operand) [] h.1).0
-  guard_reads (Junction junctions.And first rest) h = guard_reads first (parted before (reads first) (reads_of_members rest) h).0
-  guard_reads guard h = tt
-
-  number_reads : (o : Option Expr) → MayRead o → unassigned before (reads_of_measures (Some (measure_of_number o))) ≡ []
-  number_reads None h = refl
-  number_reads (Some e) h = joined_uses before (reads e) [] h refl
-
-  pub loop_measure_reads : (guard : Expr) (decreases : Option (List Measure)) → unassigned before (reads guard) ≡ [] → unassigned before (reads_of_measures decreases) ≡ [] → unassigned before (reads_of_measures (Some (loop_measure guard decreases))) ≡ []
-  loop_measure_reads guard None h k = number_reads (guard_measure guard) (guard_reads guard h)
-  loop_measure_reads guard (Some measures) h k = k

@@ -20,10 +20,11 @@ pub use Rattle.df_lang.specs.Newtype.{same_type}
 pub use Rattle.df_lang.specs.Typing.{is_type, are_same_types, is_method, is_well_typed, is_expr, are_clauses, are_measures, are_stmts, locals_after_all, locals_after_branches, are_branches, is_measured, may_update, are_numbered, variable_numbers, variable_types, locals_after, is_stmt, is_operand, is_integer, compares, are_members, are_links, are_exprs, is_newtype, is_decl, converts, is_call, are_results, is_source, source_types, is_target, is_update}
 pub use Rattle.df_lang.specs.declared.expr.Comparison.{Comparison}
 pub use Rattle.df_lang.specs.declared.ty.Ty.{Ty}
-pub use Rattle.df_meaning.proofs.Assigning.{all_carry, place, clauses_read, method_measure_reads, all_grow, branches_grow, grows, carries, declared_more}
+pub use Rattle.df_lang.proofs.Carrying.{all_carry, place, all_grow, branches_grow, grows, carries, declared_more}
+pub use Rattle.df_meaning.proofs.TypedReads.{clauses_read, method_measure_reads}
 pub use Rattle.df_meaning.proofs.Cases.{both, joined, choice, four, three, joined as and_joined}
 pub use Rattle.df_meaning.proofs.Changing.{are_there, all_there, stmt_there}
-pub use Rattle.df_meaning.proofs.Counting.{nothing_missing, assigned_has, parted, joined_uses, use_has, evaluate_counts, not_dismissed}
+pub use Rattle.df_meaning.proofs.Counting.{nothing_missing, assigned_has, parted, use_has, evaluate_counts, not_dismissed}
 pub use Rattle.df_meaning.proofs.DefiniteRuns.{first_locals, begun_assigned, first_have}
 pub use Rattle.df_meaning.proofs.Modulars.{program_of_modular}
 pub use Rattle.df_meaning.proofs.Stating.{Within, before_all, within_front, same_self, before_branches, return_updates, set_other, target_there}

@@ -32,7 +32,7 @@ use Rattle.df_form.proofs.Same.{values_alike}
 use Rattle.df_rules.proofs.SoundClauses.{Holds, is_held, AllPass, holds_unless}
 use Rattle.df_rules.proofs.SoundConnectives.{number_in, at_most_truth, equal_truth, each_below}
 use Rattle.df_rules.proofs.SoundIntegers.{IsNatural, natural_by, natural_above, sum_of_naturals, no_natural, rounded, sum_added, all_below_at}
-use Rattle.df_rules.proofs.SoundRows.{AreNumbers, constant_value, two_below, difference_value}
+use Rattle.df_rules.proofs.SoundRows.{AreNumbers, linear, constant_value, difference_value}
 
 module _ (count : ℕ) (v : ℕ → ℤ) where
   -- the row's value is at least 0
@@ -136,10 +136,10 @@ module _ (depth : ℕ) (world : World) (assignment : Assignment) (nodes : List N
   -- a <= b, and a < b
   at_most_met : (a b : ℕ) (row : Row) → a < length nodes → b < length nodes → int_le (v a) (v b) ≡ true → difference nodes (length nodes) a b (pos 0) ≡ Some row → Met row
   at_most_met a b row p q le e =
-      natural_by (row_value (length nodes) v row) (v a) (v b) (difference_value nodes v numbers_are a b (pos 0) row p q e ∙ +ℤ_idr (v b)) le
+      natural_by (row_value (length nodes) v row) (v a) (v b) (difference_value nodes v (linear nodes v numbers_are) a b (pos 0) row p q e ∙ +ℤ_idr (v b)) le
 
   less_met : (a b : ℕ) (row : Row) → a < length nodes → b < length nodes → int_le (v b) (v a) ≡ false → difference nodes (length nodes) a b (negsuc 0) ≡ Some row → Met row
-  less_met a b row p q gt e = natural_above (row_value (length nodes) v row) (v a) (v b) (difference_value nodes v numbers_are a b (negsuc 0) row p q e) gt
+  less_met a b row p q gt e = natural_above (row_value (length nodes) v row) (v a) (v b) (difference_value nodes v (linear nodes v numbers_are) a b (negsuc 0) row p q e) gt
 
   one_met : (o : Option Row) (rows : List Row) → ((row : Row) → o ≡ Some row → Met row) → one_row o ≡ Some rows → AllByRecursion Met rows
   one_met o rows met e =
@@ -171,7 +171,7 @@ module _ (depth : ℕ) (world : World) (assignment : Assignment) (nodes : List N
 
   by_sort : (n a b : ℕ) (positive : Bool) (op : Op) (sort : Sort) (rows : List Row) → slice_get nodes n ≡ Some (record { op = op; parts = a ∷ b ∷ [] }) → sort_at nodes a ≡ sort
       → same_truth positive (truth depth world assignment nodes n) ≡ true → rows_by_sort sort nodes positive op a b ≡ Some rows → AllByRecursion Met rows
-  by_sort n a b positive op sorts.Number rows at sort is e = let under = two_below nodes v numbers_are n a b op at in comparison_met n a b positive op rows at under.0 under.1 sort is e
+  by_sort n a b positive op sorts.Number rows at sort is e = let are = linear nodes v numbers_are in let under = are.inside n a b op at in comparison_met n a b positive op rows at under.0 under.1 sort is e
   by_sort n a b positive op sorts.Truth rows at sort is e = none_met rows e
   by_sort n a b positive op sorts.Character rows at sort is e = none_met rows e
 

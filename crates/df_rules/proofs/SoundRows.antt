@@ -22,6 +22,36 @@ pub record AreNumbers (nodes : List Node) (v : ℕ → ℤ) : Type 0 where
   pub times : (n a b : ℕ) → slice_get nodes n ≡ Some (record { op = ops.Times; parts = a ∷ b ∷ [] }) → v n ≡ v a *ℤ v b
   pub below : (n : ℕ) (node : Node) → slice_get nodes n ≡ Some node → list_all (λ part. nat_lt part (length nodes)) node.parts ≡ true
 
+-- What of these counts for rows: a literal has its own number, a sum and a multiple by a literal have those of their parts; and
+-- the parts of a node of two stand there too.
+pub record AreLinear (nodes : List Node) (v : ℕ → ℤ) : Type 0 where
+  pub literal : (n : ℕ) (k : ℤ) (parts : List ℕ) → slice_get nodes n ≡ Some (record { op = ops.Number k; parts = parts }) → v n ≡ k
+  pub plus : (n a b : ℕ) → slice_get nodes n ≡ Some (record { op = ops.Plus; parts = a ∷ b ∷ [] }) → v n ≡ v a +ℤ v b
+  pub multiple : (n a b : ℕ) (k : ℤ) → slice_get nodes n ≡ Some (record { op = ops.Times; parts = a ∷ b ∷ [] }) → literal_number (slice_get nodes a) ≡ Some k → v n ≡ k *ℤ v b
+  pub inside : (n a b : ℕ) (op : Op) → slice_get nodes n ≡ Some (record { op = op; parts = a ∷ b ∷ [] }) → (a < length nodes) × (b < length nodes)
+
+module _ (nodes : List Node) (v : ℕ → ℤ) (are : AreNumbers nodes v) where
+  literal_found : (a : ℕ) (o : Option Node) (k : ℤ) → slice_get nodes a ≡ o → literal_number o ≡ Some k → v a ≡ k
+  literal_found a None k e f = absurd cc
+  literal_found a (Some node) k e f = by_op node.op node.parts e f
+    where
+      by_op : (op : Op) (parts : List ℕ) → slice_get nodes a ≡ Some (record { op = op; parts = parts }) → number_of_op op ≡ Some k → v a ≡ k
+      by_op (ops.Number j) parts e f = are.literal a j parts e ∙ same_Some j k f
+      by_op op parts e f = absurd cc
+
+  multiple_of : (n a b : ℕ) (k : ℤ) → slice_get nodes n ≡ Some (record { op = ops.Times; parts = a ∷ b ∷ [] }) → literal_number (slice_get nodes a) ≡ Some k → v n ≡ k *ℤ v b
+  multiple_of n a b k e is = are.times n a b e ∙ ap (λ z. z *ℤ v b) (literal_found a (slice_get nodes a) k refl is)
+
+  -- the parts of a node of two stand there too
+  pub two_below : (n a b : ℕ) (op : Op) → slice_get nodes n ≡ Some (record { op = op; parts = a ∷ b ∷ [] }) → (a < length nodes) × (b < length nodes)
+  two_below n a b op e =
+      let first = and_parts (nat_lt a (length nodes)) (nat_lt b (length nodes) && true) (are.below n (record { op = op; parts = a ∷ b ∷ [] }) e) in
+      let second = and_parts (nat_lt b (length nodes)) true first.1 in
+      (ltb-true a (length nodes) first.0, ltb-true b (length nodes) second.0)
+
+  pub linear : AreLinear nodes v
+  linear = record { literal = are.literal; plus = are.plus; multiple = multiple_of; inside = two_below }
+
 module _ (count : ℕ) (v : ℕ → ℤ) where
   pub constant_value : (k : ℤ) → row_value count v (constant_row k) ≡ k
   constant_value k = let e = no_sum count (λ n. pos 0 *ℤ v n) (λ n lt. zero-*ℤ (v n)) in zero_more (sum_below count (λ n. pos 0 *ℤ v n)) e
@@ -52,7 +82,7 @@ module _ (count : ℕ) (v : ℕ → ℤ) where
       less row.constant (sum_below count (λ m. with_coefficient row.coefficient n (pos 0) m *ℤ v m)) (sum_below count (λ m. row.coefficient m *ℤ v m)) (row.coefficient n *ℤ v n) (pos 0 *ℤ v n)
       (changed count n row.coefficient (pos 0) v lt) (zero-*ℤ (v n))
 
-module _ (nodes : List Node) (v : ℕ → ℤ) (are : AreNumbers nodes v) where
+module _ (nodes : List Node) (v : ℕ → ℤ) (are : AreLinear nodes v) where
   abbrev pub value : Row → ℤ
   value row = row_value (length nodes) v row
 
@@ -67,33 +97,14 @@ module _ (nodes : List Node) (v : ℕ → ℤ) (are : AreNumbers nodes v) where
       two_more (value u) (c *ℤ v a) (c *ℤ v b) (c *ℤ v n) (value (with_more a c u)) (value (with_more b c (with_more a c u))) (value row)
       (more_value (length nodes) v a c u p) (more_value (length nodes) v b c (with_more a c u) q) f (ap (λ z. c *ℤ z) e ∙ sum_times c (v a) (v b))
 
-  product_kept : (n a b : ℕ) (c : ℤ) (o : Option ℤ) (u row : Row) → b < length nodes → v n ≡ v a *ℤ v b → ((k : ℤ) → o ≡ Some k → v a ≡ k) → value u +ℤ (c *ℤ v n) ≡ value row → value (with_product c b o row u) ≡ value row
-  product_kept n a b c None u row q e is f = refl
-  product_kept n a b c (Some k) u row q e is f =
-      more_value (length nodes) v b (c *ℤ k) u q
-      ∙ ap (λ z. value u +ℤ z) (times_twice c k (v b) ∙ ap (λ z. c *ℤ (z *ℤ v b)) (sym (is k refl)) ∙ ap (λ z. c *ℤ z) (sym e)) ∙ f
-
-  literal_found : (a : ℕ) (o : Option Node) (k : ℤ) → slice_get nodes a ≡ o → literal_number o ≡ Some k → v a ≡ k
-  literal_found a None k e f = absurd cc
-  literal_found a (Some node) k e f = by_op node.op node.parts e f
-    where
-      by_op : (op : Op) (parts : List ℕ) → slice_get nodes a ≡ Some (record { op = op; parts = parts }) → number_of_op op ≡ Some k → v a ≡ k
-      by_op (ops.Number j) parts e f = are.literal a j parts e ∙ same_Some j k f
-      by_op op parts e f = absurd cc
-
-  -- the parts of a node of two stand there too
-  pub two_below : (n a b : ℕ) (op : Op) → slice_get nodes n ≡ Some (record { op = op; parts = a ∷ b ∷ [] }) → (a < length nodes) × (b < length nodes)
-  two_below n a b op e =
-      let first = and_parts (nat_lt a (length nodes)) (nat_lt b (length nodes) && true) (are.below n (record { op = op; parts = a ∷ b ∷ [] }) e) in
-      let second = and_parts (nat_lt b (length nodes)) true first.1 in
-      (ltb-true a (length nodes) first.0, ltb-true b (length nodes) second.0)
+  product_kept : (n b : ℕ) (c : ℤ) (o : Option ℤ) (u row : Row) → b < length nodes → ((k : ℤ) → o ≡ Some k → v n ≡ k *ℤ v b) → value u +ℤ (c *ℤ v n) ≡ value row → value (with_product c b o row u) ≡ value row
+  product_kept n b c None u row q is f = refl
+  product_kept n b c (Some k) u row q is f = more_value (length nodes) v b (c *ℤ k) u q ∙ ap (λ z. value u +ℤ z) (times_twice c k (v b) ∙ ap (λ z. c *ℤ z) (sym (is k refl))) ∙ f
 
   parts_kept : (n : ℕ) (c : ℤ) (op : Op) (parts : List ℕ) (u row : Row) → slice_get nodes n ≡ Some (record { op = op; parts = parts }) → value u +ℤ (c *ℤ v n) ≡ value row → value (expanded_parts nodes c op parts row u) ≡ value row
   parts_kept n c (ops.Number k) parts u row e f = with_constant_kept c k (v n) u row (are.literal n k parts e) f
-  parts_kept n c ops.Plus (a ∷ b ∷ []) u row e f = let under = two_below n a b ops.Plus e in plus_kept n a b c u row under.0 under.1 (are.plus n a b e) f
-  parts_kept n c ops.Times (a ∷ b ∷ []) u row e f =
-      let under = two_below n a b ops.Times e in
-      product_kept n a b c (literal_number (slice_get nodes a)) u row under.1 (are.times n a b e) (λ k is. literal_found a (slice_get nodes a) k refl is) f
+  parts_kept n c ops.Plus (a ∷ b ∷ []) u row e f = let under = are.inside n a b ops.Plus e in plus_kept n a b c u row under.0 under.1 (are.plus n a b e) f
+  parts_kept n c ops.Times (a ∷ b ∷ []) u row e f = let under = are.inside n a b ops.Times e in product_kept n b c (literal_number (slice_get nodes a)) u row under.1 (λ k is. are.multiple n a b k e is) f
   parts_kept n c op parts u row e f = refl
 
   at_kept : (n : ℕ) (o : Option Node) (row : Row) → slice_get nodes n ≡ o → n < length nodes → value (expanded_at nodes n o row) ≡ value row

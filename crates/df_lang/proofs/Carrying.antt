@@ -1,22 +1,18 @@
 -- The flow of definite assignment in well-typed statements: what has a value keeps it, and only declared locals have one.
-use Rattle.std.proofs.Common.{◌≡◌, ◌≤◌, ◌<◌, ◌+◌, ℕ, suc, ◌==◌, nat_le, Bool, true, false, ◌&&◌, if◌then◌else◌, List, [], ◌∷◌, ◌++◌, map, length, slice_get, Option, Some, None, unwrap_or, refl, sym, ap, subst, ◌∙◌, length-append, arith}
-use Rattle.std.proofs.lemmas.Bool.{eqb-true}
+use Rattle.std.proofs.Common.{◌≡◌, ◌≤◌, ◌<◌, ℕ, suc, ◌==◌, nat_le, Bool, true, false, if◌then◌else◌, List, [], ◌∷◌, ◌++◌, map, length, slice_get, Option, Some, None, refl, length-append, arith}
+use Rattle.std.proofs.lemmas.Bool.{eqb-true, and_parts, and_from}
 use Rattle.std.proofs.lemmas.Option.{slice_get_within}
 use Rattle.std.specs.Option.{option_map_or}
 use Rattle.std.specs.List.{list_all, flat_map}
+use Rattle.df_lemmas.proofs.Truths.{three, four}
 use Rattle.df_lang.specs.declared.ty.Ty.{Ty}
 use Rattle.df_lang.specs.declared.ty.Ty.TheVariants as types
-use Rattle.df_lang.specs.Expr.{Expr, Number, Truth, Character, Local, Negate, Not, Sum, Product, Junction, Implies, Iff, Chain, As, Convert, Addends, no_addend, addend, Factors, no_factor, factor, Members, no_member, member, Links, no_link, link}
-use Rattle.df_lang.specs.Stmt.{Target, Update, Variable, Clause, Measure, Stmt, Block, Var, Assign, CallOf, If, While, Break, Return, Assert, Print, Stmts, done, next, Branches, no_branch, branch}
-use Rattle.df_lang.specs.Program.{Param, Method, Program}
+use Rattle.df_lang.specs.Stmt.{Target, Update, Variable, Stmt, Block, Var, Assign, CallOf, If, While, Break, Return, Assert, Print, Stmts, done, next, Branches, no_branch, branch}
+use Rattle.df_lang.specs.Program.{Method, Program}
 use Rattle.df_lang.specs.Newtype.{same_type}
-use Rattle.df_lang.specs.Typing.{are_same_types, is_type, is_arithmetic, casts, compares, converts, is_expr, are_addends, are_factors, are_members, are_links, are_clauses, are_measures, Setting, is_source, source_types, is_target, may_update, are_numbered, variable_numbers, variable_types, locals_after, locals_after_all, locals_after_branches, is_measured, is_stmt, are_stmts, are_branches}
-use Rattle.df_lang.specs.Measures.{parameters_from, method_measure}
-use Rattle.df_lang.specs.Assignment.{Use, reads, reads_of_addends, reads_of_factors, reads_of_members, reads_of_links, reads_of_clauses, reads_of_measures, Assigned, Unreached, Reached, has_value, join, mark, declare, assign, assign_all, unassigned, Flowing, goes_to, flow, flow_all, flow_branches}
-use Rattle.df_meaning.specs.Definite.{AreDeclared}
-use Rattle.df_meaning.proofs.Cases.{both, three, four, joined}
-use Rattle.df_meaning.proofs.Stating.{locals_grow, all_locals_grow, branch_locals_grow}
-use Rattle.df_meaning.proofs.Counting.{use_there, joined_uses}
+use Rattle.df_lang.specs.Typing.{are_same_types, is_type, is_expr, are_clauses, Setting, is_source, source_types, is_target, may_update, are_numbered, variable_numbers, variable_types, locals_after, locals_after_all, locals_after_branches, is_measured, is_stmt, are_stmts, are_branches}
+use Rattle.df_lang.specs.Assignment.{Use, Assigned, Unreached, Reached, has_value, join, mark, declare, assign, assign_all, Flowing, goes_to, flow, flow_all, flow_branches}
+use Rattle.df_lang.specs.Flow.{AreDeclared}
 
 -- ---- what is assigned
 
@@ -31,12 +27,12 @@ declared_more size more (Reached set) le h = λ local e. let less = h local e in
 pub join_declared : (size : ℕ) (a b : Assigned) → AreDeclared size a → AreDeclared size b → AreDeclared size (join a b)
 join_declared size Unreached b h k = k
 join_declared size (Reached set) Unreached h k = h
-join_declared size (Reached set) (Reached other) h k = λ local e. h local (both (set local) (other local) e).0
+join_declared size (Reached set) (Reached other) h k = λ local e. h local (and_parts (set local) (other local) e).0
 
 join_has : (a b : Assigned) (local : ℕ) → has_value a local ≡ true → has_value b local ≡ true → has_value (join a b) local ≡ true
 join_has Unreached b local h k = k
 join_has (Reached set) Unreached local h k = h
-join_has (Reached set) (Reached other) local h k = joined (set local) (other local) h k
+join_has (Reached set) (Reached other) local h k = and_from (set local) (other local) h k
 
 -- ---- marked locals
 
@@ -72,7 +68,7 @@ unmark_has : (local : ℕ) (a : Assigned) (k : ℕ) → k < local → has_value 
 unmark_has local Unreached k less h = refl
 unmark_has local (Reached set) k less h = if_has_unmarked local k (k == local) (set k) refl less h
 
-declare_declared : (size : ℕ) (variables : List Variable) (a : Assigned) → AreDeclared size a → AreDeclared size (declare a variables)
+pub declare_declared : (size : ℕ) (variables : List Variable) (a : Assigned) → AreDeclared size a → AreDeclared size (declare a variables)
 declare_declared size [] a h = h
 declare_declared size (v ∷ vs) a h = declare_declared size vs (mark false a v.local) (unmark_declared size v.local a h)
 
@@ -80,7 +76,7 @@ declare_declared size (v ∷ vs) a h = declare_declared size vs (mark false a v.
 declare_has : (from : ℕ) (variables : List Variable) (a : Assigned) (k : ℕ) → are_numbered from (variable_numbers variables) ≡ true → k < from → has_value a k ≡ true → has_value (declare a variables) k ≡ true
 declare_has from [] a k are less h = h
 declare_has from (v ∷ vs) a k are less h =
-    let are = both (v.local == from) (are_numbered (suc from) (variable_numbers vs)) are in
+    let are = and_parts (v.local == from) (are_numbered (suc from) (variable_numbers vs)) are in
     let same : v.local ≡ from = eqb-true v.local from are.0 in
     declare_has (suc from) vs (mark false a v.local) k are.1 (omega (arith, less)) (unmark_has v.local a k (omega (arith, same, less)) h)
 
@@ -105,17 +101,26 @@ pub record Carries (size more : ℕ) (before : Assigned) (flowing : Flowing) : T
   pub kept : Retains size before flowing.behind
   pub carried : Retains size before flowing.breaks
 
-pub no_shorter : (locals others more : List Ty) → more ≡ locals ++ others → length locals ≤ length more
-no_shorter locals others more e = let long : length more ≡ length locals + length others = ap length e ∙ length-append locals others in omega (arith, long)
+mutual
+  pub grows : (locals : List Ty) (stmt : Stmt) → length locals ≤ length (locals_after locals stmt)
+  grows locals (Block at body) = all_grow locals body
+  grows locals (Var at variables update) = omega (arith, length-append locals (variable_types variables))
+  grows locals (Assign at update) = omega arith
+  grows locals (CallOf call) = omega arith
+  grows locals (If branches otherwise) = omega (arith, branches_grow locals branches, all_grow (locals_after_branches locals branches) otherwise)
+  grows locals (While at guard invariants decreases body) = all_grow locals body
+  grows locals (Break at) = omega arith
+  grows locals (Return at update) = omega arith
+  grows locals (Assert at condition) = omega arith
+  grows locals (Print at operands) = omega arith
 
-pub grows : (locals : List Ty) (stmt : Stmt) → length locals ≤ length (locals_after locals stmt)
-grows locals stmt = let g = locals_grow locals stmt in no_shorter locals g.0 (locals_after locals stmt) g.1
+  pub all_grow : (locals : List Ty) (stmts : Stmts) → length locals ≤ length (locals_after_all locals stmts)
+  all_grow locals done = omega arith
+  all_grow locals (next stmt others) = omega (arith, grows locals stmt, all_grow (locals_after locals stmt) others)
 
-pub all_grow : (locals : List Ty) (stmts : Stmts) → length locals ≤ length (locals_after_all locals stmts)
-all_grow locals stmts = let g = all_locals_grow locals stmts in no_shorter locals g.0 (locals_after_all locals stmts) g.1
-
-pub branches_grow : (locals : List Ty) (branches : Branches) → length locals ≤ length (locals_after_branches locals branches)
-branches_grow locals branches = let g = branch_locals_grow locals branches in no_shorter locals g.0 (locals_after_branches locals branches) g.1
+  pub branches_grow : (locals : List Ty) (branches : Branches) → length locals ≤ length (locals_after_branches locals branches)
+  branches_grow locals no_branch = omega arith
+  branches_grow locals (branch at guard body rest) = omega (arith, all_grow locals body, branches_grow (locals_after_all locals body) rest)
 
 -- nothing is carried by a `break`
 carries_on : (size more : ℕ) (before a : Assigned) (missing : List Use) → AreDeclared more a → Retains size before a → Carries size more before (goes_to a missing)
@@ -138,15 +143,15 @@ module _ (program : Program) (own : Method) where
       → AreDeclared (length locals) (assign a targets)
   targets_declared locals in_loop [] a are h = h
   targets_declared locals in_loop (t ∷ ts) a are h =
-      let are = both (is_target (place program locals own in_loop) t) (list_all (is_target (place program locals own in_loop)) ts) are in
+      let are = and_parts (is_target (place program locals own in_loop) t) (list_all (is_target (place program locals own in_loop)) ts) are in
       targets_declared locals in_loop ts (mark true a t.local) are.1
-      (mark_declared (length locals) t.local a (by_type (slice_get locals t.local) refl (both (nat_le (length own.parameters) t.local) (option_map_or (same_type t.ty) (slice_get locals t.local) false) are.0).1) h)
+      (mark_declared (length locals) t.local a (by_type (slice_get locals t.local) refl (and_parts (nat_le (length own.parameters) t.local) (option_map_or (same_type t.ty) (slice_get locals t.local) false) are.0).1) h)
     where
       by_type : (o : Option Ty) → slice_get locals t.local ≡ o → option_map_or (same_type t.ty) o false ≡ true → t.local < length locals
       by_type None there same = absurd (let f : false ≡ true = same in cc)
       by_type (Some ty) there same = slice_get_within locals t.local ty there
 
-  update_declared : (locals : List Ty) (in_loop : Bool) (update : Option Update) (a : Assigned) → may_update (place program locals own in_loop) update ≡ true → AreDeclared (length locals) a
+  pub update_declared : (locals : List Ty) (in_loop : Bool) (update : Option Update) (a : Assigned) → may_update (place program locals own in_loop) update ≡ true → AreDeclared (length locals) a
       → AreDeclared (length locals) (assign_all a update)
   update_declared locals in_loop None a is h = h
   update_declared locals in_loop (Some update) a is h =
@@ -162,13 +167,13 @@ module _ (program : Program) (own : Method) where
         let more : List Ty = locals ++ variable_types variables in
         carries_on (length locals) (length more) before (assign_all (declare before variables) update) _
         (update_declared more in_loop update (declare before variables) is.2
-        (declared_more (length locals) (length more) (declare before variables) (no_shorter locals (variable_types variables) more refl) (declare_declared (length locals) variables before h)))
+        (declared_more (length locals) (length more) (declare before variables) (omega (arith, length-append locals (variable_types variables))) (declare_declared (length locals) variables before h)))
         (λ local less e. assign_all_has update (declare before variables) local (declare_has (length locals) variables before local is.0 less e))
     carries (Assign at update) locals in_loop before is h =
         carries_on (length locals) (length locals) before (assign before update.targets) _ (update_declared locals in_loop (Some update) before is h) (λ local less e. assign_has update.targets before local e)
     carries (CallOf call) locals in_loop before is h = carries_same (length locals) before _ h
     carries (If branches otherwise) locals in_loop before is h =
-        let is = both (are_branches (place program locals own in_loop) branches) (are_stmts (place program (locals_after_branches locals branches) own in_loop) otherwise) is in
+        let is = and_parts (are_branches (place program locals own in_loop) branches) (are_stmts (place program (locals_after_branches locals branches) own in_loop) otherwise) is in
         let more : List Ty = locals_after_branches locals branches in
         let le = branches_grow locals branches in
         let most : ℕ = length (locals_after_all more otherwise) in
@@ -190,7 +195,7 @@ module _ (program : Program) (own : Method) where
         → Carries (length locals) (length (locals_after_all locals stmts)) before (flow_all own before stmts)
     all_carry done locals in_loop before is h = carries_same (length locals) before _ h
     all_carry (next stmt others) locals in_loop before is h =
-        let is = both (is_stmt (place program locals own in_loop) stmt) (are_stmts (place program (locals_after locals stmt) own in_loop) others) is in
+        let is = and_parts (is_stmt (place program locals own in_loop) stmt) (are_stmts (place program (locals_after locals stmt) own in_loop) others) is in
         let more : List Ty = locals_after locals stmt in
         let most : ℕ = length (locals_after_all more others) in
         let le = grows locals stmt in
@@ -224,88 +229,3 @@ module _ (program : Program) (own : Method) where
           kept = λ local less e. join_has taken.behind others.behind local (a.kept local less e) (b.kept local less e);
           carried = λ local less e. join_has taken.breaks others.breaks local (a.carried local less e) (b.carried local less e);
         }
-
--- ---- what is well typed reads locals of the list
-
-module _ (program : Program) (locals : List Ty) (before : Assigned) (all : (local : ℕ) → local < length locals → has_value before local ≡ true) where
-  local_reads : (local : ℕ) (u : Use) → u.local ≡ local → (ty : Ty) (o : Option Ty) → slice_get locals local ≡ o → option_map_or (same_type ty) o false ≡ true → unassigned before (u ∷ []) ≡ []
-  local_reads local u same ty None there is = absurd (let f : false ≡ true = is in cc)
-  local_reads local u same ty (Some t) there is = use_there before u [] (subst (λ (k : ℕ). has_value before k ≡ true) (sym same) (all local (slice_get_within locals local t there))) refl
-
-  mutual
-    pub typed_reads : (e : Expr) (ty : Ty) → is_expr program locals ty e ≡ true → unassigned before (reads e) ≡ []
-    typed_reads (Number own value at) ty is = refl
-    typed_reads (Truth value at) ty is = refl
-    typed_reads (Character code at) ty is = refl
-    typed_reads (Local local name at) ty is = local_reads local (record { local = local; name = name; pos = at }) refl ty (slice_get locals local) refl is
-    typed_reads (Negate own at operand) ty is = typed_reads operand ty (three (same_type own ty) (is_arithmetic program ty) (is_expr program locals ty operand) is).2
-    typed_reads (Not at operand) ty is = typed_reads operand types.Bool (both (same_type ty types.Bool) (is_expr program locals types.Bool operand) is).1
-    typed_reads (Sum own first rest) ty is =
-        let is = four (same_type own ty) (is_arithmetic program ty) (is_expr program locals ty first) (are_addends program locals ty rest) is in
-        joined_uses before (reads first) (reads_of_addends rest) (typed_reads first ty is.2) (addends_read rest ty is.3)
-    typed_reads (Product own first rest) ty is =
-        let is = four (same_type own ty) (is_arithmetic program ty) (is_expr program locals ty first) (are_factors program locals ty rest) is in
-        joined_uses before (reads first) (reads_of_factors rest) (typed_reads first ty is.2) (factors_read rest ty is.3)
-    typed_reads (Junction junction first rest) ty is =
-        let is = three (same_type ty types.Bool) (is_expr program locals types.Bool first) (are_members program locals rest) is in
-        joined_uses before (reads first) (reads_of_members rest) (typed_reads first types.Bool is.1) (members_read rest is.2)
-    typed_reads (Implies arrow first rest) ty is =
-        let is = three (same_type ty types.Bool) (is_expr program locals types.Bool first) (are_members program locals rest) is in
-        joined_uses before (reads first) (reads_of_members rest) (typed_reads first types.Bool is.1) (members_read rest is.2)
-    typed_reads (Iff first rest) ty is =
-        let is = three (same_type ty types.Bool) (is_expr program locals types.Bool first) (are_members program locals rest) is in
-        joined_uses before (reads first) (reads_of_members rest) (typed_reads first types.Bool is.1) (members_read rest is.2)
-    typed_reads (Chain own first rest) ty is =
-        let is = three (same_type ty types.Bool) (is_expr program locals own first) (are_links program locals own rest) is in
-        joined_uses before (reads first) (reads_of_links rest) (typed_reads first own is.1) (links_read rest own is.2)
-    typed_reads (As source target at operand) ty is = typed_reads operand source (three (same_type target ty) (casts program source target) (is_expr program locals source operand) is).2
-    typed_reads (Convert source target at operand) ty is = typed_reads operand source (three (same_type target ty) (converts source target) (is_expr program locals source operand) is).2
-
-    addends_read : (rest : Addends) (ty : Ty) → are_addends program locals ty rest ≡ true → unassigned before (reads_of_addends rest) ≡ []
-    addends_read no_addend ty are = refl
-    addends_read (addend operator at operand rest) ty are =
-        let are = both (is_expr program locals ty operand) (are_addends program locals ty rest) are in
-        joined_uses before (reads operand) (reads_of_addends rest) (typed_reads operand ty are.0) (addends_read rest ty are.1)
-
-    factors_read : (rest : Factors) (ty : Ty) → are_factors program locals ty rest ≡ true → unassigned before (reads_of_factors rest) ≡ []
-    factors_read no_factor ty are = refl
-    factors_read (factor operator at operand rest) ty are =
-        let are = both (is_expr program locals ty operand) (are_factors program locals ty rest) are in
-        joined_uses before (reads operand) (reads_of_factors rest) (typed_reads operand ty are.0) (factors_read rest ty are.1)
-
-    members_read : (rest : Members) → are_members program locals rest ≡ true → unassigned before (reads_of_members rest) ≡ []
-    members_read no_member are = refl
-    members_read (member at operand rest) are =
-        let are = both (is_expr program locals types.Bool operand) (are_members program locals rest) are in
-        joined_uses before (reads operand) (reads_of_members rest) (typed_reads operand types.Bool are.0) (members_read rest are.1)
-
-    links_read : (rest : Links) (own : Ty) → are_links program locals own rest ≡ true → unassigned before (reads_of_links rest) ≡ []
-    links_read no_link own are = refl
-    links_read (link comparison at operand rest) own are =
-        let are = three (compares program own comparison) (is_expr program locals own operand) (are_links program locals own rest) are in
-        joined_uses before (reads operand) (reads_of_links rest) (typed_reads operand own are.1) (links_read rest own are.2)
-
-  pub clauses_read : (clauses : List Clause) → are_clauses program locals clauses ≡ true → unassigned before (reads_of_clauses clauses) ≡ []
-  clauses_read [] are = refl
-  clauses_read (clause ∷ others) are =
-      let are = both (is_expr program locals types.Bool clause.condition) (are_clauses program locals others) are in
-      joined_uses before (reads clause.condition) (reads_of_clauses others) (typed_reads clause.condition types.Bool are.0) (clauses_read others are.1)
-
-  measures_read : (measures : List Measure) → are_measures program locals (Some measures) ≡ true → unassigned before (reads_of_measures (Some measures)) ≡ []
-  measures_read [] are = refl
-  measures_read (measure ∷ others) are =
-      let are = both (is_type program measure.ty && is_expr program locals measure.ty measure.value) (are_measures program locals (Some others)) are in
-      joined_uses before (reads measure.value) (reads_of_measures (Some others)) (typed_reads measure.value measure.ty (both (is_type program measure.ty) (is_expr program locals measure.ty measure.value) are.0).1) (measures_read others are.1)
-
-  parameters_read : (from : ℕ) (params : List Param) → from + length params ≤ length locals → unassigned before (reads_of_measures (Some (parameters_from from params))) ≡ []
-  parameters_read from [] le = refl
-  parameters_read from (param ∷ others) le =
-      use_there before (record { local = from; name = param.declared.name; pos = param.declared.pos }) (reads_of_measures (Some (parameters_from (suc from) others))) (all from (omega (arith, le))) (parameters_read (suc from) others (omega (arith, le)))
-
-  -- the measure of a method, over its parameters
-  pub method_measure_reads : (method : Method) → are_measures program locals method.decreases ≡ true → length method.parameters ≤ length locals → unassigned before (reads_of_measures (Some (method_measure method))) ≡ []
-  method_measure_reads method are le = by_clause method.decreases are
-    where
-      by_clause : (o : Option (List Measure)) → are_measures program locals o ≡ true → unassigned before (reads_of_measures (Some (unwrap_or o (parameters_from 0 method.parameters)))) ≡ []
-      by_clause None are = parameters_read 0 method.parameters (omega (arith, le))
-      by_clause (Some measures) are = measures_read measures are

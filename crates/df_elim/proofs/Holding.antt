@@ -1,5 +1,5 @@
 -- Where rows hold, the rows of their levels do, and no false row does.
-use Rattle.std.proofs.Common.{◌≡◌, ℕ, zero, suc, ◌+◌, ◌*◌, ◌/◌, ◌<◌, ◌≤◌, ℤ, pos, negsuc, ◌+ℤ◌, ◌*ℤ◌, ◌<ℤ◌, ◌≤ℤ◌, int_le, Bool, true, List, refl, sym, ap, subst, ◌∙◌, arith}
+use Rattle.std.proofs.Common.{◌≡◌, inl, inr, ℕ, zero, suc, ◌+◌, ◌*◌, ◌/◌, ◌<◌, ◌≤◌, ℤ, pos, negsuc, ◌+ℤ◌, ◌*ℤ◌, ◌<ℤ◌, ◌≤ℤ◌, int_le, Bool, true, List, [], ◌∷◌, refl, sym, ap, subst, ◌∙◌, arith}
 use Rattle.std.specs.Int.{◌∣◌}
 use Rattle.std.specs.Int.RustNames.{unsigned_abs}
 use Rattle.std.specs.Ordering.{int_eq}
@@ -11,7 +11,7 @@ use Rattle.df_lemmas.proofs.Integers.{times_over_sum, sum_times, times_twice, to
 use Rattle.df_row.proofs.Sums.{no_sum, sum_scaled}
 use Rattle.df_row.specs.Row.{Row, all_below}
 use Rattle.df_row.specs.Linear.{quotient}
-use Rattle.df_row.specs.Value.{sum_below, row_value, row_holds}
+use Rattle.df_row.specs.Value.{sum_below, row_value, row_holds, rows_hold}
 use Rattle.df_level.specs.Exact.{weighted}
 use Rattle.df_level.specs.Row.{weighted_row, IsFalse}
 use Rattle.df_level.specs.Division.{divisor_of, IsDivided}
@@ -146,3 +146,11 @@ module _ (count : ℕ) (numbers : ℕ → ℤ) where
 
   pub row_is_met : (row : Row) → row_holds count numbers row ≡ true → Holds row
   row_is_met row e = to_le (row_value count numbers row) e
+
+  each_holds : (rows : List Row) → rows_hold count numbers rows ≡ true → AllHold rows
+  each_holds [] e row there = absurd there
+  each_holds (r ∷ rows) e row (inl is) = subst (λ (x : Row). Holds x) (sym is) (row_is_met r (and_parts (row_holds count numbers r) (rows_hold count numbers rows) e).0)
+  each_holds (r ∷ rows) e row (inr there) = each_holds rows (and_parts (row_holds count numbers r) (rows_hold count numbers rows) e).1 row there
+
+  pub rows_unrefuted : (rows : List Row) → rows_hold count numbers rows ≡ true → AreRefuted rows → ⊥
+  rows_unrefuted rows holds = none_refuted rows (each_holds rows holds)
