@@ -156,127 +156,115 @@ pub fn propose_counted(
             return Ok(counted);
         }
     }
-    let ended = if engine.index.has_operations(sequent.nodes.len()) {
-        look_in_turn(alloc, &engine.index, &*sequent, fuel, rounds)?
-    } else {
-        look_anew(
-            alloc,
-            &engine.index,
-            &*sequent,
-            fuel,
-            rounds,
-            Preference::Sums,
-        )?
+    let query = Query {
+        alloc,
+        index: &engine.index,
+        sequent: &*sequent,
+        fuel,
+        rounds,
     };
-    let ended = or_small(alloc, &*sequent, rounds, ended)?;
+    let ended = query.look()?;
     Ok(engine.keep(ended))
 }
 
-/// Looks with each preference in turn. Where neither finds a log or a table of real operations, and the first one gave up,
-/// it begins anew with the rest of the work.
-fn look_in_turn<'a>(
+/// What a new search is asked for, over an index that has met the nodes of the sequent: so much work, and so many
+/// rounds of instances.
+#[derive(Clone, Copy)]
+struct Query<'a> {
     alloc: Global,
     index: &'a Index,
     sequent: &'a Sequent<'a>,
     fuel: u64,
     rounds: u32,
-) -> Result<Ended, AllocError> {
-    let early = fuel / FIRST;
-    let first = look_anew(alloc, index, sequent, early, rounds, Preference::Sums)?;
-    if first.is_settled {
-        Ok(first)
-    } else if first.has_table() {
-        or_other(alloc, index, sequent, fuel, rounds, first)
-    } else {
-        look_longer(alloc, index, sequent, fuel, rounds)
-    }
 }
 
-/// What the other preference settles, or else the table that was found.
-fn or_other<'a>(
-    alloc: Global,
-    index: &'a Index,
-    sequent: &'a Sequent<'a>,
-    fuel: u64,
-    rounds: u32,
-    found: Ended,
-) -> Result<Ended, AllocError> {
-    let other = look_other(alloc, index, sequent, fuel, rounds)?;
-    if other.is_settled {
-        Ok(other)
-    } else {
-        Ok(found)
+impl<'a> Query<'a> {
+    /// Looks for a log or a table.
+    fn look(&self) -> Result<Ended, AllocError> {
+        let ended = if self.index.has_operations(self.sequent.nodes.len()) {
+            self.look_in_turn()?
+        } else {
+            self.look_anew(self.fuel, Preference::Sums)?
+        };
+        self.or_small(ended)
     }
-}
 
-/// Looks with the other preference, and where this settles nothing, anew with the rest of the work.
-fn look_longer<'a>(
-    alloc: Global,
-    index: &'a Index,
-    sequent: &'a Sequent<'a>,
-    fuel: u64,
-    rounds: u32,
-) -> Result<Ended, AllocError> {
-    let other = look_other(alloc, index, sequent, fuel, rounds)?;
-    if other.is_settled {
-        Ok(other)
-    } else {
-        look_last(alloc, index, sequent, fuel, rounds, other)
+    /// Looks with each preference in turn. Where neither finds a log or a table of real operations, and the first one
+    /// gave up, it begins anew with the rest of the work.
+    fn look_in_turn(&self) -> Result<Ended, AllocError> {
+        let first = self.look_anew(self.fuel / FIRST, Preference::Sums)?;
+        if first.is_settled {
+            Ok(first)
+        } else if first.has_table() {
+            self.or_other(first)
+        } else {
+            self.look_longer()
+        }
     }
-}
 
-/// What the rest of the work settles or finds, or else the table that was found.
-fn look_last<'a>(
-    alloc: Global,
-    index: &'a Index,
-    sequent: &'a Sequent<'a>,
-    fuel: u64,
-    rounds: u32,
-    found: Ended,
-) -> Result<Ended, AllocError> {
-    let rest = fuel
-        .saturating_sub(fuel / FIRST)
-        .saturating_sub(fuel / SECOND);
-    let last = look_anew(alloc, index, sequent, rest, rounds, Preference::Sums)?;
-    if last.is_settled || !found.has_table() {
-        Ok(last)
-    } else {
-        Ok(found)
+    /// What the other preference settles, or else the table that was found.
+    fn or_other(&self, found: Ended) -> Result<Ended, AllocError> {
+        let other = self.look_other()?;
+        if other.is_settled {
+            Ok(other)
+        } else {
+            Ok(found)
+        }
     }
-}
 
-/// Looks with the other preference.
-fn look_other<'a>(
-    alloc: Global,
-    index: &'a Index,
-    sequent: &'a Sequent<'a>,
-    fuel: u64,
-    rounds: u32,
-) -> Result<Ended, AllocError> {
-    look_anew(
-        alloc,
-        index,
-        sequent,
-        fuel / SECOND,
-        rounds,
-        Preference::Comparisons,
-    )
-}
-
-/// What was found; or else, where this is no log and no table of real operations, a counterexample of small numbers, if
-/// there is one.
-fn or_small(
-    alloc: Global,
-    sequent: &Sequent,
-    rounds: u32,
-    ended: Ended,
-) -> Result<Ended, AllocError> {
-    if ended.is_settled {
-        return Ok(ended);
+    /// Looks with the other preference, and where this settles nothing, anew with the rest of the work.
+    fn look_longer(&self) -> Result<Ended, AllocError> {
+        let other = self.look_other()?;
+        if other.is_settled {
+            Ok(other)
+        } else {
+            self.look_last(other)
+        }
     }
-    match sampled(alloc, sequent, rounds)? {
-        Some(table) => Ok(tabled(ended.counted.conflicts, Some(table), true)),
-        None => Ok(ended),
+
+    /// What the rest of the work settles, or else the table that was found; where there is none, what the rest of the
+    /// work comes to.
+    fn look_last(&self, found: Ended) -> Result<Ended, AllocError> {
+        let rest = self
+            .fuel
+            .saturating_sub(self.fuel / FIRST)
+            .saturating_sub(self.fuel / SECOND);
+        let last = self.look_anew(rest, Preference::Sums)?;
+        if last.is_settled || !found.has_table() {
+            Ok(last)
+        } else {
+            Ok(found)
+        }
+    }
+
+    /// Looks with the other preference.
+    fn look_other(&self) -> Result<Ended, AllocError> {
+        self.look_anew(self.fuel / SECOND, Preference::Comparisons)
+    }
+
+    /// Looks for a log or a table with so much work and this preference.
+    fn look_anew(&self, fuel: u64, preference: Preference) -> Result<Ended, AllocError> {
+        let state = State::new(
+            self.alloc,
+            &self.sequent.nodes,
+            self.index,
+            fuel,
+            self.rounds,
+        );
+        let aim = Aim::LogOrTable(preference);
+        look(state, Intake::new(self.alloc), self.sequent, fuel, aim)
+    }
+
+    /// What was found; or else, where this is no log and no table of real operations, a counterexample of small
+    /// numbers, if there is one.
+    fn or_small(&self, ended: Ended) -> Result<Ended, AllocError> {
+        if ended.is_settled {
+            return Ok(ended);
+        }
+        match sampled(self.alloc, self.sequent, self.rounds)? {
+            Some(table) => Ok(tabled(ended.counted.conflicts, Some(table), true)),
+            None => Ok(ended),
+        }
     }
 }
 
@@ -292,20 +280,6 @@ fn look_again<'a>(
     let Stay { kept, intake } = stay;
     let state = State::again(alloc, &sequent.nodes, index, kept, fuel);
     look(state, intake, sequent, fuel, Aim::Log)
-}
-
-/// Looks for a log or a table over an index that has met the nodes of the sequent.
-fn look_anew<'a>(
-    alloc: Global,
-    index: &'a Index,
-    sequent: &'a Sequent<'a>,
-    fuel: u64,
-    rounds: u32,
-    preference: Preference,
-) -> Result<Ended, AllocError> {
-    let state = State::new(alloc, &sequent.nodes, index, fuel, rounds);
-    let aim = Aim::LogOrTable(preference);
-    look(state, Intake::new(alloc), sequent, fuel, aim)
 }
 
 /// Looks for what is wanted.
