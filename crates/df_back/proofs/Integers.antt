@@ -1,7 +1,6 @@
 -- Integers and their sums.
 use Rattle.std.proofs.Common.{◌≡◌, ℕ, zero, suc, ◌+◌, ◌*◌, ◌-◌, ◌/◌, ◌<◌, ◌≤◌, ℤ, pos, negsuc, ◌+ℤ◌, ◌*ℤ◌, ◌≤ℤ◌, sym, ap, ◌∙◌, arith}
 use Rattle.std.proofs.lemmas.Int.{ints}
-use Rattle.std.proofs.Math.IntN.{*ℤ-zero}
 use Rattle.df_lemmas.proofs.Integers.{times_over_sum, sum_times, times_twice}
 use Rattle.df_row.specs.Linear.{quotient}
 use Rattle.df_row.specs.Value.{sum_below}

@@ -77,11 +77,21 @@ module _ (count : ℕ) (first : List Row) (variables : List ℕ) (levels : List 
     pub variable_inside : n < count
     variable_inside = let Q : ℕ → Type 0 = λ m. m < count in subst Q (sym is) (node_below count 0 first variables levels whole i less)
 
-    pub variable_zero : numbers_of numbers n ≡ pos 0
+    variable_zero : numbers_of numbers n ≡ pos 0
     variable_zero = ap (numbers_of numbers) is ∙ zero_here count 0 first variables levels whole i less (numbers_of numbers) after
 
-    pub rows_inside : AreInside count (level_at first levels i)
+    rows_inside : AreInside count (level_at first levels i)
     rows_inside = (chain_at count 0 first variables levels i whole (omega (arith, less))).chain.inside
+
+    -- What is chosen at the numbers and the level that the code saw, is chosen there.
+    pub choice_there : (seen : List ℤ) (given : List Row) (choice : Choice) → seen ≡ numbers → given ≡ level_at first levels i
+        → ((count : ℕ) → AreInside count given → numbers_of seen n ≡ pos 0 → TellsChoice count given (numbers_of seen) n choice) → TellsChoice count (level_at first levels i) (numbers_of numbers) n choice
+    choice_there seen given choice e same h =
+        let P : List Row → Type 0 = λ l. AreInside count l in
+        let Q : List ℤ → Type 0 = λ l. numbers_of l n ≡ pos 0 in
+        let R : List Row → Type 0 = λ l. TellsChoice count l (numbers_of seen) n choice in
+        let S : List ℤ → Type 0 = λ l. TellsChoice count (level_at first levels i) (numbers_of l) n choice in
+        subst S e (subst R same (h count (subst P (sym same) rows_inside) (subst Q (sym e) variable_zero)))
 
     pub back_goes : (v : ℤ) (new : List ℤ) → new ≡ set numbers n v → IsNearest count (level_at first levels i) (numbers_of numbers) n v → IsBack count first variables levels i new
     back_goes v new e nearest = record { size = ap length e ∙ length-set numbers n v ∙ so_far.size; at_most = omega (arith, less); so_far = there }
@@ -114,17 +124,3 @@ module _ (count : ℕ) (first : List Row) (variables : List ℕ) (levels : List 
         let P : ℕ → Type 0 = λ m. HaveWideBound count (level_at first levels i) (numbers_of numbers) m in
         let there = wide_here count 0 first variables levels whole i less (numbers_of numbers) after (subst P is h) in
         wide_up count first variables levels i (same_lengths whole.eliminates) (omega (arith, less)) there
-
--- What the code saw is what is meant.
-pub seen_inside : (count : ℕ) (seen numbers : List ℤ) (given level : List Row) → seen ≡ numbers → length numbers ≡ count → given ≡ level → AreInside count level → AreInside (length seen) given
-seen_inside count seen numbers given level e size is h =
-    let P : ℕ → Type 0 = λ k. AreInside k given in
-    let Q : List Row → Type 0 = λ l. AreInside count l in
-    subst P (sym (ap length e ∙ size)) (subst Q (sym is) h)
-
-pub choice_moved : (count n : ℕ) (seen numbers : List ℤ) (given level : List Row) (choice : Choice) → seen ≡ numbers → length numbers ≡ count → given ≡ level → TellsChoice (length seen) given (numbers_of seen) n choice → TellsChoice count level (numbers_of numbers) n choice
-choice_moved count n seen numbers given level choice e size is h =
-    let P : ℕ → Type 0 = λ k. TellsChoice k level (numbers_of numbers) n choice in
-    let Q : List ℤ → Type 0 = λ l. TellsChoice (length l) level (numbers_of l) n choice in
-    let R : List Row → Type 0 = λ l. TellsChoice (length seen) l (numbers_of seen) n choice in
-    subst P size (subst Q e (subst R is h))

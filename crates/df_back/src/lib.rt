@@ -4,8 +4,11 @@
 mod answer;
 mod range;
 mod substitution;
+mod valuation;
 mod values;
 
 pub use answer::Back;
-pub use substitution::back;
+pub use range::{Choice, choose};
+pub use substitution::{back, level_before};
+pub use valuation::Valuation;
 pub use values::value;

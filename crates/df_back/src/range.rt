@@ -1,13 +1,13 @@
 //! Ranges of the numbers that rows allow a node.
 
-ghost use Rattle.std.specs.Prelude.{◌≡◌, ◌<◌, neg_ℤ, pos, length, Some};
+ghost use Rattle.std.specs.Prelude.{◌≡◌, ℕ, neg_ℤ, pos, Some};
 ghost use Rattle.df_row.specs.RowView.{narrow, IsWithin};
 ghost use Rattle.df_level.specs.Row.{function_row};
 ghost use Rattle.df_level.specs.Levels.{rows_of};
-ghost use Rattle.df_back.specs.BackView.{numbers_of};
 ghost use Rattle.df_back.specs.Ranges.{AreInside, IsGreater, IsLesser, TellsChoice, TellsLast, TellsNarrowed, TellsNearest, TellsRange, TellsRowBound};
 
-use crate::values::value;
+use crate::valuation::Valuation;
+use crate::values::value_at;
 use df_level::Row;
 
 /// Bounds of a node.
@@ -19,7 +19,8 @@ struct Range {
 
 /// A number for a node.
 #[derive(Clone, Copy)]
-pub(crate) enum Choice {
+pub enum Choice {
+    /// The number nearest 0 that is allowed.
     Value(i128),
     /// Only what lies strictly between the bound and the next number is allowed.
     Between(i128),
@@ -48,13 +49,11 @@ fn last(coefficient: i128, rest: i128) -> Option<i128>
 
 /// The least number that the row allows the node, which has 0, or the greatest one. It is `None` only where
 /// a number on the way is past 128 bits.
-fn bound(row: &Row, node: usize, numbers: &[i128]) -> Option<i128>
-    requires within { IsWithin (length numbers.now) (function_row row.now) }
-    requires nonzero { (function_row row.now).coefficient node ≡ pos 0 → ⊥ }
-    requires zero { numbers_of numbers.now node ≡ pos 0 }
-    ensures { TellsRowBound (length numbers.now) (numbers_of numbers.now) node (function_row row.now) result }
+fn bound<V: Valuation>(row: &Row, node: usize, valuation: &V) -> Option<i128>
+    requires { (function_row row.now).coefficient node ≡ pos 0 → ⊥ }
+    ensures { (count : ℕ) → IsWithin count (function_row row.now) → V.numbers valuation.now node ≡ pos 0 → TellsRowBound count (V.numbers valuation.now) node (function_row row.now) result }
 {
-    let rest = value(row, numbers)?;
+    let rest = value_at(row, valuation)?;
     last(row.coefficient(node), rest)
 }
 
@@ -77,16 +76,14 @@ fn lesser(high: Option<i128>, bound: i128) -> i128
 }
 
 /// The range with the row's bound.
-fn narrowed(range: Range, row: &Row, node: usize, numbers: &[i128]) -> Option<Range>
-    requires within { IsWithin (length numbers.now) (function_row row.now) }
-    requires zero { numbers_of numbers.now node ≡ pos 0 }
-    ensures { TellsNarrowed (length numbers.now) (numbers_of numbers.now) node (function_row row.now) range result }
+fn narrowed<V: Valuation>(range: Range, row: &Row, node: usize, valuation: &V) -> Option<Range>
+    ensures { (count : ℕ) → IsWithin count (function_row row.now) → V.numbers valuation.now node ≡ pos 0 → TellsNarrowed count (V.numbers valuation.now) node (function_row row.now) range result }
 {
     let coefficient = row.coefficient(node);
     if coefficient == 0 {
         return Some(range);
     }
-    let bound = bound(row, node, numbers)?;
+    let bound = bound(row, node, valuation)?;
     if coefficient > 0 {
         Some(Range {
             low: Some(greater(range.low, bound)),
@@ -101,17 +98,15 @@ fn narrowed(range: Range, row: &Row, node: usize, numbers: &[i128]) -> Option<Ra
 }
 
 /// The range that the rows allow the node.
-fn range_of(rows: &[Row], node: usize, numbers: &[i128]) -> Option<Range>
-    requires within { AreInside (length numbers.now) (rows_of rows.now) }
-    requires zero { numbers_of numbers.now node ≡ pos 0 }
-    ensures { TellsRange (length numbers.now) (numbers_of numbers.now) node (rows_of rows.now) result }
+fn range_of<V: Valuation>(rows: &[Row], node: usize, valuation: &V) -> Option<Range>
+    ensures { (count : ℕ) → AreInside count (rows_of rows.now) → V.numbers valuation.now node ≡ pos 0 → TellsRange count (V.numbers valuation.now) node (rows_of rows.now) result }
 {
     let mut range = Range {
         low: None,
         high: None,
     };
     for row in rows {
-        let next = narrowed(range, row, node, numbers)?;
+        let next = narrowed(range, row, node, valuation)?;
         range = next;
     }
     Some(range)
@@ -140,12 +135,10 @@ fn nearest(range: Range) -> Choice
 }
 
 /// The number nearest 0 that the rows allow the node, which has 0.
-pub(crate) fn choose(rows: &[Row], node: usize, numbers: &[i128]) -> Choice
-    requires within { AreInside (length numbers.now) (rows_of rows.now) }
-    requires zero { numbers_of numbers.now node ≡ pos 0 }
-    ensures { TellsChoice (length numbers.now) (rows_of rows.now) (numbers_of numbers.now) node result }
+pub fn choose<V: Valuation>(rows: &[Row], node: usize, valuation: &V) -> Choice
+    ensures { (count : ℕ) → AreInside count (rows_of rows.now) → V.numbers valuation.now node ≡ pos 0 → TellsChoice count (rows_of rows.now) (V.numbers valuation.now) node result }
 {
-    match range_of(rows, node, numbers) {
+    match range_of(rows, node, valuation) {
         Some(range) => nearest(range),
         None => Choice::Wide,
     }

@@ -10,18 +10,20 @@ ghost use Rattle.df_back.specs.Ranges.{level_at};
 
 use crate::answer::Back;
 use crate::range::{Choice, choose};
+use crate::valuation::Dense;
 use df_level::Level;
 use std::alloc::{AllocError, Global};
 
-/// The level from which the variable of the number is eliminated.
-fn level_before<'a>(first: &'a Level, others: &'a [Level], number: usize) -> &'a Level
-    requires { number ≤ length others.now }
-    ensures { level_rows result.now ≡ level_at (level_rows first.now) (map level_rows others.now) number }
+/// The level from which the variable at the place is eliminated. The levels are the first one, and the ones after each
+/// variable.
+pub fn level_before<'a>(first: &'a Level, others: &'a [Level], place: usize) -> &'a Level
+    requires { place ≤ length others.now }
+    ensures { level_rows result.now ≡ level_at (level_rows first.now) (map level_rows others.now) place }
 {
-    if number == 0 {
+    if place == 0 {
         first
     } else {
-        &others[number - 1]
+        &others[place - 1]
     }
 }
 
@@ -46,7 +48,10 @@ pub fn back(
         number -= 1;
         let node = variables[number];
         let level = level_before(first, others, number);
-        match choose(level.rows(), node, &numbers) {
+        let dense = Dense {
+            numbers: numbers.as_slice(),
+        };
+        match choose(level.rows(), node, &dense) {
             Choice::Value(value) => numbers[node] = value,
             Choice::Between(bound) => return Ok(Back::Between { node, bound }),
             Choice::Wide => return Ok(Back::Wide),

@@ -1,20 +1,19 @@
 -- Back substitution, one variable after the other.
-use Rattle.std.proofs.Common.{◌≡◌, ℕ, zero, suc, ◌<◌, ◌≤◌, ℤ, pos, List, [], ◌∷◌, length, drop, get_or, slice_get, Option, Some, None, refl, sym, ap, subst, ◌∙◌, arith}
+use Rattle.std.proofs.Common.{◌≡◌, ℕ, zero, suc, ◌<◌, ◌≤◌, ℤ, pos, List, [], ◌∷◌, length, drop, get_or, slice_get, Some, refl, sym, ap, subst, ◌∙◌, arith}
 use Rattle.std.proofs.lemmas.List.{drop_all}
 use Rattle.df_row.specs.Row.{Row}
 use Rattle.df_level.specs.declared.row.Row as declared
 use Rattle.df_level.specs.Levels.{HasFalse, rows_of}
 use Rattle.df_level.specs.Elimination.{Eliminates, last_level}
 use Rattle.df_elim.proofs.Telling.{first_tells}
+use Rattle.df_back.specs.declared.range.Choice.{Choice}
+use Rattle.df_back.specs.declared.range.Choice.TheVariants as choices
 use Rattle.df_back.specs.BackSubstitution.{with_number, BackSubstitution, IsNearest}
 use Rattle.df_back.specs.BackSubstitution as definitions
-use Rattle.df_back.specs.Ranges.{level_at, AreInside}
+use Rattle.df_back.specs.Ranges.{level_at, AreInside, TellsChoice}
 use Rattle.df_back.proofs.Chains.{IsChain, same_lengths, all_hold}
 use Rattle.df_back.proofs.Places.{chain_at, zero_here, back_here}
 use Rattle.df_back.proofs.Steps.{the_chain}
-use Rattle.df_lin.specs.declared.bounds.Choice.{Choice}
-use Rattle.df_lin.specs.declared.bounds.Choice.TheVariants as choices
-use Rattle.df_lin.specs.Bounds.{TellsChoice}
 use Rattle.df_lin.specs.Verdict.{HaveLevels, IsPoint, IsNextBack, IsGap, IsWideAt}
 use Rattle.df_lin.proofs.Counts.{some_count}
 use Rattle.df_lin.proofs.Whole.{first_inside}
@@ -67,17 +66,16 @@ module _ (first : List Row) (variables : List ℕ) (levels : List (List Row)) (e
     inside count within = (chain_at count 0 first variables levels i (chain count within) (omega (arith, less))).chain.inside
 
     -- what is chosen there
-    abbrev pub Chosen : Option Choice → Type 0
-    Chosen choice = (count : ℕ) → AreInside count first → TellsChoice count numbers n (level_at first levels i) choice
+    abbrev pub Chosen : Choice → Type 0
+    Chosen choice = (count : ℕ) → AreInside count first → TellsChoice count (level_at first levels i) numbers n choice
 
-    pub chosen : (given : List Row) (found choice : Option Choice) → given ≡ level_at first levels i → found ≡ choice → ((count : ℕ) → AreInside count given → numbers n ≡ pos 0 → TellsChoice count numbers n given found) → (count : ℕ) → AreInside count first → TellsChoice count numbers n (level_at first levels i) choice
-    chosen given found choice same e h = λ count within.
+    pub chosen : (given : List Row) (choice : Choice) → given ≡ level_at first levels i → ((count : ℕ) → AreInside count given → numbers n ≡ pos 0 → TellsChoice count given numbers n choice) → (count : ℕ) → AreInside count first → TellsChoice count (level_at first levels i) numbers n choice
+    chosen given choice same h = λ count within.
         let P : List Row → Type 0 = λ l. AreInside count l in
-        let Q : List Row → Type 0 = λ l. TellsChoice count numbers n l found in
-        let R : Option Choice → Type 0 = TellsChoice count numbers n (level_at first levels i) in
-        subst R e (subst Q same (h count (subst P (sym same) (inside count within)) (none count within)))
+        let Q : List Row → Type 0 = λ l. TellsChoice count l numbers n choice in
+        subst Q same (h count (subst P (sym same) (inside count within)) (none count within))
 
-    pub goes : (v : ℤ) (new : ℕ → ℤ) → new ≡ with_number numbers n v → Chosen (Some (choices.Value v)) → IsBackTo first variables levels i new
+    pub goes : (v : ℤ) (new : ℕ → ℤ) → new ≡ with_number numbers n v → Chosen (choices.Value v) → IsBackTo first variables levels i new
     goes v new set h = record { at_most = omega (arith, less); so_far = there }
       where
         there : (count : ℕ) → AreInside count first → BackSubstitution count (level_at first levels i) (drop i variables) (drop i levels) new
@@ -108,7 +106,7 @@ module _ (first : List Row) (variables : List ℕ) (levels : List (List Row)) (e
         back = λ count within. after count (within_first count within);
       }
 
-      pub gap : (given : List declared.Row) (k : ℤ) → first ≡ rows_of given → Chosen (Some (choices.Between k)) → IsGap rows n k numbers
+      pub gap : (given : List declared.Row) (k : ℤ) → first ≡ rows_of given → Chosen (choices.Between k) → IsGap rows n k numbers
       gap given k seen h =
           let some = some_count given in
           let P : List Row → Type 0 = AreInside some.0 in
@@ -119,5 +117,5 @@ module _ (first : List Row) (variables : List ℕ) (levels : List (List Row)) (e
             next_fits = (h some.0 (subst P (sym seen) some.1)).next_fits;
           }
 
-      pub wide : Chosen None → IsWideAt rows n numbers
+      pub wide : Chosen choices.Wide → IsWideAt rows n numbers
       wide h = record { level = level_at first levels i; next = next_back; wide = λ count within. h count (within_first count within) }

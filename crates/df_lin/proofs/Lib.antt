@@ -1,5 +1,4 @@
-pub mod Bounding
 pub mod Counts
 pub mod Whole
 pub mod Backwards
-pub mod Holding
+pub mod NoPoint

@@ -1,3 +1,2 @@
 pub mod Point
-pub mod Bounds
 pub mod Verdict

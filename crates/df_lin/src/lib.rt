@@ -1,17 +1,16 @@
 //! Linear arithmetic over whole numbers: sums of rows, and whether rows have a whole point.
 #![tactic(auto)]
 
-mod bounds;
 mod chain;
 mod law;
 mod multipliers;
 mod point;
 mod refutation;
 mod substitution;
-mod value;
 mod verdict;
 
 pub use chain::Chain;
+pub use df_back::Valuation;
 pub use df_level::{Row, RowFault};
 pub use law::{refuted_rows_have_no_point, rows_have_a_count};
 pub use multipliers::Multipliers;

@@ -5,13 +5,13 @@ ghost use Rattle.df_row.specs.RowView.{coefficient_at};
 ghost use Rattle.df_back.specs.BackSubstitution.{with_number};
 ghost use Rattle.df_lin.specs.Point.{numbers_of};
 
+use df_back::Valuation;
 use std::alloc::{AllocError, Global};
 use std::collections::BTreeMap;
 
-/// A whole number for each node.
+/// A valuation: the numbers of some nodes, and 0 for each other one.
 #[derive(Drop)]
 pub struct Point {
-    /// The numbers of some nodes; each other node has 0.
     numbers: BTreeMap<usize, i128>,
 }
 
@@ -23,13 +23,6 @@ impl Point {
         Point {
             numbers: BTreeMap::new(alloc),
         }
-    }
-
-    /// The number of the node.
-    pub fn number(&self, node: usize) -> i128
-        ensures { result ≡ numbers_of self.now node }
-    {
-        self.numbers.get(&node).copied().unwrap_or(0)
     }
 
     /// The numbers of some nodes, in order of nodes; each other node has 0.
@@ -45,5 +38,15 @@ impl Point {
     {
         self.numbers.insert(node, number)?;
         Ok(())
+    }
+}
+
+impl Valuation for Point {
+    ghost use Rattle.df_lin.specs.Point as point;
+
+    ghost numbers = { point.numbers_of };
+
+    fn number(&self, node: usize) -> i128 {
+        self.numbers.get(&node).copied().unwrap_or(0)
     }
 }

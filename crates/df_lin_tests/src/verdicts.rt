@@ -4,7 +4,7 @@ use crate::expecting::expect;
 use df_cases::{Sparse, Sum, combinations, row, rows};
 use df_form::Combination;
 use df_level::Row;
-use df_lin::{Chain, Point, RowFault, Verdict, refute};
+use df_lin::{Chain, Point, RowFault, Valuation, Verdict, refute};
 use std::alloc::Global;
 
 const MAX: i128 = i128::MAX;
@@ -417,7 +417,7 @@ fn add_bounds(
     true
 }
 
-/// Whether the verdict is that there are too many rows on the way: more than 50,000.
+/// Whether the verdict is that there are too many rows on the way: 50,000 of them.
 fn is_many(verdict: &Verdict) -> bool {
     match verdict {
         Verdict::Many(50_000) => true,

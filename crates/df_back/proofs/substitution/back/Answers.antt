@@ -9,7 +9,7 @@ use Rattle.df_back.specs.BackSubstitution.{IsNearest}
 use Rattle.df_back.specs.Ranges.{level_at}
 use Rattle.df_back.specs.declared.range.Choice.TheVariants as choices
 use Rattle.df_back.proofs.Chains.{same_lengths}
-use Rattle.df_back.proofs.Steps.{zeros, zeros_length, the_chain, back_begins, back_ends, rows_inside, variable_inside, variable_zero, back_goes, gap_found, wide_found, seen_inside, choice_moved}
+use Rattle.df_back.proofs.Steps.{zeros, zeros_length, the_chain, back_begins, back_ends, variable_inside, choice_there, back_goes, gap_found, wide_found}
 use Rattle.df_back.proofs.substitution.back.Goals as goal
 
 pub loop-number-init : goal.loop-number-init
@@ -24,30 +24,6 @@ level_before-level-requires c =
     let same : length c.args.variables.now ≡ length (map level_rows c.args.others.now) = same_lengths c.requires.chain in
     let le = c.loop-number.invariant.at_most in
     omega (arith, same, le, length-map c.args.others.now level_rows)
-
-pub choose-requires-clause-within : goal.choose-requires-clause-within
-choose-requires-clause-within c =
-    let first = level_rows c.args.first.now in
-    let levels : List (List Row) = map level_rows c.args.others.now in
-    let variables = c.args.variables.now in
-    let chain = the_chain c.args.count first variables levels c.requires.chain c.requires.stands c.requires.within in
-    let numbers = c.loop-number.numbers.items in
-    let i = c.loop-number.number - 1 in
-    let next : c.loop-number.number ≡ suc i = omega arith in
-    let level : rows_of c.rows.result.now ≡ level_at first levels i = c.rows.ensures ∙ c.level_before-level.ensures in
-    seen_inside c.args.count c.deref.result.now numbers (rows_of c.rows.result.now) (level_at first levels i) c.deref.ensures.value c.loop-number.invariant.size level
-    (rows_inside c.args.count first variables levels chain c.loop-number.number i (get_or variables i 0) numbers c.loop-number.invariant next refl)
-
-pub choose-requires-clause-zero : goal.choose-requires-clause-zero
-choose-requires-clause-zero c =
-    let first = level_rows c.args.first.now in
-    let levels : List (List Row) = map level_rows c.args.others.now in
-    let variables = c.args.variables.now in
-    let chain = the_chain c.args.count first variables levels c.requires.chain c.requires.stands c.requires.within in
-    let numbers = c.loop-number.numbers.items in
-    let i = c.loop-number.number - 1 in
-    let next : c.loop-number.number ≡ suc i = omega arith in
-    ap (λ l. numbers_of l (get_or variables i 0)) c.deref.ensures.value ∙ variable_zero c.args.count first variables levels chain c.loop-number.number i (get_or variables i 0) numbers c.loop-number.invariant next refl
 
 pub index_mut-requires : goal.index_mut-requires
 index_mut-requires c =
@@ -74,7 +50,7 @@ loop-number-preserved c =
     let next : c.loop-number.number ≡ suc i = omega arith in
     let level : rows_of c.rows.result.now ≡ level_at first levels i = c.rows.ensures ∙ c.level_before-level.ensures in
     let passed : to_z w128 (of_z w128 c.in-Value.value) ≡ c.in-Value.value = search (rules, to_z-of_z) in
-    let nearest : IsNearest c.args.count (level_at first levels i) (numbers_of numbers) node c.in-Value.value = choice_moved c.args.count node c.deref.result.now numbers (rows_of c.rows.result.now) (level_at first levels i) (choices.Value c.in-Value.value) c.deref.ensures.value c.loop-number.invariant.size level c.in-Value.ensures in
+    let nearest : IsNearest c.args.count (level_at first levels i) (numbers_of numbers) node c.in-Value.value = choice_there c.args.count first variables levels chain c.loop-number.number i node numbers c.loop-number.invariant next refl c.as_slice.result.now (rows_of c.rows.result.now) (choices.Value c.in-Value.value) c.as_slice.ensures.value level c.in-Value.ensures in
     back_goes c.args.count first variables levels chain c.loop-number.number i node numbers c.loop-number.invariant next refl c.in-Value.value _ (ap (set numbers node) passed) nearest
 
 pub returns-in-Between : goal.returns-in-Between
@@ -91,7 +67,7 @@ returns-in-Between c =
     let passed : to_z w128 (of_z w128 c.in-Between.bound) ≡ c.in-Between.bound = search (rules, to_z-of_z) in
     let P : ℤ → Type 0 = λ k. IsGap c.args.count first variables levels node k in
     subst P (sym passed) (gap_found c.args.count first variables levels chain c.loop-number.number i node numbers c.loop-number.invariant next refl c.in-Between.bound
-    (choice_moved c.args.count node c.deref.result.now numbers (rows_of c.rows.result.now) (level_at first levels i) (choices.Between c.in-Between.bound) c.deref.ensures.value c.loop-number.invariant.size level c.in-Between.ensures))
+    (choice_there c.args.count first variables levels chain c.loop-number.number i node numbers c.loop-number.invariant next refl c.as_slice.result.now (rows_of c.rows.result.now) (choices.Between c.in-Between.bound) c.as_slice.ensures.value level c.in-Between.ensures))
 
 pub returns-in-Wide : goal.returns-in-Wide
 returns-in-Wide c =
@@ -105,7 +81,7 @@ returns-in-Wide c =
     let next : c.loop-number.number ≡ suc i = omega arith in
     let level : rows_of c.rows.result.now ≡ level_at first levels i = c.rows.ensures ∙ c.level_before-level.ensures in
     wide_found c.args.count first variables levels chain c.loop-number.number i node numbers c.loop-number.invariant next refl
-    (choice_moved c.args.count node c.deref.result.now numbers (rows_of c.rows.result.now) (level_at first levels i) choices.Wide c.deref.ensures.value c.loop-number.invariant.size level c.in-Wide.ensures)
+    (choice_there c.args.count first variables levels chain c.loop-number.number i node numbers c.loop-number.invariant next refl c.as_slice.result.now (rows_of c.rows.result.now) choices.Wide c.as_slice.ensures.value level c.in-Wide.ensures)
 
 pub returns : goal.returns
 returns c =

@@ -1,4 +1,4 @@
-use Rattle.df_lin.proofs.Holding.{no_point}
+use Rattle.df_lin.proofs.NoPoint.{no_point}
 use Rattle.df_lin.proofs.law.refuted_rows_have_no_point.Goals as goal
 
 pub returns : goal.returns

@@ -1,9 +1,0 @@
-use Rattle.std.proofs.Common.{ℕ, drop}
-use Rattle.df_row.specs.RowView.{IsWithin}
-use Rattle.df_level.specs.Row.{function_row}
-use Rattle.df_back.proofs.Additions.{IsAdding}
-use Rattle.df_lin.specs.Point.{numbers_of}
-use Rattle.df_lin.proofs.value.value.Given as goal
-
-abbrev pub invariant-loop-entry : goal.invariant-loop-entry
-invariant-loop-entry l = (count : ℕ) → IsWithin count (function_row l.row) → IsAdding count (numbers_of l.point) (function_row l.row) (drop l.entry-index l.entry-items) l.value
