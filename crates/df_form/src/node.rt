@@ -40,7 +40,7 @@ pub enum Op {
     Mod,
     /// The number of a character.
     Code,
-    /// The character of a number; of a number that no character has it is that of 0.
+    /// The character of a number; of a number that no character has it is `D`.
     Chr,
     /// The number or the character is of the type.
     Is(Ty),
