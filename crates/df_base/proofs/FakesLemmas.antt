@@ -11,13 +11,13 @@ use Rattle.df_base.specs.declared.files.store.File.{File}
 use Rattle.df_base.specs.declared.sink.mem.Planned.{Planned}
 
 module _ (files : List File) (i : ℕ) (file : File) (name : List ℕ) where
-  bytes_of-turn : i < length files → file ≡ get_or files i file → bytes_of (map stored (drop i files)) name ≡ cond (same_text name (string_bytes file.name)) (Some file.bytes.items) (bytes_of (map stored (drop (i + 1) files)) name)
+  bytes_of-turn : i < length files → file ≡ get_or files i file → bytes_of (map stored (drop i files)) name ≡ cond (same_text name (string_bytes file.name)) (Some file.bytes) (bytes_of (map stored (drop (i + 1) files)) name)
   bytes_of-turn less is =
       at_drop_more (λ rest. bytes_of (map stored rest) name) files i file less
       ∙ ap (λ here. bytes_of (stored here ∷ map stored (drop (i + 1) files)) name) (sym is)
 
   -- the file that has the name
-  pub bytes_of-here : i < length files → file ≡ get_or files i file → same_text name (string_bytes file.name) ≡ true → bytes_of (map stored (drop i files)) name ≡ Some file.bytes.items
+  pub bytes_of-here : i < length files → file ≡ get_or files i file → same_text name (string_bytes file.name) ≡ true → bytes_of (map stored (drop i files)) name ≡ Some file.bytes
   bytes_of-here less is same = bytes_of-turn less is ∙ rw same refl
 
   -- a file of another name

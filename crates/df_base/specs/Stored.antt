@@ -5,7 +5,7 @@ use Rattle.df_base.specs.declared.sink.mem.Planned.{Planned}
 
 -- a file in memory, as its name and its bytes
 abbrev pub stored : File → List ℕ × List ℕ
-stored file = (string_bytes file.name, file.bytes.items)
+stored file = (string_bytes file.name, file.bytes)
 
 -- a write that is to fail, as its number and how many bytes it takes first
 abbrev pub planned : Planned → ℕ × ℕ

@@ -1,9 +1,10 @@
 //! Files, as the program reads them.
 
-ghost use Rattle.std.specs.Prelude.{◌≡◌, ◌≢◌, ◌↔◌, None, ℕ, ◌+◌, ◌<◌, ◌≤◌, List, ◌∷◌, Option, Some, length, vec_len, IfOk, IfSome, OnErr, Err};
+ghost use Rattle.std.specs.Prelude.{◌≡◌, ◌≢◌, ◌↔◌, None, ℕ, ◌+◌, ◌<◌, ◌≤◌, List, ◌∷◌, Option, Some, length, IfOk, IfSome, OnErr, Err};
 ghost use Rattle.df_base.specs.Outside.{Contents, bytes_of, HasCause};
 ghost use Rattle.df_base.specs.declared.files.LoadFault.TheVariants.{Failed, Large, Memory};
 
+mod bytes;
 mod host;
 mod mem;
 pub(crate) mod read;
@@ -11,6 +12,7 @@ mod store;
 mod sure;
 
 use crate::memory::Memory as OutOfMemory;
+pub use bytes::FileBytes;
 pub use host::HostFiles;
 pub use mem::MemFiles;
 use std::alloc::{AllocError, Global};
@@ -64,14 +66,15 @@ pub trait Files {
     fn faults(&self) -> u64
         ensures { result ≡ fault_count self.now };
 
-    /// All bytes of the file of this name, where they are not more than the limit.
-    fn load(&mut self, alloc: Global, name: &str, limit: u64) -> Result<Vec<u8>, LoadFault>
+    /// All bytes of the file of this name, where they are not more than the limit. They lie where the record of
+    /// what it gave has them, and are not copied.
+    fn load(&mut self, alloc: Global, name: &str, limit: u64) -> Result<FileBytes, LoadFault>
         requires { allowed self.old name.now }
         // The bytes are the file's, and within the limit.
-        ensures loaded { IfOk result (λ bytes. IfSome (holds self.old) (λ files. bytes_of files name.now ≡ Some bytes.items)) }
-        ensures given { IfOk result (λ bytes. given self.new ≡ (name.now, bytes.items) ∷ given self.old) }
+        ensures loaded { IfOk result (λ bytes. IfSome (holds self.old) (λ files. bytes_of files name.now ≡ Some bytes)) }
+        ensures given { IfOk result (λ bytes. given self.new ≡ (name.now, bytes) ∷ given self.old) }
         ensures kept { OnErr result (given self.new ≡ given self.old) }
-        ensures within { IfOk result (λ bytes. vec_len bytes ≤ limit) }
+        ensures within { IfOk result (λ bytes. length bytes ≤ limit) }
         // It is too large just where no read failed and the file is longer than the limit.
         ensures large { (n : ℕ) → result ≡ Err (Large n) → n ≡ limit + 1 }
         ensures longer { (n : ℕ) → result ≡ Err (Large n) → IfSome (holds self.old) (λ files. IfSome (bytes_of files name.now) (λ bytes. limit < length bytes)) }

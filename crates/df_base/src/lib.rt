@@ -10,7 +10,7 @@ mod refusal;
 mod sink;
 mod status;
 
-pub use files::{Files, HostFiles, LoadFault, MemFiles, SureFiles};
+pub use files::{FileBytes, Files, HostFiles, LoadFault, MemFiles, SureFiles};
 pub use memory::Memory;
 pub use name::{Name, Names};
 pub use pos::Pos;

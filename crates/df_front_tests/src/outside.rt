@@ -2,8 +2,8 @@
 
 use crate::expecting::expect;
 use df_base::{
-    Files, HostFiles, HostSink, LoadFault, MemFiles, MemSink, Memory, Name, Names, Sink, SinkFault,
-    Status, Stop, SureFiles, SureSink,
+    FileBytes, Files, HostFiles, HostSink, LoadFault, MemFiles, MemSink, Memory, Name, Names, Sink,
+    SinkFault, Status, Stop, SureFiles, SureSink,
 };
 use std::alloc::Global;
 use std::io::Write;
@@ -79,9 +79,9 @@ fn is_fault(fault: &LoadFault, wanted: Loaded) -> bool {
     }
 }
 
-fn comes_to(load: &Result<Vec<u8>, LoadFault>, wanted: Loaded) -> bool {
+fn comes_to(load: &Result<FileBytes, LoadFault>, wanted: Loaded) -> bool {
     match load {
-        Ok(bytes) => are_bytes(bytes, wanted),
+        Ok(bytes) => are_bytes(bytes.as_slice(), wanted),
         Err(fault) => is_fault(fault, wanted),
     }
 }

@@ -38,12 +38,12 @@ load_ends command files is_file s middle ends.Memory kept why fails quiet = inl 
 pub source_unread : (files : Store) (command : Command) (name : List ℕ) → IsFileOf command (file_of command) → IsSourceFault files command name → IsUnread files command name
 source_unread files command name loads (is, kept) = subst (IsUnread files command) (sym is) (unread_source loads kept)
 
-behind_source : (files first : Store) (command : Command) (source : Option (Vec ℕ)) → first.had ≡ files.had → first.held ≡ files.held → files.given ≡ first.given → LoadsSource first (file_of command) source → IsBehindSource files command
+behind_source : (files first : Store) (command : Command) (source : Option (List ℕ)) → first.had ≡ files.had → first.held ≡ files.held → files.given ≡ first.given → LoadsSource first (file_of command) source → IsBehindSource files command
 behind_source files first command None has holds gives loads = inr (gives ∙ loads.0 ∙ has, subst (λ (h : Option Contents). IsLonger byte_limit h (file_of command)) holds loads.2)
-behind_source files first command (Some source) has holds gives loads = inl (source.items, gives ∙ loads.0 ∙ ap (λ (rest : List (List ℕ × List ℕ)). (file_of command, source.items) ∷ rest) has)
+behind_source files first command (Some source) has holds gives loads = inl (source, gives ∙ loads.0 ∙ ap (λ (rest : List (List ℕ × List ℕ)). (file_of command, source) ∷ rest) has)
 
 -- why the log is not, behind the load of the source
-pub log_unread : (files first second : Store) (command : Command) (source : Option (Vec ℕ)) (name : List ℕ) → first.had ≡ files.had → first.held ≡ files.held → second.had ≡ first.given → files.given ≡ second.given → LoadsSource first (file_of command) source → IsLogFault second command name → IsUnread files command name
+pub log_unread : (files first second : Store) (command : Command) (source : Option (List ℕ)) (name : List ℕ) → first.had ≡ files.had → first.held ≡ files.held → second.had ≡ first.given → files.given ≡ second.given → LoadsSource first (file_of command) source → IsLogFault second command name → IsUnread files command name
 log_unread files first second command source name has holds goes_on gives loads (is, kept) =
     unread_log name is (behind_source files first command source has holds (gives ∙ kept ∙ goes_on) loads)
 

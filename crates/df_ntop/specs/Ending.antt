@@ -172,9 +172,9 @@ of_files command files = record {
 -- ---- loads
 
 -- what the load of a source gave: its bytes, or that there are too many, which is no fault
-abbrev pub LoadsSource : Store → List ℕ → Option (Vec ℕ) → Type 0
+abbrev pub LoadsSource : Store → List ℕ → Option (List ℕ) → Type 0
 LoadsSource files name None = (files.given ≡ files.had) × (files.after ≡ files.before) × IsLonger byte_limit files.held name
-LoadsSource files name (Some source) = (files.given ≡ (name, source.items) ∷ files.had) × IfSome files.held (λ held. bytes_of held name ≡ Some source.items)
+LoadsSource files name (Some source) = (files.given ≡ (name, source) ∷ files.had) × IfSome files.held (λ held. bytes_of held name ≡ Some source)
 
 -- what the load of a log gave, if one is named
 abbrev pub LoadsLog : Store → Option (List ℕ) → LogFile → Type 0

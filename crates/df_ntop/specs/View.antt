@@ -6,4 +6,4 @@ use Rattle.df_ntop.specs.Loaded.{LogFile, NoLog, TooLong, Log}
 abbrev pub log_file_of : declared.LogFile → LogFile
 log_file_of logs.Absent = NoLog
 log_file_of logs.TooLarge = TooLong
-log_file_of (logs.Bytes bytes) = Log bytes.items
+log_file_of (logs.Bytes bytes) = Log bytes

@@ -66,7 +66,7 @@ pub(crate) fn check_log(
     ensures ends { IfErr result (λ end. (s : Streams) → IsQuiet s → Ends (of_program (command_of command.now) (log_file_of log.now) (program_of program.now.program)) s end) }
 {
     match log {
-        LogFile::Bytes(bytes) => match check_bytes(alloc, command, program, bytes) {
+        LogFile::Bytes(bytes) => match check_bytes(alloc, command, program, bytes.as_slice()) {
             Ok(outcomes) => Ok(outcomes),
             Err(end) => Err(end),
         },

@@ -11,7 +11,7 @@ use crate::ending::End;
 use crate::logs::LogFile;
 use crate::naming::{file, log};
 use crate::telling::{told, unread_text};
-use df_base::{Files, Global, LoadFault, Status};
+use df_base::{FileBytes, Files, Global, LoadFault, Status};
 use df_ncmd::Command;
 
 /// A source has at most this many bytes.
@@ -25,7 +25,7 @@ pub(crate) fn load_source<F: Files>(
     alloc: Global,
     command: &Command,
     files: &mut F,
-) -> Result<Option<Vec<u8>>, End>
+) -> Result<Option<FileBytes>, End>
     requires allowed { F.allowed files.old (file_of (command_of command.now)) }
     requires file { IsFileOf (command_of command.now) (file_of (command_of command.now)) }
     ensures loads { IfOk result (LoadsSource (store F.Files files.old files.new) (file_of (command_of command.now))) }

@@ -4,6 +4,8 @@ ghost use Rattle.std.specs.Prelude.{◌≡◌};
 ghost use Rattle.df_ntop.specs.Loaded.{is_absent as is_no_log};
 ghost use Rattle.df_ntop.specs.View.{log_file_of};
 
+use df_base::FileBytes;
+
 /// What is there of a log.
 #[derive(Drop)]
 pub(crate) enum LogFile {
@@ -12,7 +14,7 @@ pub(crate) enum LogFile {
     /// It is longer than the limit.
     TooLarge,
     /// Its bytes.
-    Bytes(Vec<u8>),
+    Bytes(FileBytes),
 }
 
 /// Whether the command names no log.

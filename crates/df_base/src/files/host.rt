@@ -1,12 +1,12 @@
 //! Files of the system.
 
-ghost use Rattle.std.specs.Prelude.{◌≡◌, ◌≢◌, ℕ, ◌+◌, ◌<◌, ◌≤◌, List, [], ◌∷◌, Some, None, Err, length, vec_len, IfOk, IfSome, OnOk, OnErr};
+ghost use Rattle.std.specs.Prelude.{◌≡◌, ◌≢◌, ℕ, ◌+◌, ◌<◌, ◌≤◌, List, [], ◌∷◌, Some, None, Err, length, IfOk, IfSome, OnOk, OnErr};
 ghost use Rattle.df_base.specs.Outside.{HasCause};
 ghost use Rattle.df_base.specs.declared.files.LoadFault.TheVariants.{Failed, Large};
 
 use super::read::{fault_of, read_all};
 use super::store::Store;
-use super::{Files, LoadFault};
+use super::{FileBytes, Files, LoadFault};
 use std::alloc::Global;
 use std::{fs, rt};
 
@@ -40,12 +40,12 @@ fn load_file<R: rt::Files>(
     alloc: Global,
     name: &str,
     limit: u64,
-) -> Result<Vec<u8>, LoadFault>
-    ensures within { IfOk result (λ bytes. vec_len bytes ≤ limit) }
+) -> Result<FileBytes, LoadFault>
+    ensures within { IfOk result (λ bytes. length bytes ≤ limit) }
     ensures large { (n : ℕ) → result ≡ Err (Large n) → n ≡ limit + 1 }
 {
     match fs::open(rt, name) {
-        Ok(mut file) => read_all(alloc, &mut file, limit),
+        Ok(mut file) => Ok(FileBytes::new(alloc, read_all(alloc, &mut file, limit)?)?),
         Err(error) => Err(fault_of(&error)),
     }
 }
@@ -63,10 +63,10 @@ impl<R: rt::Files> Files for HostFiles<R> {
         self.faults
     }
 
-    fn load(&mut self, alloc: Global, name: &str, limit: u64) -> Result<Vec<u8>, LoadFault>
-        ensures given { IfOk result (λ bytes. self.new.given ≡ (name.now, bytes.items) ∷ self.old.given) }
+    fn load(&mut self, alloc: Global, name: &str, limit: u64) -> Result<FileBytes, LoadFault>
+        ensures given { IfOk result (λ bytes. self.new.given ≡ (name.now, bytes) ∷ self.old.given) }
         ensures kept { OnErr result (self.new.given ≡ self.old.given) }
-        ensures within { IfOk result (λ bytes. vec_len bytes ≤ limit) }
+        ensures within { IfOk result (λ bytes. length bytes ≤ limit) }
         ensures large { (n : ℕ) → result ≡ Err (Large n) → n ≡ limit + 1 }
         // The count rises just at a failure.
         ensures cause { HasCause self.old.faults self.new.faults (result ≡ Err Failed) }
@@ -74,7 +74,7 @@ impl<R: rt::Files> Files for HostFiles<R> {
     {
         let result = load_file(&self.rt, alloc, name, limit);
         match &result {
-            Ok(bytes) => self.given.add(name, bytes)?,
+            Ok(bytes) => self.given.keep(name, bytes)?,
             Err(LoadFault::Failed) => self.faults = self.faults.saturating_add(1),
             Err(_) => {}
         }

@@ -1,12 +1,12 @@
 //! Files in memory, of which chosen loads fail.
 
-ghost use Rattle.std.specs.Prelude.{◌≡◌, ◌≢◌, ◌⊎◌, ℕ, ◌+◌, ◌<◌, ◌≤◌, List, [], ◌∷◌, ◌++◌, Some, None, Err, Bool, true, false, IsTrue, length, vec_len, IfOk, IfSome, OnOk, OnErr};
+ghost use Rattle.std.specs.Prelude.{◌≡◌, ◌≢◌, ◌⊎◌, ℕ, ◌+◌, ◌<◌, ◌≤◌, List, [], ◌∷◌, ◌++◌, Some, None, Err, Bool, true, false, IsTrue, length, IfOk, IfSome, OnOk, OnErr};
 ghost use Rattle.df_base.specs.Outside.{bytes_of, HasCause};
 ghost use Rattle.df_base.specs.Fakes.{FilesInMemory, is_failing, next_count};
 ghost use Rattle.df_base.specs.declared.files.LoadFault.TheVariants.{Failed, Large};
 
-use super::store::{Store, copy_within};
-use super::{Files, LoadFault};
+use super::store::{Store, share_within};
+use super::{FileBytes, Files, LoadFault};
 use crate::memory::Memory;
 use std::alloc::Global;
 use std::marker::Model;
@@ -61,9 +61,9 @@ impl MemFiles {
     }
 
     /// A load that counts no fault.
-    fn look_up(&self, alloc: Global, name: &str, limit: u64) -> Result<Vec<u8>, LoadFault>
-        ensures loaded { IfOk result (λ bytes. bytes_of self.now.files name.now ≡ Some bytes.items) }
-        ensures within { IfOk result (λ bytes. vec_len bytes ≤ limit) }
+    fn look_up(&self, name: &str, limit: u64) -> Result<FileBytes, LoadFault>
+        ensures loaded { IfOk result (λ bytes. bytes_of self.now.files name.now ≡ Some bytes) }
+        ensures within { IfOk result (λ bytes. length bytes ≤ limit) }
         ensures large { (n : ℕ) → result ≡ Err (Large n) → n ≡ limit + 1 }
         ensures longer { (n : ℕ) → result ≡ Err (Large n) → IfSome (bytes_of self.now.files name.now) (λ bytes. limit < length bytes) }
         ensures there { (n : ℕ) → result ≡ Err (Large n) → bytes_of self.now.files name.now ≢ None }
@@ -75,7 +75,7 @@ impl MemFiles {
         }
         match self.store.find(name) {
             None => Err(LoadFault::Failed),
-            Some(bytes) => copy_within(alloc, bytes, limit),
+            Some(bytes) => share_within(bytes, limit),
         }
     }
 }
@@ -93,11 +93,11 @@ impl Files for MemFiles {
         self.faults
     }
 
-    fn load(&mut self, alloc: Global, name: &str, limit: u64) -> Result<Vec<u8>, LoadFault>
-        ensures loaded { IfOk result (λ bytes. bytes_of self.old.files name.now ≡ Some bytes.items) }
-        ensures given { IfOk result (λ bytes. self.new.given ≡ (name.now, bytes.items) ∷ self.old.given) }
+    fn load(&mut self, _alloc: Global, name: &str, limit: u64) -> Result<FileBytes, LoadFault>
+        ensures loaded { IfOk result (λ bytes. bytes_of self.old.files name.now ≡ Some bytes) }
+        ensures given { IfOk result (λ bytes. self.new.given ≡ (name.now, bytes) ∷ self.old.given) }
         ensures kept { OnErr result (self.new.given ≡ self.old.given) }
-        ensures within { IfOk result (λ bytes. vec_len bytes ≤ limit) }
+        ensures within { IfOk result (λ bytes. length bytes ≤ limit) }
         ensures large { (n : ℕ) → result ≡ Err (Large n) → n ≡ limit + 1 }
         ensures longer { (n : ℕ) → result ≡ Err (Large n) → IfSome (bytes_of self.old.files name.now) (λ bytes. limit < length bytes) }
         ensures there { (n : ℕ) → result ≡ Err (Large n) → bytes_of self.old.files name.now ≢ None }
@@ -109,10 +109,10 @@ impl Files for MemFiles {
         ensures quiet { result ≢ Err Failed → self.new.faults ≡ self.old.faults }
         ensures counted { (self.new.failing ≡ self.old.failing) × (self.new.calls ≡ next_count self.old.calls) }
     {
-        let result = self.look_up(alloc, name, limit);
+        let result = self.look_up(name, limit);
         self.calls = self.calls.saturating_add(1);
         match &result {
-            Ok(bytes) => self.given.add(name, bytes)?,
+            Ok(bytes) => self.given.keep(name, bytes)?,
             Err(LoadFault::Failed) => self.faults = self.faults.saturating_add(1),
             Err(_) => {}
         }

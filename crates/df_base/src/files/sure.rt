@@ -1,12 +1,12 @@
 //! Files in memory, of which no load fails.
 
-ghost use Rattle.std.specs.Prelude.{◌≡◌, ◌≢◌, ℕ, ◌+◌, ◌<◌, ◌≤◌, List, [], ◌∷◌, Some, None, Err, length, vec_len, IfOk, IfSome, OnOk, OnErr};
+ghost use Rattle.std.specs.Prelude.{◌≡◌, ◌≢◌, ℕ, ◌+◌, ◌<◌, ◌≤◌, List, [], ◌∷◌, Some, None, Err, length, IfOk, IfSome, OnOk, OnErr};
 ghost use Rattle.df_base.specs.Outside.{bytes_of, HasCause};
 ghost use Rattle.df_base.specs.Fakes.{bytes_or_none};
 ghost use Rattle.df_base.specs.declared.files.LoadFault.TheVariants.{Failed, Large};
 
-use super::store::{Store, copy_within};
-use super::{Files, LoadFault};
+use super::store::{Store, share_within};
+use super::{FileBytes, Files, LoadFault};
 use crate::memory::Memory;
 use std::alloc::Global;
 use std::marker::Model;
@@ -62,19 +62,21 @@ impl Files for SureFiles {
         0
     }
 
-    fn load(&mut self, alloc: Global, name: &str, limit: u64) -> Result<Vec<u8>, LoadFault>
-        ensures text { IfOk result (λ bytes. bytes.items ≡ bytes_or_none self.old.files name.now) }
-        ensures given { IfOk result (λ bytes. self.new.given ≡ (name.now, bytes.items) ∷ self.old.given) }
+    fn load(&mut self, alloc: Global, name: &str, limit: u64) -> Result<FileBytes, LoadFault>
+        ensures text { IfOk result (λ bytes. bytes ≡ bytes_or_none self.old.files name.now) }
+        ensures given { IfOk result (λ bytes. self.new.given ≡ (name.now, bytes) ∷ self.old.given) }
         ensures keeps { OnErr result (self.new.given ≡ self.old.given) }
-        ensures within { IfOk result (λ bytes. vec_len bytes ≤ limit) }
+        ensures within { IfOk result (λ bytes. length bytes ≤ limit) }
         ensures large { (n : ℕ) → result ≡ Err (Large n) → n ≡ limit + 1 }
         ensures over { (n : ℕ) → result ≡ Err (Large n) → limit < length (bytes_or_none self.old.files name.now) }
         ensures sure { result ≢ Err Failed }
         ensures kept { self.new.files ≡ self.old.files }
     {
-        let bytes = self.store.find(name).unwrap_or(&[]);
-        let bytes = copy_within(alloc, bytes, limit)?;
-        self.given.add(name, &bytes)?;
+        let bytes = match self.store.find(name) {
+            Some(bytes) => share_within(bytes, limit)?,
+            None => FileBytes::new(alloc, Vec::new(alloc))?,
+        };
+        self.given.keep(name, &bytes)?;
         Ok(bytes)
     }
 }

@@ -10,10 +10,10 @@ use Rattle.df_ntop.proofs.Loads.{not_named_absent}
 use Rattle.df_ntop.proofs.checking.check_log.Goals as goal
 
 pub returns-in-Ok-clause-proves : goal.returns-in-Ok-clause-proves
-returns-in-Ok-clause-proves c = rw (c.in-Bytes.is) (rw c.deref.ensures.value at c.in-Ok.ensures.proves)
+returns-in-Ok-clause-proves c = rw (c.in-Bytes.is) (rw c.as_slice.ensures at c.in-Ok.ensures.proves)
 
 pub returns-in-Err-clause-ends : goal.returns-in-Err-clause-ends
-returns-in-Err-clause-ends c = rw (c.in-Bytes.is) (rw c.deref.ensures.value at c.in-Err.ensures.ends)
+returns-in-Err-clause-ends c = rw (c.in-Bytes.is) (rw c.as_slice.ensures at c.in-Err.ensures.ends)
 
 pub returns-in-TooLarge-clause-ends : goal.returns-in-TooLarge-clause-ends
 returns-in-TooLarge-clause-ends c = λ s quiet.

@@ -46,9 +46,9 @@ returns-in-Some-clause-ends g c =
     let second = store g.F.Files c.load_source.new.files c.load_log.new.files in
     let s = streams g.O.Sink c.args.out.now c.end_source.new.out g.E.Sink c.args.err.now c.end_source.new.err in
     let log = log_file_of c.in-Ok-load_log.log in
-    let source = c.in-Some.source.items in
+    let source = c.in-Some.source in
     let loads = rw c.in-Some.is at c.in-Ok.ensures.loads in
-    files_ends command files log source c.as_slice.result.now s c.end_source.result c.as_slice.ensures.value
+    files_ends command files log source c.as_slice.result.now s c.end_source.result c.as_slice.ensures
     (source_of files command source c.requires.file (source_is_loaded files second (file_of command) source (log_of command) log loads.0 refl c.in-Ok-load_log.ensures.loads loads.1))
     (log_is_loaded files second (file_of command) source (log_of command) log loads.0 refl c.load_source.ensures.held c.in-Ok-load_log.ensures.loads) c.end_source.ensures.ends
 

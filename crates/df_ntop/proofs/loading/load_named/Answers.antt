@@ -1,4 +1,4 @@
-use Rattle.std.proofs.Common.{refl, arith}
+use Rattle.std.proofs.Common.{refl}
 use Rattle.df_ncmd.specs.View.{command_of}
 use Rattle.df_ntop.specs.Call.{store}
 use Rattle.df_ntop.specs.Ending.{IsLogFault}
@@ -8,8 +8,7 @@ use Rattle.df_ntop.proofs.loading.load_named.Goals as goal
 
 pub returns-in-Ok-clause-loads : goal.returns-in-Ok-clause-loads
 returns-in-Ok-clause-loads g c =
-    let v = c.in-Ok.bytes in
-    (c.in-Ok.ensures.given, c.in-Ok.ensures.loaded, omega (arith, c.in-Ok.ensures.within, v.ok.0, v.ok.1))
+    (c.in-Ok.ensures.given, c.in-Ok.ensures.loaded, c.in-Ok.ensures.within)
 
 pub returns-in-Err-Failed-clause-fails : goal.returns-in-Err-Failed-clause-fails
 returns-in-Err-Failed-clause-fails g c =

@@ -7,7 +7,7 @@ pub returns-then-eq : goal.returns-then-eq
 returns-then-eq c =
     let same : same_text c.args.name.now (string_bytes c.file-item.result.name) ≡ true = rw c.as_str.ensures.value at (sym c.if-eq.ensures) in
     let here = bytes_of-here c.deref-file-items.result.now c.loop-file.file-index c.file-item.result c.args.name.now c.loop-file-test.true c.file-item.is same in
-    rw c.as_slice.ensures.value (sym here ∙ c.loop-file.invariant)
+    sym here ∙ c.loop-file.invariant
 
 pub loop-file-preserved : goal.loop-file-preserved
 loop-file-preserved c =
