@@ -1,5 +1,6 @@
 //! Closure under unit propagation: a list of literals, with what the clauses of a ground set teach
-//! beside it.
+//! beside it. A clause that is bound to an equality counts where the equality or its negation is known, also by
+//! propagation: one that is known to be false could never be split otherwise.
 #![tactic(auto)]
 
 mod closing;

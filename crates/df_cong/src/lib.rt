@@ -1,5 +1,6 @@
 //! Congruence: when a line of congruence says that literals contradict one another, why they do, a theory that
-//! holds literals and tells it, and one call that tells it, or else which nodes they make equal.
+//! holds literals and tells it, and one call that tells it, or else which nodes they make equal. A reason may have
+//! more literals than it needs: it is found in a forest of the merges, and where no line comes of that, all count.
 #![tactic(auto)]
 
 mod answer;

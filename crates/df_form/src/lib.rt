@@ -1,7 +1,9 @@
 //! Sequents: terms and formulas as nodes of a table, with their sorts and what they mean; the kinds of
 //! obligation; and the lines of the logs that prove sequents. `Nodes` owns the nodes of a declaration, whose
 //! sequents share its first ones (`Front`); `Over` numbers on from lent ones. All are read as a `NodeTable`,
-//! and those that grow are an `Arena`.
+//! and those that grow are an `Arena`. Truths are compared by `iff` alone: an equality of them would have no clauses
+//! that say what it means, and that a truth is a `bool` is no formula. What a node is by its base and its constant
+//! is kept with it, since many sequents share it.
 #![tactic(auto)]
 
 mod arena;

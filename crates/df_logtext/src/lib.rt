@@ -1,4 +1,6 @@
-//! The text of proof logs: written from logs, and read back.
+//! The text of proof logs: written from logs, and read back, over the names of the newtypes, of which the first
+//! counts where two are one. A line that makes a free term is written, so that writing has no other answer, and is
+//! not read: no log that the kernel takes has one.
 #![tactic(auto)]
 
 mod fault;

@@ -1,4 +1,6 @@
-//! The search for a proof: a log that derives a sequent, or evidence for why it stopped.
+//! The search for a proof: a log that derives a sequent, or evidence for why it stopped. An engine goes with the
+//! searches of one method, and what it learnt from hypotheses alone stays for the next sequent. Tables are looked
+//! for by a new search alone, so that no table depends on the sequents before.
 #![tactic(auto)]
 
 mod confirming;

@@ -1,4 +1,5 @@
-//! Rounds of instances: the clauses of schemas for the terms of a ground set that their patterns match.
+//! Rounds of instances: the clauses of schemas for the terms of a ground set that their patterns match. What a term
+//! is to be of a type is an instance too, so a ground set without rounds knows nothing of a parameter's range.
 #![tactic(auto)]
 
 mod endings;
