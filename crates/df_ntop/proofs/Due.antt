@@ -1,5 +1,5 @@
 -- The status of a call is the one that is due.
-use Rattle.std.proofs.Common.{◌≡◌, ◌⊎◌, inl, inr, ℕ, ◌≤◌, ◌<◌, true, false, List, [], length, Option, Some, None, refl, sym, subst, ◌∙◌, true≢false, arith}
+use Rattle.std.proofs.Common.{◌≡◌, ◌⊎◌, ⊎_elim, inl, inr, ℕ, ◌≤◌, ◌<◌, true, false, List, [], length, Option, Some, None, refl, sym, subst, ◌∙◌, true≢false, arith}
 use Rattle.df_base.specs.declared.pos.Pos.{Pos}
 use Rattle.df_base.specs.declared.refusal.Refusal.{Refusal}
 use Rattle.df_base.specs.declared.status.Status.{Status}
@@ -29,7 +29,7 @@ use Rattle.df_ntop.specs.Entry.{HasNoEntry}
 use Rattle.df_ntop.specs.Loaded.{IsLonger, LogFile, NoLog, IsLogFile}
 use Rattle.df_ntop.specs.Headline.{Share, Whole, Spent, EntryRun}
 use Rattle.df_ntop.specs.Answer.{ProvesBy, IsReady, IsBuilt, IsAccepted, OfLine, IsDone, IsSpent, IsUnproved, ProgramTells, not_native, no_main, too_large, not_a_log, bad_part, SourceTells, refused, lawful, FilesTell, unread, large, loaded, Tells, Answers}
-use Rattle.df_ntop.specs.Complete.{HoldsSource, HoldsLog, IsCutShort, HasRun, IsDueOn, IsDue, IsComplete}
+use Rattle.df_ntop.specs.Complete.{HoldsSource, HoldsLog, IsCutShort, HasRun, IsDueOn, IsDue, IsDueOnFiles, IsComplete}
 use Rattle.df_ntop.specs.Complete as complete
 use Rattle.df_ntop.proofs.DueLogs.{same_bytes, longer_bytes, same_log, unlogged, proves_due, IsWrong, wrong_due, long_is_wrong, no_text_is_wrong, part_is_wrong}
 use Rattle.df_ntop.proofs.Limits.{same_command}
@@ -54,6 +54,9 @@ module _ (call : Call)
   abbrev DueOn : Command → Program → LogFile → Status → Type 0
   DueOn command program log status = IsDueOn command program log status call.out
 
+  abbrev OnFiles : Command → Status → Type 0
+  OnFiles command status = IsDueOnFiles call.files command status call.out
+
   of_lawful : (command : Command) (source : List ℕ) (log : LogFile) (program : Program) (status : Status) → IsLawful source program → DueOn command program log status → Due command source log status
   of_lawful command source log program status is due = record {
     refused = λ names r h. absurd (unlawful source names r h program is);
@@ -74,24 +77,6 @@ module _ (call : Call)
     long = λ h. refl;
     lawful = λ program is. absurd (not_both (length source) byte_limit is.read.divided.short long);
   }
-
-  -- ---- the files tell of the source and of the log
-
-  same_source : (command : Command) (source other : List ℕ) → IsSourceOf call.files command other → HoldsSource call.files.held command source → other ≡ source
-  same_source (Verify file budget) source other is there = same_bytes call.files.held file other source is.held there
-  same_source (Prove file budget) source other is there = same_bytes call.files.held file other source is.held there
-  same_source (Check file log) source other is there = same_bytes call.files.held file other source is.held there
-  same_source (Build file proof budget) source other is there = same_bytes call.files.held file other source is.held there
-  same_source (Run file proof budget fuel) source other is there = same_bytes call.files.held file other source is.held there
-  same_source (Bulk seed count) source other is there = is ∙ sym there
-
-  module _ (command : Command) (source : List ℕ) (log : LogFile) (there : HoldsSource call.files.held command source) (there_log : HoldsLog call.files.held (log_of command) log) where
-    of_source : (other : List ℕ) (status : Status) → IsSourceOf call.files command other → Due command other log status → Due command source log status
-    of_source other status is due = subst (λ (x : List ℕ). Due command x log status) (same_source command source other is there) due
-
-    of_both : (other : List ℕ) (other_log : LogFile) (status : Status) → IsSourceOf call.files command other → IsLogFile call.files (log_of command) other_log → Due command other other_log status → Due command source log status
-    of_both other other_log status is is_log due =
-        of_source other status is (subst (λ (l : LogFile). Due command other l status) (same_log call.files (log_of command) log other_log is_log there_log) due)
 
   -- ---- what ran
 
@@ -126,96 +111,96 @@ module _ (call : Call)
   goes_on : (program : Program) (proof : Option (List ℕ)) (log : LogFile) (status : Status) (then_due : Type 0) → ProvesBy program log → then_due → complete.ProofIsDue program proof log status then_due
   goes_on program proof log status then_due proves go = proves_due one_text no_text not_refused one_list program proof log status then_due proves go
 
-  done_due : (command : Command) (source : List ℕ) (log : LogFile) → HoldsSource call.files.held command source → HoldsLog call.files.held (log_of command) log → IsDone call command → Due command source log statuses.Done
-  done_due (Verify file budget) source log there there_log is =
-      of_source (Verify file budget) source log there there_log is.right.source statuses.Done is.right.loaded
-      (of_lawful (Verify file budget) is.right.source log is.right.program statuses.Done is.right.lawful (inr refl))
-  done_due (Prove file budget) source log there there_log is =
-      of_source (Prove file budget) source log there there_log is.right.source statuses.Done is.right.loaded
-      (of_lawful (Prove file budget) is.right.source log is.right.program statuses.Done is.right.lawful (inr refl))
-  done_due (Check file name) source log there there_log is =
+  done_due : (command : Command) → IsDone call command → OnFiles command statuses.Done
+  done_due (Verify file budget) is =
+      complete.on_source is.right.source NoLog is.right.loaded tt
+      (of_lawful (Verify file budget) is.right.source NoLog is.right.program statuses.Done is.right.lawful (inr refl))
+  done_due (Prove file budget) is =
+      complete.on_source is.right.source NoLog is.right.loaded tt
+      (of_lawful (Prove file budget) is.right.source NoLog is.right.program statuses.Done is.right.lawful (inr refl))
+  done_due (Check file name) is =
       let by = is.by_log in
-      of_both (Check file name) source log there there_log is.right.source by.log statuses.Done is.right.loaded by.is_file
+      complete.on_source is.right.source by.log is.right.loaded by.is_file
       (of_lawful (Check file name) is.right.source by.log is.right.program statuses.Done is.right.lawful
       (goes_on is.right.program (Some name) by.log statuses.Done (statuses.Done ≡ statuses.Done) by.proves refl))
-  done_due (Build file proof budget) source log there there_log is =
+  done_due (Build file proof budget) is =
       let by = is.by_log in
-      of_both (Build file proof budget) source log there there_log is.accepted.source by.log statuses.Done is.accepted.loaded by.is_file
+      complete.on_source is.accepted.source by.log is.accepted.loaded by.is_file
       (of_lawful (Build file proof budget) is.accepted.source by.log is.accepted.program statuses.Done is.accepted.lawful (record {
         not_native = λ h. absurd (h is.built.native);
         native = λ native. goes_on is.accepted.program proof by.log statuses.Done _ by.proves (record { code = is.accepted.code; built = is.built; done = refl; put = is.accepted.put.put });
       }))
-  done_due (Run file proof budget fuel) source log there there_log is =
+  done_due (Run file proof budget fuel) is =
       let by = is.by_log in
       let run = is.accepted.put in
-      of_both (Run file proof budget fuel) source log there there_log is.accepted.source by.log statuses.Done is.accepted.loaded by.is_file
+      complete.on_source is.accepted.source by.log is.accepted.loaded by.is_file
       (of_lawful (Run file proof budget fuel) is.accepted.source by.log is.accepted.program statuses.Done is.accepted.lawful (record {
         not_native = λ h. absurd (h is.built.native);
         no_main = λ native none. absurd (none run.number run.main run.entry);
         main = λ native number entry. goes_on is.accepted.program proof by.log statuses.Done _ by.proves (done_run is.accepted.program fuel [] budget is.accepted.code is.built run);
       }))
-  done_due (Bulk seed count) source log there there_log is =
+  done_due (Bulk seed count) is =
       let run = is.accepted.put in
       let line = summary (verified_outcomes is.accepted.program.decls) in
-      of_source (Bulk seed count) source log there there_log is.accepted.source statuses.Done is.accepted.loaded
-      (of_lawful (Bulk seed count) is.accepted.source log is.accepted.program statuses.Done is.accepted.lawful (record {
+      complete.on_source is.accepted.source NoLog is.accepted.loaded tt
+      (of_lawful (Bulk seed count) is.accepted.source NoLog is.accepted.program statuses.Done is.accepted.lawful (record {
         not_native = λ h. absurd (h is.built.native);
         no_main = λ native none. absurd (none run.number run.main run.entry);
         main = λ native number entry. inr (done_run is.accepted.program fuel_limit line usual is.accepted.code is.built run);
       }))
 
-  spent_due : (command : Command) (source : List ℕ) (log : LogFile) → HoldsSource call.files.held command source → HoldsLog call.files.held (log_of command) log → IsSpent call command → Due command source log statuses.FuelSpent
-  spent_due (Verify file budget) source log there there_log is = absurd is
-  spent_due (Prove file budget) source log there there_log is = absurd is
-  spent_due (Check file name) source log there there_log is = absurd is
-  spent_due (Build file proof budget) source log there there_log is = absurd is
-  spent_due (Run file proof budget fuel) source log there there_log is =
+  spent_due : (command : Command) → IsSpent call command → OnFiles command statuses.FuelSpent
+  spent_due (Verify file budget) is = absurd is
+  spent_due (Prove file budget) is = absurd is
+  spent_due (Check file name) is = absurd is
+  spent_due (Build file proof budget) is = absurd is
+  spent_due (Run file proof budget fuel) is =
       let by = is.by_log in
       let run = is.accepted.put in
-      of_both (Run file proof budget fuel) source log there there_log is.accepted.source by.log statuses.FuelSpent is.accepted.loaded by.is_file
+      complete.on_source is.accepted.source by.log is.accepted.loaded by.is_file
       (of_lawful (Run file proof budget fuel) is.accepted.source by.log is.accepted.program statuses.FuelSpent is.accepted.lawful (record {
         not_native = λ h. absurd (h is.built.native);
         no_main = λ native none. absurd (none run.number run.main run.entry);
         main = λ native number entry. goes_on is.accepted.program proof by.log statuses.FuelSpent _ by.proves (spent_run is.accepted.program fuel [] budget is.accepted.code is.built run);
       }))
-  spent_due (Bulk seed count) source log there there_log is =
+  spent_due (Bulk seed count) is =
       let run = is.accepted.put in
       let line = summary (verified_outcomes is.accepted.program.decls) in
-      of_source (Bulk seed count) source log there there_log is.accepted.source statuses.FuelSpent is.accepted.loaded
-      (of_lawful (Bulk seed count) is.accepted.source log is.accepted.program statuses.FuelSpent is.accepted.lawful (record {
+      complete.on_source is.accepted.source NoLog is.accepted.loaded tt
+      (of_lawful (Bulk seed count) is.accepted.source NoLog is.accepted.program statuses.FuelSpent is.accepted.lawful (record {
         not_native = λ h. absurd (h is.built.native);
         no_main = λ native none. absurd (none run.number run.main run.entry);
         main = λ native number entry. inr (spent_run is.accepted.program fuel_limit line usual is.accepted.code is.built run);
       }))
 
-  unproved_due : (command : Command) (source : List ℕ) (log : LogFile) → HoldsSource call.files.held command source → HoldsLog call.files.held (log_of command) log → IsUnproved call command → Due command source log statuses.Unproved
-  unproved_due (Verify file budget) source log there there_log (is, silent) =
-      of_source (Verify file budget) source log there there_log is.source statuses.Unproved is.loaded
-      (of_lawful (Verify file budget) is.source log is.program statuses.Unproved is.lawful (inl refl))
-  unproved_due (Prove file budget) source log there there_log (is, quiet) =
-      of_source (Prove file budget) source log there there_log is.source statuses.Unproved is.loaded
-      (of_lawful (Prove file budget) is.source log is.program statuses.Unproved is.lawful (inl refl))
-  unproved_due (Check file name) source log there there_log is = absurd is
-  unproved_due (Build file None budget) source log there there_log (is, quiet) =
-      of_source (Build file None budget) source log there there_log is.source statuses.Unproved is.loaded
-      (of_lawful (Build file None budget) is.source log is.program statuses.Unproved is.lawful (record {
+  unproved_due : (command : Command) → IsUnproved call command → OnFiles command statuses.Unproved
+  unproved_due (Verify file budget) (is, silent) =
+      complete.on_source is.source NoLog is.loaded tt
+      (of_lawful (Verify file budget) is.source NoLog is.program statuses.Unproved is.lawful (inl refl))
+  unproved_due (Prove file budget) (is, quiet) =
+      complete.on_source is.source NoLog is.loaded tt
+      (of_lawful (Prove file budget) is.source NoLog is.program statuses.Unproved is.lawful (inl refl))
+  unproved_due (Check file name) is = absurd is
+  unproved_due (Build file None budget) (is, quiet) =
+      complete.on_source is.source NoLog is.loaded tt
+      (of_lawful (Build file None budget) is.source NoLog is.program statuses.Unproved is.lawful (record {
         not_native = λ h. absurd (h (is.is.ready.native refl));
         native = λ native. inl refl;
       }))
-  unproved_due (Build file (Some name) budget) source log there there_log is = absurd is
-  unproved_due (Run file None budget fuel) source log there there_log (is, quiet) =
+  unproved_due (Build file (Some name) budget) is = absurd is
+  unproved_due (Run file None budget fuel) (is, quiet) =
       let found = is.is.ready.entry refl in
-      of_source (Run file None budget fuel) source log there there_log is.source statuses.Unproved is.loaded
-      (of_lawful (Run file None budget fuel) is.source log is.program statuses.Unproved is.lawful (record {
+      complete.on_source is.source NoLog is.loaded tt
+      (of_lawful (Run file None budget fuel) is.source NoLog is.program statuses.Unproved is.lawful (record {
         not_native = λ h. absurd (h (is.is.ready.native refl));
         no_main = λ native none. absurd (none found.0 found.1.method found.1.entry);
         main = λ native number entry. inl refl;
       }))
-  unproved_due (Run file (Some name) budget fuel) source log there there_log is = absurd is
-  unproved_due (Bulk seed count) source log there there_log (is, silent) =
+  unproved_due (Run file (Some name) budget fuel) is = absurd is
+  unproved_due (Bulk seed count) (is, silent) =
       let found = is.is.ready.entry refl in
-      of_source (Bulk seed count) source log there there_log is.source statuses.Unproved is.loaded
-      (of_lawful (Bulk seed count) is.source log is.program statuses.Unproved is.lawful (record {
+      complete.on_source is.source NoLog is.loaded tt
+      (of_lawful (Bulk seed count) is.source NoLog is.program statuses.Unproved is.lawful (record {
         not_native = λ h. absurd (h (is.is.ready.native refl));
         no_main = λ native none. absurd (none found.0 found.1.method found.1.entry);
         main = λ native number entry. inl refl;
@@ -297,6 +282,41 @@ module _ (call : Call)
   source_due command source log status line is_log (refused names r why) = of_refused command source log names r why
   source_due command source log status line is_log (lawful program is told) = of_lawful command source log program status is (program_due command program log status line is_log told)
 
+  files_due : (command : Command) (status : Status) (line : List ℕ) → FilesTell call.files command status line → IsCutShort status ⊎ OnFiles command status
+  files_due command status line (unread name named rose) = inl complete.unread
+  files_due command status line (large loads none long) = inr (complete.for_length loads none long refl)
+  files_due command status line (loaded source log is is_log told) = inr (complete.on_source source log is is_log (source_due command source log status line is_log told))
+
+  module _ (command : Command) (line : IsLine call.words command) where
+    of_line : (is : Command → Type 0) → OfLine call.words is → is command
+    of_line is h = subst is (same_command call.words h.command command h.line line) h.holds
+
+    of_tells : (status : Status) (text : List ℕ) → Tells call status text → IsCutShort status ⊎ OnFiles command status
+    of_tells status text tells = files_due command status text (of_line (λ (c : Command). FilesTell call.files c status text) tells)
+
+    is_due : (status : Status) → Answers call status → IsCutShort status ⊎ OnFiles command status
+    is_due statuses.Done a = inr (done_due command (of_line (IsDone call) a.0))
+    is_due statuses.Unproved a = inr (unproved_due command (of_line (IsUnproved call) a))
+    is_due statuses.Usage a = absurd (a.0 command line)
+    is_due statuses.Refused a = of_tells statuses.Refused a.0 a.1
+    is_due statuses.Unread a = inl complete.unread
+    is_due statuses.Unwritten a = inl complete.unwritten
+    is_due statuses.Memory a = inl complete.memory
+    is_due statuses.FuelSpent a = inr (spent_due command (of_line (IsSpent call) a.0))
+    is_due statuses.NotCompilable a = of_tells statuses.NotCompilable a.0 a.1
+    is_due statuses.NoMain a = of_tells statuses.NoMain a.0 a.1
+    is_due statuses.BadLog a = of_tells statuses.BadLog a.0 a.1
+
+  -- ---- where the files tell what they hold, that is what they gave
+
+  same_source : (command : Command) (source other : List ℕ) → IsSourceOf call.files command other → HoldsSource call.files.held command source → other ≡ source
+  same_source (Verify file budget) source other is there = same_bytes call.files.held file other source is.held there
+  same_source (Prove file budget) source other is there = same_bytes call.files.held file other source is.held there
+  same_source (Check file log) source other is there = same_bytes call.files.held file other source is.held there
+  same_source (Build file proof budget) source other is there = same_bytes call.files.held file other source is.held there
+  same_source (Run file proof budget fuel) source other is there = same_bytes call.files.held file other source is.held there
+  same_source (Bulk seed count) source other is there = is ∙ sym there
+
   large_of : (command : Command) (source : List ℕ) → IsFileOf command (file_of command) → HoldsSource call.files.held command source → IsLonger byte_limit call.files.held (file_of command) → byte_limit < length source
   large_of (Verify file budget) source loads there long = longer_bytes byte_limit call.files.held file source long there
   large_of (Prove file budget) source loads there long = longer_bytes byte_limit call.files.held file source long there
@@ -305,31 +325,21 @@ module _ (call : Call)
   large_of (Run file proof budget fuel) source loads there long = longer_bytes byte_limit call.files.held file source long there
   large_of (Bulk seed count) source loads there long = absurd loads
 
-  files_due : (command : Command) (source : List ℕ) (log : LogFile) (status : Status) (line : List ℕ) → HoldsSource call.files.held command source → HoldsLog call.files.held (log_of command) log → FilesTell call.files command status line → IsCutShort status ⊎ Due command source log status
-  files_due command source log status line there there_log (unread name named rose) = inl complete.unread
-  files_due command source log status line there there_log (large loads none long) = inr (of_long command source log (large_of command source loads there long))
-  files_due command source log status line there there_log (loaded other other_log is is_log told) =
-      inr (of_both command source log there there_log other other_log status is is_log (source_due command other other_log status line is_log told))
+  module _ (command : Command) (source : List ℕ) (log : LogFile) (there : HoldsSource call.files.held command source) (there_log : HoldsLog call.files.held (log_of command) log) where
+    of_source : (other : List ℕ) (status : Status) → IsSourceOf call.files command other → Due command other log status → Due command source log status
+    of_source other status is due = subst (λ (x : List ℕ). Due command x log status) (same_source command source other is there) due
 
-  module _ (command : Command) (source : List ℕ) (log : LogFile) (line : IsLine call.words command) (there : HoldsSource call.files.held command source) (there_log : HoldsLog call.files.held (log_of command) log) where
-    of_line : (is : Command → Type 0) → OfLine call.words is → is command
-    of_line is h = subst is (same_command call.words h.command command h.line line) h.holds
+    of_both : (other : List ℕ) (other_log : LogFile) (status : Status) → IsSourceOf call.files command other → IsLogFile call.files (log_of command) other_log → Due command other other_log status → Due command source log status
+    of_both other other_log status is is_log due =
+        of_source other status is (subst (λ (l : LogFile). Due command other l status) (same_log call.files (log_of command) log other_log is_log there_log) due)
 
-    of_tells : (status : Status) (text : List ℕ) → Tells call status text → IsCutShort status ⊎ Due command source log status
-    of_tells status text tells = files_due command source log status text there there_log (of_line (λ (c : Command). FilesTell call.files c status text) tells)
+    due_of_held : (status : Status) → OnFiles command status → Due command source log status
+    due_of_held status (complete.on_source other other_log is is_log due) = of_both other other_log status is is_log due
+    due_of_held status (complete.for_length loads none long is) =
+        subst (λ (x : Status). Due command source log x) (sym is) (of_long command source log (large_of command source loads there long))
 
-    is_due : (status : Status) → Answers call status → IsCutShort status ⊎ Due command source log status
-    is_due statuses.Done a = inr (done_due command source log there there_log (of_line (IsDone call) a.0))
-    is_due statuses.Unproved a = inr (unproved_due command source log there there_log (of_line (IsUnproved call) a))
-    is_due statuses.Usage a = absurd (a.0 command line)
-    is_due statuses.Refused a = of_tells statuses.Refused a.0 a.1
-    is_due statuses.Unread a = inl complete.unread
-    is_due statuses.Unwritten a = inl complete.unwritten
-    is_due statuses.Memory a = inl complete.memory
-    is_due statuses.FuelSpent a = inr (spent_due command source log there there_log (of_line (IsSpent call) a.0))
-    is_due statuses.NotCompilable a = of_tells statuses.NotCompilable a.0 a.1
-    is_due statuses.NoMain a = of_tells statuses.NoMain a.0 a.1
-    is_due statuses.BadLog a = of_tells statuses.BadLog a.0 a.1
+    due_or_cut_short : (status : Status) → IsCutShort status ⊎ OnFiles command status → IsCutShort status ⊎ Due command source log status
+    due_or_cut_short status due = ⊎_elim inl (λ on. inr (due_of_held status on)) due
 
   -- ---- words that are no line
 
@@ -349,5 +359,6 @@ module _ (call : Call)
   pub is_complete : (status : Status) → Answers call status → IsComplete call status
   is_complete status a = record {
     no_line = no_line status a;
-    due = λ command source log line there there_log. is_due command source log line there there_log status a;
+    due = λ command line. is_due command line status a;
+    held = λ command source log line there there_log. due_or_cut_short command source log there there_log status (is_due command line status a);
   }

@@ -40,7 +40,7 @@ module _ (one other : Call) (status : Status) (hands : HandsOn one other) (answe
       taken.derived hands.text proved.logs.logs refl is_text proved.logs.proofs
 
   is_taken : IsCutShort status ⊎ (status ≡ statuses.Done)
-  is_taken = ⊎_elim inl (λ due. inr (by_due due)) (complete.due (Check hands.copy hands.name) hands.source (Log hands.text) hands.checks hands.copy_held (hands.text_held, hands.short))
+  is_taken = ⊎_elim inl (λ due. inr (by_due due)) (complete.held (Check hands.copy hands.name) hands.source (Log hands.text) hands.checks hands.copy_held (hands.text_held, hands.short))
 
 pub proof_is_taken : ProofIsTaken
 proof_is_taken one other status hands answers complete = is_taken one other status hands answers complete

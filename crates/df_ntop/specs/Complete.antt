@@ -1,5 +1,5 @@
--- Completeness: the status that is due for the words, the bytes of the file and those of the log. A counted fault or want of
--- memory may end the call before.
+-- Completeness: the status that is due for the words, and for the bytes that the files gave of the source and of the log. A
+-- counted fault or want of memory may end the call before.
 use Rattle.std.specs.Prelude.{◌≡◌, ◌⊎◌, ◌<◌, ◌≤◌, ℕ, List, [], ◌++◌, Option, None, Some, length}
 use Rattle.df_base.specs.Outside.{Contents, bytes_of}
 use Rattle.df_base.specs.declared.refusal.Refusal.{Refusal}
@@ -22,11 +22,11 @@ use Rattle.df_nproof.specs.Names.{names_in}
 use Rattle.df_nproof.specs.Derived.{AreProofs}
 use Rattle.df_report.specs.Report.{summary}
 use Rattle.df_nproof.specs.Verified.{verified_outcomes}
-use Rattle.df_ntop.specs.Call.{Stream, Call, Takes, IsLine, HasEnded}
-use Rattle.df_ntop.specs.Command.{IsNoLine, log_of, usual}
+use Rattle.df_ntop.specs.Call.{Store, Stream, Call, Takes, IsLine, IsSourceOf, HasEnded}
+use Rattle.df_ntop.specs.Command.{IsNoLine, IsFileOf, file_of, log_of, usual}
 use Rattle.df_ntop.specs.Entry.{IsEntryAt, HasNoEntry}
-use Rattle.df_ntop.specs.Loaded.{log_limit, LogFile, NoLog, TooLong, Log}
-use Rattle.df_ntop.specs.Answer.{IsBuilt, IsAccepted}
+use Rattle.df_ntop.specs.Loaded.{IsLonger, log_limit, LogFile, NoLog, TooLong, Log, IsLogFile}
+use Rattle.df_ntop.specs.Answer.{IsBuilt, IsAccepted, IsWithoutSource}
 
 -- the files tell that these are the bytes of the file
 abbrev pub Holds : Option Contents → List ℕ → List ℕ → Type 0
@@ -115,8 +115,16 @@ pub record IsDue (command : Command) (source : List ℕ) (log : LogFile) (status
   pub long : byte_limit < length source → status ≡ statuses.Refused
   pub lawful : (program : Program) → IsLawful source program → IsDueOn command program log status out
 
--- what words that are no line of any command are due, and the others on the bytes of their file and of their log
+-- What a command is due on what its files gave in the call: on the source and the log that they gave, or, where they gave no
+-- source since it is too long, a refusal. Of files that do not tell what they hold it says as much as of others.
+pub data IsDueOnFiles (files : Store) (command : Command) (status : Status) (out : Stream) : Type 0 where
+  on_source : (source : List ℕ) (log : LogFile) → IsSourceOf files command source → IsLogFile files (log_of command) log → IsDue command source log status out → IsDueOnFiles files command status out
+  for_length : IsFileOf command (file_of command) → IsWithoutSource files command → IsLonger byte_limit files.held (file_of command) → status ≡ statuses.Refused → IsDueOnFiles files command status out
+
+-- what words that are no line of any command are due, and the others on what their files gave
 pub record IsComplete (call : Call) (status : Status) : Type 0 where
   pub no_line : IsNoLine call.words → (status ≡ statuses.Usage) ⊎ ((status ≡ statuses.Unwritten) ⊎ (status ≡ statuses.Memory))
-  pub due : (command : Command) (source : List ℕ) (log : LogFile) → IsLine call.words command → HoldsSource call.files.held command source → HoldsLog call.files.held (log_of command) log
+  pub due : (command : Command) → IsLine call.words command → IsCutShort status ⊎ IsDueOnFiles call.files command status call.out
+  -- so, where the files tell what they hold, on that
+  pub held : (command : Command) (source : List ℕ) (log : LogFile) → IsLine call.words command → HoldsSource call.files.held command source → HoldsLog call.files.held (log_of command) log
       → IsCutShort status ⊎ IsDue command source log status call.out
