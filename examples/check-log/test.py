@@ -17,7 +17,6 @@ import re
 import subprocess
 import sys
 import tempfile
-import threading
 import time
 
 sys.dont_write_bytecode = True
@@ -233,15 +232,8 @@ def run():
     else:
         paths = [os.path.abspath(word) for word in sys.argv[1:3]]
         main(*paths, *[None] * (2 - len(paths)))
-    answers.append(0)
+    return 0
 
 
 if __name__ == "__main__":
-    # Terms are gone through by recursion, and may be deep.
-    sys.setrecursionlimit(10**6)
-    threading.stack_size(2**29)
-    answers = []
-    thread = threading.Thread(target=run)
-    thread.start()
-    thread.join()
-    sys.exit(answers[0] if answers else 1)
+    sys.exit(check_log.deep(run))
