@@ -4,7 +4,7 @@
     check_log.py SEQUENTS LOG
     check_log.py --help
 
-SEQUENTS has lines `have FORMULA` and `show PLACE: FORMULA` (docs/examples.md): each `show` is an obligation, and the `have`
+SEQUENTS has lines `have FORMULA` and `show PLACE: FORMULA` (docs/contributing.md): each `show` is an obligation, and the `have`
 lines before it in its method are its hypotheses. A line `newtype NAME LOW HIGH` gives the ends of a type. LOG is the text
 of docs/proof-log.md. It prints what `dfy check` tells of a log (status 10), or how many obligations are derived (status 0).
 check_file.py makes both for a source and checks them. Other statuses: 2 for other words or no sequents, 4 for what can't

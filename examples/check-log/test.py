@@ -4,7 +4,7 @@
     test.py [DFY [EXAMPLES]]
     test.py --write
 
-The logs by hand in `data` must be accepted, and each log of the examples `logs/down` and `logs/middle` (docs/examples.md) must
+The logs by hand in `data` must be accepted, and each log of the examples `logs/down` and `logs/middle` (docs/contributing.md) must
 be answered as these say. Of each log its mutants are tried: it without one of its lines, and it with two neighbours swapped.
 Each must be answered by a status 0 or 10. With DFY, `dfy check` must give the same line; so it must of the logs that
 `dfy prove` makes of other examples and of the source of `bulk 0 3`, and of their mutants, where check_log.py has the sequents
