@@ -1,6 +1,6 @@
 newtype num = x: int | 0 <= x < 20000
 
-method Sum(n: num)
+method Count(n: num)
   requires n <= 100
 {
   var i: num := 0;
@@ -11,5 +11,5 @@ method Sum(n: num)
 }
 
 method Main() {
-  Sum(10);
+  Count(10);
 }

@@ -7,10 +7,11 @@ method Sum(n: num) returns (s: num)
   s := 0;
   var i: num := 0;
   while i < n
+    invariant i <= n
     invariant 2 * s == i * (i + 1)
   {
-    i := i + 1;
     s := s + i;
+    i := i + 1;
   }
 }
 
