@@ -2,15 +2,19 @@
 """Checks a proof log against sequents, without any of dfy's code.
 
     check_log.py SEQUENTS LOG
+    check_log.py --help
 
-SEQUENTS has lines `have FORMULA` and `show PLACE: FORMULA` (docs/examples.md): each `show` is an obligation, and the `have`
+SEQUENTS has lines `have FORMULA` and `show PLACE: FORMULA` (docs/contributing.md): each `show` is an obligation, and the `have`
 lines before it in its method are its hypotheses. A line `newtype NAME LOW HIGH` gives the ends of a type. LOG is the text
-of docs/proof-log.md. It prints what `dfy check` tells of a log, or how many obligations are derived.
+of docs/proof-log.md. It prints what `dfy check` tells of a log (status 10), or how many obligations are derived (status 0).
+check_file.py makes both for a source and checks them. Other statuses: 2 for other words or no sequents, 4 for what can't
+be read.
 """
 import re
 import sys
 import threading
 
+USAGE, UNREAD, REFUSED = 2, 4, 10
 LEAST, MOST = -2**127, 2**127 - 1
 NUMBER, TRUTH, CHARACTER = "number", "truth", "character"
 
@@ -67,6 +71,8 @@ def read_sequents(text):
         elif line.startswith("show "):
             methods[-1].append((list(known), parse_formula(line[5:].split(": ", 1)[1])))
         elif line and not line.startswith("#"):
+            if not line.endswith(":"):
+                raise ValueError(line)
             known = []
             methods.append([])
     return [(*sequent, characters_of(method)) for method in methods for sequent in method], types
@@ -511,29 +517,57 @@ def check(sequents, types, text, judge=refused_at):
     return None
 
 
-def main(words):
-    with open(words[0], encoding="ascii") as file:
-        sequents, types = read_sequents(file.read())
-    with open(words[1], "rb") as file:
-        text = file.read().decode("latin-1")
-    fault = check(sequents, types, text)
+def told(sequents, types, name, text):
+    """Tells of the log of this name how many obligations it derives, or where it is refused; the status."""
+    fault = check(sequents, types, text.decode("latin-1"))
     if fault is None:
         print(f"{len(sequents)} derived")
         return 0
-    print(f"{words[1]}:{fault}", file=sys.stderr)
-    return 10
+    return fails(f"{name}:{fault}", REFUSED)
 
 
-def run():
-    answers.append(main(sys.argv[1:]))
+def fails(why, status):
+    print(why, file=sys.stderr)
+    return status
 
 
-if __name__ == "__main__":
-    # Terms are gone through by recursion, and may be deep.
+def sequents_of(text):
+    """The sequents and types of a text, if it is one."""
+    try:
+        return read_sequents(text.decode("ascii"))
+    except (ValueError, IndexError):
+        return None
+
+
+def main(words):
+    if words in (["--help"], ["-h"]):
+        print(__doc__.strip())
+        return 0
+    if len(words) != 2:
+        return fails("usage: check_log.py SEQUENTS LOG", USAGE)
+    texts = []
+    for word in words:
+        try:
+            with open(word, "rb") as file:
+                texts.append(file.read())
+        except OSError:
+            return fails(f"{word}: cannot read", UNREAD)
+    sequents = sequents_of(texts[0])
+    if sequents is None:
+        return fails(f"{words[0]}: no sequents", USAGE)
+    return told(*sequents, words[1], texts[1])
+
+
+def deep(work, *arguments):
+    """What the work gives, done where there is room for deep recursion: terms are gone through by it."""
     sys.setrecursionlimit(10**6)
     threading.stack_size(2**29)
     answers = []
-    thread = threading.Thread(target=run)
+    thread = threading.Thread(target=lambda: answers.append(work(*arguments)))
     thread.start()
     thread.join()
-    sys.exit(answers[0] if answers else 1)
+    return answers[0] if answers else 1
+
+
+if __name__ == "__main__":
+    sys.exit(deep(main, sys.argv[1:]))

@@ -4,7 +4,7 @@
     test.py [DFY [EXAMPLES]]
     test.py --write
 
-The logs by hand in `data` must be accepted, and each log of the examples `logs/down` and `logs/middle` (docs/examples.md) must
+The logs by hand in `data` must be accepted, and each log of the examples `logs/down` and `logs/middle` (docs/contributing.md) must
 be answered as these say. Of each log its mutants are tried: it without one of its lines, and it with two neighbours swapped.
 Each must be answered by a status 0 or 10. With DFY, `dfy check` must give the same line; so it must of the logs that
 `dfy prove` makes of other examples and of the source of `bulk 0 3`, and of their mutants, where check_log.py has the sequents
@@ -17,7 +17,6 @@ import re
 import subprocess
 import sys
 import tempfile
-import threading
 import time
 
 sys.dont_write_bytecode = True
@@ -233,15 +232,8 @@ def run():
     else:
         paths = [os.path.abspath(word) for word in sys.argv[1:3]]
         main(*paths, *[None] * (2 - len(paths)))
-    answers.append(0)
+    return 0
 
 
 if __name__ == "__main__":
-    # Terms are gone through by recursion, and may be deep.
-    sys.setrecursionlimit(10**6)
-    threading.stack_size(2**29)
-    answers = []
-    thread = threading.Thread(target=run)
-    thread.start()
-    thread.join()
-    sys.exit(answers[0] if answers else 1)
+    sys.exit(check_log.deep(run))

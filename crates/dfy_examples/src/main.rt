@@ -1,17 +1,21 @@
 //! Plays the examples of a folder: each source is tried with the words that its `.expected`
 //! file has, over files and streams in memory, and what differs from that file is told. Where a source has an
-//! `.obligations` file, it is told where what is owed of it is not what stands beside it.
+//! `.obligations` file, it is told where what is owed of it is not what stands beside it. Of the page of codes in the folder,
+//! `errors.md`, each line of Dafny is tried, and each code that an example wants is looked up there.
 //!
 //! With the word `count` before the folder it tells how many obligations each source has, and compares nothing. With the
 //! word `sequents` before a source, without its ending, it prints its newtypes and its sequents. With the word `proposals`
 //! before the folder it tells how much a check refuses of what the engine proposes for the obligations, and fails where it
-//! is some.
+//! is some. With the word `codes` before the folder it plays that page alone.
 #![tactic(auto)]
 
 mod beside;
+mod codes;
+mod entries;
 mod example;
 mod fitting;
 mod folder;
+mod page;
 mod play;
 mod playing;
 mod printing;
@@ -23,7 +27,7 @@ mod text;
 use crate::beside::is_there;
 use crate::folder::examples;
 use crate::play::Count;
-use crate::playing::play_folder;
+use crate::playing::{play_codes, play_folder};
 use crate::tasks::{Task, perform};
 use anyhow::{Context, Result, ensure};
 use std::{env, io};
@@ -36,12 +40,23 @@ fn word(rt: &HostRuntime, place: usize) -> io::Result<String> {
     }
 }
 
-/// Plays the examples of a folder, and tells how many there were.
-fn play_all(rt: &HostRuntime, folder: &str) -> Result<()> {
-    let Count { tries, differ } = play_folder(rt, folder)?;
+/// Tells how many tries there were, and fails where some differ.
+fn tell_count(rt: &HostRuntime, count: Count) -> Result<()> {
+    let Count { tries, differ } = count;
     println!(rt; "{tries} tries, {differ} differ")?;
     ensure!(differ == 0, "what is printed above differs");
     Ok(())
+}
+
+/// Plays the examples of a folder.
+fn play_all(rt: &HostRuntime, folder: &str) -> Result<()> {
+    tell_count(rt, play_folder(rt, folder)?)
+}
+
+/// Plays the page of codes of the folder that the second word names.
+fn play_all_codes(rt: &HostRuntime) -> Result<()> {
+    let folder = word(rt, 2)?;
+    tell_count(rt, play_codes(rt, folder.as_str())?)
 }
 
 /// Does a task with a source, if there is one.
@@ -109,6 +124,9 @@ fn task_of(word: &str) -> Option<Task> {
 
 /// Runs what the first word says.
 fn run(rt: &HostRuntime, first: &str) -> Result<()> {
+    if first == "codes" {
+        return play_all_codes(rt);
+    }
     match task_of(first) {
         Some(task) => run_task(rt, task),
         None => play_all(rt, first),

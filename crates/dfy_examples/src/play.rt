@@ -74,12 +74,33 @@ fn add_files(
     Ok(())
 }
 
-/// What a command puts on standard output.
-fn out_of(alloc: Global, words: &[String], files: &mut MemFiles) -> Result<Vec<u8>, AllocError> {
+/// What a command puts on its streams, and its status.
+#[derive(Drop)]
+pub struct Put {
+    pub status: u8,
+    pub out: MemSink,
+    pub err: MemSink,
+}
+
+/// What a command puts over these files.
+fn put_over(alloc: Global, words: &[String], files: &mut MemFiles) -> Put {
     let mut out = MemSink::new(alloc);
     let mut err = MemSink::new(alloc);
-    top(alloc, words, files, &mut out, &mut err);
-    Vec::from_slice(alloc, out.taken())
+    let status = top(alloc, words, files, &mut out, &mut err).code();
+    Put { status, out, err }
+}
+
+/// What a command puts that finds one file.
+pub fn put_by(alloc: Global, words: &[String], name: &str, text: &[u8]) -> Result<Put, AllocError> {
+    let mut files = MemFiles::new(alloc);
+    files.add(name, text).map_err(of_memory)?;
+    Ok(put_over(alloc, words, &mut files))
+}
+
+/// What a command puts on standard output.
+fn out_of(alloc: Global, words: &[String], files: &mut MemFiles) -> Result<Vec<u8>, AllocError> {
+    let put = put_over(alloc, words, files);
+    Vec::from_slice(alloc, put.out.taken())
 }
 
 /// What a command puts on standard output over the files of an example.

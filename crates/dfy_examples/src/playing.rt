@@ -1,6 +1,7 @@
 //! Plays the examples of a folder.
 
 use crate::beside::{source_of, text_of};
+use crate::entries::play_page;
 use crate::example::Example;
 use crate::folder::examples;
 use crate::play::{Count, make_files, play};
@@ -18,7 +19,7 @@ fn source(rt: &HostRuntime, name: &str, example: &mut Example) -> Result<Vec<u8>
 }
 
 /// What the `.expected` file of an example says.
-fn read_example(rt: &HostRuntime, name: &str) -> Result<Example> {
+pub fn read_example(rt: &HostRuntime, name: &str) -> Result<Example> {
     let text = text_of(rt, name, ".expected")?;
     read(rt.alloc(), text.as_str())
 }
@@ -86,10 +87,24 @@ fn play_each(rt: &HostRuntime, names: &[String], count: &mut Count) -> Result<()
     Ok(())
 }
 
+/// Plays the examples of these paths in a folder, and its page of codes.
+fn play_names(rt: &HostRuntime, folder: &str, names: &[String], count: &mut Count) -> Result<()> {
+    play_each(rt, names, count)?;
+    play_page(rt, folder, names, count)
+}
+
 /// Plays the examples of a folder.
 pub fn play_folder(rt: &HostRuntime, folder: &str) -> Result<Count> {
     let mut count = Count::default();
     let names = examples(rt, folder)?;
-    play_each(rt, &names, &mut count)?;
+    play_names(rt, folder, &names, &mut count)?;
+    Ok(count)
+}
+
+/// Plays the page of codes of a folder.
+pub fn play_codes(rt: &HostRuntime, folder: &str) -> Result<Count> {
+    let mut count = Count::default();
+    let names = examples(rt, folder)?;
+    play_page(rt, folder, &names, &mut count)?;
     Ok(count)
 }

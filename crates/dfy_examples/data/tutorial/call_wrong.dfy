@@ -1,0 +1,19 @@
+newtype num = x: int | 0 <= x < 20000
+
+method Twice(n: num) returns (r: num)
+  requires n <= 100
+{
+  r := n + n;
+}
+
+method Four(n: num) returns (r: num)
+  requires n <= 50
+{
+  r := Twice(n);
+  r := Twice(r);
+}
+
+method Main() {
+  var t := Four(10);
+  print t, "\n";
+}

@@ -1,0 +1,3 @@
+method Main() {
+  print "the sum\n";
+}

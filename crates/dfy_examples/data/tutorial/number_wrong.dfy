@@ -1,0 +1,4 @@
+method Main() {
+  var n := 10;
+  print n, "\n";
+}
