@@ -10,7 +10,7 @@ use Rattle.df_tree.specs.declared.row.Form.TheVariants.{All, One, Many}
 use Rattle.df_tree.specs.declared.row.Part.{Part}
 use Rattle.df_tree.specs.Tree.{Tree, Leaf, Node, Trees, none, more, depth, depth_all}
 use Rattle.df_tree.specs.Row.{Row}
-use Rattle.df_tree.specs.Grammar.{row, part_of, May, IsTree, Are, height_limit, one_more, has_more, counted, height_over, all_over, each_over, height}
+use Rattle.df_tree.specs.Grammar.{row, part_of, May, IsTree, Are, height_limit, depth_limit, one_more, has_more, counted, height_over, all_over, each_over, height}
 use Rattle.df_tree.proofs.Fine.{rank_of, top_rank, is_word, bound, row_low, row_rank}
 use Rattle.df_tree.proofs.Chosen.{all_among}
 
@@ -55,7 +55,7 @@ all_get test [] k p all e = absurd cc
 all_get test (q ∷ qs) zero p all e = subst (λ s. test s ≡ true) (same_Some q p e) (and_parts (test q) (list_all test qs) all).0
 all_get test (q ∷ qs) (suc k) p all e = all_get test qs k p (and_parts (test q) (list_all test qs) all).1 e
 
-may_pass : (test : Part → Bool) (form : Form) (parts : List Part) (k : ℕ) (p : Part) → list_all test parts ≡ true → May form parts k p → test p ≡ true
+pub may_pass : (test : Part → Bool) (form : Form) (parts : List Part) (k : ℕ) (p : Part) → list_all test parts ≡ true → May form parts k p → test p ≡ true
 may_pass test All parts k p all may = all_get test parts k p all may
 may_pass test One parts k p all may = all_among test parts p all may.1
 may_pass test Many parts k p all may = all_among test parts p all may
@@ -110,10 +110,6 @@ mutual
       let first : depth t ≤ (top_rank + 1) * height_over 0 t + (top_rank + 1) = child_deep (top_rank + 1) (height_over 0 t) t low.0 (deep 0 t right.1 (omega (arith, later, le, m))) in
       let others : depth_all ts ≤ (top_rank + 1) * each_over (one_more here) ts = deep_each (one_more here) r (suc k) ts right.2 low.1 le in
       omega (arith, later, m, first, others)
-
--- how many nodes then do
-abbrev pub depth_limit : ℕ
-depth_limit = 10251
 
 pub low_is_shallow : (t : Tree) → IsTree t → height t ≤ height_limit → depth t ≤ depth_limit
 low_is_shallow t right le = omega (arith, deep 0 t right le, tree_rank t)

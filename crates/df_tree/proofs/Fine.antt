@@ -1,5 +1,5 @@
 -- What the columns of a production have to be, for those of its parts.
-use Rattle.std.proofs.Common.{◌≡◌, ℕ, zero, suc, ◌+◌, nat_lt, Bool, true, false, not, ◌&&◌, ◌||◌, List, [], ◌∷◌, ◌++◌, slice_get, if◌then◌else◌, refl, ltb-true, arith, ◌≤◌}
+use Rattle.std.proofs.Common.{◌≡◌, ℕ, zero, suc, ◌+◌, nat_lt, Bool, true, false, not, ◌&&◌, ◌||◌, List, [], ◌∷◌, ◌++◌, length, slice_get, if◌then◌else◌, refl, ltb-true, arith, ◌≤◌, ◌<◌}
 use Rattle.std.specs.List.{list_all}
 use Rattle.std.specs.Option.{option_map_or}
 use Rattle.std.proofs.lemmas.Bool.{and_parts}
@@ -84,8 +84,12 @@ exact_by All r = subset (kinds_of r.first) (first_of_all r.parts [])
 exact_by One r = subset (kinds_of r.first) (firsts_of r.parts)
 exact_by Many r = subset (kinds_of r.first) (firsts_of r.parts)
 
+-- It has few parts.
+abbrev short : Row → Bool
+short r = nat_lt (length r.parts) 100
+
 abbrev pub fine : Row → Bool
-fine r = fine_by r.form r && (low_by r.counting r.rank r.parts && exact_by r.form r)
+fine r = fine_by r.form r && (low_by r.counting r.rank r.parts && (exact_by r.form r && short r))
 
 -- the numbers of the productions whose columns are wrong
 unfit : ℕ → List Row → List ℕ
@@ -119,12 +123,18 @@ unfolding row
 both_fine n = entry_fine grammar n (all_fit 0 grammar none_is_unfit)
 
 pub row_fine : (n : ℕ) → fine_by (row n).form (row n) ≡ true
-row_fine n = (and_parts (fine_by (row n).form (row n)) (low_by (row n).counting (row n).rank (row n).parts && exact_by (row n).form (row n)) (both_fine n)).0
+row_fine n = (and_parts (fine_by (row n).form (row n)) (low_by (row n).counting (row n).rank (row n).parts && (exact_by (row n).form (row n) && short (row n))) (both_fine n)).0
 
 low_parts : (n : ℕ) → low_by (row n).counting (row n).rank (row n).parts ≡ true
 low_parts n =
-    let others = (and_parts (fine_by (row n).form (row n)) (low_by (row n).counting (row n).rank (row n).parts && exact_by (row n).form (row n)) (both_fine n)).1 in
-    (and_parts (low_by (row n).counting (row n).rank (row n).parts) (exact_by (row n).form (row n)) others).0
+    let others = (and_parts (fine_by (row n).form (row n)) (low_by (row n).counting (row n).rank (row n).parts && (exact_by (row n).form (row n) && short (row n))) (both_fine n)).1 in
+    (and_parts (low_by (row n).counting (row n).rank (row n).parts) (exact_by (row n).form (row n) && short (row n)) others).0
+
+pub row_short : (n : ℕ) → length (row n).parts < 100
+row_short n =
+    let others = (and_parts (fine_by (row n).form (row n)) (low_by (row n).counting (row n).rank (row n).parts && (exact_by (row n).form (row n) && short (row n))) (both_fine n)).1 in
+    let last = (and_parts (low_by (row n).counting (row n).rank (row n).parts) (exact_by (row n).form (row n) && short (row n)) others).1 in
+    ltb-true (length (row n).parts) 100 (and_parts (exact_by (row n).form (row n)) (short (row n)) last).1
 
 abbrev pub lower : ℕ → Part → Bool
 lower b p = nat_lt (rank_of p) b || is_word p

@@ -1,6 +1,7 @@
 //! Syntax trees.
 
 use crate::label::{Label, Span};
+use df_base::Pos;
 use df_tok::Kind;
 
 /// A token that is kept: its number, what it is, and of a string literal how it is written.
@@ -16,4 +17,11 @@ pub struct Mark {
 pub enum Ast {
     Leaf(Mark),
     Node(Label, Span, Vec<Ast>),
+}
+
+/// The syntax tree of a source, and where its tokens stand.
+#[derive(Drop)]
+pub struct Tree {
+    pub items: Vec<Ast>,
+    pub places: Vec<Pos>,
 }

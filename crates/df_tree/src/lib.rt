@@ -11,7 +11,7 @@ mod row;
 mod table;
 mod terminal;
 
-pub use ast::{Ast, Mark};
+pub use ast::{Ast, Mark, Tree};
 pub use label::{Label, Span, Way};
 pub use row::{Counting, Form, GrammarRow, Part, Production};
 pub use table::{
