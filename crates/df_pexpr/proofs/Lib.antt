@@ -1,0 +1,5 @@
+pub mod Walk
+pub mod Complete
+pub mod Sound
+pub mod Built
+pub mod Spelled

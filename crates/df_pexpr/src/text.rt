@@ -1,0 +1,103 @@
+//! Whole texts, and parts of them.
+
+ghost use Rattle.std.specs.Prelude.{◌≡◌, ℕ, ◌<◌, ◌^◌, map, length, IfOk, Err};
+ghost use Rattle.df_base.specs.declared.refusal.Refusal.{Refusal};
+ghost use Rattle.df_base.specs.declared.refusal.Code.TheVariants as codes;
+ghost use Rattle.df_base.specs.declared.refusal.Detail.TheVariants as details;
+ghost use Rattle.df_base.specs.declared.refusal.Stop.TheVariants.{Refused};
+ghost use Rattle.df_tok.specs.Token.{view};
+ghost use Rattle.df_tree.specs.Tree.{Tree};
+ghost use Rattle.df_tree.specs.Ast.{asts_of, ast_of};
+ghost use Rattle.df_tree.specs.Grammar.{depth_limit, IsTreeOf, IsPartAt};
+ghost use Rattle.df_tree.specs.Spelling.{IsAstOf, IsAstAt};
+ghost use Rattle.df_pexpr.specs.Construction.{attempt_of, attempt_from};
+
+use crate::building::{Outcome, opened};
+use crate::height::HEIGHT_LIMIT;
+use crate::reader::read_part;
+use df_base::{Code, Detail, Pos, Refusal, Stop};
+use df_tok::{Token, Tokens};
+use df_tree::{Ast, Part};
+use std::alloc::{AllocError, Global};
+
+/// How many nodes may then stand inside one another: for each height one of each rank of the table.
+fn depth_limit() -> usize
+    ensures { result ≡ depth_limit }
+{
+    10251
+}
+
+/// Reads a tree of the production from a token on.
+fn read(
+    alloc: Global,
+    tokens: &[Token],
+    start: usize,
+    production: u16,
+) -> Result<Outcome, AllocError>
+    ensures { IfOk result (λ found. attempt_of found ≡ attempt_from production (map view tokens.now) start) }
+{
+    let frame = opened(alloc, start);
+    let left = depth_limit();
+    let part = Part::Nonterminal(production);
+    read_part(alloc, tokens, start, part, left, HEIGHT_LIMIT, 0, frame)
+}
+
+/// The position of the token of a number, or of the last one where there is none.
+fn pos_at(tokens: &[Token], at: usize) -> Pos {
+    match tokens.get(at) {
+        Some(token) => token.pos,
+        None => match tokens {
+            [.., last] => last.pos,
+            [] => Pos { line: 1, col: 1 },
+        },
+    }
+}
+
+/// The syntax is refused, at the token of a number.
+fn syntax(tokens: &[Token], at: usize) -> Refusal
+    ensures code { result.code ≡ codes.Syntax }
+    ensures detail { result.detail ≡ details.Nothing }
+{
+    Refusal {
+        code: Code::Syntax,
+        pos: pos_at(tokens, at),
+        detail: Detail::Nothing,
+    }
+}
+
+/// The syntax tree of the production that the tokens spell from token `start` on, counted from 0, and the number of the
+/// token after it, which cannot continue it. Where there is none, the syntax is refused, at the token where reading stopped.
+pub fn part(
+    alloc: Global,
+    tokens: &Tokens,
+    start: usize,
+    production: u16,
+) -> Result<(Vec<Ast>, usize), Stop>
+    ensures part { IfOk result (λ x. IsAstAt production (map view tokens.now.all.items) start x.1 (asts_of (map ast_of x.0.items))) }
+    ensures refused { (r : Refusal) → result ≡ Err (Refused r) → (after : ℕ) (t : Tree) → IsPartAt production (map view tokens.now.all.items) start after t → ⊥ }
+    ensures syntax { (r : Refusal) → result ≡ Err (Refused r) → (r.code ≡ codes.Syntax) × (r.detail ≡ details.Nothing) }
+{
+    match read(alloc, &tokens.all, start, production)? {
+        Outcome::Stopped(stop) => Err(Stop::Refused(syntax(&tokens.all, stop))),
+        Outcome::Built(found) => Ok((found.frame.items, found.behind)),
+    }
+}
+
+/// The syntax tree of the production that all of the tokens spell. Where there is none, the syntax is refused, at the token
+/// where reading stopped.
+pub fn whole(alloc: Global, tokens: &Tokens, production: u16) -> Result<Vec<Ast>, Stop>
+    ensures whole { IfOk result (λ items. IsAstOf production (map view tokens.now.all.items) (asts_of (map ast_of items.items))) }
+    ensures refused { (r : Refusal) → result ≡ Err (Refused r) → (t : Tree) → IsTreeOf production (map view tokens.now.all.items) t → ⊥ }
+    ensures syntax { (r : Refusal) → result ≡ Err (Refused r) → (r.code ≡ codes.Syntax) × (r.detail ≡ details.Nothing) }
+{
+    match read(alloc, &tokens.all, 0, production)? {
+        Outcome::Stopped(stop) => Err(Stop::Refused(syntax(&tokens.all, stop))),
+        Outcome::Built(found) => {
+            if found.behind < tokens.all.len() {
+                Err(Stop::Refused(syntax(&tokens.all, found.behind)))
+            } else {
+                Ok(found.frame.items)
+            }
+        }
+    }
+}

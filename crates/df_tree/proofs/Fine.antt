@@ -1,0 +1,148 @@
+-- What the columns of a production have to be, for those of its parts.
+use Rattle.std.proofs.Common.{◌≡◌, ℕ, zero, suc, ◌+◌, nat_lt, Bool, true, false, not, ◌&&◌, ◌||◌, List, [], ◌∷◌, ◌++◌, length, slice_get, if◌then◌else◌, refl, ltb-true, arith, ◌≤◌, ◌<◌}
+use Rattle.std.specs.List.{list_all}
+use Rattle.std.specs.Option.{option_map_or}
+use Rattle.std.proofs.lemmas.Bool.{and_parts}
+use Rattle.df_tree.specs.declared.row.Counting.{Counting}
+use Rattle.df_tree.specs.declared.row.Counting.TheVariants.{Never, Always, IfMore, Each}
+use Rattle.df_tree.specs.declared.row.Form.{Form}
+use Rattle.df_tree.specs.declared.row.Form.TheVariants.{All, One, Many}
+use Rattle.df_tree.specs.declared.row.Part.{Part}
+use Rattle.df_tree.specs.declared.row.Part.TheVariants.{Terminal, Nonterminal}
+use Rattle.df_tree.specs.Row.{Row}
+use Rattle.df_tree.specs.Grammar.{grammar, classes, kinds_of, nothing, row, is_nil}
+use Rattle.df_tree.proofs.Classes.{subset, apart}
+
+abbrev pub first_of : Part → List ℕ
+first_of (Terminal kind) = kind ∷ []
+first_of (Nonterminal n) = kinds_of (row n).first
+
+abbrev pub empty_of : Part → Bool
+empty_of (Terminal kind) = false
+empty_of (Nonterminal n) = (row n).empty
+
+-- These kinds may come behind the part.
+abbrev pub follows : List ℕ → Part → Bool
+follows kinds (Terminal kind) = true
+follows kinds (Nonterminal n) = subset kinds (kinds_of (row n).follow)
+
+-- the kinds with which the parts begin, or, where they may have no tokens, what is behind them
+abbrev pub first_of_all : List Part → List ℕ → List ℕ
+first_of_all [] behind = behind
+first_of_all (p ∷ ps) behind = first_of p ++ (if empty_of p then first_of_all ps behind else [])
+
+abbrev pub is_word : Part → Bool
+is_word (Terminal kind) = true
+is_word (Nonterminal n) = false
+
+-- what begins as its parts do
+abbrev pub wide : Row → Bool
+wide r = not r.narrow && is_nil (kinds_of r.second)
+
+abbrev pub all_fine : List ℕ → List Part → Bool
+all_fine behind [] = true
+all_fine behind (p ∷ ps) = follows (first_of_all ps behind) p && all_fine behind ps
+
+abbrev pub choice_fine : List ℕ → List ℕ → List Part → Bool
+choice_fine behind first [] = true
+choice_fine behind first (p ∷ ps) =
+    not (empty_of p) && (subset (first_of p) first && (follows behind p && (list_all (λ q. apart (first_of p) (first_of q)) ps && choice_fine behind first ps)))
+
+-- Where it may end, none of its parts begins.
+abbrev pub stops : Row → Bool
+stops r = r.greedy || (not r.empty || apart (kinds_of r.first) (kinds_of r.follow))
+
+abbrev pub fine_by : Form → Row → Bool
+fine_by All r = (r.narrow || (wide r && subset (first_of_all r.parts []) (kinds_of r.first))) && ((r.empty || not (list_all empty_of r.parts)) && all_fine (kinds_of r.follow) r.parts)
+fine_by One r = wide r && (stops r && choice_fine (kinds_of r.follow) (kinds_of r.first) r.parts)
+fine_by Many r = wide r && (stops r && (r.empty && choice_fine (kinds_of r.first ++ kinds_of r.follow) (kinds_of r.first) r.parts))
+
+-- a production that may not be counted is of a higher rank than its parts
+abbrev pub rank_of : Part → ℕ
+rank_of (Terminal kind) = 0
+rank_of (Nonterminal n) = (row n).rank
+
+abbrev pub top_rank : ℕ
+top_rank = 50
+
+abbrev pub bound : Counting → ℕ → ℕ
+bound Always rank = top_rank + 1
+bound Each rank = top_rank + 1
+bound Never rank = rank
+bound IfMore rank = rank
+
+abbrev pub low_by : Counting → ℕ → List Part → Bool
+low_by counting rank parts = nat_lt rank (top_rank + 1) && list_all (λ p. nat_lt (rank_of p) (bound counting rank) || is_word p) parts
+
+-- It begins with no other kinds than its parts do: a class that is too large would refuse texts.
+abbrev firsts_of : List Part → List ℕ
+firsts_of [] = []
+firsts_of (p ∷ ps) = first_of p ++ firsts_of ps
+
+abbrev exact_by : Form → Row → Bool
+exact_by All r = subset (kinds_of r.first) (first_of_all r.parts [])
+exact_by One r = subset (kinds_of r.first) (firsts_of r.parts)
+exact_by Many r = subset (kinds_of r.first) (firsts_of r.parts)
+
+-- It has few parts.
+abbrev short : Row → Bool
+short r = nat_lt (length r.parts) 100
+
+abbrev pub fine : Row → Bool
+fine r = fine_by r.form r && (low_by r.counting r.rank r.parts && (exact_by r.form r && short r))
+
+-- the numbers of the productions whose columns are wrong
+unfit : ℕ → List Row → List ℕ
+unfit n [] = []
+unfit n (r ∷ rows) = if fine r then unfit (n + 1) rows else n ∷ unfit (n + 1) rows
+
+none_is_unfit : unfit 0 grammar ≡ []
+unfolding unfit grammar row kinds_of classes
+none_is_unfit = refl
+
+all_fit : (n : ℕ) (rows : List Row) → unfit n rows ≡ [] → list_all fine rows ≡ true
+unfolding unfit
+all_fit n [] e = refl
+all_fit n (r ∷ rows) e = fits (fine r) e (λ f. all_fit (n + 1) rows f)
+  where
+    fits : (b : Bool) → (if b then unfit (n + 1) rows else n ∷ unfit (n + 1) rows) ≡ [] → (unfit (n + 1) rows ≡ [] → list_all fine rows ≡ true) → (b && list_all fine rows) ≡ true
+    fits true e others = others e
+    fits false e others = absurd cc
+
+nothing_fine : fine nothing ≡ true
+unfolding kinds_of classes
+nothing_fine = refl
+
+entry_fine : (rows : List Row) (n : ℕ) → list_all fine rows ≡ true → fine (option_map_or (λ r. r) (slice_get rows n) nothing) ≡ true
+entry_fine [] n all = nothing_fine
+entry_fine (r ∷ rows) zero all = (and_parts (fine r) (list_all fine rows) all).0
+entry_fine (r ∷ rows) (suc n) all = entry_fine rows n (and_parts (fine r) (list_all fine rows) all).1
+
+both_fine : (n : ℕ) → fine (row n) ≡ true
+unfolding row
+both_fine n = entry_fine grammar n (all_fit 0 grammar none_is_unfit)
+
+pub row_fine : (n : ℕ) → fine_by (row n).form (row n) ≡ true
+row_fine n = (and_parts (fine_by (row n).form (row n)) (low_by (row n).counting (row n).rank (row n).parts && (exact_by (row n).form (row n) && short (row n))) (both_fine n)).0
+
+low_parts : (n : ℕ) → low_by (row n).counting (row n).rank (row n).parts ≡ true
+low_parts n =
+    let others = (and_parts (fine_by (row n).form (row n)) (low_by (row n).counting (row n).rank (row n).parts && (exact_by (row n).form (row n) && short (row n))) (both_fine n)).1 in
+    (and_parts (low_by (row n).counting (row n).rank (row n).parts) (exact_by (row n).form (row n) && short (row n)) others).0
+
+pub row_short : (n : ℕ) → length (row n).parts < 100
+row_short n =
+    let others = (and_parts (fine_by (row n).form (row n)) (low_by (row n).counting (row n).rank (row n).parts && (exact_by (row n).form (row n) && short (row n))) (both_fine n)).1 in
+    let last = (and_parts (low_by (row n).counting (row n).rank (row n).parts) (exact_by (row n).form (row n) && short (row n)) others).1 in
+    ltb-true (length (row n).parts) 100 (and_parts (exact_by (row n).form (row n)) (short (row n)) last).1
+
+abbrev pub lower : ℕ → Part → Bool
+lower b p = nat_lt (rank_of p) b || is_word p
+
+pub row_low : (n : ℕ) → list_all (lower (bound (row n).counting (row n).rank)) (row n).parts ≡ true
+row_low n = (and_parts (nat_lt (row n).rank (top_rank + 1)) (list_all (lower (bound (row n).counting (row n).rank)) (row n).parts) (low_parts n)).1
+
+pub row_rank : (n : ℕ) → (row n).rank ≤ top_rank
+row_rank n =
+    let e = (and_parts (nat_lt (row n).rank (top_rank + 1)) (list_all (lower (bound (row n).counting (row n).rank)) (row n).parts) (low_parts n)).0 in
+    omega (arith, ltb-true (row n).rank (top_rank + 1) e)

@@ -1,0 +1,9 @@
+pub mod Classes
+pub mod Fine
+pub mod Begun
+pub mod Chosen
+pub mod Followed
+pub mod Deep
+pub mod Furthest
+pub mod Kept
+pub mod Lying

@@ -1,0 +1,9 @@
+pub use Rattle.df_tok.specs.Token
+pub mod Terminal
+pub mod Tree
+pub mod Ast
+pub mod Row
+pub mod Grammar
+pub mod Building
+pub mod Furthest
+pub mod Spelling

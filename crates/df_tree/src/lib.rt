@@ -1,0 +1,37 @@
+//! Syntax trees of sources, and their grammar: a table of productions. A tree of the productions spells tokens; from it
+//! the syntax tree follows, a node for each construct.
+#![tactic(auto)]
+
+ghost use Rattle.df_tree.specs.Spelling.{KeepsAll, LiesInText};
+ghost use Rattle.df_tree.specs.Furthest.{IsFurthest, IsFurthestPart};
+
+mod ast;
+mod label;
+mod row;
+mod table;
+mod terminal;
+
+pub use ast::{Ast, Mark, Tree};
+pub use label::{Label, Span, Way};
+pub use row::{Counting, Form, GrammarRow, Part, Production};
+pub use table::{
+    EXPRESSION, FILE, FIRST_CLASS, KEPT, NONE, NOTHING, PATTERN, TYPE, class_list, rows,
+};
+pub use terminal::terminal_of;
+
+/// Syntax trees keep the tokens that matter, in their order.
+pub fn keeps_all()
+    ensures { KeepsAll }
+{}
+
+/// Their tokens and nodes stand in order, each within the text of the node around it.
+pub fn lies_in_text()
+    ensures { LiesInText }
+{}
+
+/// Where another derivation of some tokens by the productions first differs from the tree of the grammar, a production ends
+/// in it that goes on in the tree.
+pub fn reaches_furthest()
+    ensures text { IsFurthest }
+    ensures part { IsFurthestPart }
+{}
