@@ -6,6 +6,7 @@ use Rattle.df_meaning.specs.Value.{Value, Truth, Character, Number, number_of, t
 use Rattle.df_form.specs.Truth.{Assignment, value_at, number_at, code_in}
 use Rattle.df_axiom.specs.declared.table.TheConstants.{CODE_AT_LEAST, CODE_AT_MOST, CHARACTER_OF_CODE, CODE_OF_CHARACTER}
 use Rattle.df_axiom.specs.Template.{entry}
+use Rattle.df_form.proofs.Tested.{of_character, of_number}
 use Rattle.df_axiom.proofs.Facts.{IsSound}
 use Rattle.df_axiom.proofs.Products.{code_from_zero, code_at_most, code_again, code_of_number}
 use Rattle.df_axiom.proofs.Numbers.{yes_one, no_no_yes, equal_truth, at_most_truth, same_numbers}
@@ -21,21 +22,21 @@ module _ (depth : ℕ) (world : World) (assignment : Assignment) where
 
   pub at_least_sound : IsSound depth world assignment (entry CODE_AT_LEAST).template
   at_least_sound w ps ss pieces same needed =
-      let x = one_character (ss 0) (ps 0) pieces.1.1 pieces.1.2 in
+      let x = one_character (ss 0) (ps 0) (of_character (ss 0) pieces.1.1) pieces.1.2 in
       let here = code_number (w 0) (ps 0) x.c pieces.1.0 x.is in
       let w3 = at_most_truth (w 3) (w 2) (w 0) (pos 0) (pos x.c) needed.1.0 needed.0 here in
       yes_one (truth_of (w 3)) (w3 ∙ code_from_zero x.c)
 
   pub at_most_sound : IsSound depth world assignment (entry CODE_AT_MOST).template
   at_most_sound w ps ss pieces same needed =
-      let x = one_character (ss 0) (ps 0) pieces.1.1 pieces.1.2 in
+      let x = one_character (ss 0) (ps 0) (of_character (ss 0) pieces.1.1) pieces.1.2 in
       let here = code_number (w 0) (ps 0) x.c pieces.1.0 x.is in
       let w3 = at_most_truth (w 3) (w 0) (w 2) (pos x.c) (pos 127) needed.1.0 here needed.0 in
       yes_one (truth_of (w 3)) (w3 ∙ code_at_most x.c x.small)
 
   pub again_sound : IsSound depth world assignment (entry CHARACTER_OF_CODE).template
   again_sound w ps ss pieces same needed =
-      let x = one_character (ss 0) (ps 0) pieces.1.1 pieces.1.2 in
+      let x = one_character (ss 0) (ps 0) (of_character (ss 0) pieces.1.1) pieces.1.2 in
       let here = code_number (w 0) (ps 0) x.c pieces.1.0 x.is in
       let part : w 1 ≡ Character x.c = pieces.2.0 ∙ ap (λ (us : List Value). value_at us 0) x.is in
       let w2 : w 2 ≡ Character x.c = needed.0 ∙ ap (λ (v : Value). Character (code_in (number_of v))) here ∙ ap (λ (c : ℕ). Character c) (code_again x.c x.small) in
@@ -44,7 +45,7 @@ module _ (depth : ℕ) (world : World) (assignment : Assignment) where
   -- chr(x) is place 0, and x is 1
   pub character_sound : IsSound depth world assignment (entry CODE_OF_CHARACTER).template
   character_sound w ps ss pieces same needed =
-      let x = one_number (ss 0) (ps 0) pieces.1.1 pieces.1.2 in
+      let x = one_number (ss 0) (ps 0) (of_number (ss 0) pieces.1.1) pieces.1.2 in
       let part = pieces.2.0 ∙ ap (λ (us : List Value). value_at us 0) x.is in
       let here : w 0 ≡ Character (code_in x.n) = pieces.1.0 ∙ ap (λ (us : List Value). Character (code_in (number_at us 0))) x.is in
       let w3 = at_most_truth (w 3) (w 2) (w 1) (pos 0) x.n needed.1.0 needed.0 part in

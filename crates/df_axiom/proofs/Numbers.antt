@@ -13,6 +13,7 @@ use Rattle.df_form.specs.Node.{same_sort}
 use Rattle.df_form.specs.Sorting.{are_two}
 use Rattle.df_form.specs.Truth.{Assignment, has_sort, value_at, number_at, quotient, remainder}
 use Rattle.df_form.proofs.Same.{same_sort_equal}
+use Rattle.df_form.proofs.Tested.{of_quotient, of_remainder}
 use Rattle.df_axiom.specs.declared.table.TheConstants.{PARTS_OF_QUOTIENT, PARTS_OF_REMAINDER, REMAINDER_AT_LEAST, REMAINDER_BELOW, REMAINDER_BELOW_OPPOSITE, FACTORS_CHANGE, FACTORS_JOIN, FACTOR_GOES_IN, LITERAL_COMES_FIRST, PRODUCT_AT_LEAST, PRODUCTS_COMPARE}
 use Rattle.df_axiom.specs.Template.{entry}
 use Rattle.df_axiom.proofs.Facts.{AreOf, IsSound}
@@ -122,7 +123,7 @@ times x y = x *ℤ y
 module _ (depth : ℕ) (world : World) (assignment : Assignment) where
   pub quotient_sound : IsSound depth world assignment (entry PARTS_OF_QUOTIENT).template
   quotient_sound w ps ss pieces same needed =
-      let t = whole_of quotient (w 0) (w 1) (w 2) (ss 0) (ps 0) pieces.1.0 pieces.1.1 pieces.1.2 pieces.2.0 pieces.2.2.0 in
+      let t = whole_of quotient (w 0) (w 1) (w 2) (ss 0) (ps 0) pieces.1.0 (of_quotient (ss 0) pieces.1.1) pieces.1.2 pieces.2.0 pieces.2.2.0 in
       let zero_test = equal_truth (w 4) (w 2) (w 3) t.n (pos 0) needed.1.0 t.right_is needed.0 in
       let w5 = number_of_two times (w 5) (w 2) (w 0) t.n (quotient t.m t.n) needed.1.1.0 t.right_is t.whole in
       let w6 = number_of_two remainder (w 6) (w 1) (w 2) t.m t.n needed.1.1.1.0 t.left_is t.right_is in
@@ -132,7 +133,7 @@ module _ (depth : ℕ) (world : World) (assignment : Assignment) where
 
   pub remainder_sound : IsSound depth world assignment (entry PARTS_OF_REMAINDER).template
   remainder_sound w ps ss pieces same needed =
-      let t = whole_of remainder (w 0) (w 1) (w 2) (ss 0) (ps 0) pieces.1.0 pieces.1.1 pieces.1.2 pieces.2.0 pieces.2.2.0 in
+      let t = whole_of remainder (w 0) (w 1) (w 2) (ss 0) (ps 0) pieces.1.0 (of_remainder (ss 0) pieces.1.1) pieces.1.2 pieces.2.0 pieces.2.2.0 in
       let zero_test = equal_truth (w 4) (w 2) (w 3) t.n (pos 0) needed.1.0 t.right_is needed.0 in
       let w5 = number_of_two quotient (w 5) (w 1) (w 2) t.m t.n needed.1.1.0 t.left_is t.right_is in
       let w6 = number_of_two times (w 6) (w 2) (w 5) t.n (quotient t.m t.n) needed.1.1.1.0 t.right_is w5 in
@@ -142,14 +143,14 @@ module _ (depth : ℕ) (world : World) (assignment : Assignment) where
 
   pub at_least_sound : IsSound depth world assignment (entry REMAINDER_AT_LEAST).template
   at_least_sound w ps ss pieces same needed =
-      let t = whole_of remainder (w 0) (w 1) (w 2) (ss 0) (ps 0) pieces.1.0 pieces.1.1 pieces.1.2 pieces.2.0 pieces.2.2.0 in
+      let t = whole_of remainder (w 0) (w 1) (w 2) (ss 0) (ps 0) pieces.1.0 (of_remainder (ss 0) pieces.1.1) pieces.1.2 pieces.2.0 pieces.2.2.0 in
       let zero_test = equal_truth (w 4) (w 2) (w 3) t.n (pos 0) needed.1.0 t.right_is needed.0 in
       let w5 = at_most_truth (w 5) (w 3) (w 0) (pos 0) (remainder t.m t.n) needed.1.1.0 needed.0 t.whole in
       yes_yes (truth_of (w 4)) (truth_of (w 5)) (λ none. w5 ∙ remainder_from_zero t.m t.n (sym zero_test ∙ none))
 
   pub below_sound : IsSound depth world assignment (entry REMAINDER_BELOW).template
   below_sound w ps ss pieces same needed =
-      let t = whole_of remainder (w 0) (w 1) (w 2) (ss 0) (ps 0) pieces.1.0 pieces.1.1 pieces.1.2 pieces.2.0 pieces.2.2.0 in
+      let t = whole_of remainder (w 0) (w 1) (w 2) (ss 0) (ps 0) pieces.1.0 (of_remainder (ss 0) pieces.1.1) pieces.1.2 pieces.2.0 pieces.2.2.0 in
       let w4 = at_most_truth (w 4) (w 3) (w 2) (pos 1) t.n needed.1.0 needed.0 t.right_is in
       let w5 = number_of_two plus (w 5) (w 0) (w 3) (remainder t.m t.n) (pos 1) needed.1.1.0 t.whole needed.0 in
       let w6 = at_most_truth (w 6) (w 5) (w 2) (remainder t.m t.n +ℤ pos 1) t.n needed.1.1.1.0 w5 t.right_is in
@@ -157,7 +158,7 @@ module _ (depth : ℕ) (world : World) (assignment : Assignment) where
 
   pub below_opposite_sound : IsSound depth world assignment (entry REMAINDER_BELOW_OPPOSITE).template
   below_opposite_sound w ps ss pieces same needed =
-      let t = whole_of remainder (w 0) (w 1) (w 2) (ss 0) (ps 0) pieces.1.0 pieces.1.1 pieces.1.2 pieces.2.0 pieces.2.2.0 in
+      let t = whole_of remainder (w 0) (w 1) (w 2) (ss 0) (ps 0) pieces.1.0 (of_remainder (ss 0) pieces.1.1) pieces.1.2 pieces.2.0 pieces.2.2.0 in
       let w4 = at_most_truth (w 4) (w 2) (w 3) t.n (negsuc 0) needed.1.0 t.right_is needed.0 in
       let w6 = number_of_two plus (w 6) (w 0) (w 5) (remainder t.m t.n) (pos 1) needed.1.1.1.0 t.whole needed.1.1.0 in
       let w7 = number_of_two times (w 7) (w 3) (w 2) (negsuc 0) t.n needed.1.1.1.1.0 needed.0 t.right_is in

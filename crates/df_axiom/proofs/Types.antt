@@ -13,7 +13,13 @@ use Rattle.df_form.specs.declared.node.Sort.{Sort}
 use Rattle.df_form.specs.declared.node.Sort.TheVariants as sorts
 use Rattle.df_form.specs.declared.node.Op.{Op}
 use Rattle.df_form.specs.declared.node.Op.TheVariants as ops
-use Rattle.df_form.specs.Sorting.{is_one, is_tested}
+use Rattle.df_form.specs.declared.symbol.Symbol.TheVariants as symbols
+use Rattle.df_form.specs.declared.symbol.Payload.TheVariants as payloads
+use Rattle.df_form.specs.Symbol.{is_testable}
+use Rattle.df_form.specs.Types.{sort_of_type}
+use Rattle.df_form.specs.Node.{test_of}
+use Rattle.df_form.specs.Sorting.{is_one}
+use Rattle.df_form.proofs.Tested.{of_test}
 use Rattle.df_form.specs.Truth.{Assignment, has_sort, value_at}
 use Rattle.df_form.proofs.Same.{same_sort_equal}
 use Rattle.df_axiom.specs.Template.{Template}
@@ -56,7 +62,7 @@ module _ (depth : ℕ) (world : World) (assignment : Assignment) where
   -- "x is of the newtype" is place 0, and x is 1
   module _ (t : ℕ) (newtype : Ends) (named : ends_at world t ≡ Some newtype) where
     abbrev op : Op
-    op = ops.Is (types.Newtype t)
+    op = test_of (types.Newtype t)
 
     type_truth : (v : Value) (vs : List Value) (n : ℤ) → v ≡ Truth (has_type world (types.Newtype t) (value_at vs 0)) → vs ≡ Number n ∷ [] → truth_of v ≡ (int_le newtype.low n && int_le n newtype.high)
     type_truth v vs n e is = ap truth_of e ∙ ap (λ (us : List Value). has_type world (types.Newtype t) (value_at us 0)) is ∙ ap (λ (found : Option Ends). option_map_or (λ (one : Ends). is_within one n) found false) named
@@ -69,19 +75,19 @@ module _ (depth : ℕ) (world : World) (assignment : Assignment) where
 
     pub interval_sound : (k : ℕ) (template : Template) → interval_template op newtype.low newtype.high k ≡ Some template → IsSound depth world assignment template
     interval_sound zero template e = subst (IsSound depth world assignment) (same_Some _ template e) (λ w ps ss pieces same needed.
-        let x = one_number (ss 0) (ps 0) pieces.1.1 pieces.1.2 in
+        let x = one_number (ss 0) (ps 0) (of_test (types.Newtype t) (ss 0) pieces.1.1).1 pieces.1.2 in
         let here = type_truth (w 0) (ps 0) x.n pieces.1.0 x.is in
         let part = pieces.2.0 ∙ ap (λ (us : List Value). value_at us 0) x.is in
         let w3 = at_most_truth (w 3) (w 2) (w 1) newtype.low x.n needed.1.0 needed.0 part in
         no_yes (truth_of (w 0)) (truth_of (w 3)) (λ is. w3 ∙ low_side (truth_of (w 0)) (int_le newtype.low x.n) (int_le x.n newtype.high) here is))
     interval_sound (suc zero) template e = subst (IsSound depth world assignment) (same_Some _ template e) (λ w ps ss pieces same needed.
-        let x = one_number (ss 0) (ps 0) pieces.1.1 pieces.1.2 in
+        let x = one_number (ss 0) (ps 0) (of_test (types.Newtype t) (ss 0) pieces.1.1).1 pieces.1.2 in
         let here = type_truth (w 0) (ps 0) x.n pieces.1.0 x.is in
         let part = pieces.2.0 ∙ ap (λ (us : List Value). value_at us 0) x.is in
         let w3 = at_most_truth (w 3) (w 1) (w 2) x.n newtype.high needed.1.0 part needed.0 in
         no_yes (truth_of (w 0)) (truth_of (w 3)) (λ is. w3 ∙ high_side (truth_of (w 0)) (int_le newtype.low x.n) (int_le x.n newtype.high) here is))
     interval_sound (suc (suc zero)) template e = subst (IsSound depth world assignment) (same_Some _ template e) (λ w ps ss pieces same needed.
-        let x = one_number (ss 0) (ps 0) pieces.1.1 pieces.1.2 in
+        let x = one_number (ss 0) (ps 0) (of_test (types.Newtype t) (ss 0) pieces.1.1).1 pieces.1.2 in
         let here = type_truth (w 0) (ps 0) x.n pieces.1.0 x.is in
         let part = pieces.2.0 ∙ ap (λ (us : List Value). value_at us 0) x.is in
         let w3 = at_most_truth (w 3) (w 2) (w 1) newtype.low x.n needed.1.0 needed.0 part in
@@ -93,15 +99,15 @@ module _ (depth : ℕ) (world : World) (assignment : Assignment) where
   natural_truth : (v : Value) (vs : List Value) (n : ℤ) → v ≡ Truth (has_type world types.Nat (value_at vs 0)) → vs ≡ Number n ∷ [] → truth_of v ≡ int_le (pos 0) n
   natural_truth v vs n e is = ap truth_of e ∙ ap (λ (us : List Value). has_type world types.Nat (value_at us 0)) is
 
-  natural_sound : (k : ℕ) (template : Template) → natural_template (ops.Is types.Nat) k ≡ Some template → IsSound depth world assignment template
+  natural_sound : (k : ℕ) (template : Template) → natural_template (test_of types.Nat) k ≡ Some template → IsSound depth world assignment template
   natural_sound zero template e = subst (IsSound depth world assignment) (same_Some _ template e) (λ w ps ss pieces same needed.
-      let x = one_number (ss 0) (ps 0) pieces.1.1 pieces.1.2 in
+      let x = one_number (ss 0) (ps 0) (of_test types.Nat (ss 0) pieces.1.1).1 pieces.1.2 in
       let here = natural_truth (w 0) (ps 0) x.n pieces.1.0 x.is in
       let part = pieces.2.0 ∙ ap (λ (us : List Value). value_at us 0) x.is in
       let w3 = at_most_truth (w 3) (w 2) (w 1) (pos 0) x.n needed.1.0 needed.0 part in
       no_yes (truth_of (w 0)) (truth_of (w 3)) (λ is. w3 ∙ sym here ∙ is))
   natural_sound (suc zero) template e = subst (IsSound depth world assignment) (same_Some _ template e) (λ w ps ss pieces same needed.
-      let x = one_number (ss 0) (ps 0) pieces.1.1 pieces.1.2 in
+      let x = one_number (ss 0) (ps 0) (of_test types.Nat (ss 0) pieces.1.1).1 pieces.1.2 in
       let here = natural_truth (w 0) (ps 0) x.n pieces.1.0 x.is in
       let part = pieces.2.0 ∙ ap (λ (us : List Value). value_at us 0) x.is in
       let w3 = at_most_truth (w 3) (w 2) (w 1) (pos 0) x.n needed.1.0 needed.0 part in
@@ -110,24 +116,24 @@ module _ (depth : ℕ) (world : World) (assignment : Assignment) where
 
   -- all values of the sort of a type are of it
   abbrev HasAll : Ty → Type 0
-  HasAll ty = (ss : List Sort) (vs : List Value) → is_tested ty ss ≡ true → AreOf ss vs → has_type world ty (value_at vs 0) ≡ true
+  HasAll ty = (ss : List Sort) (vs : List Value) → (is_testable ty ≡ true) × (is_one (sort_of_type ty) ss ≡ true) → AreOf ss vs → has_type world ty (value_at vs 0) ≡ true
 
   int_holds : HasAll types.Int
-  int_holds ss vs taken zip = ap (λ (us : List Value). has_type world types.Int (value_at us 0)) (one_number ss vs taken zip).is
+  int_holds ss vs taken zip = ap (λ (us : List Value). has_type world types.Int (value_at us 0)) (one_number ss vs taken.1 zip).is
 
   bool_holds : HasAll types.Bool
-  bool_holds ss vs taken zip = absurd (true≢false (sym taken))
+  bool_holds ss vs taken zip = absurd (true≢false (sym taken.0))
 
   char_holds : HasAll types.Char
-  char_holds ss vs taken zip = let x = one_character ss vs taken zip in ap (λ (us : List Value). has_type world types.Char (value_at us 0)) x.is ∙ x.small
+  char_holds ss vs taken zip = let x = one_character ss vs taken.1 zip in ap (λ (us : List Value). has_type world types.Char (value_at us 0)) x.is ∙ x.small
 
-  always_sound : (ty : Ty) → HasAll ty → (k : ℕ) (template : Template) → always_template (ops.Is ty) k ≡ Some template → IsSound depth world assignment template
-  always_sound ty all zero template e = subst (IsSound depth world assignment) (same_Some _ template e) (λ w ps ss pieces same needed. yes_one (truth_of (w 0)) (ap truth_of pieces.1.0 ∙ all (ss 0) (ps 0) pieces.1.1 pieces.1.2))
+  always_sound : (ty : Ty) → HasAll ty → (k : ℕ) (template : Template) → always_template (test_of ty) k ≡ Some template → IsSound depth world assignment template
+  always_sound ty all zero template e = subst (IsSound depth world assignment) (same_Some _ template e) (λ w ps ss pieces same needed. yes_one (truth_of (w 0)) (ap truth_of pieces.1.0 ∙ all (ss 0) (ps 0) (of_test ty (ss 0) pieces.1.1) pieces.1.2))
   always_sound ty all (suc k) template e = absurd cc
 
   type_sound : (ty : Ty) (k : ℕ) (template : Template) → type_template world ty k ≡ Some template → IsSound depth world assignment template
   type_sound (types.Newtype t) k template e =
-      let found = then_some (λ (newtype : Ends). interval_template (ops.Is (types.Newtype t)) newtype.low newtype.high k) (ends_at world t) template e in
+      let found = then_some (λ (newtype : Ends). interval_template (test_of (types.Newtype t)) newtype.low newtype.high k) (ends_at world t) template e in
       interval_sound t found.0 found.1 k template found.2
   type_sound types.Int k template e = always_sound types.Int int_holds k template e
   type_sound types.Nat k template e = natural_sound k template e
@@ -135,5 +141,5 @@ module _ (depth : ℕ) (world : World) (assignment : Assignment) where
   type_sound types.Char k template e = always_sound types.Char char_holds k template e
 
   pub types_sound : (op : Op) (k : ℕ) (template : Template) → types_template world op k ≡ Some template → IsSound depth world assignment template
-  types_sound (ops.Is ty) k template e = type_sound ty k template e
+  types_sound (ops.Of symbols.Is (payloads.Type ty)) k template e = type_sound ty k template e
   types_sound op k template e = absurd cc

@@ -7,7 +7,9 @@ use Rattle.df_form.specs.World.{World, Ends, ends_at}
 use Rattle.df_form.specs.declared.log.Lit.{Lit}
 use Rattle.df_form.specs.declared.node.Op.{Op}
 use Rattle.df_form.specs.declared.node.Op.TheVariants as ops
-use Rattle.df_form.specs.Node.{Node}
+use Rattle.df_form.specs.declared.symbol.Symbol.TheVariants as symbols
+use Rattle.df_form.specs.declared.symbol.Payload.TheVariants as payloads
+use Rattle.df_form.specs.Node.{Node, test_of}
 use Rattle.df_form.specs.Clause.{yes, no}
 use Rattle.df_axiom.specs.declared.templates.Piece.{Piece}
 use Rattle.df_axiom.specs.declared.templates.Source.TheVariants as sources
@@ -52,12 +54,12 @@ always_template op zero = Some (of_one op [] (yes 0 ∷ []))
 always_template op (suc k) = None
 
 abbrev pub type_template : World → Ty → ℕ → Option Template
-type_template world (types.Newtype t) k = option_and_then (λ (newtype : Ends). interval_template (ops.Is (types.Newtype t)) newtype.low newtype.high k) (ends_at world t)
-type_template world types.Int k = always_template (ops.Is types.Int) k
-type_template world types.Nat k = natural_template (ops.Is types.Nat) k
-type_template world types.Bool k = always_template (ops.Is types.Bool) k
-type_template world types.Char k = always_template (ops.Is types.Char) k
+type_template world (types.Newtype t) k = option_and_then (λ (newtype : Ends). interval_template (test_of (types.Newtype t)) newtype.low newtype.high k) (ends_at world t)
+type_template world types.Int k = always_template (test_of types.Int) k
+type_template world types.Nat k = natural_template (test_of types.Nat) k
+type_template world types.Bool k = always_template (test_of types.Bool) k
+type_template world types.Char k = always_template (test_of types.Char) k
 
 abbrev pub types_template : World → Op → ℕ → Option Template
-types_template world (ops.Is ty) k = type_template world ty k
+types_template world (ops.Of symbols.Is (payloads.Type ty)) k = type_template world ty k
 types_template world op k = None

@@ -49,6 +49,7 @@ fn source_at<A: Arena>(nodes: &A, terms: &[Term], places: &[Term], source: Sourc
     }
 }
 
+#[tactic(auto, unfolding(df_form::specs::Symbol::same_symbol))]
 pub(crate) fn is_same_op(a: Op, b: Op) -> bool
     ensures { result ≡ same_op a b }
 {
@@ -63,18 +64,14 @@ fn is_literal(op: Op) -> bool
         Op::Free(_)
         | Op::Plus
         | Op::Times
-        | Op::Div
-        | Op::Mod
-        | Op::Code
-        | Op::Chr
-        | Op::Is(_)
         | Op::Equal
         | Op::AtMost
         | Op::Not
         | Op::And
         | Op::Or
         | Op::Implies
-        | Op::Iff => false,
+        | Op::Iff
+        | Op::Of(_, _) => false,
     }
 }
 

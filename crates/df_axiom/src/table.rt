@@ -5,10 +5,18 @@ ghost use Rattle.df_axiom.specs.Template.{entry_of};
 ghost use Rattle.df_axiom.specs.Schemas.{written};
 
 use crate::templates::{Need, Piece, Row, Source, Test};
-use df_form::{Lit, Op, Pair};
+use df_form::{Lit, Op, Pair, Payload, Symbol};
 
 /// A clause of a schema whose lists are constants.
 pub type SchemaRow = Row<&'static [Piece], &'static [Pair], &'static [Need], &'static [Lit]>;
+
+const DIV: Op = Op::Of(Symbol::Div, Payload::Nothing);
+
+const MOD: Op = Op::Of(Symbol::Mod, Payload::Nothing);
+
+const CODE: Op = Op::Of(Symbol::Code, Payload::Nothing);
+
+const CHR: Op = Op::Of(Symbol::Chr, Payload::Nothing);
 
 /// A named term, which is to be of the operation.
 macro_rules! named {
@@ -89,13 +97,13 @@ pub const PARTS_OF_QUOTIENT: SchemaRow = Row {
     schema: 1,
     clause: 0,
     terms: 1,
-    pieces: of_two!(Op::Div),
+    pieces: of_two!(DIV),
     same: &[],
     needed: &[
         Need::Number(0),
         Need::Two(Op::Equal, 2, 3),
         Need::Two(Op::Times, 2, 0),
-        Need::Two(Op::Mod, 1, 2),
+        Need::Two(MOD, 1, 2),
         Need::Two(Op::Plus, 5, 6),
         Need::Two(Op::Equal, 1, 7),
     ],
@@ -107,12 +115,12 @@ pub const PARTS_OF_REMAINDER: SchemaRow = Row {
     schema: 1,
     clause: 0,
     terms: 1,
-    pieces: of_two!(Op::Mod),
+    pieces: of_two!(MOD),
     same: &[],
     needed: &[
         Need::Number(0),
         Need::Two(Op::Equal, 2, 3),
-        Need::Two(Op::Div, 1, 2),
+        Need::Two(DIV, 1, 2),
         Need::Two(Op::Times, 2, 5),
         Need::Two(Op::Plus, 6, 0),
         Need::Two(Op::Equal, 1, 7),
@@ -125,7 +133,7 @@ pub const REMAINDER_AT_LEAST: SchemaRow = Row {
     schema: 2,
     clause: 0,
     terms: 1,
-    pieces: of_two!(Op::Mod),
+    pieces: of_two!(MOD),
     same: &[],
     needed: &[
         Need::Number(0),
@@ -140,7 +148,7 @@ pub const REMAINDER_BELOW: SchemaRow = Row {
     schema: 3,
     clause: 0,
     terms: 1,
-    pieces: of_two!(Op::Mod),
+    pieces: of_two!(MOD),
     same: &[],
     needed: &[
         Need::Number(1),
@@ -156,7 +164,7 @@ pub const REMAINDER_BELOW_OPPOSITE: SchemaRow = Row {
     schema: 4,
     clause: 0,
     terms: 1,
-    pieces: of_two!(Op::Mod),
+    pieces: of_two!(MOD),
     same: &[],
     needed: &[
         Need::Number(-1),
@@ -278,7 +286,7 @@ pub const CODE_AT_LEAST: SchemaRow = Row {
     schema: 109,
     clause: 0,
     terms: 1,
-    pieces: of_one!(Op::Code),
+    pieces: of_one!(CODE),
     same: &[],
     needed: &[Need::Number(0), Need::Two(Op::AtMost, 2, 0)],
     literals: &[yes!(3)],
@@ -289,7 +297,7 @@ pub const CODE_AT_MOST: SchemaRow = Row {
     schema: 109,
     clause: 1,
     terms: 1,
-    pieces: of_one!(Op::Code),
+    pieces: of_one!(CODE),
     same: &[],
     needed: &[Need::Number(127), Need::Two(Op::AtMost, 0, 2)],
     literals: &[yes!(3)],
@@ -300,9 +308,9 @@ pub const CHARACTER_OF_CODE: SchemaRow = Row {
     schema: 109,
     clause: 2,
     terms: 1,
-    pieces: of_one!(Op::Code),
+    pieces: of_one!(CODE),
     same: &[],
-    needed: &[Need::One(Op::Chr, 0), Need::Two(Op::Equal, 2, 1)],
+    needed: &[Need::One(CHR, 0), Need::Two(Op::Equal, 2, 1)],
     literals: &[yes!(3)],
 };
 
@@ -311,14 +319,14 @@ pub const CODE_OF_CHARACTER: SchemaRow = Row {
     schema: 110,
     clause: 0,
     terms: 1,
-    pieces: of_one!(Op::Chr),
+    pieces: of_one!(CHR),
     same: &[],
     needed: &[
         Need::Number(0),
         Need::Two(Op::AtMost, 2, 1),
         Need::Number(127),
         Need::Two(Op::AtMost, 1, 4),
-        Need::One(Op::Code, 0),
+        Need::One(CODE, 0),
         Need::Two(Op::Equal, 6, 1),
     ],
     literals: &[no!(3), no!(5), yes!(7)],

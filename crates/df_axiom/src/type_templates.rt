@@ -3,12 +3,13 @@
 ghost use Rattle.std.specs.Prelude.{◌≡◌, map, IfOk};
 ghost use Rattle.std.specs.Option.{option_map};
 ghost use Rattle.df_form.specs.World.{world_of};
+ghost use Rattle.df_form.specs.Node.{test_of};
 ghost use Rattle.df_form.specs.Clause.{yes, no};
 ghost use Rattle.df_axiom.specs.Template.{need_of, template_of};
 ghost use Rattle.df_axiom.specs.Types as spec;
 
 use crate::templates::{Need, Piece, Source, Template, Test};
-use df_form::{Lit, Op, World};
+use df_form::{Lit, Op, Payload, Symbol, World};
 use df_lang::{Interval, Ty};
 use std::alloc::{AllocError, Global};
 
@@ -113,25 +114,25 @@ fn of_newtype(
     ensures { IfOk result (λ found. option_map template_of found ≡ spec.type_template (world_of world.entry) (Ty.Newtype number) clause) }
 {
     match world.interval(number) {
-        Some(ends) => interval(alloc, Op::Is(Ty::Newtype(number)), ends, clause),
+        Some(ends) => interval(alloc, Op::test(Ty::Newtype(number)), ends, clause),
         None => Ok(None),
     }
 }
 
 /// A clause on what it is to be a `nat`.
 fn natural(alloc: Global, clause: u32) -> Result<Option<Template>, AllocError>
-    ensures { IfOk result (λ found. option_map template_of found ≡ spec.natural_template (Op.Is Ty.Nat) clause) }
+    ensures { IfOk result (λ found. option_map template_of found ≡ spec.natural_template (test_of Ty.Nat) clause) }
 {
     match clause {
         0 => {
             let needed = vec![in alloc; Need::Number(0), Need::Two(Op::AtMost, 2, 1)]?;
             let clause = vec![in alloc; no(0), yes(3)]?;
-            Ok(Some(of_one(alloc, Op::Is(Ty::Nat), needed, clause)?))
+            Ok(Some(of_one(alloc, Op::test(Ty::Nat), needed, clause)?))
         }
         1 => {
             let needed = vec![in alloc; Need::Number(0), Need::Two(Op::AtMost, 2, 1)]?;
             let clause = vec![in alloc; yes(0), no(3)]?;
-            Ok(Some(of_one(alloc, Op::Is(Ty::Nat), needed, clause)?))
+            Ok(Some(of_one(alloc, Op::test(Ty::Nat), needed, clause)?))
         }
         _ => Ok(None),
     }
@@ -159,14 +160,14 @@ pub(crate) fn of_type(
 ) -> Result<Option<Template>, AllocError>
     ensures { IfOk result (λ found. option_map template_of found ≡ spec.types_template (world_of world.entry) op clause) }
 {
-    let Op::Is(ty) = op else {
+    let Op::Of(Symbol::Is, Payload::Type(ty)) = op else {
         return Ok(None);
     };
     match ty {
         Ty::Newtype(number) => of_newtype(alloc, world, number, clause),
         Ty::Nat => natural(alloc, clause),
-        Ty::Int => always(alloc, Op::Is(Ty::Int), clause),
-        Ty::Bool => always(alloc, Op::Is(Ty::Bool), clause),
-        Ty::Char => always(alloc, Op::Is(Ty::Char), clause),
+        Ty::Int => always(alloc, Op::test(Ty::Int), clause),
+        Ty::Bool => always(alloc, Op::test(Ty::Bool), clause),
+        Ty::Char => always(alloc, Op::test(Ty::Char), clause),
     }
 }

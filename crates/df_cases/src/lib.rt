@@ -5,7 +5,9 @@
 mod texts;
 
 use df_base::Pos;
-use df_form::{Combination, Draft, Free, Lit, Multiple, NodeTable, Op, Sequent, Sort, World};
+use df_form::{
+    Combination, Draft, Free, Lit, Multiple, NodeTable, Op, Payload, Sequent, Sort, Symbol, World,
+};
 use df_lang::{Decl, Declared, Interval, Newtype, Program, Ty};
 use df_level::Row;
 use std::alloc::{AllocError, Global};
@@ -49,22 +51,22 @@ pub const Z: Op = Op::Free(Free {
 });
 
 /// That a number is of `i8`.
-pub const I8: Op = Op::Is(Ty::Newtype(0));
+pub const I8: Op = Op::Of(Symbol::Is, Payload::Type(Ty::Newtype(0)));
 
 /// That a number is of `byte`.
-pub const BYTE: Op = Op::Is(Ty::Newtype(1));
+pub const BYTE: Op = Op::Of(Symbol::Is, Payload::Type(Ty::Newtype(1)));
 
 /// That a number is of a newtype that is not declared.
-pub const UNDECLARED: Op = Op::Is(Ty::Newtype(2));
+pub const UNDECLARED: Op = Op::Of(Symbol::Is, Payload::Type(Ty::Newtype(2)));
 
 /// That a number is a `nat`.
-pub const NAT: Op = Op::Is(Ty::Nat);
+pub const NAT: Op = Op::Of(Symbol::Is, Payload::Type(Ty::Nat));
 
 /// That a number is an `int`.
-pub const INT: Op = Op::Is(Ty::Int);
+pub const INT: Op = Op::Of(Symbol::Is, Payload::Type(Ty::Int));
 
 /// That a character is a `char`.
-pub const CHAR: Op = Op::Is(Ty::Char);
+pub const CHAR: Op = Op::Of(Symbol::Is, Payload::Type(Ty::Char));
 
 fn declared(alloc: Global, name: u32, text: &str) -> Result<Declared, AllocError> {
     Ok(Declared {

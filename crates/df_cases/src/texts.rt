@@ -2,7 +2,7 @@
 //! goal. Nodes by their texts, a word and the numbers of parts, as `plus 0 1`. And the text of literals, as `+1 -2`.
 
 use crate::{BYTE, CHAR, I8, INT, NAT, P, Q, UNDECLARED, X, Y, Z, assume, conclude, draft};
-use df_form::{Arena, Draft, Lit, Node, NodeTable, Nodes, Op, Sequent};
+use df_form::{Arena, Draft, Lit, Node, NodeTable, Nodes, Op, Sequent, Symbol};
 use std::alloc::{AllocError, Global};
 
 /// A number; `min` and `max` are the ends of 128 bits.
@@ -60,9 +60,9 @@ fn unary(word: &str) -> Option<Op> {
     if word == "not" {
         Some(Op::Not)
     } else if word == "code" {
-        Some(Op::Code)
+        Some(Op::symbol(Symbol::Code))
     } else if word == "chr" {
-        Some(Op::Chr)
+        Some(Op::symbol(Symbol::Chr))
     } else {
         type_test(word)
     }
@@ -75,9 +75,9 @@ fn arithmetic(word: &str) -> Option<Op> {
     } else if word == "times" {
         Some(Op::Times)
     } else if word == "div" {
-        Some(Op::Div)
+        Some(Op::symbol(Symbol::Div))
     } else if word == "mod" {
-        Some(Op::Mod)
+        Some(Op::symbol(Symbol::Mod))
     } else {
         None
     }

@@ -34,6 +34,7 @@ fn have_one_label(partition: &Partition, first: &[usize], second: &[usize]) -> b
 }
 
 /// Whether two nodes are of one operation, on parts of the same labels.
+#[tactic(auto, unfolding(df_form::specs::Symbol::same_symbol))]
 pub fn are_alike(nodes: &Over, partition: &Partition, pair: Pair) -> bool
     ensures { result ≡ is_congruent nodes.now (label_of (state_of partition.now)) pair }
 {
@@ -100,11 +101,7 @@ fn seed(op: Op) -> usize
         Op::Free(free) => free.number,
         Op::Plus => 1,
         Op::Times => 2,
-        Op::Div => 3,
-        Op::Mod => 4,
-        Op::Code => 5,
-        Op::Chr => 6,
-        Op::Is(_) => 7,
+        Op::Of(_, _) => 3,
         Op::Equal => 8,
         Op::AtMost => 9,
         Op::Not => 10,

@@ -33,16 +33,7 @@ pub(crate) fn connective_count(nodes: &Over, node: &Node) -> usize
         Op::Implies => 3,
         Op::Iff => 4,
         Op::Equal => equality_count(nodes, node.parts.as_slice()),
-        Op::Number(_)
-        | Op::Free(_)
-        | Op::Plus
-        | Op::Times
-        | Op::Div
-        | Op::Mod
-        | Op::Code
-        | Op::Chr
-        | Op::Is(_)
-        | Op::AtMost => 0,
+        Op::Number(_) | Op::Free(_) | Op::Plus | Op::Times | Op::AtMost | Op::Of(_, _) => 0,
     }
 }
 
@@ -56,16 +47,12 @@ pub(crate) fn bound_by(number: usize, op: Op) -> Option<Formula>
         | Op::Free(_)
         | Op::Plus
         | Op::Times
-        | Op::Div
-        | Op::Mod
-        | Op::Code
-        | Op::Chr
-        | Op::Is(_)
         | Op::AtMost
         | Op::Not
         | Op::And
         | Op::Or
         | Op::Implies
-        | Op::Iff => None,
+        | Op::Iff
+        | Op::Of(_, _) => None,
     }
 }

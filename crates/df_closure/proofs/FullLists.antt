@@ -106,11 +106,7 @@ module _ (nodes : List Node) (known : List Lit) (v : ℕ → ℤ) (t : ℕ → B
   op_holds n (ops.Free free) parts there sort below b is = primitive_true b n (record { op = ops.Free free; parts = parts }) is there refl
   op_holds n ops.Plus parts there sort below b is = absurd (true≢false (sym sort))
   op_holds n ops.Times parts there sort below b is = absurd (true≢false (sym sort))
-  op_holds n ops.Div parts there sort below b is = absurd (true≢false (sym sort))
-  op_holds n ops.Mod parts there sort below b is = absurd (true≢false (sym sort))
-  op_holds n ops.Code parts there sort below b is = absurd (true≢false (sym sort))
-  op_holds n ops.Chr parts there sort below b is = absurd (true≢false (sym sort))
-  op_holds n (ops.Is ty) parts there sort below b is = primitive_true b n (record { op = ops.Is ty; parts = parts }) is there refl
+  op_holds n (ops.Of symbol payload) parts there sort below b is = primitive_true b n (record { op = ops.Of symbol payload; parts = parts }) is there sort
   op_holds n ops.Equal (p ∷ q ∷ []) there sort below b is = equality_holds n p q there b is
   op_holds n ops.Equal [] there sort below b is = absurd (true≢false (sym (taken n (record { op = ops.Equal; parts = [] }) there)))
   op_holds n ops.Equal (p ∷ []) there sort below b is = absurd (true≢false (sym (taken n (record { op = ops.Equal; parts = p ∷ [] }) there)))

@@ -5,6 +5,7 @@ use Rattle.df_form.specs.declared.log.Lit.{Lit}
 use Rattle.df_form.specs.declared.node.Sort.TheVariants as sorts
 use Rattle.df_form.specs.declared.node.Op.{Op}
 use Rattle.df_form.specs.declared.node.Op.TheVariants as ops
+use Rattle.df_form.specs.Symbol.{filled, given_by}
 use Rattle.df_form.specs.Node.{Node, same_sort}
 use Rattle.df_form.specs.Sorting.{sort_at}
 use Rattle.df_form.specs.Clause.{yes, no, negation, is_among, literal_truth}
@@ -27,11 +28,11 @@ AreConnectivesMet nodes known = (n k : ℕ) (added : Added) → knows_of known n
 abbrev pub IsConsistent : List Lit → Type 0
 IsConsistent known = (l : Lit) → is_among known l ≡ true → is_among known (negation l) ≡ true → ⊥
 
--- No clause of a connective says what its truth is: it is free, a test of a type, a comparison of numbers, or an equality of
+-- No clause of a connective says what its truth is: it is free, a symbol, a comparison of numbers, or an equality of
 -- other than numbers.
 abbrev pub is_primitive : List Node → Op → List ℕ → Bool
 is_primitive nodes (ops.Free free) parts = true
-is_primitive nodes (ops.Is ty) parts = true
+is_primitive nodes (ops.Of symbol payload) parts = same_sort (filled payload (given_by symbol)) sorts.Truth
 is_primitive nodes ops.AtMost parts = true
 is_primitive nodes ops.Equal (a ∷ others) = not (same_sort (sort_at nodes a) sorts.Number)
 is_primitive nodes op parts = false

@@ -3,7 +3,7 @@
 use crate::state::State;
 use df_clauses::{Literal, Origin, Reason, negations};
 use df_egraph::{Application, Event, Explanation};
-use df_form::{Op, Pair};
+use df_form::{Op, Pair, Sort};
 use df_theory::Shape;
 use std::alloc::AllocError;
 
@@ -12,7 +12,11 @@ const STEPS: usize = 100_000;
 
 /// Whether equal parts, or the schemas, say something of such a node that arithmetic does not see.
 fn is_operation(op: Op) -> bool {
-    matches!(op, Op::Times | Op::Div | Op::Mod | Op::Code | Op::Chr)
+    match op {
+        Op::Times => true,
+        Op::Of(_, _) => op.sort() != Sort::Truth,
+        _ => false,
+    }
 }
 
 impl<'a> State<'a> {

@@ -6,7 +6,7 @@ use crate::schemas::{
 use crate::state::State;
 use df_axiom::{Need, SchemaRow, Source, Test, begins_with, rows};
 use df_clauses::{Asked, Instance, Literal, Origin};
-use df_form::Op;
+use df_form::{Op, Symbol};
 use df_theory::{Made, Shape};
 use std::alloc::AllocError;
 
@@ -315,16 +315,16 @@ impl<'a> State<'a> {
         let second = second.unwrap_or(0);
         let divisor = self.terms.number(second);
         let schema = row.schema;
-        if op == Op::Mod && schema == PARTS {
+        if op == Op::symbol(Symbol::Mod) && schema == PARTS {
             // The quotient says the same.
-            let quotient = Made::Two(Op::Div, first, second);
+            let quotient = Made::Two(Op::symbol(Symbol::Div), first, second);
             self.terms.find(quotient).is_none()
         } else if schema == BELOW {
             divisor.unwrap_or(1) > 0
         } else if schema == BELOW_OPPOSITE {
             divisor.unwrap_or(-1) < 0
         } else if schema == CHARACTER {
-            self.terms.op(first) != Some(Op::Code)
+            self.terms.op(first) != Some(Op::symbol(Symbol::Code))
         } else {
             true
         }

@@ -4,7 +4,7 @@
 use crate::proposals::proposed;
 use df_axiom::Written;
 use df_cases::{Terms, X, Y, Z, assume, conclude, draft};
-use df_form::{Draft, Op, Sequent};
+use df_form::{Draft, Op, Sequent, Symbol};
 use df_kern::check;
 use df_solve::Proposal;
 use df_table::{Table, is_model};
@@ -100,8 +100,14 @@ impl Maker {
         };
         let (op, number) = match kind {
             3 | 4 => (Op::Times, left.saturating_mul(right)),
-            5 => (Op::Div, left.checked_div_euclid(right).unwrap_or(0)),
-            _ => (Op::Mod, left.checked_rem_euclid(right).unwrap_or(0)),
+            5 => (
+                Op::symbol(Symbol::Div),
+                left.checked_div_euclid(right).unwrap_or(0),
+            ),
+            _ => (
+                Op::symbol(Symbol::Mod),
+                left.checked_rem_euclid(right).unwrap_or(0),
+            ),
         };
         self.put(op, 2);
         number

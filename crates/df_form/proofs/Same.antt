@@ -1,5 +1,5 @@
 -- The tests of operations and nodes tell whether they are equal.
-use Rattle.std.proofs.Common.{◌≡◌, true, ◌&&◌, nat_eq, [], ◌∷◌, refl, ap, subst}
+use Rattle.std.proofs.Common.{◌≡◌, true, ◌&&◌, nat_eq, [], ◌∷◌, refl, ap, subst, rules}
 use Rattle.std.proofs.lemmas.Bool.Decides.{Decides-int_eq}
 use Rattle.std.proofs.lemmas.Slice.Eq.{bytes_eq-Decides}
 use Rattle.std.specs.Cmp.Lexicographic.{pointwise}
@@ -13,6 +13,10 @@ use Rattle.df_lang.specs.Newtype.{same_type}
 use Rattle.df_form.specs.declared.node.Sort.{Sort}
 use Rattle.df_form.specs.declared.node.Sort.TheVariants as sorts
 use Rattle.df_form.specs.declared.node.Free.{Free}
+use Rattle.df_form.specs.declared.symbol.Symbol.{Symbol}
+use Rattle.df_form.specs.declared.symbol.Payload.{Payload}
+use Rattle.df_form.specs.declared.symbol.Payload.TheVariants as payloads
+use Rattle.df_form.specs.Symbol.{same_symbol, same_payload}
 use Rattle.df_form.specs.Node.{Node, same_sort, same_op, same_node}
 use Rattle.df_form.specs.Sorting.{are_two_values}
 pub use Rattle.std.proofs.lemmas.Bool.{and_from as both_true}
@@ -80,16 +84,29 @@ same_free_equal a b e =
     let s : a.sort ≡ b.sort = same_sort_equal a.sort b.sort both.1 in
     λ i. record { number = n i; sort = s i }
 
+symbol_is : (a b : Symbol) → same_symbol a b ≡ true → a ≡ b
+unfolding same_symbol
+symbol_is a b e = search rules
+
+symbol_same : (a b : Symbol) → a ≡ b → same_symbol a b ≡ true
+unfolding same_symbol
+symbol_same a b e = search rules
+
+payload_is : (a b : Payload) → same_payload a b ≡ true → a ≡ b
+payload_is payloads.Nothing payloads.Nothing e = refl
+payload_is payloads.Nothing (payloads.Type b) e = cc
+payload_is (payloads.Type a) payloads.Nothing e = cc
+payload_is (payloads.Type a) (payloads.Type b) e = ap payloads.Type (same_type_equal a b e)
+
+payload_self : (a : Payload) → same_payload a a ≡ true
+payload_self payloads.Nothing = refl
+payload_self (payloads.Type ty) = same_type-refl ty
+
 pub same_op_equal : (a b : Op) → same_op a b ≡ true → a ≡ b
 same_op_equal (ops.Number a) (ops.Number b) e = ap ops.Number ((Decides-int_eq a b).0 e)
 same_op_equal (ops.Free a) (ops.Free b) e = ap ops.Free (same_free_equal a b e)
 same_op_equal ops.Plus ops.Plus e = refl
 same_op_equal ops.Times ops.Times e = refl
-same_op_equal ops.Div ops.Div e = refl
-same_op_equal ops.Mod ops.Mod e = refl
-same_op_equal ops.Code ops.Code e = refl
-same_op_equal ops.Chr ops.Chr e = refl
-same_op_equal (ops.Is a) (ops.Is b) e = ap ops.Is (same_type_equal a b e)
 same_op_equal ops.Equal ops.Equal e = refl
 same_op_equal ops.AtMost ops.AtMost e = refl
 same_op_equal ops.Not ops.Not e = refl
@@ -97,12 +114,17 @@ same_op_equal ops.And ops.And e = refl
 same_op_equal ops.Or ops.Or e = refl
 same_op_equal ops.Implies ops.Implies e = refl
 same_op_equal ops.Iff ops.Iff e = refl
+same_op_equal (ops.Of a stands) (ops.Of b other) e =
+    let both = and_parts (same_symbol a b) (same_payload stands other) e in
+    let s = symbol_is a b both.0 in
+    let p = payload_is stands other both.1 in
+    λ i. ops.Of (s i) (p i)
 same_op_equal a b e = cc
 
 pub same_op-refl : (a : Op) → same_op a a ≡ true
 same_op-refl (ops.Number a) = (Decides-int_eq a a).1 refl
 same_op-refl (ops.Free a) = and_from (nat_eq a.number a.number) (same_sort a.sort a.sort) (equal_self a.number) (same_sort-refl a.sort)
-same_op-refl (ops.Is a) = same_type-refl a
+same_op-refl (ops.Of a stands) = and_from (same_symbol a a) (same_payload stands stands) (symbol_same a a refl) (payload_self stands)
 same_op-refl op = refl
 
 pub same_node_equal : (a b : Node) → same_node a b ≡ true → a ≡ b

@@ -2,6 +2,7 @@ pub use Rattle.df_meaning.specs.Value
 pub mod World
 pub mod WorldView
 pub mod Types
+pub mod Symbol
 pub mod Node
 pub mod PartLists
 pub mod Keyed

@@ -1,15 +1,14 @@
 -- Sorts: what an operation takes, and what it gives.
-use Rattle.std.specs.Prelude.{◌≡◌, ℕ, Bool, true, false, ◌&&◌, ◌||◌, nat_lt, List, [], ◌∷◌, map, take, length, slice_get, Some}
+use Rattle.std.specs.Prelude.{◌≡◌, ℕ, Bool, true, false, ◌&&◌, ◌||◌, nat_lt, List, [], ◌∷◌, map, take, length, slice_get, Option, None, Some}
 use Rattle.std.specs.Option.{option_map_or}
 use Rattle.std.specs.List.{list_all}
-use Rattle.df_lang.specs.declared.ty.Ty.{Ty}
-use Rattle.df_lang.specs.declared.ty.Ty.TheVariants as types
 use Rattle.df_form.specs.declared.node.Sort.{Sort}
 use Rattle.df_form.specs.declared.node.Sort.TheVariants as sorts
 use Rattle.df_form.specs.declared.node.Op.{Op}
 use Rattle.df_form.specs.declared.node.Op.TheVariants as ops
 use Rattle.df_form.specs.Node.{Node, same_sort}
-use Rattle.df_form.specs.Types.{sort_of_type}
+use Rattle.df_form.specs.declared.symbol.Payload.{Payload}
+use Rattle.df_form.specs.Symbol.{Entry, row_of, accepts, filled, given_by}
 
 -- the sort of the value that an operation gives
 abbrev pub sort_of : Op → Sort
@@ -17,10 +16,7 @@ sort_of (ops.Number n) = sorts.Number
 sort_of (ops.Free free) = free.sort
 sort_of ops.Plus = sorts.Number
 sort_of ops.Times = sorts.Number
-sort_of ops.Div = sorts.Number
-sort_of ops.Mod = sorts.Number
-sort_of ops.Code = sorts.Number
-sort_of ops.Chr = sorts.Character
+sort_of (ops.Of symbol payload) = filled payload (given_by symbol)
 sort_of op = sorts.Truth
 
 abbrev pub are_none : List Sort → Bool
@@ -39,10 +35,16 @@ are_two sort parts = false
 abbrev pub are_two_values : List Sort → Bool
 are_two_values parts = are_two sorts.Number parts || are_two sorts.Character parts
 
--- A number or a character is tested for a type; that a truth is one is no formula.
-abbrev pub is_tested : Ty → List Sort → Bool
-is_tested types.Bool parts = false
-is_tested ty parts = is_one (sort_of_type ty) parts
+-- these sorts, one by one
+abbrev pub are_each : List Sort → List Sort → Bool
+are_each [] [] = true
+are_each (sort ∷ others) (part ∷ parts) = same_sort part sort && are_each others parts
+are_each sorts parts = false
+
+-- the symbol of the row takes parts of these sorts, where this stands with it
+abbrev pub takes_by : Option Entry → Payload → List Sort → Bool
+takes_by (Some row) payload parts = accepts row.payload payload && are_each (map (filled payload) row.taken) parts
+takes_by None payload parts = false
 
 -- the operation takes parts of these sorts
 abbrev pub takes : Op → List Sort → Bool
@@ -50,11 +52,6 @@ takes (ops.Number n) parts = are_none parts
 takes (ops.Free free) parts = are_none parts
 takes ops.Plus parts = are_two sorts.Number parts
 takes ops.Times parts = are_two sorts.Number parts
-takes ops.Div parts = are_two sorts.Number parts
-takes ops.Mod parts = are_two sorts.Number parts
-takes ops.Code parts = is_one sorts.Character parts
-takes ops.Chr parts = is_one sorts.Number parts
-takes (ops.Is ty) parts = is_tested ty parts
 takes ops.Equal parts = are_two_values parts
 takes ops.AtMost parts = are_two sorts.Number parts
 takes ops.Not parts = is_one sorts.Truth parts
@@ -62,6 +59,7 @@ takes ops.And parts = list_all (same_sort sorts.Truth) parts
 takes ops.Or parts = list_all (same_sort sorts.Truth) parts
 takes ops.Implies parts = are_two sorts.Truth parts
 takes ops.Iff parts = are_two sorts.Truth parts
+takes (ops.Of symbol payload) parts = takes_by (row_of symbol) payload parts
 
 -- the sort of the node of a number
 abbrev pub sort_at : List Node → ℕ → Sort

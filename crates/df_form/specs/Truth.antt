@@ -1,6 +1,7 @@
 -- What nodes mean.
-use Rattle.std.specs.Prelude.{◌≡◌, ℕ, ℤ, pos, negsuc, ◌+ℤ◌, ◌*ℤ◌, int_le, nat_lt, Bool, true, false, ◌||◌, not, if◌then◌else◌, List, [], ◌∷◌, ◌++◌, map, slice_index_or, refl}
+use Rattle.std.specs.Prelude.{◌≡◌, ℕ, ℤ, pos, negsuc, ◌+ℤ◌, ◌*ℤ◌, int_le, nat_lt, Bool, true, false, ◌||◌, not, if◌then◌else◌, List, [], ◌∷◌, ◌++◌, map, slice_index_or, Option, Some, refl}
 use Rattle.std.specs.Ordering.{int_eq}
+use Rattle.std.specs.Option.{unwrap_or}
 use Rattle.std.specs.Int.{int_div_euclid, int_rem_euclid}
 use Rattle.std.specs.List.{list_all, list_any}
 use Rattle.df_form.specs.World.{World}
@@ -11,6 +12,10 @@ use Rattle.df_form.specs.declared.node.Sort.TheVariants as sorts
 use Rattle.df_form.specs.declared.node.Free.{Free}
 use Rattle.df_form.specs.declared.node.Op.{Op}
 use Rattle.df_form.specs.declared.node.Op.TheVariants as ops
+use Rattle.df_form.specs.declared.symbol.Symbol.{Symbol}
+use Rattle.df_form.specs.declared.symbol.Symbol.TheVariants as symbols
+use Rattle.df_form.specs.declared.symbol.Payload.{Payload}
+use Rattle.df_form.specs.Symbol.{type_in, filled, given_by}
 use Rattle.df_form.specs.Node.{Node}
 
 -- the value is of the sort
@@ -56,17 +61,30 @@ pub code_below : (z : ℤ) → nat_lt (code_in z) 128 ≡ true
 code_below (pos c) = below_if c (nat_lt c 128) refl
 code_below (negsuc n) = refl
 
+-- the default of a sort
+abbrev pub default : Sort → Value
+default sorts.Number = Number (pos 0)
+default sorts.Truth = Truth false
+default sorts.Character = Character 68
+
+-- the value of a symbol at the values of its parts, where it has one
+abbrev pub meaning : World → Symbol → Payload → List Value → Option Value
+meaning world symbols.Div payload parts = Some (Number (quotient (number_at parts 0) (number_at parts 1)))
+meaning world symbols.Mod payload parts = Some (Number (remainder (number_at parts 0) (number_at parts 1)))
+meaning world symbols.Code payload parts = Some (Number (number_at parts 0))
+meaning world symbols.Chr payload parts = Some (Character (code_in (number_at parts 0)))
+meaning world symbols.Is payload parts = Some (Truth (has_type world (type_in payload) (value_at parts 0)))
+
+-- where it has none, the default of its sort
+abbrev pub applied : World → Symbol → Payload → List Value → Value
+applied world symbol payload parts = unwrap_or (meaning world symbol payload parts) (default (filled payload (given_by symbol)))
+
 -- the value of an operation at the values of its parts
 abbrev pub apply : ℕ → World → Assignment → Op → List Value → Value
 apply depth world assignment (ops.Number n) parts = Number n
 apply depth world assignment (ops.Free free) parts = assignment.value free
 apply depth world assignment ops.Plus parts = Number (number_at parts 0 +ℤ number_at parts 1)
 apply depth world assignment ops.Times parts = Number (number_at parts 0 *ℤ number_at parts 1)
-apply depth world assignment ops.Div parts = Number (quotient (number_at parts 0) (number_at parts 1))
-apply depth world assignment ops.Mod parts = Number (remainder (number_at parts 0) (number_at parts 1))
-apply depth world assignment ops.Code parts = Number (number_at parts 0)
-apply depth world assignment ops.Chr parts = Character (code_in (number_at parts 0))
-apply depth world assignment (ops.Is ty) parts = Truth (has_type world ty (value_at parts 0))
 apply depth world assignment ops.Equal parts = Truth (same_value (value_at parts 0) (value_at parts 1))
 apply depth world assignment ops.AtMost parts = Truth (int_le (number_at parts 0) (number_at parts 1))
 apply depth world assignment ops.Not parts = Truth (not (truth_at parts 0))
@@ -74,6 +92,7 @@ apply depth world assignment ops.And parts = Truth (list_all truth_of parts)
 apply depth world assignment ops.Or parts = Truth (list_any truth_of parts)
 apply depth world assignment ops.Implies parts = Truth (not (truth_at parts 0) || truth_at parts 1)
 apply depth world assignment ops.Iff parts = Truth (same_truth (truth_at parts 0) (truth_at parts 1))
+apply depth world assignment (ops.Of symbol payload) parts = applied world symbol payload parts
 
 -- the values of nodes, each from those of its parts, after the values of the nodes before them
 abbrev pub values_after : ℕ → World → Assignment → List Value → List Node → List Value

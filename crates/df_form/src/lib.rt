@@ -23,6 +23,7 @@ mod own_nodes;
 mod part_lists;
 mod sequent;
 mod sorting;
+mod symbol;
 mod world;
 
 pub use arena::Arena;
@@ -39,4 +40,5 @@ pub use offset::Offset;
 pub use over::Over;
 pub use sequent::Sequent;
 pub use sorting::sort_of_type;
+pub use symbol::{Pattern, Payload, PayloadKind, Symbol, SymbolEntry, SymbolRow, symbols};
 pub use world::World;

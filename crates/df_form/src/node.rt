@@ -1,5 +1,9 @@
 //! Terms and formulas: a node is an operation on nodes that stand before it.
 
+ghost use Rattle.std.specs.Prelude.{◌≡◌};
+ghost use Rattle.df_form.specs.Node.{symbol, test_of};
+
+use crate::symbol::{Payload, Symbol};
 use df_lang::Ty;
 
 /// A term, by the number of its node.
@@ -34,16 +38,6 @@ pub enum Op {
     Plus,
     /// The product of two numbers.
     Times,
-    /// The quotient of two numbers that leaves a remainder of at least 0; by 0 it is 0.
-    Div,
-    /// That remainder; by 0 it is 0.
-    Mod,
-    /// The number of a character.
-    Code,
-    /// The character of a number; of a number that no character has it is `D`.
-    Chr,
-    /// The number or the character is of the type.
-    Is(Ty),
     /// Two numbers, or two characters, are equal.
     Equal,
     /// The first number is at most the second.
@@ -55,6 +49,24 @@ pub enum Op {
     Or,
     Implies,
     Iff,
+    /// A symbol, with what stands with it.
+    Of(Symbol, Payload),
+}
+
+impl Op {
+    /// A symbol with which nothing stands.
+    pub fn symbol(symbol: Symbol) -> Op
+        ensures { result ≡ Rattle.df_form.specs.Node.symbol symbol }
+    {
+        Op::Of(symbol, Payload::Nothing)
+    }
+
+    /// That a value is of the type.
+    pub fn test(ty: Ty) -> Op
+        ensures { result ≡ test_of ty }
+    {
+        Op::Of(Symbol::Is, Payload::Type(ty))
+    }
 }
 
 /// A term or a formula: an operation, and the numbers of its parts in their order.

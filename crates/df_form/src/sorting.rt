@@ -3,11 +3,13 @@
 ghost use Rattle.std.specs.Prelude.{◌≡◌, nat_lt, length, map};
 ghost use Rattle.std.specs.List.{list_all};
 ghost use Rattle.df_form.specs.Node.{same_sort};
+ghost use Rattle.df_form.specs.Symbol.{row_of, filled};
 ghost use Rattle.df_form.specs.Types.{sort_of_type};
-ghost use Rattle.df_form.specs.Sorting.{sort_of, sort_at, takes, is_one, are_two, are_two_values, is_tested};
+ghost use Rattle.df_form.specs.Sorting.{sort_of, sort_at, takes, is_one, are_two, are_two_values, are_each, takes_by};
 
 use crate::node::{Op, Sort};
 use crate::node_table::NodeTable;
+use crate::symbol::{Pattern, Payload, Symbol};
 use df_lang::Ty;
 
 /// The sort of the values of a type.
@@ -27,17 +29,11 @@ impl Op {
         ensures { result ≡ sort_of self.now }
     {
         match self {
-            Op::Number(_) | Op::Plus | Op::Times | Op::Div | Op::Mod | Op::Code => Sort::Number,
-            Op::Chr => Sort::Character,
+            Op::Number(_) | Op::Plus | Op::Times => Sort::Number,
             Op::Free(free) => free.sort,
-            Op::Is(_)
-            | Op::Equal
-            | Op::AtMost
-            | Op::Not
-            | Op::And
-            | Op::Or
-            | Op::Implies
-            | Op::Iff => Sort::Truth,
+            Op::Equal | Op::AtMost | Op::Not | Op::And | Op::Or | Op::Implies | Op::Iff =>
+                Sort::Truth,
+            Op::Of(symbol, payload) => symbol.given().filled(*payload),
         }
     }
 }
@@ -82,13 +78,29 @@ fn are_two_values<A: NodeTable>(nodes: &A, parts: &[usize]) -> bool
     are_two(nodes, Sort::Number, parts) || are_two(nodes, Sort::Character, parts)
 }
 
-/// Whether a number or a character is tested for the type.
-fn is_tested<A: NodeTable>(nodes: &A, ty: Ty, parts: &[usize]) -> bool
-    ensures { result ≡ is_tested ty (map (sort_at (A.nodes nodes.now)) parts.now) }
+/// Whether the parts are of these sorts, one by one.
+fn are_each<A: NodeTable>(nodes: &A, payload: Payload, taken: &[Pattern], parts: &[usize]) -> bool
+    ensures { result ≡ are_each (map (filled payload) taken.now) (map (sort_at (A.nodes nodes.now)) parts.now) }
 {
-    match ty {
-        Ty::Bool => false,
-        Ty::Newtype(_) | Ty::Int | Ty::Nat | Ty::Char => is_one(nodes, sort_of_type(ty), parts),
+    match taken {
+        [] => parts.is_empty(),
+        [pattern, others @ ..] => match parts {
+            [] => false,
+            [part, more @ ..] => {
+                is_same(nodes.sort(*part), pattern.filled(payload))
+                    && are_each(nodes, payload, others, more)
+            }
+        },
+    }
+}
+
+/// Whether a symbol takes these parts, where this stands with it.
+fn takes_by<A: NodeTable>(nodes: &A, symbol: Symbol, payload: Payload, parts: &[usize]) -> bool
+    ensures { result ≡ takes_by (row_of symbol) payload (map (sort_at (A.nodes nodes.now)) parts.now) }
+{
+    match symbol.row() {
+        Some(row) => row.payload.accepts(payload) && are_each(nodes, payload, row.taken, parts),
+        None => false,
     }
 }
 
@@ -107,16 +119,12 @@ pub(crate) fn takes<A: NodeTable>(nodes: &A, op: Op, parts: &[usize]) -> bool
 {
     match op {
         Op::Number(_) | Op::Free(_) => parts.is_empty(),
-        Op::Plus | Op::Times | Op::Div | Op::Mod | Op::AtMost => {
-            are_two(nodes, Sort::Number, parts)
-        }
-        Op::Code => is_one(nodes, Sort::Character, parts),
-        Op::Chr => is_one(nodes, Sort::Number, parts),
-        Op::Is(ty) => is_tested(nodes, ty, parts),
+        Op::Plus | Op::Times | Op::AtMost => are_two(nodes, Sort::Number, parts),
         Op::Equal => are_two_values(nodes, parts),
         Op::Not => is_one(nodes, Sort::Truth, parts),
         Op::And | Op::Or => are_truths(nodes, parts),
         Op::Implies | Op::Iff => are_two(nodes, Sort::Truth, parts),
+        Op::Of(symbol, payload) => takes_by(nodes, symbol, payload, parts),
     }
 }
 

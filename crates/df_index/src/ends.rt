@@ -1,6 +1,6 @@
 //! The ends of types.
 
-use df_form::{Front, NodeTable, Op, World};
+use df_form::{Front, NodeTable, Op, Symbol, World};
 use df_lang::Ty;
 
 /// The ends of the numbers that are values of a type, where it has any: an end on one side, on both, or on
@@ -65,7 +65,7 @@ fn ends_of(world: World, ty: Ty) -> Option<Ends> {
 /// The ends of the type for which the node of a number tests, where it does.
 pub(crate) fn ends_at(world: World, nodes: &Front, number: usize) -> Option<Ends> {
     match nodes.get(number)?.op {
-        Op::Is(ty) => ends_of(world, ty),
+        Op::Of(Symbol::Is, payload) => ends_of(world, payload.ty()),
         _ => None,
     }
 }

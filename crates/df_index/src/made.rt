@@ -59,14 +59,15 @@ fn is_literal(nodes: &Front, number: usize) -> bool {
     }
 }
 
-/// Whether the node is a product, a quotient, a remainder or a character, or the code of one.
+/// Whether the node is a product, a character, or what a symbol gives that is no formula.
 pub(crate) fn is_operation(nodes: &Front, number: usize) -> bool {
     let Some(node) = nodes.get(number) else {
         return false;
     };
     match (node.op, node.parts.as_slice()) {
         (Op::Times, [factor, _]) => !is_literal(nodes, *factor),
-        (Op::Times | Op::Div | Op::Mod | Op::Code | Op::Chr, _) => true,
+        (Op::Times, _) => true,
+        (Op::Of(_, _), _) => node.op.sort() != Sort::Truth,
         (op, _) => op.sort() == Sort::Character,
     }
 }

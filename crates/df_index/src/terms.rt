@@ -5,7 +5,7 @@ use crate::index::Index;
 use crate::made::Made;
 use crate::made_nodes::MadeNodes;
 use crate::offset::Offset;
-use df_form::{Front, NodeTable, Op, Sort};
+use df_form::{Front, NodeTable, Op, Sort, Symbol};
 use std::alloc::{AllocError, Global};
 use std::mem::replace;
 
@@ -148,7 +148,7 @@ impl<'a> Terms<'a> {
                 let parts = found.parts.as_slice();
                 let (first, second) = (parts.first().copied(), parts.get(1).copied());
                 match (found.op, first) {
-                    (Op::Is(_), Some(part)) => self.type_test(node, part),
+                    (Op::Of(Symbol::Is, _), Some(part)) => self.type_test(node, part),
                     (op, _) => self.shape_of(op, first, second),
                 }
             }
@@ -173,7 +173,8 @@ impl<'a> Terms<'a> {
             (Op::Free(found), _, _) => free(found.sort),
             (Op::Plus, Some(a), Some(b)) => Shape::Sum(a, b),
             (Op::Times, Some(a), Some(b)) => self.product(a, b),
-            (Op::Plus | Op::Times | Op::Div | Op::Mod | Op::Code | Op::Chr, _, _) => Shape::Unknown,
+            (Op::Plus | Op::Times, _, _) => Shape::Unknown,
+            (Op::Of(_, _), _, _) if op.sort() != Sort::Truth => Shape::Unknown,
             (Op::AtMost, Some(a), Some(b)) => Shape::AtMost(a, b),
             (Op::Equal, Some(a), Some(b)) => self.equality(a, b),
             (Op::Not, Some(part), _) => Shape::Not(part),

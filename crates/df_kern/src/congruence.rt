@@ -39,6 +39,7 @@ fn are_together(
 }
 
 /// Whether two nodes are of one operation, with arguments in one class.
+#[tactic(auto, unfolding(df_form::specs::Symbol::same_symbol))]
 fn is_congruent(nodes: &Over, classes: &mut Classes, pair: Pair) -> Result<bool, AllocError>
     ensures congruent { IfOk result (λ yes. yes ≡ is_congruent_pair nodes.now (class_of classes.old) pair) }
     ensures same { OnOk result (class_of classes.new ≡ class_of classes.old) }

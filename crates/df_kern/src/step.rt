@@ -107,14 +107,10 @@ fn is_foreign(world: World, op: Op) -> bool
 {
     match op {
         Op::Free(_) => true,
-        Op::Is(ty) => is_unknown(world, ty),
+        Op::Of(_, payload) => is_unknown(world, payload.ty()),
         Op::Number(_)
         | Op::Plus
         | Op::Times
-        | Op::Div
-        | Op::Mod
-        | Op::Code
-        | Op::Chr
         | Op::Equal
         | Op::AtMost
         | Op::Not

@@ -1,8 +1,9 @@
 -- What the word of an operation is read as, it is the word of.
-use Rattle.std.proofs.Common.{◌≡◌, ℕ, zero, suc, ◌<◌, Bool, true, false, cond, List, [], ◌∷◌, ◌++◌, take, drop, length, Some, None, Option, refl, sym, ap, subst, ◌∙◌, inl, inr, codes, arith}
+use Rattle.std.proofs.Common.{◌≡◌, ℕ, zero, suc, ◌<◌, Bool, true, false, cond, List, [], ◌∷◌, ◌++◌, take, drop, length, Some, None, Option, refl, sym, ap, subst, ◌∙◌, inl, inr, codes, arith, append-nil, if◌then◌else◌}
 use Rattle.std.specs.Prelude.{nat_eq, ◌≢◌, slice_get, unwrap_or}
-use Rattle.std.specs.Option.{option_map}
-use Rattle.std.specs.List.{AllByRecursion, starts_with}
+use Rattle.std.specs.Option.{option_map, option_map_or}
+use Rattle.std.specs.List.{AllByRecursion, starts_with, find}
+use Rattle.std.proofs.lemmas.Bool.{and_parts}
 use Rattle.std.proofs.lemmas.Option.{same_Some}
 use Rattle.std.proofs.lemmas.List.{take-append-drop}
 use Rattle.df_lemmas.proofs.Options.{map_some, test_some}
@@ -14,9 +15,14 @@ use Rattle.df_lang.specs.declared.ty.Ty.{Ty}
 use Rattle.df_lang.specs.declared.ty.Ty.TheVariants as types
 use Rattle.df_form.specs.declared.node.Op.{Op}
 use Rattle.df_form.specs.declared.node.Op.TheVariants as ops
-use Rattle.df_logtext.specs.Words.{place_from, known_type_of, newtype_of, type_of, term_op_of, formula_op_of, plain_op_of, typed_op_of, op_of, found_or}
-use Rattle.df_logtext.specs.StepText.{type_words, type_name, op_word, op_number}
-use Rattle.df_logtext.specs.HasText.{IsWord, IsNamed, HasName, HasWord}
+use Rattle.df_form.specs.declared.symbol.Payload.TheVariants as payloads
+use Rattle.df_form.specs.declared.symbol.PayloadKind.{PayloadKind}
+use Rattle.df_form.specs.declared.symbol.PayloadKind.TheVariants as kinds
+use Rattle.df_form.specs.Symbol.{Entry, symbols as table, same_symbol, row_of}
+use Rattle.df_form.specs.Node.{symbol, test_of}
+use Rattle.df_logtext.specs.Words.{place_from, known_type_of, newtype_of, type_of, term_op_of, formula_op_of, plain_op_of, is_bare, is_bare_row, bare_op_of, typed_op_of, op_of, found_or}
+use Rattle.df_logtext.specs.StepText.{type_words, type_name, word_of, op_word, op_number}
+use Rattle.df_logtext.specs.HasText.{IsWord, IsNamed, HasName, kind_of, HasPayload, HasWord}
 use Rattle.df_logtext.proofs.Placed.{placed}
 
 -- the word is that of the operation, behind which no number stands
@@ -41,11 +47,7 @@ unfolding term_op_of
 term_read names word op e =
     either names word (codes "plus") ops.Plus op _ refl refl tt
     (either names word (codes "times") ops.Times op _ refl refl tt
-    (either names word (codes "div") ops.Div op _ refl refl tt
-    (either names word (codes "mod") ops.Mod op _ refl refl tt
-    (either names word (codes "code") ops.Code op _ refl refl tt
-    (either names word (codes "chr") ops.Chr op _ refl refl tt
-    (λ n. absurd cc)))))) e
+    (λ n. absurd cc)) e
 
 formula_read : (names : List (List ℕ)) (word : List ℕ) (op : Op) → formula_op_of word ≡ Some op → IsWordOf names word op
 unfolding formula_op_of
@@ -66,6 +68,37 @@ either_op names word op (Some o) other a b e = a e
 plain_read : (names : List (List ℕ)) (word : List ℕ) (op : Op) → plain_op_of word ≡ Some op → IsWordOf names word op
 unfolding plain_op_of
 plain_read names word op e = either_op names word op (term_op_of word) (formula_op_of word) (term_read names word op) (formula_read names word op) e
+
+-- ---- symbols with which nothing stands
+
+-- each row is found by its symbol
+rows_found : AllByRecursion (λ (row : Entry). row_of row.symbol ≡ Some row) table
+unfolding table same_symbol
+rows_found = (refl, (refl, (refl, (refl, (refl, tt)))))
+
+-- what is found passes the test
+found_has : {A : Type 0} (P : A → Type 0) (test : A → Bool) (xs : List A) (x : A) → AllByRecursion P xs → find test xs ≡ Some x → (test x ≡ true) × P x
+found_has P test [] x all e = absurd cc
+found_has P test (y ∷ ys) x all e = by (test y) refl e (found_has P test ys x all.1)
+  where
+    by : (b : Bool) → test y ≡ b → (if b then Some y else find test ys) ≡ Some x → (find test ys ≡ Some x → (test x ≡ true) × P x) → (test x ≡ true) × P x
+    by true passed e rest = let same = same_Some y x e in (ap test (sym same) ∙ passed, subst P same all.0)
+    by false passed e rest = rest e
+
+bare_kind : (kind : PayloadKind) → is_bare kind ≡ true → kind ≡ kinds.Nothing
+bare_kind kinds.Nothing e = refl
+bare_kind kinds.Type e = absurd cc
+
+bare_read : (names : List (List ℕ)) (word : List ℕ) (op : Op) → bare_op_of word ≡ Some op → IsWordOf names word op
+bare_read names word op e =
+    let found = map_some (λ (row : Entry). symbol row.symbol) (find (is_bare_row word) table) op e in
+    let row = found.0 in
+    let has = found_has (λ (row : Entry). row_of row.symbol ≡ Some row) (is_bare_row word) table row rows_found found.1 in
+    let passed = and_parts (is_bare row.payload) (same_text word row.word) has.0 in
+    let own : word_of row.symbol ≡ row.word = ap (λ (o : Option Entry). option_map_or (λ (r : Entry). r.word) o []) has.1 in
+    let kind : kind_of row.symbol ≡ kinds.Nothing = ap (λ (o : Option Entry). option_map_or (λ (r : Entry). r.payload) o kinds.Nothing) has.1 ∙ bare_kind row.payload passed.0 in
+    let text : word ≡ op_word names (symbol row.symbol) = same_text-equal word row.word passed.1 ∙ sym own ∙ sym (append-nil (word_of row.symbol)) in
+    subst (λ (o : Op). IsWordOf names word o) found.2 (record { text = text; alone = refl; has = subst (λ (k : PayloadKind). HasPayload names k payloads.Nothing) (sym kind) tt })
 
 -- what stands at a place of a list that is known in parts
 get_front : {A : Type 0} (test : A → Bool) (front : List A) (x : A) (back : List A) (n : ℕ) (y : A) → n < length front → AllByRecursion (λ z. test z ≡ false) front → slice_get (front ++ x ∷ back) n ≡ Some y → test y ≡ false
@@ -141,12 +174,16 @@ type_read : (names : List (List ℕ)) (name : List ℕ) (ty : Ty) → IsWord nam
 unfolding type_of
 type_read names name ty plain e = type_read_from names name ty (known_type_of name) refl plain e
 
-test_read : (names : List (List ℕ)) (name : List ℕ) (op : Op) → IsWord name → option_map (λ ty. ops.Is ty) (type_of names name) ≡ Some op → IsWordOf names (codes "is:" ++ name) op
+test_word : (names : List (List ℕ)) (name : List ℕ) (ty : Ty) → name ≡ type_name names ty → HasName names ty → IsWordOf names (codes "is:" ++ name) (test_of ty)
+unfolding table same_symbol
+test_word names name ty text has = record { text = ap (λ x. codes "is:" ++ x) text; alone = refl; has = has }
+
+test_read : (names : List (List ℕ)) (name : List ℕ) (op : Op) → IsWord name → option_map (λ ty. test_of ty) (type_of names name) ≡ Some op → IsWordOf names (codes "is:" ++ name) op
 test_read names name op plain e =
-    let t = map_some (λ ty. ops.Is ty) (type_of names name) op e in
+    let t = map_some (λ ty. test_of ty) (type_of names name) op e in
     let is = type_read names name t.0 plain t.1 in
     let P : Op → Type 0 = λ o. IsWordOf names (codes "is:" ++ name) o in
-    subst P t.2 (record { text = ap (λ x. codes "is:" ++ x) is.text; alone = refl; has = is.has })
+    subst P t.2 (test_word names name t.0 is.text is.has)
 
 begins_is : (word : List ℕ) → starts_with nat_eq word (codes "is:") ≡ true → word ≡ codes "is:" ++ drop 3 word
 begins_is word e = sym (take-append-drop 3 word) ∙ ap (λ x. x ++ drop 3 word) (sym (same_text-equal (codes "is:") (take 3 word) e))
@@ -154,7 +191,7 @@ begins_is word e = sym (take-append-drop 3 word) ∙ ap (λ x. x ++ drop 3 word)
 typed_read : (names : List (List ℕ)) (word : List ℕ) (op : Op) → IsWord word → typed_op_of names word ≡ Some op → IsWordOf names word op
 unfolding typed_op_of
 typed_read names word op plain e =
-    let t = test_some (starts_with nat_eq word (codes "is:")) (option_map (λ ty. ops.Is ty) (type_of names (drop 3 word))) op e in
+    let t = test_some (starts_with nat_eq word (codes "is:")) (option_map (λ ty. test_of ty) (type_of names (drop 3 word))) op e in
     let is = begins_is word t.0 in
     let W : List ℕ → Type 0 = λ w. IsWord w in
     let tail : IsWord (drop 3 word) = all_back _ (codes "is:") (drop 3 word) (subst W is plain) in
@@ -163,4 +200,6 @@ typed_read names word op plain e =
 
 pub op_read : (names : List (List ℕ)) (word : List ℕ) (op : Op) → IsWord word → op_of names word ≡ Some op → IsWordOf names word op
 unfolding op_of
-op_read names word op plain e = either_op names word op (plain_op_of word) (typed_op_of names word) (plain_read names word op) (typed_read names word op plain) e
+op_read names word op plain e =
+    either_op names word op (plain_op_of word) (found_or (bare_op_of word) (λ o. Some o) (typed_op_of names word)) (plain_read names word op)
+    (either_op names word op (bare_op_of word) (typed_op_of names word) (bare_read names word op) (typed_read names word op plain)) e

@@ -9,13 +9,16 @@ use Rattle.std.proofs.lemmas.Option.{same_Some}
 use Rattle.df_lemmas.proofs.Alls.{all_joined}
 use Rattle.df_base.specs.Names.{same_text}
 use Rattle.df_base.proofs.NamesLemmas.{same_text-equal, same_text-refl}
-use Rattle.df_lang.specs.declared.ty.Ty.{Ty}
 use Rattle.df_lang.specs.declared.ty.Ty.TheVariants as types
 use Rattle.df_form.specs.declared.log.Lit.{Lit}
 use Rattle.df_form.specs.declared.log.Multiple.{Multiple}
 use Rattle.df_form.specs.declared.log.Pair.{Pair}
 use Rattle.df_form.specs.declared.node.Op.{Op}
 use Rattle.df_form.specs.declared.node.Op.TheVariants as ops
+use Rattle.df_form.specs.declared.symbol.Symbol.TheVariants as symbols
+use Rattle.df_form.specs.declared.symbol.Payload.TheVariants as payloads
+use Rattle.df_form.specs.Symbol.{symbols as table, same_symbol}
+use Rattle.df_form.specs.Node.{symbol, test_of}
 use Rattle.df_form.specs.Log.{Combination, Step, Hypothesis, Goal, Connective, Schema, Propagation, Congruence, Linear, Split, Make}
 use Rattle.df_logtext.specs.Joined.{behind}
 use Rattle.df_logtext.specs.Numeral.{number_of, integer_of}
@@ -54,33 +57,33 @@ known_none name apart =
     skip name (codes "int") (Some types.Int) _ None apart.0 (skip name (codes "nat") (Some types.Nat) _ None apart.1.0 (skip name (codes "bool") (Some types.Bool) _ None apart.1.1.0 (skip name (codes "char") (Some types.Char) _ None apart.1.1.1.0 refl)))
 
 type_made : (names : List (List ℕ)) (n : ℕ) (name : List ℕ) (parts : List ℕ) → AllByRecursion IsIndex parts → known_type_of name ≡ None → place_from (λ other. same_text other name) 0 names ≡ Some n
-    → make_of names ((codes "is:" ++ name) ∷ map decimal parts) ≡ Some (Make (record { op = ops.Is (types.Newtype n); parts = parts }))
-unfolding op_of plain_op_of term_op_of formula_op_of typed_op_of type_of
+    → make_of names ((codes "is:" ++ name) ∷ map decimal parts) ≡ Some (Make (record { op = test_of (types.Newtype n); parts = parts }))
+unfolding op_of plain_op_of term_op_of formula_op_of typed_op_of type_of table same_symbol
 type_made names n name parts has known place =
-    ap (λ o. made_of (option_map (λ ty. ops.Is ty) (found_or o (λ ty. Some ty) (newtype_of names name))) (map decimal parts)) known
-    ∙ ap (λ o. made_of (option_map (λ ty. ops.Is ty) (option_map (λ m. types.Newtype m) o)) (map decimal parts)) place ∙ made_written (ops.Is (types.Newtype n)) parts has
+    ap (λ o. made_of (option_map (λ ty. test_of ty) (found_or o (λ ty. Some ty) (newtype_of names name))) (map decimal parts)) known
+    ∙ ap (λ o. made_of (option_map (λ ty. test_of ty) (option_map (λ m. types.Newtype m) o)) (map decimal parts)) place ∙ made_written (test_of (types.Newtype n)) parts has
 
-named_made : (names : List (List ℕ)) (n : ℕ) (parts : List ℕ) → AllByRecursion IsIndex parts → IsNamed names n → make_of names (op_word names (ops.Is (types.Newtype n)) ∷ map decimal parts) ≡ Some (Make (record { op = ops.Is (types.Newtype n); parts = parts }))
+named_made : (names : List (List ℕ)) (n : ℕ) (parts : List ℕ) → AllByRecursion IsIndex parts → IsNamed names n → make_of names (op_word names (test_of (types.Newtype n)) ∷ map decimal parts) ≡ Some (Make (record { op = test_of (types.Newtype n); parts = parts }))
+unfolding table same_symbol
 named_made names n parts has named =
     let e : 0 + n ≡ n = omega arith in
     let place = place_named named.name names 0 n named.here named.first ∙ ap (λ m. Some m) e in
     ap (λ o. make_of names ((codes "is:" ++ unwrap_or o []) ∷ map decimal parts)) named.here ∙ type_made names n named.name parts has (known_none named.name named.apart) place
 
 make_written : (names : List (List ℕ)) (op : Op) (parts : List ℕ) → HasWord names op → AllByRecursion IsIndex parts → make_of names (op_word names op ∷ (op_number op ++ map decimal parts)) ≡ Some (Make (record { op = op; parts = parts }))
-unfolding op_of plain_op_of term_op_of formula_op_of typed_op_of type_of known_type_of
+unfolding op_of plain_op_of term_op_of formula_op_of typed_op_of type_of known_type_of table same_symbol
 make_written names (ops.Number z) parts word has = ap (λ o. made_of (option_map (λ n. ops.Number n) o) (map decimal parts)) (integer_written z word) ∙ made_written (ops.Number z) parts has
 make_written names (ops.Free f) parts word has = absurd word
 make_written names ops.Plus parts word has = made_written ops.Plus parts has
 make_written names ops.Times parts word has = made_written ops.Times parts has
-make_written names ops.Div parts word has = made_written ops.Div parts has
-make_written names ops.Mod parts word has = made_written ops.Mod parts has
-make_written names ops.Code parts word has = made_written ops.Code parts has
-make_written names ops.Chr parts word has = made_written ops.Chr parts has
-make_written names (ops.Is (types.Newtype n)) parts word has = named_made names n parts has word
-make_written names (ops.Is types.Int) parts word has = made_written (ops.Is types.Int) parts has
-make_written names (ops.Is types.Nat) parts word has = made_written (ops.Is types.Nat) parts has
-make_written names (ops.Is types.Bool) parts word has = made_written (ops.Is types.Bool) parts has
-make_written names (ops.Is types.Char) parts word has = made_written (ops.Is types.Char) parts has
+make_written names (ops.Of symbols.Is (payloads.Type (types.Newtype n))) parts word has = named_made names n parts has word
+make_written names (ops.Of symbols.Is (payloads.Type types.Int)) parts word has = made_written (test_of types.Int) parts has
+make_written names (ops.Of symbols.Is (payloads.Type types.Nat)) parts word has = made_written (test_of types.Nat) parts has
+make_written names (ops.Of symbols.Is (payloads.Type types.Bool)) parts word has = made_written (test_of types.Bool) parts has
+make_written names (ops.Of symbols.Is (payloads.Type types.Char)) parts word has = made_written (test_of types.Char) parts has
+make_written names (ops.Of symbols.Is payloads.Nothing) parts word has = absurd word
+make_written names (ops.Of s payloads.Nothing) parts word has = made_written (symbol s) parts has
+make_written names (ops.Of s (payloads.Type ty)) parts word has = absurd word
 make_written names ops.Equal parts word has = made_written ops.Equal parts has
 make_written names ops.AtMost parts word has = made_written ops.AtMost parts has
 make_written names ops.Not parts word has = made_written ops.Not parts has
@@ -193,21 +196,21 @@ combinations_plain [] has = tt
 combinations_plain (c ∷ cs) has = (signed_word c.divisor has.0.0, all_joined IsWord (sum_words c.members) (flat_map combination_words cs) (sum_plain c.members has.0.1) (combinations_plain cs has.1))
 
 op_plain : (names : List (List ℕ)) (op : Op) (parts : List ℕ) → HasWord names op → AllByRecursion IsIndex parts → AllByRecursion IsWord (op_word names op ∷ (op_number op ++ map decimal parts))
+unfolding table same_symbol
 op_plain names (ops.Number z) parts word has = (tested (codes "num") refl, (signed_word z word, indices_words parts has))
 op_plain names (ops.Free f) parts word has = absurd word
 op_plain names ops.Plus parts word has = (tested (codes "plus") refl, indices_words parts has)
 op_plain names ops.Times parts word has = (tested (codes "times") refl, indices_words parts has)
-op_plain names ops.Div parts word has = (tested (codes "div") refl, indices_words parts has)
-op_plain names ops.Mod parts word has = (tested (codes "mod") refl, indices_words parts has)
-op_plain names ops.Code parts word has = (tested (codes "code") refl, indices_words parts has)
-op_plain names ops.Chr parts word has = (tested (codes "chr") refl, indices_words parts has)
-op_plain names (ops.Is (types.Newtype n)) parts word has =
+op_plain names (ops.Of symbols.Is (payloads.Type (types.Newtype n))) parts word has =
     let W : List ℕ → Type 0 = λ x. IsWord x in
     (all_joined IsPlain (codes "is:") (unwrap_or (slice_get names n) []) (tested (codes "is:") refl) (subst W (sym (ap (λ o. unwrap_or o []) word.here)) word.word), indices_words parts has)
-op_plain names (ops.Is types.Int) parts word has = (tested (codes "is:int") refl, indices_words parts has)
-op_plain names (ops.Is types.Nat) parts word has = (tested (codes "is:nat") refl, indices_words parts has)
-op_plain names (ops.Is types.Bool) parts word has = (tested (codes "is:bool") refl, indices_words parts has)
-op_plain names (ops.Is types.Char) parts word has = (tested (codes "is:char") refl, indices_words parts has)
+op_plain names (ops.Of symbols.Is (payloads.Type types.Int)) parts word has = (tested (codes "is:int") refl, indices_words parts has)
+op_plain names (ops.Of symbols.Is (payloads.Type types.Nat)) parts word has = (tested (codes "is:nat") refl, indices_words parts has)
+op_plain names (ops.Of symbols.Is (payloads.Type types.Bool)) parts word has = (tested (codes "is:bool") refl, indices_words parts has)
+op_plain names (ops.Of symbols.Is (payloads.Type types.Char)) parts word has = (tested (codes "is:char") refl, indices_words parts has)
+op_plain names (ops.Of symbols.Is payloads.Nothing) parts word has = absurd word
+op_plain names (ops.Of s payloads.Nothing) parts word has = (tested (op_word names (symbol s)) refl, indices_words parts has)
+op_plain names (ops.Of s (payloads.Type ty)) parts word has = absurd word
 op_plain names ops.Equal parts word has = (tested (codes "eq") refl, indices_words parts has)
 op_plain names ops.AtMost parts word has = (tested (codes "le") refl, indices_words parts has)
 op_plain names ops.Not parts word has = (tested (codes "not") refl, indices_words parts has)

@@ -12,11 +12,7 @@ module _ (names : List (List ℕ)) where
   has_word (ops.Free free) number named = absurd named
   has_word ops.Plus number named = tt
   has_word ops.Times number named = tt
-  has_word ops.Div number named = tt
-  has_word ops.Mod number named = tt
-  has_word ops.Code number named = tt
-  has_word ops.Chr number named = tt
-  has_word (ops.Is ty) number named = named
+  has_word (ops.Of symbol payload) number named = named
   has_word ops.Equal number named = tt
   has_word ops.AtMost number named = tt
   has_word ops.Not number named = tt

@@ -1,5 +1,6 @@
 -- Which logs have a text: their numbers fit, and their types have names.
 use Rattle.std.specs.Prelude.{◌≡◌, ◌≢◌, ℕ, ℤ, pos, negsuc, ◌<◌, ◌^◌, List, slice_get, Some}
+use Rattle.std.specs.Option.{option_map_or}
 use Rattle.std.specs.List.{AllByRecursion}
 use Rattle.df_lang.specs.declared.ty.Ty.{Ty}
 use Rattle.df_lang.specs.declared.ty.Ty.TheVariants as types
@@ -8,6 +9,12 @@ use Rattle.df_form.specs.declared.log.Multiple.{Multiple}
 use Rattle.df_form.specs.declared.log.Pair.{Pair}
 use Rattle.df_form.specs.declared.node.Op.{Op}
 use Rattle.df_form.specs.declared.node.Op.TheVariants as ops
+use Rattle.df_form.specs.declared.symbol.Symbol.{Symbol}
+use Rattle.df_form.specs.declared.symbol.Payload.{Payload}
+use Rattle.df_form.specs.declared.symbol.Payload.TheVariants as payloads
+use Rattle.df_form.specs.declared.symbol.PayloadKind.{PayloadKind}
+use Rattle.df_form.specs.declared.symbol.PayloadKind.TheVariants as kinds
+use Rattle.df_form.specs.Symbol.{Entry, row_of}
 use Rattle.df_form.specs.Log.{Combination, Step, Hypothesis, Goal, Connective, Schema, Propagation, Congruence, Linear, Split, Make}
 use Rattle.df_logtext.specs.StepText.{type_words}
 
@@ -40,11 +47,21 @@ abbrev pub HasName : List (List ℕ) → Ty → Type 0
 HasName names (types.Newtype number) = IsNamed names number
 HasName names ty = Unit {0}
 
+-- what is to stand with a symbol, by its row
+abbrev pub kind_of : Symbol → PayloadKind
+kind_of symbol = option_map_or (λ (row : Entry). row.payload) (row_of symbol) kinds.Nothing
+
+-- this stands with a symbol that wants such, and a type has a name
+abbrev pub HasPayload : List (List ℕ) → PayloadKind → Payload → Type 0
+HasPayload names kinds.Nothing payloads.Nothing = Unit {0}
+HasPayload names kinds.Type (payloads.Type ty) = HasName names ty
+HasPayload names kind payload = ⊥
+
 -- no line makes a free term
 abbrev pub HasWord : List (List ℕ) → Op → Type 0
 HasWord names (ops.Number number) = IsWide number
 HasWord names (ops.Free free) = ⊥
-HasWord names (ops.Is ty) = HasName names ty
+HasWord names (ops.Of symbol payload) = HasPayload names (kind_of symbol) payload
 HasWord names op = Unit {0}
 
 abbrev pub HasLiteral : Lit → Type 0
@@ -91,10 +108,10 @@ HasNumbers step = HasLineWith HasNumber step
 abbrev pub HaveNumbers : List (List Step) → Type 0
 HaveNumbers logs = AllByRecursion (λ log. AllByRecursion HasNumbers log) logs
 
--- the operation of a node that is made is no free term, and its type has a name
+-- the operation of a node that is made is no free term, and what stands with a symbol is of its kind, and a type has a name
 abbrev pub HasNamedOp : List (List ℕ) → Op → Type 0
 HasNamedOp names (ops.Free free) = ⊥
-HasNamedOp names (ops.Is ty) = HasName names ty
+HasNamedOp names (ops.Of symbol payload) = HasPayload names (kind_of symbol) payload
 HasNamedOp names op = Unit {0}
 
 abbrev pub HasNames : List (List ℕ) → Step → Type 0

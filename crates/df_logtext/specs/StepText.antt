@@ -1,5 +1,6 @@
 -- The words of a step: a letter, and what follows it.
 use Rattle.std.specs.Prelude.{ℕ, Bool, true, false, List, [], ◌∷◌, ◌++◌, map, slice_get, codes, unwrap_or}
+use Rattle.std.specs.Option.{option_map_or}
 use Rattle.std.specs.List.{flat_map}
 use Rattle.std.specs.Fmt.{decimal, signed_decimal}
 use Rattle.df_lang.specs.declared.ty.Ty.{Ty}
@@ -9,6 +10,10 @@ use Rattle.df_form.specs.declared.log.Multiple.{Multiple}
 use Rattle.df_form.specs.declared.log.Pair.{Pair}
 use Rattle.df_form.specs.declared.node.Op.{Op}
 use Rattle.df_form.specs.declared.node.Op.TheVariants as ops
+use Rattle.df_form.specs.declared.symbol.Symbol.{Symbol}
+use Rattle.df_form.specs.declared.symbol.Payload.{Payload}
+use Rattle.df_form.specs.declared.symbol.Payload.TheVariants as payloads
+use Rattle.df_form.specs.Symbol.{Entry, row_of}
 use Rattle.df_form.specs.Log.{Combination, Step, Hypothesis, Goal, Connective, Schema, Propagation, Congruence, Linear, Split, Make}
 use Rattle.df_form.specs.Node.{Node}
 use Rattle.df_logtext.specs.Joined.{joined}
@@ -25,17 +30,21 @@ type_name names types.Nat = codes "nat"
 type_name names types.Bool = codes "bool"
 type_name names types.Char = codes "char"
 
+-- the word of a symbol, by its row
+abbrev pub word_of : Symbol → List ℕ
+word_of symbol = option_map_or (λ (row : Entry). row.word) (row_of symbol) []
+
+-- what stands with it, behind its word
+abbrev pub payload_word : List (List ℕ) → Payload → List ℕ
+payload_word names payloads.Nothing = []
+payload_word names (payloads.Type ty) = codes ":" ++ type_name names ty
+
 -- the word of an operation; no line makes a free term, which has none
 abbrev pub op_word : List (List ℕ) → Op → List ℕ
 op_word names (ops.Number number) = codes "num"
 op_word names (ops.Free free) = []
 op_word names ops.Plus = codes "plus"
 op_word names ops.Times = codes "times"
-op_word names ops.Div = codes "div"
-op_word names ops.Mod = codes "mod"
-op_word names ops.Code = codes "code"
-op_word names ops.Chr = codes "chr"
-op_word names (ops.Is ty) = codes "is:" ++ type_name names ty
 op_word names ops.Equal = codes "eq"
 op_word names ops.AtMost = codes "le"
 op_word names ops.Not = codes "not"
@@ -43,6 +52,7 @@ op_word names ops.And = codes "and"
 op_word names ops.Or = codes "or"
 op_word names ops.Implies = codes "imp"
 op_word names ops.Iff = codes "iff"
+op_word names (ops.Of symbol payload) = word_of symbol ++ payload_word names payload
 
 -- a number stands behind its word
 abbrev pub op_number : Op → List (List ℕ)

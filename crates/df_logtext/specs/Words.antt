@@ -1,7 +1,7 @@
 -- What words are read as.
-use Rattle.std.specs.Prelude.{ℕ, ◌+◌, ℤ, ◌==◌, ◌^◌, Bool, nat_eq, List, [], ◌∷◌, ◌++◌, take, drop, Option, None, Some, codes, if◌then◌else◌}
+use Rattle.std.specs.Prelude.{ℕ, ◌+◌, ℤ, ◌==◌, ◌^◌, Bool, true, false, ◌&&◌, nat_eq, List, [], ◌∷◌, ◌++◌, take, drop, Option, None, Some, codes, if◌then◌else◌}
 use Rattle.std.specs.Option.{option_map, option_and_then}
-use Rattle.std.specs.List.{starts_with}
+use Rattle.std.specs.List.{starts_with, find}
 use Rattle.df_base.specs.Names.{same_text}
 use Rattle.df_lang.specs.declared.ty.Ty.{Ty}
 use Rattle.df_lang.specs.declared.ty.Ty.TheVariants as types
@@ -10,6 +10,10 @@ use Rattle.df_form.specs.declared.log.Multiple.{Multiple}
 use Rattle.df_form.specs.declared.log.Pair.{Pair}
 use Rattle.df_form.specs.declared.node.Op.{Op}
 use Rattle.df_form.specs.declared.node.Op.TheVariants as ops
+use Rattle.df_form.specs.declared.symbol.PayloadKind.{PayloadKind}
+use Rattle.df_form.specs.declared.symbol.PayloadKind.TheVariants as kinds
+use Rattle.df_form.specs.Symbol.{Entry, symbols}
+use Rattle.df_form.specs.Node.{symbol, test_of}
 use Rattle.df_form.specs.Clause.{yes, no}
 use Rattle.df_form.specs.Log.{Combination}
 use Rattle.df_logtext.specs.Numeral.{number_of, integer_of}
@@ -94,15 +98,11 @@ newtype_of names name = option_map (λ n. types.Newtype n) (place_from (λ other
 unfoldable pub type_of : List (List ℕ) → List ℕ → Option Ty
 type_of names name = found_or (known_type_of name) (λ ty. Some ty) (newtype_of names name)
 
--- an operation that makes a number or a character, by its word, but for `num`
+-- a sum or a product, by its word
 unfoldable pub term_op_of : List ℕ → Option Op
 term_op_of word =
     if same_text word (codes "plus") then Some ops.Plus
-    else (if same_text word (codes "times") then Some ops.Times
-    else (if same_text word (codes "div") then Some ops.Div
-    else (if same_text word (codes "mod") then Some ops.Mod
-    else (if same_text word (codes "code") then Some ops.Code
-    else (if same_text word (codes "chr") then Some ops.Chr else None)))))
+    else (if same_text word (codes "times") then Some ops.Times else None)
 
 -- an operation that makes a truth, by its word, but for tests of types
 unfoldable pub formula_op_of : List ℕ → Option Op
@@ -118,9 +118,21 @@ formula_op_of word =
 unfoldable pub plain_op_of : List ℕ → Option Op
 plain_op_of word = found_or (term_op_of word) (λ op. Some op) (formula_op_of word)
 
+-- nothing stands with the symbol, and this is its word
+abbrev pub is_bare : PayloadKind → Bool
+is_bare kinds.Nothing = true
+is_bare kinds.Type = false
+
+abbrev pub is_bare_row : List ℕ → Entry → Bool
+is_bare_row word row = is_bare row.payload && same_text word row.word
+
+-- a symbol with which nothing stands, by its word
+abbrev pub bare_op_of : List ℕ → Option Op
+bare_op_of word = option_map (λ (row : Entry). symbol row.symbol) (find (is_bare_row word) symbols)
+
 -- behind `is:`
 unfoldable pub typed_op_of : List (List ℕ) → List ℕ → Option Op
-typed_op_of names word = if starts_with nat_eq word (codes "is:") then option_map (λ ty. ops.Is ty) (type_of names (drop 3 word)) else None
+typed_op_of names word = if starts_with nat_eq word (codes "is:") then option_map (λ ty. test_of ty) (type_of names (drop 3 word)) else None
 
 unfoldable pub op_of : List (List ℕ) → List ℕ → Option Op
-op_of names word = found_or (plain_op_of word) (λ op. Some op) (typed_op_of names word)
+op_of names word = found_or (plain_op_of word) (λ op. Some op) (found_or (bare_op_of word) (λ op. Some op) (typed_op_of names word))

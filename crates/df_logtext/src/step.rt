@@ -7,7 +7,7 @@ ghost use Rattle.df_form.specs.Log.{step_of, combination_of};
 ghost use Rattle.df_form.specs.Node.{node_of};
 ghost use Rattle.df_logtext.specs.HasText.{IsIndex, IsWide, HasLiteral, HasPair, HasCombination, HasNumber, HasNumbers};
 ghost use Rattle.df_logtext.specs.Joined.{behind};
-ghost use Rattle.df_logtext.specs.StepText.{literal_word, pair_words, combination_words, type_name, op_word, op_number, node_words, letter as letter_of, arguments, step_line};
+ghost use Rattle.df_logtext.specs.StepText.{literal_word, pair_words, combination_words, type_name, word_of, payload_word, op_word, op_number, node_words, letter as letter_of, arguments, step_line};
 ghost use Rattle.df_logtext.specs.LogText.{ended};
 ghost use Rattle.df_logtext.specs.View.{names_of};
 ghost use Rattle.df_logtext.specs.Writes.{Writes};
@@ -16,7 +16,7 @@ use crate::word::{
     push_combinations, push_integer, push_literals, push_number, push_numbers, push_pairs,
     push_word,
 };
-use df_form::{Combination, Lit, Node, Op, Pair, Step};
+use df_form::{Combination, Lit, Node, Op, Pair, Payload, Step, Symbol};
 use df_lang::Ty;
 use std::alloc::AllocError;
 
@@ -43,12 +43,40 @@ fn type_name(names: &[String], ty: Ty) -> &str
     }
 }
 
-fn push_type(text: &mut Vec<u8>, names: &[String], ty: Ty) -> Result<(), AllocError>
-    ensures { OnOk result (text.new.items ≡ text.old.items ++ behind 32 (op_word (names_of names.now) (Op.Is ty) ∷ [])) }
+/// The word of a symbol.
+fn word_of(symbol: Symbol) -> &'static [u8]
+    ensures { result.now ≡ word_of symbol }
 {
-    text.extend_from_slice(b" is:")?;
-    text.extend_from_slice(type_name(names, ty).as_bytes())?;
-    Ok(())
+    match symbol.row() {
+        Some(row) => row.word,
+        None => b"",
+    }
+}
+
+/// What stands with a symbol, behind its word.
+fn push_payload(text: &mut Vec<u8>, names: &[String], payload: Payload) -> Result<(), AllocError>
+    ensures { OnOk result (text.new.items ≡ text.old.items ++ payload_word (names_of names.now) payload) }
+{
+    match payload {
+        Payload::Nothing => Ok(()),
+        Payload::Type(ty) => {
+            text.extend_from_slice(b":")?;
+            text.extend_from_slice(type_name(names, ty).as_bytes())?;
+            Ok(())
+        }
+    }
+}
+
+fn push_symbol(
+    text: &mut Vec<u8>,
+    names: &[String],
+    symbol: Symbol,
+    payload: Payload,
+) -> Result<(), AllocError>
+    ensures { OnOk result (text.new.items ≡ text.old.items ++ behind 32 (op_word (names_of names.now) (Op.Of symbol payload) ∷ [])) }
+{
+    push_word(text, word_of(symbol))?;
+    push_payload(text, names, payload)
 }
 
 fn push_op(text: &mut Vec<u8>, names: &[String], op: Op) -> Result<(), AllocError>
@@ -62,11 +90,6 @@ fn push_op(text: &mut Vec<u8>, names: &[String], op: Op) -> Result<(), AllocErro
         Op::Free(_) => push_word(text, b""),
         Op::Plus => push_word(text, b"plus"),
         Op::Times => push_word(text, b"times"),
-        Op::Div => push_word(text, b"div"),
-        Op::Mod => push_word(text, b"mod"),
-        Op::Code => push_word(text, b"code"),
-        Op::Chr => push_word(text, b"chr"),
-        Op::Is(ty) => push_type(text, names, ty),
         Op::Equal => push_word(text, b"eq"),
         Op::AtMost => push_word(text, b"le"),
         Op::Not => push_word(text, b"not"),
@@ -74,6 +97,7 @@ fn push_op(text: &mut Vec<u8>, names: &[String], op: Op) -> Result<(), AllocErro
         Op::Or => push_word(text, b"or"),
         Op::Implies => push_word(text, b"imp"),
         Op::Iff => push_word(text, b"iff"),
+        Op::Of(symbol, payload) => push_symbol(text, names, symbol, payload),
     }
 }
 

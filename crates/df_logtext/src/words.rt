@@ -1,16 +1,21 @@
 //! Words that are read.
 
-ghost use Rattle.std.specs.Prelude.{◌≡◌, ◌==◌, ◌+◌, ◌<◌, ◌^◌, [], map, drop, take, position, length, codes, IfOk, IfSome, OnOk};
+ghost use Rattle.std.specs.Prelude.{◌≡◌, ◌==◌, ◌+◌, ◌<◌, ◌^◌, Some, [], map, drop, take, position, length, codes, IfOk, IfSome, OnOk};
 ghost use Rattle.std.specs.Option.{option_map};
+ghost use Rattle.std.specs.List.{find};
 ghost use Rattle.df_base.specs.Names.{same_text};
 ghost use Rattle.df_form.specs.Log.{combination_of};
+ghost use Rattle.df_form.specs.Symbol.{entry_of};
+ghost use Rattle.df_form.specs.Node.{test_of};
 ghost use Rattle.df_logtext.specs.Numeral.{integer_of};
 ghost use Rattle.df_logtext.specs.Words as spec;
 ghost use Rattle.df_logtext.specs.View.{names_of};
 
 use crate::number::{integer, number};
 use crate::parting::parts;
-use df_form::{Combination, Lit, Multiple, Op, Pair};
+use df_form::{
+    Combination, Lit, Multiple, Op, Pair, Payload, PayloadKind, Symbol, SymbolEntry, symbols,
+};
 use df_lang::Ty;
 use std::alloc::{AllocError, Global};
 
@@ -246,15 +251,15 @@ fn ty(names: &[String], name: &[u8]) -> Option<Ty>
 
 /// The operation that tests the type of a name.
 fn type_test(names: &[String], name: &[u8]) -> Option<Op>
-    ensures { result ≡ option_map (λ ty. Op.Is ty) (spec.type_of (names_of names.now) name.now) }
+    ensures { result ≡ option_map test_of (spec.type_of (names_of names.now) name.now) }
 {
     match ty(names, name) {
-        Some(ty) => Some(Op::Is(ty)),
+        Some(ty) => Some(Op::Of(Symbol::Is, Payload::Type(ty))),
         None => None,
     }
 }
 
-/// The operation of a word that makes a number or a character, but for `num`.
+/// A sum or a product, by its word.
 #[tactic(auto, unfolding(crate::specs::Words::term_op_of))]
 fn term_op(word: &[u8]) -> Option<Op>
     ensures { result ≡ spec.term_op_of word.now }
@@ -263,14 +268,6 @@ fn term_op(word: &[u8]) -> Option<Op>
         Some(Op::Plus)
     } else if word == b"times".as_slice() {
         Some(Op::Times)
-    } else if word == b"div".as_slice() {
-        Some(Op::Div)
-    } else if word == b"mod".as_slice() {
-        Some(Op::Mod)
-    } else if word == b"code".as_slice() {
-        Some(Op::Code)
-    } else if word == b"chr".as_slice() {
-        Some(Op::Chr)
     } else {
         None
     }
@@ -311,6 +308,52 @@ fn plain_op(word: &[u8]) -> Option<Op>
     }
 }
 
+fn is_bare(kind: PayloadKind) -> bool
+    ensures { result ≡ spec.is_bare kind }
+{
+    match kind {
+        PayloadKind::Nothing => true,
+        PayloadKind::Type => false,
+    }
+}
+
+fn is_bare_row(word: &[u8], row: &SymbolEntry) -> bool
+    ensures { result ≡ spec.is_bare_row word.now (entry_of row.now) }
+{
+    is_bare(row.payload) && word == row.word
+}
+
+fn find_bare<'a>(rows: &'a [SymbolEntry], word: &[u8]) -> Option<&'a SymbolEntry>
+    ensures { option_map (λ row. entry_of row.now) result ≡ find (spec.is_bare_row word.now) (map entry_of rows.now) }
+{
+    for row in rows {
+        if is_bare_row(word, row) {
+            return Some(row);
+        }
+    }
+    None
+}
+
+/// The symbol of a word, if nothing stands with it.
+fn bare_op(word: &[u8]) -> Option<Op>
+    ensures { result ≡ spec.bare_op_of word.now }
+{
+    match find_bare(symbols(), word) {
+        Some(row) => Some(Op::Of(row.symbol, Payload::Nothing)),
+        None => None,
+    }
+}
+
+/// The operation of a word that names no type, and else of one that does.
+fn symbol_op(names: &[String], word: &[u8]) -> Option<Op>
+    ensures { result ≡ spec.found_or (spec.bare_op_of word.now) (λ op. Some op) (spec.typed_op_of (names_of names.now) word.now) }
+{
+    match bare_op(word) {
+        Some(op) => Some(op),
+        None => typed_op(names, word),
+    }
+}
+
 #[tactic(auto, unfolding(crate::specs::Words::typed_op_of))]
 fn typed_op(names: &[String], word: &[u8]) -> Option<Op>
     ensures { result ≡ spec.typed_op_of (names_of names.now) word.now }
@@ -329,6 +372,6 @@ pub fn op(names: &[String], word: &[u8]) -> Option<Op>
 {
     match plain_op(word) {
         Some(op) => Some(op),
-        None => typed_op(names, word),
+        None => symbol_op(names, word),
     }
 }

@@ -1,26 +1,28 @@
 -- Terms that are apart are numbers.
-use Rattle.std.proofs.Common.{◌≡◌, ℕ, zero, suc, ◌<◌, ℤ, pos, true, ◌&&◌, ◌==◌, List, [], ◌∷◌, map, length, Some, slice_get, nat_lt, refl, sym, ap, ◌∙◌, arith, ltb-true, true≢false}
+use Rattle.std.proofs.Common.{◌≡◌, ℕ, zero, suc, ◌<◌, ℤ, pos, true, ◌&&◌, ◌==◌, List, [], ◌∷◌, map, length, Some, slice_get, nat_lt, refl, sym, ap, ◌∙◌, arith, ltb-true}
 use Rattle.std.specs.List.{list_any}
 use Rattle.std.specs.Option.{option_map}
 use Rattle.std.proofs.lemmas.Bool.{and_parts}
 use Rattle.std.proofs.lemmas.Option.{slice_get-map, same_Some, slice_get_within}
 use Rattle.df_lemmas.proofs.Lists.{get_below}
-use Rattle.df_lang.specs.declared.ty.Ty.{Ty}
-use Rattle.df_lang.specs.declared.ty.Ty.TheVariants as types
 use Rattle.df_form.specs.declared.log.Lit.{Lit}
 use Rattle.df_form.specs.declared.node.Sort.{Sort}
 use Rattle.df_form.specs.declared.node.Sort.TheVariants as sorts
 use Rattle.df_form.specs.declared.node.Op.{Op}
 use Rattle.df_form.specs.declared.node.Op.TheVariants as ops
+use Rattle.df_form.specs.declared.symbol.Symbol.{Symbol}
+use Rattle.df_form.specs.declared.symbol.Payload.{Payload}
+use Rattle.df_form.specs.Symbol.{filled, given_by}
 use Rattle.df_form.specs.Node.{Node, same_sort}
-use Rattle.df_form.specs.Sorting.{sort_at, are_none, is_one, is_tested, are_two, takes}
+use Rattle.df_form.specs.Sorting.{sort_at, are_none, are_two, takes}
 use Rattle.df_form.proofs.Drafts.{sort_here}
 use Rattle.df_form.proofs.Same.{same_sort_equal}
+use Rattle.df_form.proofs.Tested.{parts_alike}
 use Rattle.df_form.proofs.Values.{Grows, grown_get, AreSorted, parts_below, parts_taken}
 use Rattle.df_cong.specs.Congruence.{label_at}
 use Rattle.df_classes.specs.Labels.{HaveOneLabel}
 use Rattle.df_table.specs.TableModel.{number_at}
-use Rattle.df_model.specs.TableNumbers.{number_of_truth, Basis, basis_of, first_factor, number_by}
+use Rattle.df_model.specs.TableNumbers.{number_of_truth, Basis, basis_of, free_number, first_factor, number_by}
 use Rattle.df_model.specs.Tabulation.{IsWholeTable}
 use Rattle.df_model.specs.Solution.{IsSolution}
 use Rattle.df_model.proofs.Tests.{passes_at}
@@ -34,12 +36,6 @@ nothing_at sort (x ∷ xs) place p none at = absurd cc
 no_parts : (sort : ℕ → Sort) (parts : List ℕ) → are_none (map sort parts) ≡ true → parts ≡ []
 no_parts sort [] none = refl
 no_parts sort (x ∷ xs) none = absurd cc
-
-one_sort : (sort : ℕ → Sort) (s : Sort) (parts : List ℕ) (place p : ℕ) → is_one s (map sort parts) ≡ true → slice_get parts place ≡ Some p → sort p ≡ s
-one_sort sort s (x ∷ []) zero p one at = ap sort (sym (same_Some x p at)) ∙ same_sort_equal (sort x) s one
-one_sort sort s (x ∷ []) (suc place) p one at = absurd cc
-one_sort sort s [] place p one at = absurd cc
-one_sort sort s (x ∷ y ∷ others) place p one at = absurd cc
 
 two_sorts : (sort : ℕ → Sort) (s : Sort) (parts : List ℕ) (place p : ℕ) → are_two s (map sort parts) ≡ true → slice_get parts place ≡ Some p → sort p ≡ s
 two_sorts sort s (x ∷ y ∷ []) zero p two at = ap sort (sym (same_Some x p at)) ∙ same_sort_equal (sort x) s (and_parts (same_sort (sort x) s) (same_sort (sort y) s) two).0
@@ -104,30 +100,22 @@ module _ (nodes : List Node) (known : List Lit) (numbers : List ℤ) (labels : L
         let second = character_number right (inside n place right (record { op = op; parts = ys }) p.1 other) is_right in
         unlike (same_codes (label left) (label right) (sym first ∙ numbers_equal xs ys place left right p.2 at other ∙ second))
 
-    tested : (ty : Ty) → Pair (ops.Is ty) xs ys m n → AreNumbers
-    tested ty p = by ty p (taken (ops.Is ty) xs m p.0) (taken (ops.Is ty) ys n p.1)
+    -- parts of a symbol at one place are numbers, or characters
+    of_symbol : (symbol : Symbol) (payload : Payload) → Pair (ops.Of symbol payload) xs ys m n → AreNumbers
+    of_symbol symbol payload p = by (sort_at set left) refl
       where
-        are_numbers : is_one sorts.Number (map (sort_at set) xs) ≡ true → is_one sorts.Number (map (sort_at set) ys) ≡ true → AreNumbers
-        are_numbers of_xs of_ys = (one_sort (sort_at set) sorts.Number xs place left of_xs at, one_sort (sort_at set) sorts.Number ys place right of_ys other)
+        alike : (sort_at set left ≡ sort_at set right) × (sort_at set left ≡ sorts.Truth → ⊥)
+        alike = parts_alike (sort_at set) symbol payload xs ys place left right (taken (ops.Of symbol payload) xs m p.0) (taken (ops.Of symbol payload) ys n p.1) at other
 
-        -- a truth is tested for no type
-        by : (ty : Ty) → Pair (ops.Is ty) xs ys m n → is_tested ty (map (sort_at set) xs) ≡ true → is_tested ty (map (sort_at set) ys) ≡ true → AreNumbers
-        by (types.Newtype number) p of_xs of_ys = are_numbers of_xs of_ys
-        by types.Int p of_xs of_ys = are_numbers of_xs of_ys
-        by types.Nat p of_xs of_ys = are_numbers of_xs of_ys
-        by types.Bool p of_xs of_ys = absurd (true≢false (sym of_xs))
-        by types.Char p of_xs of_ys =
-            absurd (no_characters (ops.Is types.Char) p (one_sort (sort_at set) sorts.Character xs place left of_xs at) (one_sort (sort_at set) sorts.Character ys place right of_ys other))
+        by : (sort : Sort) → sort_at set left ≡ sort → AreNumbers
+        by sorts.Number is = (is, sym alike.0 ∙ is)
+        by sorts.Character is = absurd (no_characters (ops.Of symbol payload) p is (sym alike.0 ∙ is))
+        by sorts.Truth is = absurd (alike.1 is)
 
     pub part_numbers : (op : Op) → Pair op xs ys m n → AreNumbers
     part_numbers (ops.Free free) p = absurd (nothing_at (sort_at set) xs place left (taken (ops.Free free) xs m p.0) at)
     part_numbers ops.Times p = (two_sorts (sort_at set) sorts.Number xs place left (taken ops.Times xs m p.0) at, two_sorts (sort_at set) sorts.Number ys place right (taken ops.Times ys n p.1) other)
-    part_numbers ops.Div p = (two_sorts (sort_at set) sorts.Number xs place left (taken ops.Div xs m p.0) at, two_sorts (sort_at set) sorts.Number ys place right (taken ops.Div ys n p.1) other)
-    part_numbers ops.Mod p = (two_sorts (sort_at set) sorts.Number xs place left (taken ops.Mod xs m p.0) at, two_sorts (sort_at set) sorts.Number ys place right (taken ops.Mod ys n p.1) other)
-    part_numbers ops.Code p =
-        absurd (no_characters ops.Code p (one_sort (sort_at set) sorts.Character xs place left (taken ops.Code xs m p.0) at) (one_sort (sort_at set) sorts.Character ys place right (taken ops.Code ys n p.1) other))
-    part_numbers ops.Chr p = (one_sort (sort_at set) sorts.Number xs place left (taken ops.Chr xs m p.0) at, one_sort (sort_at set) sorts.Number ys place right (taken ops.Chr ys n p.1) other)
-    part_numbers (ops.Is ty) p = tested ty p
+    part_numbers (ops.Of symbol payload) p = of_symbol symbol payload p
     part_numbers (ops.Number k) p = absurd (agreed (ops.Number k) xs ys m n p refl)
     part_numbers ops.Plus p = absurd (agreed ops.Plus xs ys m n p refl)
     part_numbers ops.Equal p = absurd (agreed ops.Equal xs ys m n p refl)
@@ -143,11 +131,15 @@ module _ (nodes : List Node) (known : List Lit) (numbers : List ℤ) (labels : L
   term_number (ops.Free free) xs ys m n p e =
       absurd (one_free (ops.Free free) xs ys m n p (no_parts (sort_at set) xs (taken (ops.Free free) xs m p.0)) (no_parts (sort_at set) ys (taken (ops.Free free) ys n p.1)))
   term_number ops.Times xs ys m n p e = sort_here set m (record { op = ops.Times; parts = xs }) p.0
-  term_number ops.Div xs ys m n p e = sort_here set m (record { op = ops.Div; parts = xs }) p.0
-  term_number ops.Mod xs ys m n p e = sort_here set m (record { op = ops.Mod; parts = xs }) p.0
-  term_number ops.Code xs ys m n p e = sort_here set m (record { op = ops.Code; parts = xs }) p.0
-  term_number ops.Chr xs ys m n p e = absurd (agreed ops.Chr xs ys m n p (ap (λ (k : ℕ). pos k) e))
-  term_number (ops.Is ty) xs ys m n p e = absurd (agreed (ops.Is ty) xs ys m n p (ap (λ (k : ℕ). number_of_truth (list_any (λ (l : Lit). l.positive && label l.node == k) known)) e))
+  term_number (ops.Of symbol payload) xs ys m n p e = by (filled payload (given_by symbol)) refl
+    where
+      same : (s : Sort) → filled payload (given_by symbol) ≡ s → free_number basis m s ≡ free_number basis n s → ⊥
+      same s is equal = agreed (ops.Of symbol payload) xs ys m n p (ap (free_number basis m) is ∙ equal ∙ sym (ap (free_number basis n) is))
+
+      by : (s : Sort) → filled payload (given_by symbol) ≡ s → sort_at set m ≡ sorts.Number
+      by sorts.Number is = sort_here set m (record { op = ops.Of symbol payload; parts = xs }) p.0 ∙ is
+      by sorts.Character is = absurd (same sorts.Character is (ap (λ (k : ℕ). pos k) e))
+      by sorts.Truth is = absurd (same sorts.Truth is (ap (λ (k : ℕ). number_of_truth (list_any (λ (l : Lit). l.positive && label l.node == k) known)) e))
   term_number (ops.Number k) xs ys m n p e = sort_here set m (record { op = ops.Number k; parts = xs }) p.0
   term_number ops.Plus xs ys m n p e = sort_here set m (record { op = ops.Plus; parts = xs }) p.0
   term_number ops.Equal xs ys m n p e = absurd (agreed ops.Equal xs ys m n p refl)

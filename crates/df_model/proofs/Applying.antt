@@ -1,5 +1,5 @@
 -- An operation on values gives the number that it gives on their numbers.
-use Rattle.std.proofs.Common.{◌≡◌, ℕ, ℤ, pos, ◌+ℤ◌, ◌*ℤ◌, int_le, Bool, true, false, not, ◌&&◌, ◌||◌, nat_eq, arith, List, [], ◌∷◌, map, refl, ap, subst}
+use Rattle.std.proofs.Common.{◌≡◌, ℕ, ℤ, pos, ◌+ℤ◌, ◌*ℤ◌, int_le, Bool, true, false, not, ◌&&◌, ◌||◌, nat_eq, arith, List, [], ◌∷◌, map, refl, sym, ap, ◌∙◌, subst, true≢false}
 use Rattle.std.specs.List.{list_all, list_any}
 use Rattle.std.specs.Ordering.{int_eq}
 use Rattle.std.proofs.lemmas.Bool.{and_parts}
@@ -13,13 +13,20 @@ use Rattle.df_form.specs.declared.node.Sort.{Sort}
 use Rattle.df_form.specs.declared.node.Sort.TheVariants as sorts
 use Rattle.df_form.specs.declared.node.Op.{Op}
 use Rattle.df_form.specs.declared.node.Op.TheVariants as ops
+use Rattle.df_form.specs.declared.symbol.Symbol.{Symbol}
+use Rattle.df_form.specs.declared.symbol.Symbol.TheVariants as symbols
+use Rattle.df_form.specs.declared.symbol.Payload.{Payload}
+use Rattle.df_form.specs.declared.symbol.Payload.TheVariants as payloads
+use Rattle.df_form.specs.declared.symbol.PayloadKind.TheVariants as kinds
+use Rattle.df_form.specs.Symbol.{symbols as table, same_symbol, accepts}
 use Rattle.df_form.specs.Node.{same_sort}
-use Rattle.df_form.specs.Sorting.{are_two_values, takes}
-use Rattle.df_form.specs.Truth.{Assignment, has_sort, quotient, remainder, code_in, apply}
+use Rattle.df_form.specs.Sorting.{is_one, are_two, are_two_values, are_each, takes}
+use Rattle.df_form.specs.Truth.{Assignment, has_sort, value_at, quotient, remainder, code_in, applied as value_applied, apply}
 use Rattle.df_form.proofs.Same.{same_sort_equal, values_alike}
-use Rattle.df_form.proofs.Tested.{tested_one, tested_none, tested_many}
+use Rattle.df_form.proofs.Tested.{each_one, each_two, of_test}
+use Rattle.df_table.specs.TableModel.{number_at}
 use Rattle.df_model.specs.Valuation.{number_of_truth, number_of_value}
-use Rattle.df_model.specs.Numbers.{counts_as_true, is_of_type, number_by}
+use Rattle.df_model.specs.Numbers.{counts_as_true, is_of_type, symbol_number, number_by}
 
 pub number_is : (v : Value) → has_sort sorts.Number v ≡ true → number_of v ≡ number_of_value v
 number_is (Number k) e = refl
@@ -163,6 +170,37 @@ module _ (worth : ℕ → Value) (sort : ℕ → Sort) (test : ℕ → Bool) (so
       let k = and_parts (test b) true h.1 in
       same_is (sort b) (worth a) (worth b) (subst (λ (z : Sort). has_sort z (worth a) ≡ true) (values_alike (sort a) (sort b) same) (sorted a h.0)) (sorted b k.0)
 
+  two_first : (parts : List ℕ) → list_all test parts ≡ true → are_two sorts.Number (map sort parts) ≡ true → (number_of (value_at (map worth parts) 0) ≡ number_at (map num parts) 0) × (number_of (value_at (map worth parts) 1) ≡ number_at (map num parts) 1)
+  two_first (a ∷ b ∷ []) passes same = two_numbers a b passes same
+  two_first [] passes same = absurd cc
+  two_first (a ∷ []) passes same = absurd cc
+  two_first (a ∷ b ∷ c ∷ others) passes same = absurd cc
+
+  one_first : (s : Sort) (parts : List ℕ) → list_all test parts ≡ true → is_one s (map sort parts) ≡ true → (has_sort s (value_at (map worth parts) 0) ≡ true) × (number_of_value (value_at (map worth parts) 0) ≡ number_at (map num parts) 0)
+  one_first s (a ∷ []) passes same = (has a s (and_parts (test a) true passes).0 same, refl)
+  one_first s [] passes same = absurd cc
+  one_first s (a ∷ b ∷ others) passes same = absurd cc
+
+  symbol_applied : (world : World) (symbol : Symbol) (payload : Payload) (parts : List ℕ) → list_all test parts ≡ true → takes (ops.Of symbol payload) (map sort parts) ≡ true
+      → number_of_value (value_applied world symbol payload (map worth parts)) ≡ symbol_number world symbol payload (map num parts)
+  unfolding table same_symbol
+  symbol_applied world symbols.Div payload parts passes taken =
+      let two = two_first parts passes (each_two sorts.Number (map sort parts) (and_parts (accepts kinds.Nothing payload) (are_each (sorts.Number ∷ sorts.Number ∷ []) (map sort parts)) taken).1) in
+      λ i. quotient (two.0 i) (two.1 i)
+  symbol_applied world symbols.Mod payload parts passes taken =
+      let two = two_first parts passes (each_two sorts.Number (map sort parts) (and_parts (accepts kinds.Nothing payload) (are_each (sorts.Number ∷ sorts.Number ∷ []) (map sort parts)) taken).1) in
+      λ i. remainder (two.0 i) (two.1 i)
+  symbol_applied world symbols.Code payload parts passes taken =
+      let one = one_first sorts.Character parts passes (each_one sorts.Character (map sort parts) (and_parts (accepts kinds.Nothing payload) (are_each (sorts.Character ∷ []) (map sort parts)) taken).1) in
+      character_is (value_at (map worth parts) 0) one.0 ∙ one.1
+  symbol_applied world symbols.Chr payload parts passes taken =
+      let one = one_first sorts.Number parts passes (each_one sorts.Number (map sort parts) (and_parts (accepts kinds.Nothing payload) (are_each (sorts.Number ∷ []) (map sort parts)) taken).1) in
+      ap (λ (z : ℤ). pos (code_in z)) (number_is (value_at (map worth parts) 0) one.0 ∙ one.1)
+  symbol_applied world symbols.Is payloads.Nothing parts passes taken = absurd (true≢false (sym taken))
+  symbol_applied world symbols.Is (payloads.Type ty) parts passes taken =
+      let one = one_first (sort_of_type ty) parts passes (of_test ty (map sort parts) taken).1 in
+      ap number_of_truth (type_is world ty (value_at (map worth parts) 0) one.0) ∙ ap (λ (z : ℤ). number_of_truth (is_of_type world ty z)) one.1
+
   module _ (depth : ℕ) (world : World) (assignment : Assignment) where
     pub applied : (op : Op) (parts : List ℕ) → list_all test parts ≡ true → takes op (map sort parts) ≡ true
         → number_of_value (apply depth world assignment op (map worth parts)) ≡ number_by world (λ free. number_of_value (assignment.value free)) op (map num parts)
@@ -170,13 +208,7 @@ module _ (worth : ℕ → Value) (sort : ℕ → Sort) (test : ℕ → Bool) (so
     applied (ops.Free free) parts passes taken = refl
     applied ops.Plus (a ∷ b ∷ []) passes taken = let two = two_numbers a b passes taken in λ i. two.0 i +ℤ two.1 i
     applied ops.Times (a ∷ b ∷ []) passes taken = let two = two_numbers a b passes taken in λ i. two.0 i *ℤ two.1 i
-    applied ops.Div (a ∷ b ∷ []) passes taken = let two = two_numbers a b passes taken in λ i. quotient (two.0 i) (two.1 i)
-    applied ops.Mod (a ∷ b ∷ []) passes taken = let two = two_numbers a b passes taken in λ i. remainder (two.0 i) (two.1 i)
-    applied ops.Code (a ∷ []) passes taken = a_character a (and_parts (test a) true passes).0 taken
-    applied ops.Chr (a ∷ []) passes taken = let one = a_number a (and_parts (test a) true passes).0 taken in λ i. pos (code_in (one i))
-    applied (ops.Is ty) (a ∷ []) passes taken = ap number_of_truth (type_is world ty (worth a) (has a (sort_of_type ty) (and_parts (test a) true passes).0 (tested_one ty (sort a) taken)))
-    applied (ops.Is ty) [] passes taken = absurd (tested_none ty taken)
-    applied (ops.Is ty) (a ∷ b ∷ others) passes taken = absurd (tested_many ty (sort a) (sort b) (map sort others) taken)
+    applied (ops.Of symbol payload) parts passes taken = symbol_applied world symbol payload parts passes taken
     applied ops.Equal (a ∷ b ∷ []) passes taken = ap number_of_truth (two_alike a b passes taken)
     applied ops.AtMost (a ∷ b ∷ []) passes taken = let two = two_numbers a b passes taken in λ i. number_of_truth (int_le (two.0 i) (two.1 i))
     applied ops.Not (a ∷ []) passes taken = let one = a_truth a (and_parts (test a) true passes).0 taken in λ i. number_of_truth (not (one i))

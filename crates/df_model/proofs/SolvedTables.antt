@@ -139,8 +139,10 @@ module _ (nodes : List Node) (known : List Lit) (numbers : List ℤ) (labels : L
             let here : Node = record { op = ops.Free free; parts = parts } in
             let sort = sym (sort_here nodes l.node here at) ∙ formula_sort l here e at in
             held (read (basis_of numbers labels known) nodes sorted table whole l.node (has_true (λ m. label m) known l.node) (number_is (basis_of numbers labels known) nodes sorted table whole l.node here at ∙ ap (free_number (basis_of numbers labels known) l.node) sort))
-        by (ops.Is ty) parts at primitive =
-            held (read (basis_of numbers labels known) nodes sorted table whole l.node (has_true (λ m. label m) known l.node) (number_is (basis_of numbers labels known) nodes sorted table whole l.node (record { op = ops.Is ty; parts = parts }) at))
+        by (ops.Of symbol payload) parts at primitive =
+            let here : Node = record { op = ops.Of symbol payload; parts = parts } in
+            let sort = sym (sort_here nodes l.node here at) ∙ formula_sort l here e at in
+            held (read (basis_of numbers labels known) nodes sorted table whole l.node (has_true (λ m. label m) known l.node) (number_is (basis_of numbers labels known) nodes sorted table whole l.node here at ∙ ap (free_number (basis_of numbers labels known) l.node) sort))
         by ops.AtMost parts at primitive = compared l e (two_parts nodes sorted l parts at)
         by ops.Equal (x ∷ y ∷ []) at primitive = equality_true l.positive l.node x y at (not_same (same_sort (sort_at nodes x) sorts.Number) primitive) e
         by ops.Equal [] at primitive = absurd (true≢false (sym primitive))

@@ -68,7 +68,7 @@ module _ (basis : Basis) (nodes : List Node) (sorted : AreSorted nodes) (table :
     where
       by : (op : Op) (parts : List ℕ) → slice_get nodes n ≡ Some (record { op = op; parts = parts }) → sort_of op ≡ sorts.Character → v n ≡ pos (basis.label n)
       by (ops.Free free) parts at sort = number_is n (record { op = ops.Free free; parts = parts }) at ∙ ap (free_number basis n) sort
-      by ops.Chr parts at sort = number_is n (record { op = ops.Chr; parts = parts }) at
+      by (ops.Of symbol payload) parts at sort = number_is n (record { op = ops.Of symbol payload; parts = parts }) at ∙ ap (free_number basis n) sort
       by op parts at sort = absurd cc
 
   -- an atom that is a number has the number that is given
@@ -82,7 +82,5 @@ module _ (basis : Basis) (nodes : List Node) (sorted : AreSorted nodes) (table :
       by ops.Plus parts at atom sort taken = absurd cc
       by ops.Times (a ∷ b ∷ []) at atom sort taken = sym (number_is n (record { op = ops.Times; parts = a ∷ b ∷ [] }) at ∙ product_own (literal_number (slice_get nodes a)) (v b) (basis.number n) atom)
       by ops.Times parts at atom sort taken = absurd cc
-      by ops.Div parts at atom sort taken = sym (number_is n (record { op = ops.Div; parts = parts }) at)
-      by ops.Mod parts at atom sort taken = sym (number_is n (record { op = ops.Mod; parts = parts }) at)
-      by ops.Code parts at atom sort taken = sym (number_is n (record { op = ops.Code; parts = parts }) at)
+      by (ops.Of symbol payload) parts at atom sort taken = sym (number_is n (record { op = ops.Of symbol payload; parts = parts }) at ∙ ap (free_number basis n) sort)
       by op parts at atom sort taken = absurd cc

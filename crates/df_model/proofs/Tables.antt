@@ -10,13 +10,16 @@ use Rattle.df_form.specs.declared.node.Op.{Op}
 use Rattle.df_form.specs.declared.node.Op.TheVariants as ops
 use Rattle.df_form.specs.Node.{Node}
 use Rattle.df_form.specs.Sorting.{IsTable}
+use Rattle.df_form.specs.declared.symbol.Symbol.{Symbol}
+use Rattle.df_form.specs.declared.symbol.Symbol.TheVariants as symbols
+use Rattle.df_form.specs.declared.symbol.Payload.{Payload}
 use Rattle.df_form.specs.Truth.{Assignment, quotient}
 use Rattle.df_form.proofs.Values.{parts_below}
 use Rattle.df_row.specs.Row.{fits}
 use Rattle.df_row.specs.RowView.{narrow}
 use Rattle.df_table.specs.TableModel.{number_at}
 use Rattle.df_model.specs.Valuation.{number_of_value, assignment_of, numbers_of_nodes, IsWide}
-use Rattle.df_model.specs.Numbers.{number_by, narrow_by, free_by}
+use Rattle.df_model.specs.Numbers.{symbol_number, narrow_symbol, number_by, narrow_by, free_by}
 use Rattle.df_model.proofs.NodeNumbers.{number_in, number_is, table_number, table_length}
 use Rattle.df_model.proofs.Atoms.{free_number}
 
@@ -32,17 +35,25 @@ narrow_some z y e = by (fits z) e
     by true e = same_Some z y e
     by false e = absurd cc
 
+symbol_some : (world : World) (symbol : Symbol) (payload : Payload) (parts : List ℤ) (z : ℤ) → narrow_symbol world symbol payload parts ≡ Some z → symbol_number world symbol payload parts ≡ z
+symbol_some world symbols.Div payload parts z e = narrow_some (quotient (number_at parts 0) (number_at parts 1)) z e
+symbol_some world symbol payload parts z e = same_Some _ z e
+
+symbol_none : (world : World) (symbol : Symbol) (payload : Payload) (parts : List ℤ) → narrow_symbol world symbol payload parts ≡ None → fits (symbol_number world symbol payload parts) ≡ false
+symbol_none world symbols.Div payload parts e = unfit (quotient (number_at parts 0) (number_at parts 1)) e
+symbol_none world symbol payload parts e = absurd cc
+
 -- the number, where it has 128 bits
 number_some : (world : World) (free : Free → ℤ) (op : Op) (parts : List ℤ) (z : ℤ) → narrow_by world free op parts ≡ Some z → number_by world free op parts ≡ z
 number_some world free ops.Plus parts z e = narrow_some (number_at parts 0 +ℤ number_at parts 1) z e
 number_some world free ops.Times parts z e = narrow_some (number_at parts 0 *ℤ number_at parts 1) z e
-number_some world free ops.Div parts z e = narrow_some (quotient (number_at parts 0) (number_at parts 1)) z e
+number_some world free (ops.Of symbol payload) parts z e = symbol_some world symbol payload parts z e
 number_some world free op parts z e = same_Some _ z e
 
 number_none : (world : World) (free : Free → ℤ) (op : Op) (parts : List ℤ) → narrow_by world free op parts ≡ None → fits (number_by world free op parts) ≡ false
 number_none world free ops.Plus parts e = unfit (number_at parts 0 +ℤ number_at parts 1) e
 number_none world free ops.Times parts e = unfit (number_at parts 0 *ℤ number_at parts 1) e
-number_none world free ops.Div parts e = unfit (quotient (number_at parts 0) (number_at parts 1)) e
+number_none world free (ops.Of symbol payload) parts e = symbol_none world symbol payload parts e
 number_none world free op parts e = absurd cc
 
 -- only a free term looks at the numbers of free terms

@@ -1,7 +1,5 @@
 -- Operations on numbers, where a truth counts as 1 or 0, and as true from 1 on, and a character as its code.
-use Rattle.std.specs.Prelude.{ℤ, pos, ◌+ℤ◌, ◌*ℤ◌, int_le, Bool, true, false, not, ◌||◌, List, Option, Some}
-use Rattle.std.specs.List.{list_all, list_any}
-use Rattle.std.specs.Ordering.{int_eq}
+use Rattle.std.specs.Prelude.{ℤ, pos, ◌+ℤ◌, ◌*ℤ◌, int_le, Bool, true, List, Option, Some}
 use Rattle.df_form.specs.World.{World}
 use Rattle.df_form.specs.Types.{has_number}
 use Rattle.df_lang.specs.declared.ty.Ty.{Ty}
@@ -11,11 +9,14 @@ use Rattle.df_form.specs.declared.node.Sort.TheVariants as sorts
 use Rattle.df_form.specs.declared.node.Free.{Free}
 use Rattle.df_form.specs.declared.node.Op.{Op}
 use Rattle.df_form.specs.declared.node.Op.TheVariants as ops
+use Rattle.df_form.specs.declared.symbol.Symbol.{Symbol}
+use Rattle.df_form.specs.declared.symbol.Symbol.TheVariants as symbols
+use Rattle.df_form.specs.declared.symbol.Payload.{Payload}
+use Rattle.df_form.specs.Symbol.{type_in}
 use Rattle.df_form.specs.Truth.{quotient, remainder, code_in}
-use Rattle.df_meaning.specs.Value.{same_truth}
 use Rattle.df_row.specs.RowView.{narrow}
-use Rattle.df_table.specs.TableModel.{number_at, is_true}
-use Rattle.df_model.specs.TableNumbers.{number_of_truth}
+use Rattle.df_table.specs.TableModel.{number_at}
+use Rattle.df_model.specs.TableNumbers.{number_of_truth, formula_truth}
 pub use Rattle.df_model.specs.TableNumbers.{counts_as_true}
 
 -- whether a value of the type's sort with this number is of the type
@@ -26,17 +27,13 @@ is_of_type world types.Nat z = int_le (pos 0) z
 is_of_type world types.Bool z = true
 is_of_type world types.Char z = true
 
--- the truth of a formula at the numbers of its parts
-abbrev pub truth_by : World → Op → List ℤ → Bool
-truth_by world (ops.Is ty) parts = is_of_type world ty (number_at parts 0)
-truth_by world ops.Equal parts = int_eq (number_at parts 0) (number_at parts 1)
-truth_by world ops.AtMost parts = int_le (number_at parts 0) (number_at parts 1)
-truth_by world ops.Not parts = not (is_true parts 0)
-truth_by world ops.And parts = list_all counts_as_true parts
-truth_by world ops.Or parts = list_any counts_as_true parts
-truth_by world ops.Implies parts = not (is_true parts 0) || is_true parts 1
-truth_by world ops.Iff parts = same_truth (is_true parts 0) (is_true parts 1)
-truth_by world op parts = false
+-- the number of a symbol at those of its parts
+abbrev pub symbol_number : World → Symbol → Payload → List ℤ → ℤ
+symbol_number world symbols.Div payload parts = quotient (number_at parts 0) (number_at parts 1)
+symbol_number world symbols.Mod payload parts = remainder (number_at parts 0) (number_at parts 1)
+symbol_number world symbols.Code payload parts = number_at parts 0
+symbol_number world symbols.Chr payload parts = pos (code_in (number_at parts 0))
+symbol_number world symbols.Is payload parts = number_of_truth (is_of_type world (type_in payload) (number_at parts 0))
 
 -- the number of an operation at those of its parts
 abbrev pub number_by : World → (Free → ℤ) → Op → List ℤ → ℤ
@@ -44,17 +41,18 @@ number_by world free (ops.Number k) parts = k
 number_by world free (ops.Free term) parts = free term
 number_by world free ops.Plus parts = number_at parts 0 +ℤ number_at parts 1
 number_by world free ops.Times parts = number_at parts 0 *ℤ number_at parts 1
-number_by world free ops.Div parts = quotient (number_at parts 0) (number_at parts 1)
-number_by world free ops.Mod parts = remainder (number_at parts 0) (number_at parts 1)
-number_by world free ops.Code parts = number_at parts 0
-number_by world free ops.Chr parts = pos (code_in (number_at parts 0))
-number_by world free op parts = number_of_truth (truth_by world op parts)
+number_by world free (ops.Of symbol payload) parts = symbol_number world symbol payload parts
+number_by world free op parts = number_of_truth (formula_truth op parts)
 
 -- where it has 128 bits
+abbrev pub narrow_symbol : World → Symbol → Payload → List ℤ → Option ℤ
+narrow_symbol world symbols.Div payload parts = narrow (quotient (number_at parts 0) (number_at parts 1))
+narrow_symbol world symbol payload parts = Some (symbol_number world symbol payload parts)
+
 abbrev pub narrow_by : World → (Free → ℤ) → Op → List ℤ → Option ℤ
 narrow_by world free ops.Plus parts = narrow (number_at parts 0 +ℤ number_at parts 1)
 narrow_by world free ops.Times parts = narrow (number_at parts 0 *ℤ number_at parts 1)
-narrow_by world free ops.Div parts = narrow (quotient (number_at parts 0) (number_at parts 1))
+narrow_by world free (ops.Of symbol payload) parts = narrow_symbol world symbol payload parts
 narrow_by world free op parts = Some (number_by world free op parts)
 
 -- a free term by a number and a truth; a character by the number

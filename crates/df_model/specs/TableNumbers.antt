@@ -8,6 +8,7 @@ use Rattle.df_form.specs.declared.node.Sort.{Sort}
 use Rattle.df_form.specs.declared.node.Sort.TheVariants as sorts
 use Rattle.df_form.specs.declared.node.Op.{Op}
 use Rattle.df_form.specs.declared.node.Op.TheVariants as ops
+use Rattle.df_form.specs.Symbol.{filled, given_by}
 use Rattle.df_form.specs.Node.{Node}
 use Rattle.df_meaning.specs.Value.{same_truth}
 use Rattle.df_row.specs.Row.{literal_number}
@@ -36,7 +37,7 @@ has_true label facts n = list_any (λ (l : Lit). l.positive && label l.node == l
 abbrev pub basis_of : List ℤ → List ℕ → List Lit → Basis
 basis_of numbers labels facts = record { number = number_at numbers; label = label_at labels; holds = has_true (label_at labels) facts }
 
--- a free term by its node; a character has its label in the place of a code
+-- a free term or a symbol by its node; a character has its label in the place of a code
 abbrev pub free_number : Basis → ℕ → Sort → ℤ
 free_number basis n sorts.Number = basis.number n
 free_number basis n sorts.Truth = number_of_truth (basis.holds n)
@@ -63,11 +64,7 @@ number_by basis n factor (ops.Number k) parts = k
 number_by basis n factor (ops.Free free) parts = free_number basis n free.sort
 number_by basis n factor ops.Plus parts = number_at parts 0 +ℤ number_at parts 1
 number_by basis n factor ops.Times parts = product_number factor (number_at parts 1) (basis.number n)
-number_by basis n factor ops.Div parts = basis.number n
-number_by basis n factor ops.Mod parts = basis.number n
-number_by basis n factor ops.Code parts = basis.number n
-number_by basis n factor ops.Chr parts = pos (basis.label n)
-number_by basis n factor (ops.Is ty) parts = number_of_truth (basis.holds n)
+number_by basis n factor (ops.Of symbol payload) parts = free_number basis n (filled payload (given_by symbol))
 number_by basis n factor op parts = number_of_truth (formula_truth op parts)
 
 -- a sum, or a constant multiple

@@ -37,7 +37,7 @@ fn code(labels: &[usize], node: usize) -> i128
     label_at(labels, node) as i128
 }
 
-/// The number of a free term.
+/// The number of a free term or of a symbol.
 fn free_number(numbers: &[i128], labels: &[usize], facts: &[Lit], node: usize, sort: Sort) -> i128
     ensures { result ≡ free_number (basis_of numbers.now labels.now facts.now) node sort }
 {
@@ -50,7 +50,7 @@ fn free_number(numbers: &[i128], labels: &[usize], facts: &[Lit], node: usize, s
 
 /// Whether an equality, a comparison or a connective is true.
 #[tactic(auto, using(df_lemmas::proofs::Lists::mapped))]
-fn formula_truth(table: &[i128], op: Op, parts: &[usize]) -> bool
+pub(crate) fn formula_truth(table: &[i128], op: Op, parts: &[usize]) -> bool
     ensures { result ≡ formula_truth op (map (number_at table.now) parts.now) }
 {
     match op {
@@ -61,15 +61,7 @@ fn formula_truth(table: &[i128], op: Op, parts: &[usize]) -> bool
         Op::Or => is_any_true(table, parts),
         Op::Implies => !is_part_true(table, parts, 0) || is_part_true(table, parts, 1),
         Op::Iff => is_same_truth(is_part_true(table, parts, 0), is_part_true(table, parts, 1)),
-        Op::Number(_)
-        | Op::Free(_)
-        | Op::Plus
-        | Op::Times
-        | Op::Div
-        | Op::Mod
-        | Op::Code
-        | Op::Chr
-        | Op::Is(_) => false,
+        Op::Number(_) | Op::Free(_) | Op::Plus | Op::Times | Op::Of(_, _) => false,
     }
 }
 
@@ -115,9 +107,7 @@ pub(crate) fn next_number(
             part(table, parts, 1),
             number_at(numbers, next),
         ),
-        Op::Div | Op::Mod | Op::Code => Some(number_at(numbers, next)),
-        Op::Chr => Some(code(labels, next)),
-        Op::Is(_) => Some(number_of_truth(has_true(labels, facts, next))),
+        Op::Of(_, _) => Some(free_number(numbers, labels, facts, next, node.op.sort())),
         Op::Equal | Op::AtMost | Op::Not | Op::And | Op::Or | Op::Implies | Op::Iff => {
             Some(number_of_truth(formula_truth(table, node.op, parts)))
         }

@@ -10,12 +10,11 @@ ghost use Rattle.df_form.specs.Truth.{quotient, remainder, code_in};
 ghost use Rattle.df_rules.specs.Known.{knows};
 ghost use Rattle.df_row.specs.RowView.{narrow};
 ghost use Rattle.df_table.specs.TableModel.{number_at};
-ghost use Rattle.df_model.specs.Numbers.{is_of_type, truth_by, narrow_by, free_by};
+ghost use Rattle.df_model.specs.Numbers.{is_of_type, narrow_symbol, narrow_by, free_by};
 
-use crate::parts::{
-    are_all_true, is_any_true, is_part_true, is_same_truth, number_at, number_of_truth, part,
-};
-use df_form::{Free, Lit, Node, Op, Sort, World};
+use crate::entry::formula_truth;
+use crate::parts::{number_at, number_of_truth, part};
+use df_form::{Free, Lit, Node, Op, Payload, Sort, Symbol, World};
 use df_lang::Ty;
 use df_rules::Known;
 
@@ -79,28 +78,23 @@ fn code_in(number: i128) -> i128
     }
 }
 
-/// Whether a formula is true.
-#[tactic(auto, using(df_lemmas::proofs::Lists::mapped))]
-fn is_formula_true(world: World, table: &[i128], op: Op, parts: &[usize]) -> bool
-    ensures { result ≡ truth_by (world_of world.entry) op (map (number_at table.now) parts.now) }
+/// The number of a symbol by those of its parts, where it has 128 bits.
+fn symbol_number(
+    world: World,
+    symbol: Symbol,
+    payload: Payload,
+    table: &[i128],
+    parts: &[usize],
+) -> Option<i128>
+    ensures { result ≡ narrow_symbol (world_of world.entry) symbol payload (map (number_at table.now) parts.now) }
 {
-    match op {
-        Op::Is(ty) => is_of(world, ty, part(table, parts, 0)),
-        Op::Equal => part(table, parts, 0) == part(table, parts, 1),
-        Op::AtMost => part(table, parts, 0) <= part(table, parts, 1),
-        Op::Not => !is_part_true(table, parts, 0),
-        Op::And => are_all_true(table, parts),
-        Op::Or => is_any_true(table, parts),
-        Op::Implies => !is_part_true(table, parts, 0) || is_part_true(table, parts, 1),
-        Op::Iff => is_same_truth(is_part_true(table, parts, 0), is_part_true(table, parts, 1)),
-        Op::Number(_)
-        | Op::Free(_)
-        | Op::Plus
-        | Op::Times
-        | Op::Div
-        | Op::Mod
-        | Op::Code
-        | Op::Chr => false,
+    let first = part(table, parts, 0);
+    match symbol {
+        Symbol::Div => quotient(first, part(table, parts, 1)),
+        Symbol::Mod => Some(remainder(first, part(table, parts, 1))),
+        Symbol::Code => Some(first),
+        Symbol::Chr => Some(code_in(first)),
+        Symbol::Is => Some(number_of_truth(is_of(world, payload.ty(), first))),
     }
 }
 
@@ -134,12 +128,9 @@ pub(crate) fn next_number(
         Op::Free(Free { sort, .. }) => Some(free_number(numbers, known, sort, table.len())),
         Op::Plus => part(table, parts, 0).checked_add(part(table, parts, 1)),
         Op::Times => part(table, parts, 0).checked_mul(part(table, parts, 1)),
-        Op::Div => quotient(part(table, parts, 0), part(table, parts, 1)),
-        Op::Mod => Some(remainder(part(table, parts, 0), part(table, parts, 1))),
-        Op::Code => Some(part(table, parts, 0)),
-        Op::Chr => Some(code_in(part(table, parts, 0))),
-        Op::Is(_) | Op::Equal | Op::AtMost | Op::Not | Op::And | Op::Or | Op::Implies | Op::Iff => {
-            Some(number_of_truth(is_formula_true(world, table, node.op, parts)))
+        Op::Equal | Op::AtMost | Op::Not | Op::And | Op::Or | Op::Implies | Op::Iff => {
+            Some(number_of_truth(formula_truth(table, node.op, parts)))
         }
+        Op::Of(symbol, payload) => symbol_number(world, symbol, payload, table, parts),
     }
 }

@@ -3,7 +3,7 @@
 use crate::candidate::Candidate;
 use crate::codes::{Codes, is_code};
 use crate::operations::{Key, number_of};
-use df_form::{NodeTable, Op, Over};
+use df_form::{NodeTable, Op, Over, Symbol};
 use df_theory::Made;
 use std::alloc::AllocError;
 use std::collections::BTreeMap;
@@ -36,8 +36,8 @@ fn given(op: Op, left: i128, right: i128) -> i128 {
         Op::Number(number) => number,
         Op::Plus => left.checked_add(right).unwrap_or(0),
         Op::Times => left.checked_mul(right).unwrap_or(0),
-        Op::Div => left.checked_div_euclid(right).unwrap_or(0),
-        Op::Mod => left.checked_rem_euclid(right).unwrap_or(0),
+        Op::Of(Symbol::Div, _) => left.checked_div_euclid(right).unwrap_or(0),
+        Op::Of(Symbol::Mod, _) => left.checked_rem_euclid(right).unwrap_or(0),
         _ => 0,
     }
 }
@@ -112,11 +112,11 @@ impl<'a> Candidate<'a> {
     fn enter(&self, grounding: &mut Grounding, node: usize) -> Result<(), AllocError> {
         let part = self.terms.part(node, 0).unwrap_or(0);
         match self.terms.op(node) {
-            Some(Op::Code) => match self.theory.value(node) {
+            Some(Op::Of(Symbol::Code, _)) => match self.theory.value(node) {
                 Some(code) => grounding.codes.offer(self.label(part), code),
                 None => Ok(()),
             },
-            Some(Op::Chr) => match self.theory.value(part) {
+            Some(Op::Of(Symbol::Chr, _)) => match self.theory.value(part) {
                 Some(number) => grounding.enter_character(number, self.label(node)),
                 None => Ok(()),
             },
@@ -215,7 +215,7 @@ impl Grounding {
     fn next_key(&self, nodes: &Over) -> Option<Key> {
         let node = nodes.get(self.numbers.len())?;
         match (node.op, node.parts.as_slice()) {
-            (Op::Times | Op::Div | Op::Mod, [first, second]) => Some(Key {
+            (Op::Times | Op::Of(Symbol::Div | Symbol::Mod, _), [first, second]) => Some(Key {
                 op: number_of(node.op)?,
                 first: self.numbers.get(*first).copied()?,
                 second: self.numbers.get(*second).copied()?,
@@ -228,7 +228,7 @@ impl Grounding {
     fn next_character(&self, nodes: &Over) -> Option<usize> {
         let node = nodes.get(self.numbers.len())?;
         match (node.op, node.parts.as_slice()) {
-            (Op::Code, [part]) => self.labels.get(*part).copied(),
+            (Op::Of(Symbol::Code, _), [part]) => self.labels.get(*part).copied(),
             _ => None,
         }
     }
@@ -253,7 +253,7 @@ impl Grounding {
     fn next_code(&self, nodes: &Over) -> Option<i128> {
         let node = nodes.get(self.numbers.len())?;
         match (node.op, node.parts.as_slice()) {
-            (Op::Chr, [part]) => self.numbers.get(*part).copied(),
+            (Op::Of(Symbol::Chr, _), [part]) => self.numbers.get(*part).copied(),
             _ => None,
         }
     }

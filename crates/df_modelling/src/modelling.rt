@@ -6,7 +6,7 @@ use crate::codes::{Codes, is_code};
 use crate::grounding::term_at;
 use df_axiom::Written;
 use df_clause::Ground;
-use df_form::{Lit, NodeTable, Op, Over, Pair, Sequent, Sort, World};
+use df_form::{Lit, NodeTable, Op, Over, Pair, Sequent, Sort, Symbol, World};
 use df_model::{Tabulation, Valuation, tabulate, valuation};
 use df_rules::Known;
 use df_table::Table;
@@ -128,12 +128,12 @@ impl<'a> Candidate<'a> {
         for &node in self.operations.iter() {
             let part = self.terms.part(node, 0).unwrap_or(0);
             match self.terms.op(node) {
-                Some(Op::Code) => {
+                Some(Op::Of(Symbol::Code, _)) => {
                     if let Some(code) = self.theory.value(node) {
                         codes.offer(self.label(part), code)?;
                     }
                 }
-                Some(Op::Chr) => {
+                Some(Op::Of(Symbol::Chr, _)) => {
                     if let Some(number) = self.theory.value(part) {
                         let code = if is_code(number) { number } else { OTHER };
                         codes.set(self.label(node), code)?;

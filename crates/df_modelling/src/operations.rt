@@ -1,7 +1,7 @@
 //! Operations on numbers by their parts, and those on equal numbers that have different results.
 
 use crate::candidate::Candidate;
-use df_form::{Op, Pair};
+use df_form::{Op, Pair, Symbol};
 use std::alloc::AllocError;
 use std::collections::BTreeMap;
 
@@ -17,9 +17,9 @@ pub(crate) struct Key {
 pub(crate) fn number_of(op: Op) -> Option<u8> {
     match op {
         Op::Times => Some(0),
-        Op::Div => Some(1),
-        Op::Mod => Some(2),
-        Op::Chr => Some(3),
+        Op::Of(Symbol::Div, _) => Some(1),
+        Op::Of(Symbol::Mod, _) => Some(2),
+        Op::Of(Symbol::Chr, _) => Some(3),
         _ => None,
     }
 }

@@ -1,9 +1,20 @@
 -- Different nodes stand for different trees.
+use Rattle.std.proofs.Common.{true≢false}
 use Rattle.df_nenc.proofs.Words.{◌≡◌, ℕ, zero, suc, ◌<◌, ◌≤◌, true, List, [], ◌∷◌, map, length, nat_lt, Some, slice_get, refl, sym, ap, ◌∙◌, arith, ltb-true, list_all, and_parts, get_below, head_same, tail_same, Op, Node, IsTable, AreSorted, parts_below, Term, Terms, node, no_term, term, terms_of, op_of, sort_of, tree_at}
 use Rattle.df_form.specs.declared.node.Sort.{Sort}
 use Rattle.df_form.specs.declared.node.Sort.TheVariants as sorts
 use Rattle.df_form.specs.declared.node.Op.TheVariants as ops
+use Rattle.df_form.specs.declared.symbol.Symbol.{Symbol}
+use Rattle.df_form.specs.declared.symbol.Symbol.TheVariants as symbols
+use Rattle.df_form.specs.declared.symbol.Payload.{Payload}
+use Rattle.df_form.specs.declared.symbol.Payload.TheVariants as payloads
+use Rattle.df_form.specs.declared.symbol.PayloadKind.TheVariants as kinds
+use Rattle.df_form.specs.Symbol.{symbols as table, same_symbol as is_same_symbol, accepts}
+use Rattle.df_form.specs.Node.{symbol, test_of}
+use Rattle.df_form.specs.Sorting.{sort_at, are_each, takes}
+use Rattle.df_form.proofs.Values.{parts_taken}
 use Rattle.df_nterm.specs.Term as trees
+use Rattle.df_nenc.specs.Tree.{of_symbol}
 use Rattle.df_nenc.proofs.Trees.{tree_of}
 
 -- ---- back from a tree
@@ -18,11 +29,11 @@ op_back (trees.Number n) = ops.Number n
 op_back (trees.FreeTerm free) = ops.Free (record { number = free.number; sort = sort_back free.sort })
 op_back trees.Plus = ops.Plus
 op_back trees.Times = ops.Times
-op_back trees.Div = ops.Div
-op_back trees.Mod = ops.Mod
-op_back trees.Code = ops.Code
-op_back trees.Chr = ops.Chr
-op_back (trees.Is ty) = ops.Is ty
+op_back trees.Div = symbol symbols.Div
+op_back trees.Mod = symbol symbols.Mod
+op_back trees.Code = symbol symbols.Code
+op_back trees.Chr = symbol symbols.Chr
+op_back (trees.Is ty) = test_of ty
 op_back trees.Equal = ops.Equal
 op_back trees.AtMost = ops.AtMost
 op_back trees.Not = ops.Not
@@ -36,9 +47,24 @@ sort_again sorts.Number = refl
 sort_again sorts.Truth = refl
 sort_again sorts.Character = refl
 
-op_again : (op : Op) → op_back (op_of op) ≡ op
-op_again (ops.Free free) = let e = sort_again free.sort in λ i. ops.Free (record { number = free.number; sort = e i })
-op_again op = refl
+-- what stands with a symbol is known where it takes some parts
+bare : (symbol : Symbol) (payload : Payload) → accepts kinds.Nothing payload ≡ true → ops.Of symbol payload ≡ ops.Of symbol payloads.Nothing
+bare symbol payloads.Nothing e = refl
+bare symbol (payloads.Type ty) e = absurd (true≢false (sym e))
+
+symbol_again : (symbol : Symbol) (payload : Payload) (parts : List Sort) → takes (ops.Of symbol payload) parts ≡ true → op_back (of_symbol symbol payload) ≡ ops.Of symbol payload
+unfolding table is_same_symbol
+symbol_again symbols.Div payload parts e = sym (bare symbols.Div payload (and_parts (accepts kinds.Nothing payload) (are_each (sorts.Number ∷ sorts.Number ∷ []) parts) e).0)
+symbol_again symbols.Mod payload parts e = sym (bare symbols.Mod payload (and_parts (accepts kinds.Nothing payload) (are_each (sorts.Number ∷ sorts.Number ∷ []) parts) e).0)
+symbol_again symbols.Code payload parts e = sym (bare symbols.Code payload (and_parts (accepts kinds.Nothing payload) (are_each (sorts.Character ∷ []) parts) e).0)
+symbol_again symbols.Chr payload parts e = sym (bare symbols.Chr payload (and_parts (accepts kinds.Nothing payload) (are_each (sorts.Number ∷ []) parts) e).0)
+symbol_again symbols.Is (payloads.Type ty) parts e = refl
+symbol_again symbols.Is payloads.Nothing parts e = absurd (true≢false (sym e))
+
+op_again : (op : Op) (parts : List Sort) → takes op parts ≡ true → op_back (op_of op) ≡ op
+op_again (ops.Free free) parts e = let e = sort_again free.sort in λ i. ops.Free (record { number = free.number; sort = e i })
+op_again (ops.Of symbol payload) parts e = symbol_again symbol payload parts e
+op_again op parts e = refl
 
 abbrev list_of : Terms → List Term
 list_of no_term = []
@@ -56,8 +82,8 @@ parts_in (node op parts) = parts
 
 -- ---- equal trees
 
-pub same_op : (a b : Op) (p q : Terms) → node (op_of a) p ≡ node (op_of b) q → a ≡ b
-same_op a b p q e = sym (op_again a) ∙ ap (λ t. op_back (op_in t)) e ∙ op_again b
+pub same_op : (a b : Op) (xs ys : List Sort) (p q : Terms) → takes a xs ≡ true → takes b ys ≡ true → node (op_of a) p ≡ node (op_of b) q → a ≡ b
+same_op a b xs ys p q first second e = sym (op_again a xs first) ∙ ap (λ t. op_back (op_in t)) e ∙ op_again b ys second
 
 pub same_parts : (a b : trees.Op) (p q : List Term) → node a (terms_of p) ≡ node b (terms_of q) → p ≡ q
 same_parts a b p q e = sym (list_again p) ∙ ap (λ t. list_of (parts_in t)) e ∙ list_again q
@@ -86,7 +112,7 @@ one_apart nodes m n table apart at_m at_n e =
     let there : slice_get nodes m ≡ Some one.0 = one.1 in
     let here : slice_get nodes n ≡ Some other.0 = other.1 in
     let trees = sym (tree_of nodes m one.0 all there) ∙ e ∙ tree_of nodes n other.0 all here in
-    let op = same_op one.0.op other.0.op _ _ trees in
+    let op = same_op one.0.op other.0.op (map (sort_at nodes) one.0.parts) (map (sort_at nodes) other.0.parts) _ _ (parts_taken nodes m one.0 all there) (parts_taken nodes n other.0 all here) trees in
     let parts = same_numbers nodes m n apart (omega arith) one.0.parts other.0.parts (parts_below nodes m one.0 all there) (parts_below nodes n other.0 all here) (same_parts (op_of one.0.op) (op_of other.0.op) (map (tree_at nodes) one.0.parts) (map (tree_at nodes) other.0.parts) trees) in
     let same : one.0 ≡ other.0 = λ i. record { op = op i; parts = parts i } in
     table.distinct m n one.0 there (here ∙ ap Some (sym same))

@@ -4,7 +4,9 @@ use Rattle.df_lang.specs.declared.ty.Ty.TheVariants as types
 use Rattle.df_form.specs.declared.node.Sort.{Sort}
 use Rattle.df_form.specs.declared.node.Sort.TheVariants as sorts
 use Rattle.df_form.specs.declared.node.Op.TheVariants as ops
-use Rattle.df_form.specs.Sorting.{is_tested}
+use Rattle.df_form.specs.declared.symbol.Symbol.TheVariants as symbols
+use Rattle.df_form.specs.Symbol.{symbols as table, same_symbol}
+use Rattle.df_form.specs.Node.{symbol, test_of}
 use Rattle.df_form.specs.Types as form
 use Rattle.df_form.proofs.Same.{values_from}
 use Rattle.df_nenc.proofs.Trees.{tree_sort}
@@ -63,14 +65,32 @@ no_truths_of types.Bool (inr (inr (inl n))) e = cc
 no_truths_of types.Bool (inr (inr (inr n))) e = cc
 no_truths_of ty is e = cc
 
+-- what symbols take, by their rows
+pub takes_quotient : takes (symbol symbols.Div) (sorts.Number ∷ sorts.Number ∷ []) ≡ true
+unfolding table same_symbol
+takes_quotient = refl
+
+pub takes_remainder : takes (symbol symbols.Mod) (sorts.Number ∷ sorts.Number ∷ []) ≡ true
+unfolding table same_symbol
+takes_remainder = refl
+
+pub takes_character : takes (symbol symbols.Code) (sorts.Character ∷ []) ≡ true
+unfolding table same_symbol
+takes_character = refl
+
+pub takes_code : takes (symbol symbols.Chr) (sorts.Number ∷ []) ≡ true
+unfolding table same_symbol
+takes_code = refl
+
 -- a number or a character is tested for its type
-is_tested_one : (ty : Ty) → counts_as_number ty ≡ true → is_tested ty (form.sort_of_type ty ∷ []) ≡ true
-is_tested_one types.Bool e = e
-is_tested_one ty e = refl
+takes_value : (ty : Ty) → counts_as_number ty ≡ true → takes (test_of ty) (form.sort_of_type ty ∷ []) ≡ true
+unfolding table same_symbol
+takes_value types.Bool e = e
+takes_value ty e = refl
 
 -- that a value is of a type
-pub takes_typed : (ty : Ty) (nodes : List Node) (a : ℕ) → counts_as_number ty ≡ true → IsTerm (sort_of_type ty) nodes a → is_well_sorted nodes (record { op = ops.Is ty; parts = a ∷ [] }) ≡ true
-takes_typed ty nodes a typed t = takes_one (ops.Is ty) (form.sort_of_type ty) nodes a (is_tested_one ty typed) (record { below = t.below; sort_is = t.sort_is ∙ sym (type_sort ty) })
+pub takes_typed : (ty : Ty) (nodes : List Node) (a : ℕ) → counts_as_number ty ≡ true → IsTerm (sort_of_type ty) nodes a → is_well_sorted nodes (record { op = test_of ty; parts = a ∷ [] }) ≡ true
+takes_typed ty nodes a typed t = takes_one (test_of ty) (form.sort_of_type ty) nodes a (takes_value ty typed) (record { below = t.below; sort_is = t.sort_is ∙ sym (type_sort ty) })
 
 -- ---- any number of formulas
 

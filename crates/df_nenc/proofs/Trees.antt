@@ -4,7 +4,11 @@ use Rattle.df_form.specs.declared.node.Sort.TheVariants as sorts
 use Rattle.df_form.specs.declared.node.Op.TheVariants as ops
 use Rattle.df_form.specs.Sorting as sorting
 use Rattle.df_form.proofs.Making.{made_stands}
-use Rattle.df_nenc.specs.Tree.{tree_at}
+use Rattle.df_form.specs.declared.symbol.Symbol.{Symbol}
+use Rattle.df_form.specs.declared.symbol.Symbol.TheVariants as symbols
+use Rattle.df_form.specs.declared.symbol.Payload.{Payload}
+use Rattle.df_form.specs.Symbol.{symbols as table, same_symbol}
+use Rattle.df_nenc.specs.Tree.{of_symbol, tree_at}
 use Rattle.df_nenc.specs.Laws.{MakesTree}
 
 onto : (known : List Term) (nodes : List Node) → (rest : List Term) × (trees_after known nodes ≡ known ++ rest) × (length rest ≡ length nodes)
@@ -63,8 +67,17 @@ tree_of nodes n one all e =
     (λ part below. grown_tree front nodes (front_grows nodes n one e) part (omega (arith, long, ltb-true part n below))) (parts_below nodes n one all e) in
     tree_here nodes n one e ∙ over_front front one ∙ ap (λ z. node (op_of one.op) (terms_of z)) (sym same)
 
+symbol_sort : (s : Symbol) (payload : Payload) → sort_of (sorting.sort_of (ops.Of s payload)) ≡ sort_of_op (of_symbol s payload)
+unfolding table same_symbol
+symbol_sort symbols.Div payload = refl
+symbol_sort symbols.Mod payload = refl
+symbol_sort symbols.Code payload = refl
+symbol_sort symbols.Chr payload = refl
+symbol_sort symbols.Is payload = refl
+
 op_sort : (op : Op) → sort_of (sorting.sort_of op) ≡ sort_of_op (op_of op)
 op_sort (ops.Number n) = refl
+op_sort (ops.Of s payload) = symbol_sort s payload
 op_sort op = refl
 
 -- a node has the sort of its tree

@@ -5,6 +5,10 @@ use Rattle.df_form.specs.declared.node.Sort.{Sort}
 use Rattle.df_form.specs.declared.node.Sort.TheVariants as sorts
 use Rattle.df_form.specs.declared.node.Op.{Op}
 use Rattle.df_form.specs.declared.node.Op.TheVariants as ops
+use Rattle.df_form.specs.declared.symbol.Symbol.{Symbol}
+use Rattle.df_form.specs.declared.symbol.Symbol.TheVariants as symbols
+use Rattle.df_form.specs.declared.symbol.Payload.{Payload}
+use Rattle.df_form.specs.Symbol.{type_in}
 use Rattle.df_form.specs.Node.{Node}
 use Rattle.df_nterm.specs.Term.{Term, node, terms_of, literal}
 use Rattle.df_nterm.specs.Term as trees
@@ -16,16 +20,19 @@ sort_of sorts.Number = trees.Numbers
 sort_of sorts.Truth = trees.Truths
 sort_of sorts.Character = trees.Characters
 
+abbrev pub of_symbol : Symbol → Payload → trees.Op
+of_symbol symbols.Div payload = trees.Div
+of_symbol symbols.Mod payload = trees.Mod
+of_symbol symbols.Code payload = trees.Code
+of_symbol symbols.Chr payload = trees.Chr
+of_symbol symbols.Is payload = trees.Is (type_in payload)
+
 abbrev pub op_of : Op → trees.Op
 op_of (ops.Number n) = trees.Number n
 op_of (ops.Free free) = trees.FreeTerm (record { number = free.number; sort = sort_of free.sort })
 op_of ops.Plus = trees.Plus
 op_of ops.Times = trees.Times
-op_of ops.Div = trees.Div
-op_of ops.Mod = trees.Mod
-op_of ops.Code = trees.Code
-op_of ops.Chr = trees.Chr
-op_of (ops.Is ty) = trees.Is ty
+op_of (ops.Of symbol payload) = of_symbol symbol payload
 op_of ops.Equal = trees.Equal
 op_of ops.AtMost = trees.AtMost
 op_of ops.Not = trees.Not

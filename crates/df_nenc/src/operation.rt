@@ -11,7 +11,7 @@ ghost use Rattle.df_nenc.specs.Growing.{Grows};
 ghost use Rattle.df_nenc.specs.Standing.{IsTerm, Stands, counts_as_number};
 
 use crate::making::{make, none, of_formulas, of_numbers, one, two};
-use df_form::{Formula, Free, Nodes, Op, Sort, Term};
+use df_form::{Formula, Free, Nodes, Op, Payload, Sort, Symbol, Term};
 use df_lang::{AddendOperator, FactorOperator, Junction, Ty};
 use std::alloc::{AllocError, Global};
 
@@ -50,7 +50,7 @@ pub fn is_of(alloc: Global, nodes: &mut Nodes, ty: Ty, value: Term) -> Result<Fo
     ensures stands { IfOk result (λ n. Stands nodes.new (trees.of_one (trees.Is ty) (tree_at nodes.old value)) n) }
     ensures grows { Grows nodes.old nodes.new }
 {
-    one(alloc, nodes, Op::Is(ty), value)
+    one(alloc, nodes, Op::Of(Symbol::Is, Payload::Type(ty)), value)
 }
 
 /// The number of the other sign.
@@ -86,6 +86,7 @@ pub fn summed(
 }
 
 /// A product, a quotient or a remainder.
+#[tactic(auto, using(crate::proofs::Growing::grows_not, crate::proofs::Growing::grows_then, crate::proofs::Growing::term_stays, crate::proofs::Growing::path_stays, crate::proofs::Sorts::takes_quotient, crate::proofs::Sorts::takes_remainder))]
 pub(crate) fn multiplied(
     alloc: Global,
     nodes: &mut Nodes,
@@ -100,8 +101,20 @@ pub(crate) fn multiplied(
 {
     match operator {
         FactorOperator::Times => of_numbers(alloc, nodes, Op::Times, left, right),
-        FactorOperator::Divide => of_numbers(alloc, nodes, Op::Div, left, right),
-        FactorOperator::Modulo => of_numbers(alloc, nodes, Op::Mod, left, right),
+        FactorOperator::Divide => of_numbers(
+            alloc,
+            nodes,
+            Op::Of(Symbol::Div, Payload::Nothing),
+            left,
+            right,
+        ),
+        FactorOperator::Modulo => of_numbers(
+            alloc,
+            nodes,
+            Op::Of(Symbol::Mod, Payload::Nothing),
+            left,
+            right,
+        ),
     }
 }
 
@@ -112,7 +125,7 @@ pub fn number_in(alloc: Global, nodes: &mut Nodes, ty: Ty, value: Term) -> Resul
     ensures grows { Grows nodes.old nodes.new }
 {
     match ty {
-        Ty::Char => one(alloc, nodes, Op::Code, value),
+        Ty::Char => one(alloc, nodes, Op::Of(Symbol::Code, Payload::Nothing), value),
         Ty::Newtype(_) | Ty::Int | Ty::Nat | Ty::Bool => Ok(value),
     }
 }
@@ -124,7 +137,7 @@ pub fn value_in(alloc: Global, nodes: &mut Nodes, ty: Ty, number: Term) -> Resul
     ensures grows { Grows nodes.old nodes.new }
 {
     match ty {
-        Ty::Char => one(alloc, nodes, Op::Chr, number),
+        Ty::Char => one(alloc, nodes, Op::Of(Symbol::Chr, Payload::Nothing), number),
         Ty::Newtype(_) | Ty::Int | Ty::Nat | Ty::Bool => Ok(number),
     }
 }
@@ -135,7 +148,7 @@ pub(crate) fn character(alloc: Global, nodes: &mut Nodes, code: u8) -> Result<Te
     ensures grows { Grows nodes.old nodes.new }
 {
     let code = literal(alloc, nodes, code as i128)?;
-    one(alloc, nodes, Op::Chr, code)
+    one(alloc, nodes, Op::Of(Symbol::Chr, Payload::Nothing), code)
 }
 
 /// That a formula is false.

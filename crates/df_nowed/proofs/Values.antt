@@ -10,9 +10,14 @@ use Rattle.df_meaning.specs.Types.{holds, has_type}
 use Rattle.df_form.specs.declared.node.Sort.TheVariants as sorts
 use Rattle.df_form.specs.declared.node.Op.{Op}
 use Rattle.df_form.specs.declared.node.Op.TheVariants as ops
+use Rattle.df_form.specs.declared.symbol.Symbol.{Symbol}
+use Rattle.df_form.specs.declared.symbol.Symbol.TheVariants as symbols
+use Rattle.df_form.specs.declared.symbol.Payload.{Payload}
+use Rattle.df_form.specs.Symbol.{type_in}
 use Rattle.df_form.specs.Types as formula_types
 use Rattle.df_form.specs.Truth as formulas
 use Rattle.df_nterm.specs.Term as trees
+use Rattle.df_nenc.specs.Tree.{of_symbol}
 
 -- ---- the same values
 
@@ -171,16 +176,20 @@ module _ (depth : ℕ) (i : Interpretation) (a : formulas.Assignment) (agrees : 
   truth_of_two : (f : Bool → Bool → Bool) (parts : List Value) → logic.Truth (f (formulas.truth_at (map as_logic parts) 0) (formulas.truth_at (map as_logic parts) 1)) ≡ logic.Truth (f (truth_at parts 0) (truth_at parts 1))
   truth_of_two f parts = let left = truth_there parts 0 in let right = truth_there parts 1 in λ j. logic.Truth (f (left j) (right j))
 
+  symbol_same : (symbol : Symbol) (payload : Payload) (parts : List Value) → formulas.apply depth (of_program i.program) a (ops.Of symbol payload) (map as_logic parts) ≡ as_logic (apply i (of_symbol symbol payload) parts)
+  symbol_same symbols.Div payload parts = number_of_two formulas.quotient parts
+  symbol_same symbols.Mod payload parts = number_of_two formulas.remainder parts
+  symbol_same symbols.Code payload parts = ap logic.Number (number_there parts 0)
+  symbol_same symbols.Chr payload parts = ap (λ z. logic.Character (formulas.code_in z)) (number_there parts 0) ∙ character_same (number_at parts 0)
+  symbol_same symbols.Is payload parts =
+      ap (λ v. logic.Truth (formula_types.has_type (of_program i.program) (type_in payload) v)) (at_place parts 0) ∙ ap logic.Truth (type_same i.program (type_in payload) (slice_index_or parts 0 (Number (pos 0))))
+
   pub apply_same : (op : Op) (parts : List Value) → formulas.apply depth (of_program i.program) a op (map as_logic parts) ≡ as_logic (apply i (op_of op) parts)
   apply_same (ops.Number n) parts = refl
   apply_same (ops.Free free) parts = agrees.by free
   apply_same ops.Plus parts = number_of_two (λ x y. x +ℤ y) parts
   apply_same ops.Times parts = number_of_two (λ x y. x *ℤ y) parts
-  apply_same ops.Div parts = number_of_two formulas.quotient parts
-  apply_same ops.Mod parts = number_of_two formulas.remainder parts
-  apply_same ops.Code parts = ap logic.Number (number_there parts 0)
-  apply_same ops.Chr parts = ap (λ z. logic.Character (formulas.code_in z)) (number_there parts 0) ∙ character_same (number_at parts 0)
-  apply_same (ops.Is ty) parts = ap (λ v. logic.Truth (formula_types.has_type (of_program i.program) ty v)) (at_place parts 0) ∙ ap logic.Truth (type_same i.program ty (slice_index_or parts 0 (Number (pos 0))))
+  apply_same (ops.Of symbol payload) parts = symbol_same symbol payload parts
   apply_same ops.Equal parts =
       let left = at_place parts 0 in
       let right = at_place parts 1 in

@@ -7,10 +7,10 @@ use Rattle.std.proofs.lemmas.Option.{slice_get_within}
 use Rattle.df_lemmas.proofs.Lists.{get_below, head_same, tail_same}
 use Rattle.df_lang.specs.Program.{Program}
 use Rattle.df_form.specs.Node.{Node}
-use Rattle.df_form.specs.Sorting.{IsTable, is_formula}
+use Rattle.df_form.specs.Sorting.{IsTable, is_formula, sort_at}
 use Rattle.df_form.specs.Sequent.{Sequent, IsSequent, IsNumbered, Walk, ends, again, first}
 use Rattle.df_form.proofs.Renamings.{same_items}
-use Rattle.df_form.proofs.Values.{AreSorted, parts_below}
+use Rattle.df_form.proofs.Values.{AreSorted, parts_below, parts_taken}
 use Rattle.df_form.proofs.Walks.{walk_up}
 use Rattle.df_nenc.specs.Laws.{OneNodeForATree}
 use Rattle.df_nenc.specs.Tree.{op_of, tree_at, trees_at}
@@ -40,7 +40,7 @@ module _ (apart : OneNodeForATree) (one other : List Node) (one_table : IsTable 
   same_heads : (n m : ℕ) (a b : Node) → slice_get one n ≡ Some a → slice_get other m ≡ Some b → tree_at one n ≡ tree_at other m → (a.op ≡ b.op) × (map (tree_at one) a.parts ≡ map (tree_at other) b.parts)
   same_heads n m a b here there e =
       let trees = sym (tree_of one n a one_sorted here) ∙ e ∙ tree_of other m b other_sorted there in
-      (same_op a.op b.op _ _ trees, same_parts (op_of a.op) (op_of b.op) (map (tree_at one) a.parts) (map (tree_at other) b.parts) trees)
+      (same_op a.op b.op (map (sort_at one) a.parts) (map (sort_at other) b.parts) _ _ (parts_taken one n a one_sorted here) (parts_taken other m b other_sorted there) trees, same_parts (op_of a.op) (op_of b.op) (map (tree_at one) a.parts) (map (tree_at other) b.parts) trees)
 
   -- two walks side by side, over numbers that stand for the same trees
   together : (met : ℕ) (ns ms : List ℕ) (after end : ℕ) → AreSame met → map (tree_at one) ns ≡ map (tree_at other) ms → Walk one met ns after → Walk other met ms end → (after ≡ end) × AreSame after

@@ -2,7 +2,7 @@
 
 use crate::assignment::Assignment;
 use crate::declarations::Head;
-use df_form::{Free, Front, Node, NodeTable, Op, Sort, Term};
+use df_form::{Free, Front, Node, NodeTable, Op, Sort, Symbol, Term};
 use df_lang::{DeclId, Ty};
 use std::alloc::{AllocError, Global};
 
@@ -192,8 +192,8 @@ fn number_of(op: Op, a: i128, b: i128) -> Option<i128> {
     match op {
         Op::Plus => a.checked_add(b),
         Op::Times => a.checked_mul(b),
-        Op::Div => quotient(a, b),
-        Op::Mod => remainder(a, b),
+        Op::Of(Symbol::Div, _) => quotient(a, b),
+        Op::Of(Symbol::Mod, _) => remainder(a, b),
         _ => None,
     }
 }
@@ -212,10 +212,10 @@ fn node_value(
     match node.op {
         Op::Number(number) => Some(Value::Number(number)),
         Op::Free(free) => free_value(assignment, free),
-        Op::Is(ty) => parts.typing(heads, ty),
-        Op::Plus | Op::Times | Op::Div | Op::Mod => parts.arithmetic(node.op),
-        Op::Code => parts.code(),
-        Op::Chr => parts.character(),
+        Op::Of(Symbol::Is, payload) => parts.typing(heads, payload.ty()),
+        Op::Plus | Op::Times | Op::Of(Symbol::Div | Symbol::Mod, _) => parts.arithmetic(node.op),
+        Op::Of(Symbol::Code, _) => parts.code(),
+        Op::Of(Symbol::Chr, _) => parts.character(),
         Op::Equal => parts.equality(),
         Op::AtMost => parts.order(),
         Op::Not => parts.negation(),

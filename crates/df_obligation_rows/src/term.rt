@@ -1,7 +1,7 @@
 //! Terms and formulas in words.
 
 use crate::declarations::{Head, name_of};
-use df_form::{Front, Node, NodeTable, Op, Term};
+use df_form::{Front, Node, NodeTable, Op, Symbol, Term};
 use df_lang::Ty;
 use std::alloc::{AllocError, Global};
 
@@ -20,13 +20,13 @@ fn word(alloc: Global, heads: &[Head], op: Op) -> Result<String, AllocError> {
     let word = match op {
         Op::Number(number) => return format!(in alloc; "{number}"),
         Op::Free(free) => return free_word(alloc, free.number),
-        Op::Is(ty) => return is_word(alloc, type_name(heads, ty)),
+        Op::Of(Symbol::Is, payload) => return is_word(alloc, type_name(heads, payload.ty())),
         Op::Plus => "plus",
         Op::Times => "times",
-        Op::Div => "div",
-        Op::Mod => "mod",
-        Op::Code => "code",
-        Op::Chr => "chr",
+        Op::Of(Symbol::Div, _) => "div",
+        Op::Of(Symbol::Mod, _) => "mod",
+        Op::Of(Symbol::Code, _) => "code",
+        Op::Of(Symbol::Chr, _) => "chr",
         Op::Equal => "eq",
         Op::AtMost => "le",
         Op::Not => "not",
@@ -50,20 +50,16 @@ fn is_word(alloc: Global, name: &str) -> Result<String, AllocError> {
 fn is_alone(op: Op) -> bool {
     match op {
         Op::Number(_) | Op::Free(_) => true,
-        Op::Is(_)
-        | Op::Plus
+        Op::Plus
         | Op::Times
-        | Op::Div
-        | Op::Mod
-        | Op::Code
-        | Op::Chr
         | Op::Equal
         | Op::AtMost
         | Op::Not
         | Op::And
         | Op::Or
         | Op::Implies
-        | Op::Iff => false,
+        | Op::Iff
+        | Op::Of(_, _) => false,
     }
 }
 

@@ -6,7 +6,8 @@ use Rattle.df_form.specs.declared.node.Sort.{Sort}
 use Rattle.df_form.specs.declared.node.Sort.TheVariants as sorts
 use Rattle.df_form.specs.declared.node.Op.{Op}
 use Rattle.df_form.specs.declared.node.Op.TheVariants as ops
-use Rattle.df_form.specs.Node.{Node}
+use Rattle.df_form.specs.Symbol.{symbols as table, same_symbol}
+use Rattle.df_form.specs.Node.{Node, test_of}
 use Rattle.df_form.specs.Clause.{Clause, yes, no}
 use Rattle.df_rules.specs.CongruenceLine.{congruence_line}
 
@@ -24,7 +25,7 @@ numbers =
 -- x 0, y 1, x = y 2, x and y of one type 3 and 4, y of another 5, x <= y 6, y <= y 7, y <= x 8
 abbrev tests : List Node
 tests =
-    free 0 sorts.Number ∷ free 1 sorts.Number ∷ node ops.Equal (0 ∷ 1 ∷ []) ∷ node (ops.Is (types.Newtype 0)) (0 ∷ []) ∷ node (ops.Is (types.Newtype 0)) (1 ∷ []) ∷ node (ops.Is (types.Newtype 1)) (1 ∷ []) ∷ node ops.AtMost (0 ∷ 1 ∷ [])
+    free 0 sorts.Number ∷ free 1 sorts.Number ∷ node ops.Equal (0 ∷ 1 ∷ []) ∷ node (test_of (types.Newtype 0)) (0 ∷ []) ∷ node (test_of (types.Newtype 0)) (1 ∷ []) ∷ node (test_of (types.Newtype 1)) (1 ∷ []) ∷ node ops.AtMost (0 ∷ 1 ∷ [])
     ∷ node ops.AtMost (1 ∷ 1 ∷ []) ∷ node ops.AtMost (1 ∷ 0 ∷ []) ∷ []
 
 -- p 0, q 1, p = q 2, the `and` of p and p 3, of p and q 4, and of p alone 5, the `or` of these 6, 7 and 8,
@@ -68,24 +69,31 @@ no_literal = refl
 -- ---- tests of types, and comparisons
 
 one_type : adds tests (no 2 ∷ no 3 ∷ yes 4 ∷ []) (pair 3 4 ∷ []) ≡ Some (no 2 ∷ no 3 ∷ yes 4 ∷ [])
+unfolding table same_symbol
 one_type = refl
 
 another_type : adds tests (no 2 ∷ no 3 ∷ yes 5 ∷ []) (pair 3 5 ∷ []) ≡ None
+unfolding table same_symbol
 another_type = refl
 
 opposites_by_a_pair : adds tests (no 2 ∷ no 6 ∷ yes 8 ∷ []) (pair 6 8 ∷ []) ≡ Some (no 2 ∷ no 6 ∷ yes 8 ∷ [])
+unfolding table same_symbol
 opposites_by_a_pair = refl
 
 opposites_by_two_pairs : adds tests (no 2 ∷ yes 6 ∷ no 8 ∷ []) (pair 6 7 ∷ pair 7 8 ∷ []) ≡ Some (no 2 ∷ yes 6 ∷ no 8 ∷ [])
+unfolding table same_symbol
 opposites_by_two_pairs = refl
 
 opposites_without_a_pair : adds tests (no 2 ∷ no 6 ∷ yes 8 ∷ []) [] ≡ None
+unfolding table same_symbol
 opposites_without_a_pair = refl
 
 opposites_without_the_equality : adds tests (no 6 ∷ yes 8 ∷ []) (pair 6 8 ∷ []) ≡ None
+unfolding table same_symbol
 opposites_without_the_equality = refl
 
 two_of_one_sign : adds tests (no 2 ∷ no 6 ∷ no 8 ∷ []) (pair 6 8 ∷ []) ≡ None
+unfolding table same_symbol
 two_of_one_sign = refl
 
 -- ---- any number of parts

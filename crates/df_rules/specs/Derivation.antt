@@ -8,6 +8,7 @@ use Rattle.df_form.specs.declared.node.Op.{Op}
 use Rattle.df_form.specs.declared.node.Op.TheVariants as ops
 use Rattle.df_form.specs.Log.{Step, Hypothesis, Goal, Connective, Schema, Propagation, Congruence, Linear, Split, Make}
 use Rattle.df_form.specs.Node.{Node, number_of, same_sort}
+use Rattle.df_form.specs.Symbol.{type_in}
 use Rattle.df_form.specs.Sorting.{is_well_sorted, sort_at}
 use Rattle.df_form.specs.Sequent.{Sequent}
 use Rattle.df_form.specs.World.{World, ends_at}
@@ -62,7 +63,7 @@ is_unknown world types.Char = false
 -- Free terms are the sequent's, and types are the program's: no line makes another.
 abbrev pub is_foreign : World → Op → Bool
 is_foreign world (ops.Free free) = true
-is_foreign world (ops.Is ty) = is_unknown world ty
+is_foreign world (ops.Of symbol payload) = is_unknown world (type_in payload)
 is_foreign world op = false
 
 abbrev pub is_new : Option ℕ → Bool

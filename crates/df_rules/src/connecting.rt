@@ -129,13 +129,9 @@ fn plain_clause_of(
         | Op::Free(_)
         | Op::Plus
         | Op::Times
-        | Op::Div
-        | Op::Mod
-        | Op::Code
-        | Op::Chr
-        | Op::Is(_)
         | Op::Equal
-        | Op::AtMost => Ok(None),
+        | Op::AtMost
+        | Op::Of(_, _) => Ok(None),
     }
 }
 

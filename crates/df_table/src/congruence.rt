@@ -31,6 +31,7 @@ fn same_numbers(table: &Table, xs: &[usize], ys: &[usize]) -> bool
     true
 }
 
+#[tactic(auto, unfolding(df_form::specs::Symbol::same_symbol))]
 fn is_same_op(a: Op, b: Op) -> bool
     ensures { result ≡ same_op a b }
 {

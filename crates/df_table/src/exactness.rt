@@ -32,18 +32,14 @@ pub fn literal(nodes: &Over, node: usize) -> Option<i128>
         Op::Free(_)
         | Op::Plus
         | Op::Times
-        | Op::Div
-        | Op::Mod
-        | Op::Code
-        | Op::Chr
-        | Op::Is(_)
         | Op::Equal
         | Op::AtMost
         | Op::Not
         | Op::And
         | Op::Or
         | Op::Implies
-        | Op::Iff => None,
+        | Op::Iff
+        | Op::Of(_, _) => None,
     }
 }
 

@@ -11,7 +11,9 @@ use Rattle.df_lang.specs.declared.ty.Ty.TheVariants as types
 use Rattle.df_form.specs.World.{World, Ends, ends_at}
 use Rattle.df_form.specs.declared.node.Op.{Op}
 use Rattle.df_form.specs.declared.node.Op.TheVariants as ops
-use Rattle.df_form.specs.Node.{Node}
+use Rattle.df_form.specs.declared.symbol.Symbol.TheVariants as symbols
+use Rattle.df_form.specs.declared.symbol.Payload.TheVariants as payloads
+use Rattle.df_form.specs.Node.{test_of, Node}
 use Rattle.df_form.specs.Log.{Step, Schema}
 use Rattle.df_axiom.specs.declared.templates.Piece.{Piece}
 use Rattle.df_axiom.specs.declared.templates.Source.{Source}
@@ -65,21 +67,21 @@ always_below op (suc k) t e = absurd cc
 
 type_below : (world : World) (ty : Ty) (k : ℕ) (t : Template) → type_template world ty k ≡ Some t → k < 3
 type_below world (types.Newtype number) k t e =
-    let ends = then_some (λ (newtype : Ends). interval_template (ops.Is (types.Newtype number)) newtype.low newtype.high k) (ends_at world number) t e in
-    interval_below (ops.Is (types.Newtype number)) ends.0 k t ends.2
-type_below world types.Int k t e = always_below (ops.Is types.Int) k t e
-type_below world types.Nat k t e = natural_below (ops.Is types.Nat) k t e
-type_below world types.Bool k t e = always_below (ops.Is types.Bool) k t e
-type_below world types.Char k t e = always_below (ops.Is types.Char) k t e
+    let ends = then_some (λ (newtype : Ends). interval_template (test_of (types.Newtype number)) newtype.low newtype.high k) (ends_at world number) t e in
+    interval_below (test_of (types.Newtype number)) ends.0 k t ends.2
+type_below world types.Int k t e = always_below (test_of types.Int) k t e
+type_below world types.Nat k t e = natural_below (test_of types.Nat) k t e
+type_below world types.Bool k t e = always_below (test_of types.Bool) k t e
+type_below world types.Char k t e = always_below (test_of types.Char) k t e
 
-is_type_pattern : (ty : Ty) (k : ℕ) → k < 3 → Among (type_patterns (ops.Is ty)) (of_schema (ops.Is ty) 74 k)
+is_type_pattern : (ty : Ty) (k : ℕ) → k < 3 → Among (type_patterns (test_of ty)) (of_schema (test_of ty) 74 k)
 is_type_pattern ty zero less = (0, refl)
 is_type_pattern ty (suc zero) less = (1, refl)
 is_type_pattern ty (suc (suc zero)) less = (2, refl)
 is_type_pattern ty (suc (suc (suc k))) less = absurd (omega (arith, less))
 
 types_have : (world : World) (op : Op) (k : ℕ) (t : Template) → types_template world op k ≡ Some t → HasPattern op 74 k
-types_have world (ops.Is ty) k t e = in_left (type_patterns (ops.Is ty)) (of_entries (ops.Is ty) written) (of_schema (ops.Is ty) 74 k) (is_type_pattern ty k (type_below world ty k t e))
+types_have world (ops.Of symbols.Is (payloads.Type ty)) k t e = in_left (type_patterns (test_of ty)) (of_entries (test_of ty) written) (of_schema (test_of ty) 74 k) (is_type_pattern ty k (type_below world ty k t e))
 types_have world op k t e = absurd cc
 
 -- what passes the test stays

@@ -11,6 +11,8 @@ use Rattle.df_lemmas.proofs.Options.{map_some}
 use Rattle.df_form.specs.World.{World}
 use Rattle.df_form.specs.declared.node.Op.{Op}
 use Rattle.df_form.specs.declared.node.Op.TheVariants as ops
+use Rattle.df_form.specs.declared.symbol.Symbol.TheVariants as symbols
+use Rattle.df_form.specs.declared.symbol.Payload.TheVariants as payloads
 use Rattle.df_form.specs.Node.{Node}
 use Rattle.df_form.specs.Log.{Step, Schema}
 use Rattle.df_form.specs.Sequent.{Sequent}
@@ -90,7 +92,7 @@ rows_begin op [] = tt
 rows_begin op (e ∷ others) = (refl, rows_begin op others)
 
 types_begin : (op : Op) → AllByRecursion (λ (p : Pattern). p.op ≡ op) (type_patterns op)
-types_begin (ops.Is ty) = (refl, (refl, (refl, tt)))
+types_begin (ops.Of symbols.Is (payloads.Type ty)) = (refl, (refl, (refl, tt)))
 types_begin op = tt
 
 pub pattern_op : (op : Op) (p : Pattern) → Among (patterns op) p → p.op ≡ op

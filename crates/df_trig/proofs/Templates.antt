@@ -10,7 +10,9 @@ use Rattle.df_lang.specs.declared.ty.Ty.TheVariants as types
 use Rattle.df_form.specs.World.{World, Ends, ends_at}
 use Rattle.df_form.specs.declared.node.Op.{Op}
 use Rattle.df_form.specs.declared.node.Op.TheVariants as ops
-use Rattle.df_form.specs.Node.{same_op}
+use Rattle.df_form.specs.declared.symbol.Symbol.TheVariants as symbols
+use Rattle.df_form.specs.declared.symbol.Payload.TheVariants as payloads
+use Rattle.df_form.specs.Node.{test_of, same_op}
 use Rattle.df_axiom.specs.declared.templates.Piece.{Piece}
 use Rattle.df_axiom.specs.declared.templates.Source.{Source}
 use Rattle.df_axiom.specs.declared.templates.Source.TheVariants as sources
@@ -82,15 +84,15 @@ always_one op (suc k) t e = absurd cc
 
 type_one : (world : World) (ty : Ty) (k : ℕ) (t : Template) → type_template world ty k ≡ Some t → t.terms ≡ 1
 type_one world (types.Newtype number) k t e =
-    let found = then_some (λ (newtype : Ends). interval_template (ops.Is (types.Newtype number)) newtype.low newtype.high k) (ends_at world number) t e in
-    interval_one (ops.Is (types.Newtype number)) found.0 k t found.2
-type_one world types.Int k t e = always_one (ops.Is types.Int) k t e
-type_one world types.Nat k t e = natural_one (ops.Is types.Nat) k t e
-type_one world types.Bool k t e = always_one (ops.Is types.Bool) k t e
-type_one world types.Char k t e = always_one (ops.Is types.Char) k t e
+    let found = then_some (λ (newtype : Ends). interval_template (test_of (types.Newtype number)) newtype.low newtype.high k) (ends_at world number) t e in
+    interval_one (test_of (types.Newtype number)) found.0 k t found.2
+type_one world types.Int k t e = always_one (test_of types.Int) k t e
+type_one world types.Nat k t e = natural_one (test_of types.Nat) k t e
+type_one world types.Bool k t e = always_one (test_of types.Bool) k t e
+type_one world types.Char k t e = always_one (test_of types.Char) k t e
 
 types_one : (world : World) (op : Op) (k : ℕ) (t : Template) → types_template world op k ≡ Some t → t.terms ≡ 1
-types_one world (ops.Is ty) k t e = type_one world ty k t e
+types_one world (ops.Of symbols.Is (payloads.Type ty)) k t e = type_one world ty k t e
 types_one world op k t e = absurd cc
 
 -- ---- all

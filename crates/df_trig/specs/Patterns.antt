@@ -2,6 +2,9 @@
 use Rattle.std.specs.Prelude.{ℕ, List, [], ◌∷◌, ◌++◌, map, filter}
 use Rattle.df_form.specs.declared.node.Op.{Op}
 use Rattle.df_form.specs.declared.node.Op.TheVariants as ops
+use Rattle.df_form.specs.declared.symbol.Symbol.TheVariants as symbols
+use Rattle.df_form.specs.declared.symbol.Payload.TheVariants as payloads
+use Rattle.df_form.specs.Node.{test_of}
 use Rattle.df_axiom.specs.Template.{Entry}
 use Rattle.df_axiom.specs.Schemas.{written, begins_with}
 use Rattle.df_trig.specs.declared.pattern.Pattern.{Pattern}
@@ -12,7 +15,7 @@ of_schema op schema clause = record { op = op; schema = schema; clause = clause 
 
 -- what it is to be of a type
 abbrev pub type_patterns : Op → List Pattern
-type_patterns (ops.Is ty) = of_schema (ops.Is ty) 74 0 ∷ of_schema (ops.Is ty) 74 1 ∷ of_schema (ops.Is ty) 74 2 ∷ []
+type_patterns (ops.Of symbols.Is (payloads.Type ty)) = of_schema (test_of ty) 74 0 ∷ of_schema (test_of ty) 74 1 ∷ of_schema (test_of ty) 74 2 ∷ []
 type_patterns op = []
 
 abbrev pub of_entry : Op → Entry → Pattern

@@ -8,7 +8,7 @@ ghost use Rattle.df_trig.specs.Patterns.{of_schema, type_patterns, of_entries, p
 ghost use Rattle.df_trig.specs.Rounds.{named_by, Names};
 
 use df_axiom::{PRODUCTS_COMPARE, SchemaRow, begins_with, rows, schema_template};
-use df_form::{Op, World};
+use df_form::{Op, Payload, Symbol, World};
 use std::alloc::{AllocError, Global};
 
 /// The pattern of a clause of a schema.
@@ -30,7 +30,7 @@ fn of_schema(op: Op, schema: u8, clause: u32) -> Pattern
 fn type_patterns(alloc: Global, op: Op) -> Result<Vec<Pattern>, AllocError>
     ensures { IfOk result (λ list. list.items ≡ type_patterns op) }
 {
-    let Op::Is(_) = op else {
+    let Op::Of(Symbol::Is, Payload::Type(_)) = op else {
         return Ok(Vec::new(alloc));
     };
     Ok(vec![in alloc;
