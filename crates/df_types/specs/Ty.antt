@@ -65,8 +65,9 @@ same_type_list (t ∷ ts) (u ∷ us) = same_type t u && same_type_list ts us
 
 -- ---- type parameters stand for types
 
+-- Where there is none for a parameter it is `int`: so what stands for a type at types that stand for other parameters is one type.
 abbrev pub argument_at : Tys → ℕ → Ty
-argument_at no_ty n = Parameter n
+argument_at no_ty n = Int
 argument_at (and_ty t ts) zero = t
 argument_at (and_ty t ts) (suc n) = argument_at ts n
 
