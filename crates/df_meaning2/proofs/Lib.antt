@@ -1,0 +1,4 @@
+pub mod Outcomes
+pub mod Evaluating
+pub mod Executing
+pub mod Deepening
