@@ -12,3 +12,4 @@ pub mod Whole
 pub mod Modular
 pub mod Correct
 pub mod Growing
+pub mod Typed

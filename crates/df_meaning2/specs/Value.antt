@@ -81,6 +81,8 @@ abbrev mutual
   precedes (Made a parts) (Made b others) = nat_lt a b || ((a == b) && list_precedes parts others)
   precedes (Sequence vs) (Sequence ws) = list_precedes vs ws
   precedes (Collection vs) (Collection ws) = list_precedes vs ws
+  -- heaps stand in no set
+  precedes (Memory a) (Memory b) = true
   precedes v w = nat_lt (rank_of v) (rank_of w)
 
   pub list_precedes : Values → Values → Bool

@@ -3,6 +3,7 @@
 #![tactic(auto)]
 
 ghost use Rattle.df_meaning2.specs.Growing.{ExpressionsGrow, StatementsGrow, WholesGrow, MethodsGrow};
+ghost use Rattle.df_meaning2.specs.Typed.{RowsAreTyped, ExpressionsAreTyped};
 
 /// What expressions evaluate to over a meaning that says less, they do over one that says more.
 pub fn expressions_grow()
@@ -22,4 +23,14 @@ pub fn wholes_grow()
 /// More depth keeps what a run of a method comes to, also that it is wrong.
 pub fn methods_grow()
     ensures { MethodsGrow }
+{}
+
+/// The answer of each operation to values of the types of its operands has the type of its result.
+pub fn rows_are_typed()
+    ensures { RowsAreTyped }
+{}
+
+/// The value of a well-typed expression is of its type.
+pub fn expressions_are_typed()
+    ensures { ExpressionsAreTyped }
 {}
