@@ -5,7 +5,7 @@ use Rattle.df_types.specs.declared.expr.Connective.{Connective}
 use Rattle.df_types.specs.declared.expr.Quantifier.{Quantifier}
 use Rattle.df_types.specs.Ty.{Ty, Tys, instances_of}
 use Rattle.df_types.specs.Op.{Op}
-use Rattle.df_types.specs.Expr.{Expr, Local, Bound, Apply, Junction, Chain, If, Let, Call, Quantify, Old, Exprs, no_expr, expr, Links, no_link, link, Arms, no_arm, arm, Over, Between, Among}
+use Rattle.df_types.specs.Expr.{Expr, Local, Bound, Apply, Junction, Chain, If, Let, Call, Quantify, Old, Exprs, no_expr, expr, Links, no_link, link, Arms, no_arm, arm, Extent, Between, Among}
 use Rattle.df_types.specs.Stmt.{Demand, Typed}
 use Rattle.df_types.specs.Program.{Program}
 use Rattle.df_meaning2.specs.Value.{Value, truth_of}
@@ -40,8 +40,8 @@ module _ (p : Program) (first : ℕ → ℕ) (f g : Applying) (h : (at : Pos) (c
     grows s (If t arms otherwise) = arms_grow s arms _ _ (grows s otherwise)
     grows s (Let variable value body) = after_grows _ _ _ _ (grows s value) (λ v. grows (with_bound s v) body)
     grows s (Call callee types at es) = after_grows _ _ _ _ (grow_all s es) (λ vs. h at callee (instances_of s.types types) vs s)
-    grows s (Quantify site at q variable over triggers body) =
-        after_grows _ _ _ _ (range_grows_here s over) (λ vs. each_grows q _ _ (λ v. grows (with_bound s v) body) (led (first site) (filter (is_of p s.types variable.ty) vs)))
+    grows s (Quantify site at q variable extent triggers body) =
+        after_grows _ _ _ _ (range_grows_here s extent) (λ vs. each_grows q _ _ (λ v. grows (with_bound s v) body) (led (first site) (filter (is_of p s.types variable.ty) vs)))
     grows s (Old at e) = grows (at_entry s) e
 
     grow_all : (s : State) (es : Exprs) → evaluate_all (with_apply p first f) s es ⊑ evaluate_all (with_apply p first g) s es
@@ -60,7 +60,7 @@ module _ (p : Program) (first : ℕ → ℕ) (f g : Applying) (h : (at : Pos) (c
     arms_grow s no_arm o q e = e
     arms_grow s (arm guard value rest) o q e = after_grows _ _ _ _ (grows s guard) (λ v. choice_grows (truth_of v) _ _ _ _ (grows s value) (arms_grow s rest o q e))
 
-    range_grows_here : (s : State) (over : Over) → evaluate_range (with_apply p first f) s over ⊑ evaluate_range (with_apply p first g) s over
+    range_grows_here : (s : State) (extent : Extent) → evaluate_range (with_apply p first f) s extent ⊑ evaluate_range (with_apply p first g) s extent
     range_grows_here s (Between t low a high b) = after_grows _ _ _ _ (grows s low) (λ v. after_grows _ _ _ _ (grows s high) (λ w. refl))
     range_grows_here s (Among t container) = after_grows _ _ _ _ (grows s container) (λ v. refl)
 
@@ -76,8 +76,8 @@ evaluate_grows m n h s e = subst (λ (x : Meaning). evaluate m s e ⊑ evaluate 
 pub all_grow : (m n : Meaning) → MeansLess m n → (s : State) (es : Exprs) → evaluate_all m s es ⊑ evaluate_all n s es
 all_grow m n h s es = subst (λ (x : Meaning). evaluate_all m s es ⊑ evaluate_all x s es) (same_meaning m n h) (grow_all m.program m.first m.apply n.apply h.apply s es)
 
-pub range_grows : (m n : Meaning) → MeansLess m n → (s : State) (over : Over) → evaluate_range m s over ⊑ evaluate_range n s over
-range_grows m n h s over = subst (λ (x : Meaning). evaluate_range m s over ⊑ evaluate_range x s over) (same_meaning m n h) (range_grows_here m.program m.first m.apply n.apply h.apply s over)
+pub range_grows : (m n : Meaning) → MeansLess m n → (s : State) (extent : Extent) → evaluate_range m s extent ⊑ evaluate_range n s extent
+range_grows m n h s extent = subst (λ (x : Meaning). evaluate_range m s extent ⊑ evaluate_range x s extent) (same_meaning m n h) (range_grows_here m.program m.first m.apply n.apply h.apply s extent)
 
 pub row_grows : (m n : Meaning) → MeansLess m n → (s : State) (op : Op) (at : Pos) (vs : List Value) → answered at (answer (view_of m s) op vs) ⊑ answered at (answer (view_of n s) op vs)
 row_grows m n h s op at vs = subst (λ (x : Meaning). answered at (answer (view_of m s) op vs) ⊑ answered at (answer (view_of x s) op vs)) (same_meaning m n h) (same_grows _)

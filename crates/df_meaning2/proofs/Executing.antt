@@ -43,7 +43,7 @@ module _ (m n : Meaning) (h : MeansLess m n) where
   meet_grows s [] condition [] = holds_grows s condition
   meet_grows s [] condition (v ∷ vs) = refl
   meet_grows s (r ∷ rs) condition [] = refl
-  meet_grows s (r ∷ rs) condition (v ∷ vs) = after_grows _ _ _ _ (range_grows m n h s r.over) (λ items.
+  meet_grows s (r ∷ rs) condition (v ∷ vs) = after_grows _ _ _ _ (range_grows m n h s r.extent) (λ items.
       subst (λ (p : Program). (if is_among v (of_type m s r.variable.ty items) then meet m (with_bound s v) rs condition vs else Gives false) ⊑ (if is_among v (of_type (record m { program = p }) s r.variable.ty items) then meet n (with_bound s v) rs condition vs else Gives false)) h.program
       (choice_grows (is_among v (of_type m s r.variable.ty items)) _ _ _ _ (meet_grows (with_bound s v) rs condition vs) refl))
 
@@ -55,7 +55,7 @@ module _ (m n : Meaning) (h : MeansLess m n) where
 
   over_grows : (s : State) (range : Option Range) → values_over m s range ⊑ values_over n s range
   over_grows s None = refl
-  over_grows s (Some r) = after_grows _ _ _ _ (range_grows m n h s r.over) (λ vs. of_type_grows m n h s r.variable.ty vs (λ ws. Gives (Some ws)))
+  over_grows s (Some r) = after_grows _ _ _ _ (range_grows m n h s r.extent) (λ vs. of_type_grows m n h s r.variable.ty vs (λ ws. Gives (Some ws)))
 
 goes_grows : (f g : State → Outcome Flow) → ((s : State) → f s ⊑ g s) → (flow : Flow) → goes f flow ⊑ goes g flow
 goes_grows f g e (Next s) = e s

@@ -136,9 +136,9 @@ module _ (m : Meaning) (calls : CallsAreTyped m) where
             of_same s.types t (instance_of types (result_type f.head.results)) _ same.0 (after_each (AreOf p s.types (parameters_at f.head types)) (IsOf p s.types (instance_of types (result_type f.head.results))) _ _ (rest (parameters_at f.head types) are.1) (λ vs k.
             of_instance s.types types (result_type f.head.results) _
             (calls at callee f (instances_of s.types types) vs s e (record { by = subst (λ us. have_types p us (values_of vs) ≡ true) (types_twice s.types types f.head.parameters) k.by }))))
-    typed (Quantify site at q variable over triggers body) g s t h is =
+    typed (Quantify site at q variable extent triggers body) g s t h is =
         let same = and_parts (same_type t Boolean) _ is in
-        of_same s.types t Boolean _ same.0 (any_after _ (evaluate_range m s over) _ (λ vs. each_typed s.types q (λ v. evaluate m (with_bound s v) body) (led (m.first site) (filter (is_of p s.types variable.ty) vs))))
+        of_same s.types t Boolean _ same.0 (any_after _ (evaluate_range m s extent) _ (λ vs. each_typed s.types q (λ v. evaluate m (with_bound s v) body) (led (m.first site) (filter (is_of p s.types variable.ty) vs))))
     typed (Old at e) g s t h is = typed e g (at_entry s) t (entry_agrees g s h) is
 
     pub all_typed : (es : Exprs) (g : Scope) (s : State) (ts : List Ty) → Agrees p g s → are_exprs p g ts es ≡ true → Each (AreOf p s.types ts) (evaluate_all m s es)

@@ -7,7 +7,7 @@ use Rattle.df_types.specs.declared.kind.Kind.TheVariants as kinds
 use Rattle.df_types.specs.declared.expr.Quantifier.TheVariants.{Exists}
 use Rattle.df_types.specs.Ty.{Ty, Class, Array, instance_of}
 use Rattle.df_types.specs.Op.{Op}
-use Rattle.df_types.specs.Expr.{Expr, Quantify, Over, Exprs, no_trigger}
+use Rattle.df_types.specs.Expr.{Expr, Quantify, Extent, Exprs, no_trigger}
 use Rattle.df_types.specs.Stmt.{Demand, Typed, Target, Nowhere, LocalAt, FieldAt, ElementAt, CallOf, Source, Single, Results, NewArray, Update, Range, Aim, Stmt, Declare, Assign, Choose, Branch, While, Break, Return, Check, Prove, Print, Publish, Ghost, Stmts, done, next, Branches, no_branch, branch}
 use Rattle.df_types.specs.Measures.{loop_measure}
 use Rattle.df_meaning2.specs.Value.{Value, NullReference, same, truth_of, number_of, nat_of, is_among}
@@ -255,7 +255,7 @@ execute_optional m s (Some update) = execute_update m s update
 -- that some values of the ranges meet the condition; the quantifiers have the numbers from that of the choice on
 abbrev pub some_meet : ℕ → Pos → List Range → Expr → Expr
 some_meet site at [] condition = condition
-some_meet site at (r ∷ rs) condition = Quantify site at Exists r.variable r.over no_trigger (some_meet (suc site) at rs condition)
+some_meet site at (r ∷ rs) condition = Quantify site at Exists r.variable r.extent no_trigger (some_meet (suc site) at rs condition)
 
 abbrev pub holds : Meaning → State → Expr → Outcome Bool
 holds m s condition = after (evaluate m s condition) (λ v. Gives (truth_of v))
@@ -266,7 +266,7 @@ meet m s [] condition [] = holds m s condition
 meet m s [] condition (v ∷ vs) = Gives false
 meet m s (r ∷ rs) condition [] = Gives false
 meet m s (r ∷ rs) condition (v ∷ vs) =
-    after (evaluate_range m s r.over) (λ items. if is_among v (of_type m s r.variable.ty items) then meet m (with_bound s v) rs condition vs else Gives false)
+    after (evaluate_range m s r.extent) (λ items. if is_among v (of_type m s r.variable.ty items) then meet m (with_bound s v) rs condition vs else Gives false)
 
 -- the condition must have a value on the whole range, and be true somewhere
 abbrev pub execute_choice : Actions → State → ℕ → Pos → List Target → List Range → Expr → Outcome State
@@ -300,7 +300,7 @@ execute_publish m s site class fields this =
 
 abbrev pub values_over : Meaning → State → Option Range → Outcome (Option (List Value))
 values_over m s None = Gives None
-values_over m s (Some r) = after (evaluate_range m s r.over) (λ vs. Gives (Some (of_type m s r.variable.ty vs)))
+values_over m s (Some r) = after (evaluate_range m s r.extent) (λ vs. Gives (Some (of_type m s r.variable.ty vs)))
 
 -- ---- statements in order
 

@@ -7,7 +7,7 @@ use Rattle.df_types.specs.declared.expr.Connective.TheVariants.{And, Or, Implies
 use Rattle.df_types.specs.declared.expr.Quantifier.{Quantifier}
 use Rattle.df_types.specs.declared.expr.Quantifier.TheVariants.{Forall, Exists}
 use Rattle.df_types.specs.Ty.{Ty, Tys, instances_of}
-use Rattle.df_types.specs.Expr.{Expr, Local, Bound, Apply, Junction, Chain, If, Let, Call, Quantify, Old, Exprs, no_expr, expr, Links, no_link, link, Arms, no_arm, arm, Over, Between, Among}
+use Rattle.df_types.specs.Expr.{Expr, Local, Bound, Apply, Junction, Chain, If, Let, Call, Quantify, Old, Exprs, no_expr, expr, Links, no_link, link, Arms, no_arm, arm, Extent, Between, Among}
 use Rattle.df_types.specs.Stmt.{Demand, Typed}
 use Rattle.df_types.specs.Program.{Program}
 use Rattle.df_meaning2.specs.Value.{Value, Truth, truth_of, number_of, items_of, nat_of}
@@ -100,8 +100,8 @@ abbrev mutual
   evaluate m s (If t arms otherwise) = evaluate_arms m s arms (evaluate m s otherwise)
   evaluate m s (Let variable value body) = after (evaluate m s value) (λ v. evaluate m (with_bound s v) body)
   evaluate m s (Call callee types at es) = after (evaluate_all m s es) (λ vs. m.apply at callee (instances_of s.types types) vs s)
-  evaluate m s (Quantify site at q variable over triggers body) =
-      after (evaluate_range m s over) (λ vs. each q (λ v. evaluate m (with_bound s v) body) (led (m.first site) (filter (is_of m.program s.types variable.ty) vs)))
+  evaluate m s (Quantify site at q variable extent triggers body) =
+      after (evaluate_range m s extent) (λ vs. each q (λ v. evaluate m (with_bound s v) body) (led (m.first site) (filter (is_of m.program s.types variable.ty) vs)))
   evaluate m s (Old at e) = evaluate m (at_entry s) e
 
   pub evaluate_all : Meaning → State → Exprs → Outcome (List Value)
@@ -123,7 +123,7 @@ abbrev mutual
   evaluate_arms m s no_arm otherwise = otherwise
   evaluate_arms m s (arm guard value rest) otherwise = after (evaluate m s guard) (λ v. if truth_of v then evaluate m s value else evaluate_arms m s rest otherwise)
 
-  pub evaluate_range : Meaning → State → Over → Outcome (List Value)
+  pub evaluate_range : Meaning → State → Extent → Outcome (List Value)
   evaluate_range m s (Between t low low_strict high high_strict) = after (evaluate m s low) (λ a. after (evaluate m s high) (λ b. Gives (between t a low_strict b high_strict)))
   evaluate_range m s (Among t container) = after (evaluate m s container) (λ v. Gives (items_of v))
 

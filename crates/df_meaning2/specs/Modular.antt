@@ -7,7 +7,7 @@ use Rattle.df_base.specs.declared.pos.Pos.{Pos}
 use Rattle.df_types.specs.declared.kind.Kind.{Kind}
 use Rattle.df_types.specs.declared.kind.Kind.TheVariants as kinds
 use Rattle.df_types.specs.Ty.{Ty, AnyObject, Seq, Parameter, Tys, no_ty, and_ty, instances_of, same_types}
-use Rattle.df_types.specs.Expr.{Expr, Local, Bound, Apply, Junction, Chain, If, Let, Call, Quantify, Old, Exprs, no_expr, expr, Links, no_link, link, Arms, no_arm, arm, Over, Between, Among}
+use Rattle.df_types.specs.Expr.{Expr, Local, Bound, Apply, Junction, Chain, If, Let, Call, Quantify, Old, Exprs, no_expr, expr, Links, no_link, link, Arms, no_arm, arm, Extent, Between, Among}
 use Rattle.df_types.specs.Stmt.{Demand, CallOf, Stmt}
 use Rattle.df_types.specs.Program.{Param, Head, Function, Method, Decl, NewtypeDecl, DatatypeDecl, ClassDecl, FunctionDecl, MethodDecl, Program, function_at, method_at}
 use Rattle.df_types.specs.Measures.{function_measure, method_measure, frame_objects}
@@ -191,7 +191,7 @@ reads_parameter n (Chain ty first rest) = false
 reads_parameter n (If ty arms otherwise) = false
 reads_parameter n (Let variable value body) = false
 reads_parameter n (Call callee types at es) = false
-reads_parameter n (Quantify site at quantifier variable over triggers body) = false
+reads_parameter n (Quantify site at quantifier variable extent triggers body) = false
 reads_parameter n (Old at e) = false
 
 abbrev pub are_parameters : List Param → Exprs → Bool
@@ -220,7 +220,7 @@ abbrev mutual
   resulting f (If ty arms otherwise) = If ty (resulting_arms f arms) (resulting f otherwise)
   resulting f (Let variable value body) = Let variable (resulting f value) (resulting f body)
   resulting f (Call callee types at es) = if calls_itself f callee types es then Local f.result 0 at else Call callee types at (resulting_all f es)
-  resulting f (Quantify site at quantifier variable over triggers body) = Quantify site at quantifier variable (resulting_over f over) triggers (resulting f body)
+  resulting f (Quantify site at quantifier variable extent triggers body) = Quantify site at quantifier variable (resulting_over f extent) triggers (resulting f body)
   resulting f (Old at e) = Old at (resulting f e)
 
   pub resulting_all : Itself → Exprs → Exprs
@@ -235,7 +235,7 @@ abbrev mutual
   resulting_arms f no_arm = no_arm
   resulting_arms f (arm guard value rest) = arm (resulting f guard) (resulting f value) (resulting_arms f rest)
 
-  pub resulting_over : Itself → Over → Over
+  pub resulting_over : Itself → Extent → Extent
   resulting_over f (Between ty low low_strict high high_strict) = Between ty (resulting f low) low_strict (resulting f high) high_strict
   resulting_over f (Among ty container) = Among ty (resulting f container)
 

@@ -15,9 +15,9 @@ called (Apply op at es) = []
 called (Junction connective first rest) = []
 called (Chain ty first rest) = []
 called (If ty arms otherwise) = []
-called (Let variable value body) = []
+called (Let variable is_ghost value body) = []
 called (Call callee types at es) = callee ∷ []
-called (Quantify site at quantifier variable over triggers body) = []
+called (Quantify site at quantifier variable extent triggers body) = []
 called (Old at e) = []
 
 -- the methods and lemmas that a statement calls

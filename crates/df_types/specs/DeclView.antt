@@ -27,7 +27,7 @@ abbrev pub newtype_of : declared_newtype.Newtype → Newtype
 newtype_of x = record { declared = declared_of x.declared; low = x.interval.low; high = x.interval.high; default = x.default }
 
 abbrev pub variable_of : declared_variable.Variable → Variable
-variable_of x = record { declared = declared_of x.declared; ty = ty_of x.ty; is_ghost = x.is_ghost }
+variable_of x = record { declared = declared_of x.declared; ty = ty_of x.ty; is_ghost = x.is_ghost; is_written = x.is_written }
 
 abbrev pub type_parameter_of : declared_parameter.TypeParameter → TypeParameter
 type_parameter_of x = record { declared = declared_of x.declared; has_equality = x.has_equality }

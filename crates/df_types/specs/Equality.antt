@@ -26,8 +26,8 @@ abbrev mutual
   have_equality datatypes parameters no_ty = true
   have_equality datatypes parameters (and_ty t ts) = has_equality datatypes parameters t && have_equality datatypes parameters ts
 
--- Parts down to so many datatypes inside one another; as many as there are declarations reach all. What stands at a type parameter
--- of the datatype is looked at with its arguments.
+-- No datatype that its parts reach has a ghost part, a set and so on: down to so many datatypes inside one another, and as many as
+-- there are declarations reach all. What stands at a type parameter of the datatype is looked at with its arguments.
 abbrev pub is_equatable : Program → ℕ → ℕ → Bool
 is_equatable p zero d = true
 is_equatable p (suc n) d =

@@ -7,12 +7,12 @@ use Rattle.df_types.specs.declared.expr.Quantifier.{Quantifier}
 use Rattle.df_types.specs.Ty.{Ty, Tys}
 use Rattle.df_types.specs.Op.{Op}
 
--- a bound variable
+-- A bound variable. One that the text does not write, as the value of a `match`, is no place of compiled code.
 pub record Binder : Type 0 where
   pub name : ℕ
   pub pos : Pos
   pub ty : Ty
-  pub is_ghost : Bool
+  pub is_written : Bool
 
 mutual
   pub data Expr : Type 0 where
@@ -27,9 +27,9 @@ mutual
     -- three members or more; two are one operation
     Chain : (ty : Ty) (first : Expr) (rest : Links) → Expr
     If : (ty : Ty) (arms : Arms) (otherwise : Expr) → Expr
-    Let : (variable : Binder) (value body : Expr) → Expr
+    Let : (variable : Binder) (is_ghost : Bool) (value body : Expr) → Expr
     Call : (callee : ℕ) (types : Tys) (pos : Pos) (arguments : Exprs) → Expr
-    Quantify : (site : ℕ) (pos : Pos) (quantifier : Quantifier) (variable : Binder) (over : Over) (triggers : Triggers) (body : Expr) → Expr
+    Quantify : (site : ℕ) (pos : Pos) (quantifier : Quantifier) (variable : Binder) (extent : Extent) (triggers : Triggers) (body : Expr) → Expr
     Old : (pos : Pos) (operand : Expr) → Expr
 
   pub data Exprs : Type 0 where
@@ -46,9 +46,9 @@ mutual
     arm : (guard value : Expr) (rest : Arms) → Arms
 
   -- the range of a variable: numbers or characters of the type between two ends, or what stands in a sequence or a set
-  pub data Over : Type 0 where
-    Between : (ty : Ty) (low : Expr) (is_low_strict : Bool) (high : Expr) (is_high_strict : Bool) → Over
-    Among : (ty : Ty) (container : Expr) → Over
+  pub data Extent : Type 0 where
+    Between : (ty : Ty) (low : Expr) (is_low_strict : Bool) (high : Expr) (is_high_strict : Bool) → Extent
+    Among : (ty : Ty) (container : Expr) → Extent
 
   -- terms that a quantifier is to be used at; they are never evaluated
   pub data Triggers : Type 0 where

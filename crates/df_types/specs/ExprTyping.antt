@@ -1,23 +1,23 @@
 -- Which expressions have a type.
-use Rattle.std.specs.Prelude.{ℕ, Bool, true, false, ◌&&◌, ◌==◌, List, [], ◌∷◌, map, length, slice_get, Option, None, Some}
+use Rattle.std.specs.Prelude.{ℕ, Bool, true, false, ◌&&◌, List, [], ◌∷◌, map, slice_get, Option}
 use Rattle.std.specs.Option.{option_map_or}
-use Rattle.df_types.specs.Ty.{Ty, Boolean, Tys, ty_count, same_type, instance_of}
-use Rattle.df_types.specs.Expr.{Binder, Expr, Local, Bound, Apply, Junction, Chain, If, Let, Call, Quantify, Old, Exprs, no_expr, expr, Links, no_link, link, Arms, no_arm, arm, Over, Between, Among, Triggers, no_trigger, trigger}
-use Rattle.df_types.specs.Program.{Program, Param, Head, Function, function_at, result_type}
-use Rattle.df_types.specs.Types.{is_type, are_types, is_ordered, is_container}
+use Rattle.df_types.specs.Ty.{Ty, Newtype, Int, Nat, Boolean, Char, AnyObject, Class, Array, Seq, Set, Data, Parameter, Tys, same_type, instance_of}
+use Rattle.df_types.specs.Expr.{Binder, Expr, Local, Bound, Apply, Junction, Chain, If, Let, Call, Quantify, Old, Exprs, no_expr, expr, Links, no_link, link, Arms, no_arm, arm, Extent, Between, Among, Triggers, no_trigger, trigger}
+use Rattle.df_types.specs.Program.{Program, TypeParameter, Param, Head, Function, function_at, result_type}
+use Rattle.df_types.specs.Types.{are_arguments, is_type, are_types, is_ordered, converts}
 use Rattle.df_types.specs.Rows.{operands, result, allowed, compares}
 
--- how many type parameters there are, and the types of the locals and of the values of the binders
+-- the type parameters, and the types of the locals that are there and of the values of the binders
 pub record Scope : Type 0 where
-  pub type_parameters : ℕ
-  pub locals : List Ty
+  pub type_parameters : List TypeParameter
+  pub locals : ℕ → Option Ty
   pub bound : List Ty
 
 abbrev pub with_type : Scope → Ty → Scope
-with_type g t = record { type_parameters = g.type_parameters; locals = g.locals; bound = t ∷ g.bound }
+with_type g t = record g { bound = t ∷ g.bound }
 
-abbrev pub is_at : List Ty → ℕ → Ty → Bool
-is_at ts n t = option_map_or (same_type t) (slice_get ts n) false
+abbrev pub is_at : Option Ty → Ty → Bool
+is_at o t = option_map_or (same_type t) o false
 
 -- what a callable takes and gives, at the types that a call gives for its type parameters
 pub record Signature : Type 0 where
@@ -33,23 +33,38 @@ results_at head types = map (λ (x : Param). instance_of types x.ty) head.result
 abbrev pub signature_of : Head → Tys → Signature
 signature_of head types = record { parameters = parameters_at head types; result = instance_of types (result_type head.results) }
 
--- there are as many types as type parameters
-abbrev pub are_arguments : Program → ℕ → Head → Tys → Bool
-are_arguments p k head types = (length head.type_parameters == ty_count types) && are_types p k types
+-- types that a call gives for the type parameters
+abbrev pub are_types_for : Program → Scope → Head → Tys → Bool
+are_types_for p g head types = are_arguments p g.type_parameters head.type_parameters types && are_types p g.type_parameters types
+
+-- what stands in it fits or narrows to the type
+abbrev pub holds_members : Ty → Ty → Bool
+holds_members (Newtype d) t = false
+holds_members Int t = false
+holds_members Nat t = false
+holds_members Boolean t = false
+holds_members Char t = false
+holds_members (AnyObject nullable) t = false
+holds_members (Class nullable d) t = false
+holds_members (Array nullable u) t = false
+holds_members (Seq u) t = converts u t
+holds_members (Set u) t = converts u t
+holds_members (Data d us) t = false
+holds_members (Parameter n) t = false
 
 abbrev mutual
   pub is_expr : Program → Scope → Ty → Expr → Bool
-  is_expr p g t (Local local name at) = is_at g.locals local t
-  is_expr p g t (Bound index name at) = is_at g.bound index t
+  is_expr p g t (Local local name at) = is_at (g.locals local) t
+  is_expr p g t (Bound index name at) = is_at (slice_get g.bound index) t
   is_expr p g t (Apply op at es) = same_type t (result op) && (is_type p g.type_parameters t && (allowed p op && are_exprs p g (operands p op) es))
   is_expr p g t (Junction connective first rest) = same_type t Boolean && (is_expr p g Boolean first && are_truths p g rest)
   is_expr p g t (Chain own first rest) = same_type t Boolean && (is_expr p g own first && are_links p g own rest)
   is_expr p g t (If own arms otherwise) = same_type t own && (are_arms p g t arms && is_expr p g t otherwise)
-  is_expr p g t (Let variable value body) = is_expr p g variable.ty value && is_expr p (with_type g variable.ty) t body
+  is_expr p g t (Let variable is_ghost value body) = is_expr p g variable.ty value && is_expr p (with_type g variable.ty) t body
   is_expr p g t (Call callee types at es) =
-      option_map_or (λ (f : Function). same_type t (signature_of f.head types).result && (are_arguments p g.type_parameters f.head types && are_exprs p g (signature_of f.head types).parameters es)) (function_at p callee) false
-  is_expr p g t (Quantify site at quantifier variable over triggers body) =
-      same_type t Boolean && (is_type p g.type_parameters variable.ty && (is_range p g over && (are_triggers p (with_type g variable.ty) triggers && is_expr p (with_type g variable.ty) Boolean body)))
+      option_map_or (λ (f : Function). same_type t (signature_of f.head types).result && (are_types_for p g f.head types && are_exprs p g (signature_of f.head types).parameters es)) (function_at p callee) false
+  is_expr p g t (Quantify site at quantifier variable extent triggers body) =
+      same_type t Boolean && (is_type p g.type_parameters variable.ty && (is_range p g variable.ty extent && (are_triggers p (with_type g variable.ty) triggers && is_expr p (with_type g variable.ty) Boolean body)))
   is_expr p g t (Old at e) = is_expr p g t e
 
   pub are_exprs : Program → Scope → List Ty → Exprs → Bool
@@ -70,9 +85,10 @@ abbrev mutual
   are_arms p g t no_arm = true
   are_arms p g t (arm guard value rest) = is_expr p g Boolean guard && (is_expr p g t value && are_arms p g t rest)
 
-  pub is_range : Program → Scope → Over → Bool
-  is_range p g (Between own low low_strict high high_strict) = is_ordered own && (is_expr p g own low && is_expr p g own high)
-  is_range p g (Among own e) = is_container own && is_expr p g own e
+  -- its values fit or narrow to the type of the variable
+  pub is_range : Program → Scope → Ty → Extent → Bool
+  is_range p g t (Between own low low_strict high high_strict) = is_ordered own && (converts own t && (is_expr p g own low && is_expr p g own high))
+  is_range p g t (Among own e) = holds_members own t && is_expr p g own e
 
   pub are_triggers : Program → Scope → Triggers → Bool
   are_triggers p g no_trigger = true

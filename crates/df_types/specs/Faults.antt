@@ -8,7 +8,7 @@ use Rattle.df_types.specs.declared.expr.Connective.{Connective}
 use Rattle.df_types.specs.declared.expr.Connective.TheVariants.{And, Or, Implies, Explies}
 use Rattle.df_types.specs.Ty.{Ty}
 use Rattle.df_types.specs.Op.{Op}
-use Rattle.df_types.specs.Expr.{Binder, Expr, Local, Bound, Apply, Junction, Chain, If, Let, Call, Quantify, Old, Exprs, no_expr, expr, Links, no_link, link, Arms, no_arm, arm, Over, Between, Among}
+use Rattle.df_types.specs.Expr.{Binder, Expr, Local, Bound, Apply, Junction, Chain, If, Let, Call, Quantify, Old, Exprs, no_expr, expr, Links, no_link, link, Arms, no_arm, arm, Extent, Between, Among}
 use Rattle.df_types.specs.Program.{Program, Variable, Param, Head, TypeParameter, head_at}
 use Rattle.df_types.specs.Rows.{ghost_operands, is_ghost_op, equated, equated_by}
 use Rattle.df_types.specs.Equality.{may_equate}
@@ -109,9 +109,9 @@ abbrev mutual
   faults_in w (Junction connective first rest) = in_order connective (faults_in w first) (faults_in_members w connective rest)
   faults_in w (Chain ty first rest) = faults_in w first ++ faults_in_links w ty rest
   faults_in w (If ty arms otherwise) = faults_in_arms w arms ++ faults_in w otherwise
-  faults_in w (Let variable value body) = faults_in (ghostly w variable.is_ghost) value ++ faults_in (with_mark w variable.is_ghost) body
+  faults_in w (Let variable is_ghost value body) = faults_in (ghostly w is_ghost) value ++ faults_in (with_mark w is_ghost) body
   faults_in w (Call callee types at es) = faults_in_all w (call_marks w.program callee) es ++ fault_if (not w.is_ghost && is_ghost_callee w.program callee) at (Mentions 2)
-  faults_in w (Quantify site at quantifier variable over triggers body) = faults_in (with_mark w variable.is_ghost) body ++ faults_in_over w over
+  faults_in w (Quantify site at quantifier variable extent triggers body) = faults_in (with_mark w false) body ++ faults_in_extent w extent
   faults_in w (Old at e) = faults_in w e ++ fault_if (not w.is_ghost) at (Breaks 2)
 
   pub faults_in_all : Watch → List Bool → Exprs → List Fault
@@ -130,9 +130,9 @@ abbrev mutual
   faults_in_arms w no_arm = []
   faults_in_arms w (arm guard value rest) = faults_in w guard ++ (faults_in w value ++ faults_in_arms w rest)
 
-  pub faults_in_over : Watch → Over → List Fault
-  faults_in_over w (Between ty low low_strict high high_strict) = faults_in w low ++ faults_in w high
-  faults_in_over w (Among ty container) = faults_in w container
+  pub faults_in_extent : Watch → Extent → List Fault
+  faults_in_extent w (Between ty low low_strict high high_strict) = faults_in w low ++ faults_in w high
+  faults_in_extent w (Among ty container) = faults_in w container
 
 -- ---- mentioned ghosts
 

@@ -4,11 +4,11 @@ use Rattle.std.specs.Prelude.{◌≡◌, ℕ, Bool, true, false, not, ◌&&◌, 
 use Rattle.std.specs.List.{flat_map}
 use Rattle.std.specs.Option.{option_map_or}
 use Rattle.df_base.specs.declared.pos.Pos.{Pos}
-use Rattle.df_types.specs.Expr.{Expr, Over, Between, Among, Exprs, no_expr, expr}
+use Rattle.df_types.specs.Expr.{Expr, Extent, Between, Among, Exprs, no_expr, expr}
 use Rattle.df_types.specs.Stmt.{Demand, Typed, Target, Nowhere, LocalAt, FieldAt, ElementAt, CallOf, Source, Single, Results, NewArray, Update, Range, Aim, Stmt, Declare, Assign, Choose, Branch, While, Break, Return, Check, Prove, Print, Publish, Ghost, Stmts, done, next, Branches, no_branch, branch}
 use Rattle.df_types.specs.Program.{Variable, Param, Head, Function, Method, Decl, NewtypeDecl, DatatypeDecl, ClassDecl, FunctionDecl, MethodDecl, Program, head_at}
 use Rattle.df_types.specs.Gathering.{of_demands, of_typed, of_optional}
-use Rattle.df_types.specs.Faults.{Breaks, Unassigned, Fault, fault, fault_if, Assigned, Unreached, Reached, has_value, Watch, ghostly, with_assigned, is_ghost_at, param_marks, call_marks, is_ghost_callee, faults_in, faults_in_all, faults_in_over}
+use Rattle.df_types.specs.Faults.{Breaks, Unassigned, Fault, fault, fault_if, Assigned, Unreached, Reached, has_value, Watch, ghostly, with_assigned, is_ghost_at, param_marks, call_marks, is_ghost_callee, faults_in, faults_in_all, faults_in_extent}
 use Rattle.df_types.specs.Ghosts.{watch_of, is_ghost_field, arity, is_ghost_source, proof_watch}
 use Rattle.df_types.specs.Sites.{is_in}
 use Rattle.df_types.specs.Typing.{numbers_of}
@@ -21,17 +21,17 @@ join (Reached set) Unreached = Reached set
 join (Reached set) (Reached other) = Reached (λ local. set local && other local)
 
 -- the local has a value from here on, or has none
-abbrev pub mark : Bool → Assigned → ℕ → Assigned
-mark value Unreached local = Unreached
-mark value (Reached set) local = Reached (λ k. if k == local then value else set k)
+abbrev pub set_assigned : Bool → Assigned → ℕ → Assigned
+set_assigned value Unreached local = Unreached
+set_assigned value (Reached set) local = Reached (λ k. if k == local then value else set k)
 
 abbrev pub declare : Assigned → List ℕ → Assigned
 declare before [] = before
-declare before (local ∷ others) = declare (mark false before local) others
+declare before (local ∷ others) = declare (set_assigned false before local) others
 
 abbrev pub assign_at : Assigned → Target → Assigned
 assign_at before (Nowhere ty) = before
-assign_at before (LocalAt local name at ty) = mark true before local
+assign_at before (LocalAt local name at ty) = set_assigned true before local
 assign_at before (FieldAt object class field at ty) = before
 assign_at before (ElementAt array index at ty) = before
 
@@ -57,13 +57,13 @@ abbrev pub precedes : Pos → Pos → Bool
 precedes a b = nat_lt a.line b.line || ((a.line == b.line) && nat_lt a.col b.col)
 
 -- what is found elsewhere in the text goes where it stands
-abbrev pub placed : Fault → List Fault → List Fault
-placed x [] = x ∷ []
-placed x (y ∷ ys) = if precedes x.pos y.pos then x ∷ y ∷ ys else y ∷ placed x ys
+abbrev pub inserted : Fault → List Fault → List Fault
+inserted x [] = x ∷ []
+inserted x (y ∷ ys) = if precedes x.pos y.pos then x ∷ y ∷ ys else y ∷ inserted x ys
 
-abbrev pub all_placed : List Fault → List Fault → List Fault
-all_placed [] ys = ys
-all_placed (x ∷ xs) ys = placed x (all_placed xs ys)
+abbrev pub all_inserted : List Fault → List Fault → List Fault
+all_inserted [] ys = ys
+all_inserted (x ∷ xs) ys = inserted x (all_inserted xs ys)
 
 -- ---- assignments
 
@@ -110,7 +110,7 @@ faults_of_source w (NewArray site element at size elements) = faults_in w size +
 abbrev pub faults_of_sources : Watch → List Target → List Source → List Fault
 faults_of_sources w targets [] = []
 faults_of_sources w targets (source ∷ others) =
-    faults_of_source (ghostly w (is_ghost_source w (take (arity source) targets) source)) source ++ faults_of_sources w (drop (arity source) targets) others
+    faults_of_source (ghostly w (is_ghost_source w.program w.locals (take (arity source) targets) source)) source ++ faults_of_sources w (drop (arity source) targets) others
 
 abbrev pub faults_of_update : Watch → Option Update → List Fault
 faults_of_update w None = []
@@ -127,18 +127,14 @@ abbrev pub faults_of_chosen : Watch → List Target → List Fault
 faults_of_chosen w [] = []
 faults_of_chosen w (target ∷ targets) = faults_of_target w false target ++ (chosen_fault w target ++ faults_of_chosen w targets)
 
-abbrev pub bound_by : Watch → List Range → Watch
-bound_by w [] = w
-bound_by w (r ∷ rs) = bound_by (record w { bound = true ∷ w.bound }) rs
-
 -- each over the values of those before it
 abbrev pub faults_in_ranges : Watch → List Range → List Fault
 faults_in_ranges w [] = []
-faults_in_ranges w (r ∷ rs) = faults_in_over w r.over ++ faults_in_ranges (record w { bound = true ∷ w.bound }) rs
+faults_in_ranges w (r ∷ rs) = faults_in_extent w r.extent ++ faults_in_ranges (record w { bound = true ∷ w.bound }) rs
 
-abbrev pub faults_in_range : Watch → Option Range → List Fault
-faults_in_range w None = []
-faults_in_range w (Some r) = faults_in_over w r.over
+abbrev pub faults_in_given : Watch → Option Expr → List Fault
+faults_in_given w None = []
+faults_in_given w (Some e) = faults_in w e
 
 -- ---- statements
 
@@ -170,32 +166,35 @@ in_ghost g = record { head = g.head; watch = ghostly g.watch true; in_ghost_loop
 abbrev pub in_loop : Around → Around
 in_loop g = record g { in_ghost_loop = g.watch.is_ghost }
 
-abbrev pub in_proof : Around → Option Range → Around
-in_proof g range = record { head = g.head; watch = proof_watch (ghostly g.watch true) range; in_ghost_loop = false }
+abbrev pub in_proof : Around → List Range → Around
+in_proof g ranges = record { head = g.head; watch = proof_watch (ghostly g.watch true) ranges; in_ghost_loop = false }
 
 abbrev mutual
   pub flow : Around → Assigned → Stmt → Flowing
   flow g before (Declare locals) = goes_to (declare before locals) []
   flow g before (Assign update) = goes_to (assign before update.targets) (faults_of_update (watching g before) (Some update))
   flow g before (Choose site at targets ranges condition) =
-      goes_to (assign before targets) (faults_of_chosen (watching g before) targets ++ (faults_in (bound_by (ghost_watching g before) ranges) condition ++ faults_in_ranges (ghost_watching g before) ranges))
+      goes_to (assign before targets) (faults_of_chosen (watching g before) targets ++ (faults_in (proof_watch (ghost_watching g before) ranges) condition ++ faults_in_ranges (ghost_watching g before) ranges))
   flow g before (Branch branches otherwise) = flow_branches g before branches (flow_all g before otherwise)
   -- behind a loop its guard was false, as before it, or a `break` came there; a guard that is never false isn't looked at
   flow g before (While site at guard invariants decreases body) =
       let turn = flow_all (in_loop g) before body in
       goes_to (join before turn.breaks)
       (faults_in (watching g before) guard
-      ++ (all_placed (faults_in_each (ghost_watching g before) (of_demands invariants)) (faults_in_each (ghost_watching g before) (of_optional decreases)) ++ turn.faults))
+      ++ (all_inserted (faults_in_each (ghost_watching g before) (of_demands invariants)) (faults_in_each (ghost_watching g before) (of_optional decreases)) ++ turn.faults))
   flow g before (Break at) = record { behind = Unreached; breaks = before; faults = fault_if (g.watch.is_ghost && not g.in_ghost_loop) at (Breaks 5) }
   flow g before (Return at update) =
       goes_to Unreached (faults_of_update (watching g before) update ++ (fault_if g.watch.is_ghost at (Breaks 5) ++ missing g.head (assign_all before update) at (numbers_of g.head.results)))
   flow g before (Check demand) = goes_to before (faults_in (ghost_watching g before) demand.condition)
   -- what is assigned in a proof is dropped
   flow g before (Prove site at aim body) =
-      let proof = in_proof g aim.range in
-      goes_to before (faults_in_range (ghost_watching g before) aim.range ++ all_placed (faults_in_each (watching proof before) (of_demands aim.claims)) (flow_all proof before body).faults)
+      let proof = in_proof g aim.ranges in
+      goes_to before
+          (faults_in_given (watching proof before) aim.given
+          ++ (faults_in_ranges (ghost_watching g before) aim.ranges
+          ++ all_inserted (faults_in_each (watching proof before) (of_demands aim.claims)) (flow_all proof before body).faults))
   flow g before (Print at operands) = goes_to before (faults_in_each (watching g before) (of_typed operands) ++ fault_if g.watch.is_ghost at (Breaks 4))
-  flow g before (Publish site at class fields this) = goes_to (mark true before this) (missing g.head before at fields)
+  flow g before (Publish site at class fields this) = goes_to (set_assigned true before this) (missing g.head before at fields)
   flow g before (Ghost body) = flow_all (in_ghost g) before body
 
   pub flow_all : Around → Assigned → Stmts → Flowing

@@ -1,7 +1,7 @@
 -- What is gathered from the nodes of expressions and statements. Triggers are never evaluated, and nothing is gathered from them.
 use Rattle.std.specs.Prelude.{ℕ, List, [], ◌∷◌, ◌++◌, Option, None, Some}
 use Rattle.std.specs.List.{flat_map}
-use Rattle.df_types.specs.Expr.{Expr, Local, Bound, Apply, Junction, Chain, If, Let, Call, Quantify, Old, Exprs, no_expr, expr, Links, no_link, link, Arms, no_arm, arm, Over, Between, Among}
+use Rattle.df_types.specs.Expr.{Expr, Local, Bound, Apply, Junction, Chain, If, Let, Call, Quantify, Old, Exprs, no_expr, expr, Links, no_link, link, Arms, no_arm, arm, Extent, Between, Among}
 use Rattle.df_types.specs.Stmt.{Demand, Typed, Target, Nowhere, LocalAt, FieldAt, ElementAt, CallOf, Source, Single, Results, NewArray, Update, Range, Aim, Stmt, Declare, Assign, Choose, Branch, While, Break, Return, Check, Prove, Print, Publish, Ghost, Stmts, done, next, Branches, no_branch, branch}
 use Rattle.df_types.specs.Program.{Head}
 
@@ -15,9 +15,9 @@ abbrev mutual
   gather own (Junction connective first rest) = own (Junction connective first rest) ++ (gather own first ++ gather_all own rest)
   gather own (Chain ty first rest) = own (Chain ty first rest) ++ (gather own first ++ gather_links own rest)
   gather own (If ty arms otherwise) = own (If ty arms otherwise) ++ (gather_arms own arms ++ gather own otherwise)
-  gather own (Let variable value body) = own (Let variable value body) ++ (gather own value ++ gather own body)
+  gather own (Let variable is_ghost value body) = own (Let variable is_ghost value body) ++ (gather own value ++ gather own body)
   gather own (Call callee types at es) = own (Call callee types at es) ++ gather_all own es
-  gather own (Quantify site at quantifier variable over triggers body) = own (Quantify site at quantifier variable over triggers body) ++ (gather_over own over ++ gather own body)
+  gather own (Quantify site at quantifier variable extent triggers body) = own (Quantify site at quantifier variable extent triggers body) ++ (gather_extent own extent ++ gather own body)
   gather own (Old at e) = own (Old at e) ++ gather own e
 
   pub gather_all : {A : Type 0} → (Expr → List A) → Exprs → List A
@@ -32,9 +32,9 @@ abbrev mutual
   gather_arms own no_arm = []
   gather_arms own (arm guard value rest) = gather own guard ++ (gather own value ++ gather_arms own rest)
 
-  pub gather_over : {A : Type 0} → (Expr → List A) → Over → List A
-  gather_over own (Between ty low low_strict high high_strict) = gather own low ++ gather own high
-  gather_over own (Among ty container) = gather own container
+  pub gather_extent : {A : Type 0} → (Expr → List A) → Extent → List A
+  gather_extent own (Between ty low low_strict high high_strict) = gather own low ++ gather own high
+  gather_extent own (Among ty container) = gather own container
 
 -- ---- the expressions of a statement
 
@@ -73,16 +73,16 @@ abbrev pub of_update : Option Update → List Expr
 of_update None = []
 of_update (Some update) = flat_map of_target update.targets ++ flat_map of_source update.sources
 
-abbrev pub of_over : Over → List Expr
-of_over (Between ty low low_strict high high_strict) = low ∷ high ∷ []
-of_over (Among ty container) = container ∷ []
+abbrev pub of_extent : Extent → List Expr
+of_extent (Between ty low low_strict high high_strict) = low ∷ high ∷ []
+of_extent (Among ty container) = container ∷ []
 
 abbrev pub of_range : Range → List Expr
-of_range range = of_over range.over
+of_range range = of_extent range.extent
 
-abbrev pub of_option : Option Range → List Expr
-of_option None = []
-of_option (Some range) = of_range range
+abbrev pub of_given : Option Expr → List Expr
+of_given None = []
+of_given (Some e) = e ∷ []
 
 -- those of the statement itself, not of the statements in it
 abbrev pub expressions_of : Stmt → List Expr
@@ -94,7 +94,7 @@ expressions_of (While site at guard invariants decreases body) = guard ∷ of_de
 expressions_of (Break at) = []
 expressions_of (Return at update) = of_update update
 expressions_of (Check demand) = demand.condition ∷ []
-expressions_of (Prove site at aim body) = of_option aim.range ++ (of_demands aim.claims ++ aim.known)
+expressions_of (Prove site at aim body) = flat_map of_range aim.ranges ++ (of_given aim.given ++ of_demands aim.claims)
 expressions_of (Print at operands) = of_typed operands
 expressions_of (Publish site at class fields this) = []
 expressions_of (Ghost body) = []

@@ -17,15 +17,16 @@ watch_of p head = record { program = p; type_parameters = head.type_parameters; 
 abbrev pub is_ghost_field : Program → ℕ → ℕ → Bool
 is_ghost_field p class field = option_map_or (λ (c : Class). is_ghost_at (marks_of c.fields) field) (class_at p class) false
 
-abbrev pub is_ghost_target : Watch → Target → Bool
-is_ghost_target w (Nowhere ty) = false
-is_ghost_target w (LocalAt local name at ty) = is_ghost_at w.locals local
-is_ghost_target w (FieldAt object class field at ty) = is_ghost_field w.program class field
-is_ghost_target w (ElementAt array index at ty) = false
+-- by which locals are ghosts
+abbrev pub is_ghost_target : Program → List Bool → Target → Bool
+is_ghost_target p marks (Nowhere ty) = false
+is_ghost_target p marks (LocalAt local name at ty) = is_ghost_at marks local
+is_ghost_target p marks (FieldAt object class field at ty) = is_ghost_field p class field
+is_ghost_target p marks (ElementAt array index at ty) = false
 
-abbrev pub are_ghost_targets : Watch → List Target → Bool
-are_ghost_targets w [] = false
-are_ghost_targets w (target ∷ others) = list_all (is_ghost_target w) (target ∷ others)
+abbrev pub are_ghost_targets : Program → List Bool → List Target → Bool
+are_ghost_targets p marks [] = false
+are_ghost_targets p marks (target ∷ others) = list_all (is_ghost_target p marks) (target ∷ others)
 
 -- ---- right sides
 
@@ -36,14 +37,14 @@ arity (Results call conversions) = length conversions
 arity (NewArray site element at size elements) = 1
 
 -- a call of a lemma, or what goes to ghost places alone
-abbrev pub is_ghost_source : Watch → List Target → Source → Bool
-is_ghost_source w targets (Single ty value) = are_ghost_targets w targets
-is_ghost_source w targets (Results call conversions) = is_ghost_callee w.program call.callee || are_ghost_targets w targets
-is_ghost_source w targets (NewArray site element at size elements) = are_ghost_targets w targets
+abbrev pub is_ghost_source : Program → List Bool → List Target → Source → Bool
+is_ghost_source p marks targets (Single ty value) = are_ghost_targets p marks targets
+is_ghost_source p marks targets (Results call conversions) = is_ghost_callee p call.callee || are_ghost_targets p marks targets
+is_ghost_source p marks targets (NewArray site element at size elements) = are_ghost_targets p marks targets
 
-abbrev pub are_ghost_sources : Watch → List Target → List Source → Bool
-are_ghost_sources w targets [] = true
-are_ghost_sources w targets (source ∷ others) = is_ghost_source w (take (arity source) targets) source && are_ghost_sources w (drop (arity source) targets) others
+abbrev pub are_ghost_sources : Program → List Bool → List Target → List Source → Bool
+are_ghost_sources p marks targets [] = true
+are_ghost_sources p marks targets (source ∷ others) = is_ghost_source p marks (take (arity source) targets) source && are_ghost_sources p marks (drop (arity source) targets) others
 
 -- ---- statements
 
@@ -55,8 +56,8 @@ is_ghost_branch w (branch guard body rest) = mentions_ghost w guard
 -- ghost. (A run of `else if` is ghost code from the first such guard on, which stands inside what is done otherwise.)
 abbrev pub is_ghost_stmt : Watch → Stmt → Bool
 is_ghost_stmt w (Declare locals) = list_all (is_ghost_at w.locals) locals
-is_ghost_stmt w (Assign update) = are_ghost_sources w update.targets update.sources
-is_ghost_stmt w (Choose site at targets ranges condition) = are_ghost_targets w targets
+is_ghost_stmt w (Assign update) = are_ghost_sources w.program w.locals update.targets update.sources
+is_ghost_stmt w (Choose site at targets ranges condition) = are_ghost_targets w.program w.locals targets
 is_ghost_stmt w (Branch branches otherwise) = is_ghost_branch w branches
 is_ghost_stmt w (While site at guard invariants decreases body) = mentions_ghost w guard
 is_ghost_stmt w (Break at) = false
@@ -71,9 +72,9 @@ abbrev pub are_ghost_stmts : Watch → Stmts → Bool
 are_ghost_stmts w done = true
 are_ghost_stmts w (next stmt others) = is_ghost_stmt w stmt && are_ghost_stmts w others
 
-abbrev pub proof_watch : Watch → Option Range → Watch
-proof_watch w None = w
-proof_watch w (Some range) = with_mark w true
+abbrev pub proof_watch : Watch → List Range → Watch
+proof_watch w [] = w
+proof_watch w (r ∷ rs) = proof_watch (with_mark w true) rs
 
 -- in compiled code, a statement that is no ghost
 abbrev pub is_unmarked : Watch → Stmt → Bool
@@ -90,9 +91,9 @@ abbrev mutual
   is_marked w (Break at) = true
   is_marked w (Return at update) = true
   is_marked w (Check demand) = w.is_ghost
-  is_marked w (Prove site at aim body) = w.is_ghost && are_marked (proof_watch w aim.range) body
+  is_marked w (Prove site at aim body) = w.is_ghost && are_marked (proof_watch w aim.ranges) body
   is_marked w (Print at operands) = true
-  is_marked w (Publish site at class fields this) = true
+  is_marked w (Publish site at class fields this) = not w.is_ghost
   is_marked w (Ghost body) = not w.is_ghost && (are_ghost_stmts w body && are_marked (ghostly w true) body)
 
   pub are_marked : Watch → Stmts → Bool

@@ -5,7 +5,7 @@ use Rattle.df_base.specs.declared.pos.Pos.{Pos}
 use Rattle.df_types.specs.declared.op.Comparison.{Comparison}
 use Rattle.df_types.specs.declared.op.Comparison.TheVariants.{Equal, NotEqual, Less, AtMost, Greater, AtLeast}
 use Rattle.df_types.specs.declared.expr.Connective.TheVariants.{And, Or, Implies, Explies}
-use Rattle.df_types.specs.Ty.{Ty, Int, AnyObject, Set, Parameter, tys_of}
+use Rattle.df_types.specs.Ty.{Ty, Newtype, Int, Nat, Boolean, Char, AnyObject, Class, Array, Seq, Set, Data, Parameter, tys_of}
 use Rattle.df_types.specs.Op.{Op}
 use Rattle.df_types.specs.Expr.{Expr, Local, Bound, Apply, Junction, Chain, If, Let, Call, Quantify, Old, Exprs, no_expr, expr, exprs_of, no_arm, arm}
 use Rattle.df_types.specs.Stmt.{Typed}
@@ -44,9 +44,9 @@ conjunct_measure (Apply op at es) = option_and_then (fall_between at es) (compar
 conjunct_measure (Junction connective first rest) = None
 conjunct_measure (Chain ty first rest) = None
 conjunct_measure (If ty arms otherwise) = None
-conjunct_measure (Let variable value body) = None
+conjunct_measure (Let variable is_ghost value body) = None
 conjunct_measure (Call callee types at es) = None
-conjunct_measure (Quantify site at quantifier variable over triggers body) = None
+conjunct_measure (Quantify site at quantifier variable extent triggers body) = None
 conjunct_measure (Old at e) = None
 
 abbrev mutual
@@ -61,9 +61,9 @@ abbrev mutual
   conjuncts (Junction Explies first rest) = Junction Explies first rest ∷ []
   conjuncts (Chain ty first rest) = Chain ty first rest ∷ []
   conjuncts (If ty arms otherwise) = If ty arms otherwise ∷ []
-  conjuncts (Let variable value body) = Let variable value body ∷ []
+  conjuncts (Let variable is_ghost value body) = Let variable is_ghost value body ∷ []
   conjuncts (Call callee types at es) = Call callee types at es ∷ []
-  conjuncts (Quantify site at quantifier variable over triggers body) = Quantify site at quantifier variable over triggers body ∷ []
+  conjuncts (Quantify site at quantifier variable extent triggers body) = Quantify site at quantifier variable extent triggers body ∷ []
   conjuncts (Old at e) = Old at e ∷ []
 
   pub conjuncts_of_all : Exprs → List Expr
@@ -97,8 +97,18 @@ loop_measure at guard decreases = unwrap_or decreases (as_measure (guard_measure
 
 -- values of such a type are only equal or not
 abbrev pub is_parameter_type : Ty → Bool
+is_parameter_type (Newtype d) = false
+is_parameter_type Int = false
+is_parameter_type Nat = false
+is_parameter_type Boolean = false
+is_parameter_type Char = false
+is_parameter_type (AnyObject nullable) = false
+is_parameter_type (Class nullable d) = false
+is_parameter_type (Array nullable t) = false
+is_parameter_type (Seq t) = false
+is_parameter_type (Set t) = false
+is_parameter_type (Data d ts) = false
 is_parameter_type (Parameter n) = true
-is_parameter_type t = false
 
 abbrev pub is_local : Option ℕ → ℕ → Bool
 is_local None n = false

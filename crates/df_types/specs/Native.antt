@@ -7,15 +7,15 @@ use Rattle.df_base.specs.declared.pos.Pos.{Pos}
 use Rattle.df_types.specs.declared.expr.Connective.{Connective}
 use Rattle.df_types.specs.Ty.{Ty, Newtype, Int, Nat, Boolean, Char, AnyObject, Class, Array, Seq, Set, Data, Parameter, Tys, no_ty, and_ty}
 use Rattle.df_types.specs.Op.{Op}
-use Rattle.df_types.specs.Expr.{Binder, Expr, Local, Bound, Apply, Junction, Chain, If, Let, Call, Quantify, Old, Exprs, no_expr, expr, Links, no_link, link, Arms, no_arm, arm, Over, Between, Among}
+use Rattle.df_types.specs.Expr.{Binder, Expr, Local, Bound, Apply, Junction, Chain, If, Let, Call, Quantify, Old, Exprs, no_expr, expr, Links, no_link, link, Arms, no_arm, arm, Extent, Between, Among}
 use Rattle.df_types.specs.Stmt.{Demand, Typed, Target, Nowhere, LocalAt, FieldAt, ElementAt, CallOf, Source, Single, Results, NewArray, Update, Stmt, Declare, Assign, Choose, Branch, While, Break, Return, Check, Prove, Print, Publish, Ghost, Stmts, done, next, Branches, no_branch, branch}
 use Rattle.df_types.specs.Program as programs
 use Rattle.df_types.specs.Program.{Variable, Constructor, Datatype, Param, Head, Function, Method, Decl, NewtypeDecl, DatatypeDecl, ClassDecl, FunctionDecl, MethodDecl, Program, function_at, datatype_at}
-use Rattle.df_types.specs.Rows.{result, ghost_operands, is_compiled, may_be_int, takes_int, is_conversion, marks_of}
+use Rattle.df_types.specs.Rows.{result, ghost_operands, is_compiled, may_be_int, int_operands, is_conversion, marks_of}
 use Rattle.df_types.specs.ExprTyping.{Scope, with_type, signature_of}
-use Rattle.df_types.specs.Faults.{in_order, head_mark, tail_marks, call_marks, is_ghost_at}
-use Rattle.df_types.specs.Ghosts.{is_ghost_field, arity}
-use Rattle.df_types.specs.Typing.{scope_of}
+use Rattle.df_types.specs.Faults.{in_order, head_mark, tail_marks, call_marks}
+use Rattle.df_types.specs.Ghosts.{is_ghost_target, arity, is_ghost_source}
+use Rattle.df_types.specs.StmtTyping.{whole_scope}
 
 pub data NativeRule : Type 0 where
   -- a compiled place has a type without `int`, `nat` and sets, also inside
@@ -29,7 +29,7 @@ pub data NativeRule : Type 0 where
 pub data Found : Type 0 where
   Broken : (rule : NativeRule) (pos : Pos) → Found
   Called : (function : ℕ) → Found
-  Placed : (ty : Ty) → Found
+  OfType : (ty : Ty) → Found
 
 -- ---- types
 
@@ -53,47 +53,57 @@ abbrev mutual
   are_native (and_ty t ts) = is_native t && are_native ts
 
 abbrev pub is_int : Ty → Bool
+is_int (Newtype d) = false
 is_int Int = true
-is_int t = false
+is_int Nat = false
+is_int Boolean = false
+is_int Char = false
+is_int (AnyObject nullable) = false
+is_int (Class nullable d) = false
+is_int (Array nullable t) = false
+is_int (Seq t) = false
+is_int (Set t) = false
+is_int (Data d ts) = false
+is_int (Parameter n) = false
 
 abbrev pub found_at_place : Bool → Ty → Pos → List Found
-found_at_place is_ghost t at = if is_ghost then [] else (if is_native t then Placed t ∷ [] else Placed t ∷ Broken Places at ∷ [])
+found_at_place is_place t at = if is_place then (if is_native t then OfType t ∷ [] else OfType t ∷ Broken Places at ∷ []) else []
 
 -- ---- expressions: what is found in the order of the text, of one that stands in a place for an `int` or elsewhere
 
 abbrev pub broken_if : Bool → NativeRule → Pos → List Found
 broken_if is_broken rule at = if is_broken then Broken rule at ∷ [] else []
 
-abbrev pub int_at : List Ty → ℕ → Pos → List Found
-int_at types n at = broken_if (option_map_or is_int (slice_get types n) false) Integers at
+abbrev pub int_at : Option Ty → Pos → List Found
+int_at o at = broken_if (option_map_or is_int o false) Integers at
 
 abbrev pub found_at_op : Bool → Op → Pos → List Found
 found_at_op takes op at = if is_conversion op then [] else broken_if (is_int (result op) && not (may_be_int op && takes)) Integers at ++ broken_if (not (is_compiled op)) Forms at
 
-abbrev pub operand_takes : Bool → Op → Bool
-operand_takes takes op = if is_conversion op then takes else takes_int op
+abbrev pub operand_marks : Bool → Op → List Bool
+operand_marks takes op = if is_conversion op then takes ∷ [] else int_operands op
 
 abbrev pub gives_int : Program → ℕ → Tys → Bool
 gives_int p callee types = option_map_or (λ (f : Function). is_int (signature_of f.head types).result) (function_at p callee) false
 
 abbrev mutual
   pub found : Program → Scope → Bool → Expr → List Found
-  found p g takes (Local local name at) = int_at g.locals local at
-  found p g takes (Bound index name at) = int_at g.bound index at
-  found p g takes (Apply op at es) = found_all p g (operand_takes takes op) (ghost_operands p op) es ++ found_at_op takes op at
+  found p g takes (Local local name at) = int_at (g.locals local) at
+  found p g takes (Bound index name at) = int_at (slice_get g.bound index) at
+  found p g takes (Apply op at es) = found_all p g (operand_marks takes op) (ghost_operands p op) es ++ found_at_op takes op at
   found p g takes (Junction connective first rest) = in_order connective (found p g false first) (found_members p g connective rest)
   found p g takes (Chain own first rest) = found p g true first ++ found_links p g rest
   found p g takes (If own arms otherwise) = found_arms p g arms ++ found p g false otherwise
-  found p g takes (Let variable value body) =
-      found_at_place variable.is_ghost variable.ty variable.pos ++ ((if variable.is_ghost then [] else found p g false value) ++ found p (with_type g variable.ty) false body)
-  found p g takes (Call callee types at es) = found_all p g false (call_marks p callee) es ++ Called callee ∷ broken_if (gives_int p callee types) Integers at
-  found p g takes (Quantify site at quantifier variable over triggers body) = found p (with_type g variable.ty) false body ++ (found_over p g over ++ Broken Forms at ∷ [])
+  found p g takes (Let variable is_ghost value body) =
+      found_at_place (variable.is_written && not is_ghost) variable.ty variable.pos ++ ((if is_ghost then [] else found p g false value) ++ found p (with_type g variable.ty) false body)
+  found p g takes (Call callee types at es) = found_all p g [] (call_marks p callee) es ++ Called callee ∷ broken_if (gives_int p callee types) Integers at
+  found p g takes (Quantify site at quantifier variable extent triggers body) = found p (with_type g variable.ty) false body ++ (found_extent p g extent ++ Broken Forms at ∷ [])
   found p g takes (Old at e) = found p g takes e
 
   -- those that are no ghosts
-  pub found_all : Program → Scope → Bool → List Bool → Exprs → List Found
+  pub found_all : Program → Scope → List Bool → List Bool → Exprs → List Found
   found_all p g takes marks no_expr = []
-  found_all p g takes marks (expr e es) = (if head_mark marks then [] else found p g takes e) ++ found_all p g takes (tail_marks marks) es
+  found_all p g takes marks (expr e es) = (if head_mark marks then [] else found p g (head_mark takes) e) ++ found_all p g (tail_marks takes) (tail_marks marks) es
 
   pub found_members : Program → Scope → Connective → Exprs → List Found
   found_members p g connective no_expr = []
@@ -107,9 +117,9 @@ abbrev mutual
   found_arms p g no_arm = []
   found_arms p g (arm guard value rest) = found p g false guard ++ (found p g false value ++ found_arms p g rest)
 
-  pub found_over : Program → Scope → Over → List Found
-  found_over p g (Between own low low_strict high high_strict) = found p g false low ++ found p g false high
-  found_over p g (Among own container) = found p g false container
+  pub found_extent : Program → Scope → Extent → List Found
+  found_extent p g (Between own low low_strict high high_strict) = found p g false low ++ found p g false high
+  found_extent p g (Among own container) = found p g false container
 
 -- ---- statements
 
@@ -119,11 +129,8 @@ pub record Code : Type 0 where
   pub head : Head
   pub scope : Scope
 
-abbrev pub is_ghost_place : Code → Target → Bool
-is_ghost_place c (Nowhere ty) = false
-is_ghost_place c (LocalAt local name at ty) = is_ghost_at (marks_of c.head.locals) local
-is_ghost_place c (FieldAt object class field at ty) = is_ghost_field c.program class field
-is_ghost_place c (ElementAt array index at ty) = false
+abbrev pub marks_in : Code → List Bool
+marks_in c = marks_of c.head.locals
 
 abbrev pub found_in_target : Code → Target → List Found
 found_in_target c (Nowhere ty) = []
@@ -132,33 +139,29 @@ found_in_target c (FieldAt object class field at ty) = found c.program c.scope f
 found_in_target c (ElementAt array index at ty) = found c.program c.scope false array ++ found c.program c.scope true index
 
 abbrev pub found_in_targets : Code → List Target → List Found
-found_in_targets c targets = flat_map (λ target. if is_ghost_place c target then [] else found_in_target c target) targets
+found_in_targets c targets = flat_map (λ target. if is_ghost_target c.program (marks_in c) target then [] else found_in_target c target) targets
 
 abbrev pub found_in_elements : Code → Option Exprs → List Found
 found_in_elements c None = []
-found_in_elements c (Some es) = found_all c.program c.scope false [] es
+found_in_elements c (Some es) = found_all c.program c.scope [] [] es
 
 abbrev pub found_in_source : Code → Source → List Found
 found_in_source c (Single ty value) = found c.program c.scope false value
-found_in_source c (Results call conversions) = found_all c.program c.scope false (call_marks c.program call.callee) call.arguments
-found_in_source c (NewArray site element at size elements) = found c.program c.scope true size ++ found_in_elements c elements
+found_in_source c (Results call conversions) = found_all c.program c.scope [] (call_marks c.program call.callee) call.arguments
+found_in_source c (NewArray site element at size elements) = found c.program c.scope true size ++ (found_in_elements c elements ++ found_at_place true element at)
 
--- what is for ghost places alone is not compiled
-abbrev pub are_ghost_places : Code → List Target → Bool
-are_ghost_places c [] = false
-are_ghost_places c (target ∷ others) = list_all (is_ghost_place c) (target ∷ others)
-
+-- a right side that is ghost code is not compiled
 abbrev pub found_in_sources : Code → List Target → List Source → List Found
 found_in_sources c targets [] = []
 found_in_sources c targets (source ∷ others) =
-    (if are_ghost_places c (take (arity source) targets) then [] else found_in_source c source) ++ found_in_sources c (drop (arity source) targets) others
+    (if is_ghost_source c.program (marks_in c) (take (arity source) targets) source then [] else found_in_source c source) ++ found_in_sources c (drop (arity source) targets) others
 
 abbrev pub found_in_update : Code → Option Update → List Found
 found_in_update c None = []
 found_in_update c (Some update) = found_in_targets c update.targets ++ found_in_sources c update.targets update.sources
 
 abbrev pub found_at_variable : Variable → List Found
-found_at_variable x = found_at_place x.is_ghost x.ty x.declared.pos
+found_at_variable x = found_at_place (x.is_written && not x.is_ghost) x.ty x.declared.pos
 
 abbrev pub found_at_local : Head → ℕ → List Found
 found_at_local head local = option_map_or found_at_variable (slice_get head.locals local) []
@@ -188,8 +191,9 @@ abbrev mutual
 
 -- ---- declarations
 
+-- all locals are there
 abbrev pub code_of : Program → Head → Code
-code_of p head = record { program = p; head = head; scope = scope_of head }
+code_of p head = record { program = p; head = head; scope = whole_scope head }
 
 abbrev pub found_at_params : Head → List Param → List Found
 found_at_params head params = flat_map (λ (x : Param). found_at_local head x.local) params
@@ -201,7 +205,7 @@ abbrev pub found_at_constructor : Constructor → List Found
 found_at_constructor c = found_at_variables c.parts
 
 abbrev pub found_in_function : Program → Function → List Found
-found_in_function p f = found_at_params f.head f.head.parameters ++ (found_at_params f.head f.head.results ++ found p (scope_of f.head) false f.value)
+found_in_function p f = found_at_params f.head f.head.parameters ++ (found_at_params f.head f.head.results ++ found p (whole_scope f.head) false f.value)
 
 abbrev pub found_in_method : Program → Method → List Found
 found_in_method p m = found_at_params m.head m.head.parameters ++ (found_at_params m.head m.head.results ++ found_by_all (code_of p m.head) m.body)
@@ -250,14 +254,15 @@ is_root (MethodDecl m) = not m.head.is_ghost
 pub data IsCompiled (p : Program) : ℕ → Type 0 where
   as_root : {id : ℕ} (decl : Decl) → slice_get p.decls id ≡ Some decl → is_root decl ≡ true → IsCompiled p id
   as_callee : {caller id : ℕ} → IsCompiled p caller → Contains (found_at p caller) (Called id) → IsCompiled p id
-  as_place : {user id : ℕ} (t : Ty) → IsCompiled p user → Contains (found_at p user) (Placed t) → Contains (datatypes_in t) id → IsCompiled p id
+  as_place : {user id : ℕ} (t : Ty) → IsCompiled p user → Contains (found_at p user) (OfType t) → Contains (datatypes_in t) id → IsCompiled p id
 
 abbrev pub is_broken : Found → List (NativeRule × Pos)
 is_broken (Broken rule at) = (rule, at) ∷ []
 is_broken (Called function) = []
-is_broken (Placed t) = []
+is_broken (OfType t) = []
 
--- what is broken in it, the first in the order of the text
+-- What is broken in it, in the order of the text. Of several declarations the one tells whose first breach stands first in the text: a
+-- class may have fields behind its methods.
 abbrev pub breaches_at : Program → ℕ → List (NativeRule × Pos)
 breaches_at p id = flat_map is_broken (found_at p id)
 

@@ -2,7 +2,8 @@
 use Rattle.std.specs.Prelude.{ℕ, ℤ, Bool, List, [], ◌∷◌, map, length, slice_get, slice_index_or, Option, None, Some}
 use Rattle.std.specs.Option.{option_map_or, option_and_then}
 use Rattle.df_base.specs.declared.pos.Pos.{Pos}
-use Rattle.df_types.specs.Ty.{Ty, Tys, Boolean, Data, instance_of}
+use Rattle.df_types.specs.Ty as types
+use Rattle.df_types.specs.Ty.{Ty, Boolean, instance_of}
 use Rattle.df_types.specs.Expr.{Expr}
 use Rattle.df_types.specs.Stmt.{Demand, Typed, Stmts}
 
@@ -24,6 +25,8 @@ pub record Variable : Type 0 where
   pub declared : Declared
   pub ty : Ty
   pub is_ghost : Bool
+  -- it stands in the text
+  pub is_written : Bool
 
 -- marked `(==)` or not
 pub record TypeParameter : Type 0 where
@@ -170,5 +173,15 @@ parts_at p d c = option_map_or (λ (x : Constructor). x.parts) (slice_get (const
 
 -- the parts of a constructor of the type, with the types that the type's arguments give them
 abbrev pub parts_of : Program → Ty → ℕ → List Ty
-parts_of p (Data d arguments) c = map (λ (x : Variable). instance_of arguments x.ty) (parts_at p d c)
-parts_of p t c = []
+parts_of p (types.Newtype d) c = []
+parts_of p types.Int c = []
+parts_of p types.Nat c = []
+parts_of p types.Boolean c = []
+parts_of p types.Char c = []
+parts_of p (types.AnyObject nullable) c = []
+parts_of p (types.Class nullable d) c = []
+parts_of p (types.Array nullable t) c = []
+parts_of p (types.Seq t) c = []
+parts_of p (types.Set t) c = []
+parts_of p (types.Data d ts) c = map (λ (x : Variable). instance_of ts x.ty) (parts_at p d c)
+parts_of p (types.Parameter n) c = []

@@ -7,7 +7,7 @@ use Rattle.df_types.specs.declared.op.Comparison.TheVariants.{Equal, NotEqual, L
 use Rattle.df_types.specs.Ty.{Ty, Newtype, Int, Nat, Boolean, Char, AnyObject, Class, Array, Seq, Set, Data, Parameter, list_of_tys, same_type}
 use Rattle.df_types.specs.Op.{Op}
 use Rattle.df_types.specs.Program.{Program, Variable, parts_at, parts_of}
-use Rattle.df_types.specs.Types.{is_number, is_arithmetic, is_ordered, is_nullable, is_framed, fits, narrows, casts, has_constructor}
+use Rattle.df_types.specs.Types.{is_number, is_arithmetic, is_ordered, is_ranked, is_nullable, is_framed, fits, narrows, casts, has_constructor}
 
 -- ---- types
 
@@ -79,7 +79,7 @@ abbrev pub compares : Comparison → Ty → Bool
 compares Equal t = true
 compares NotEqual t = true
 compares Less t = is_ordered t
-compares AtMost t = is_ordered t
+compares AtMost t = is_ranked t
 compares Greater t = is_ordered t
 compares AtLeast t = is_ordered t
 
@@ -124,8 +124,18 @@ abbrev pub marks_of : List Variable → List Bool
 marks_of variables = map (λ (x : Variable). x.is_ghost) variables
 
 abbrev pub constructor_marks : Program → Ty → ℕ → List Bool
-constructor_marks p (Data d arguments) c = marks_of (parts_at p d c)
-constructor_marks p t c = []
+constructor_marks p (Newtype d) c = []
+constructor_marks p Int c = []
+constructor_marks p Nat c = []
+constructor_marks p Boolean c = []
+constructor_marks p Char c = []
+constructor_marks p (AnyObject nullable) c = []
+constructor_marks p (Class nullable d) c = []
+constructor_marks p (Array nullable t) c = []
+constructor_marks p (Seq t) c = []
+constructor_marks p (Set t) c = []
+constructor_marks p (Data d ts) c = marks_of (parts_at p d c)
+constructor_marks p (Parameter n) c = []
 
 -- which operands are not compiled: those of ghost parts; none where the list ends
 abbrev pub ghost_operands : Program → Op → List Bool
@@ -239,8 +249,18 @@ equated_by op = option_and_then (λ (x : Comparison × Ty). equated x.0 x.1) (co
 -- ---- native code
 
 abbrev pub is_nat : Ty → Bool
+is_nat (Newtype d) = false
+is_nat Int = false
 is_nat Nat = true
-is_nat t = false
+is_nat Boolean = false
+is_nat Char = false
+is_nat (AnyObject nullable) = false
+is_nat (Class nullable d) = false
+is_nat (Array nullable t) = false
+is_nat (Seq t) = false
+is_nat (Set t) = false
+is_nat (Data d ts) = false
+is_nat (Parameter n) = false
 
 -- it may stand in compiled code: no sets, no test of membership, no `as nat`
 abbrev pub is_compiled : Op → Bool
@@ -304,36 +324,36 @@ may_be_int (Op.Part t target parts) = false
 may_be_int (Op.ObjectsOf types) = false
 may_be_int (Op.NoneFits t) = false
 
--- its operands are such places: those of comparisons and `as`, and an index
-abbrev pub takes_int : Op → Bool
-takes_int (Op.NumberOf t n) = false
-takes_int (Op.TruthOf b) = false
-takes_int (Op.CharacterOf code) = false
-takes_int (Op.TextOf characters) = false
-takes_int (Op.NullOf t) = false
-takes_int (Op.Negate t) = false
-takes_int (Op.Add t) = false
-takes_int (Op.Subtract t) = false
-takes_int (Op.Multiply t) = false
-takes_int (Op.Divide t) = false
-takes_int (Op.Modulo t) = false
-takes_int Op.Not = false
-takes_int (Op.Compare comparison t) = true
-takes_int (Op.As source target) = true
-takes_int (Op.Fit source target) = false
-takes_int (Op.Narrow source target) = false
-takes_int (Op.SequenceOf element size) = false
-takes_int (Op.SetOf element size) = false
-takes_int (Op.SequenceSize element) = false
-takes_int (Op.SetSize element) = false
-takes_int (Op.InSequence element) = false
-takes_int (Op.InSet element) = false
-takes_int (Op.Item element) = true
-takes_int (Op.Construct t c) = false
-takes_int (Op.HasConstructor t c) = false
-takes_int (Op.Part t target parts) = false
-takes_int (Op.ObjectsOf types) = false
-takes_int (Op.NoneFits t) = false
+-- which operands are such places: those of comparisons and `as`, and an index
+abbrev pub int_operands : Op → List Bool
+int_operands (Op.NumberOf t n) = []
+int_operands (Op.TruthOf b) = []
+int_operands (Op.CharacterOf code) = []
+int_operands (Op.TextOf characters) = []
+int_operands (Op.NullOf t) = []
+int_operands (Op.Negate t) = []
+int_operands (Op.Add t) = []
+int_operands (Op.Subtract t) = []
+int_operands (Op.Multiply t) = []
+int_operands (Op.Divide t) = []
+int_operands (Op.Modulo t) = []
+int_operands Op.Not = []
+int_operands (Op.Compare comparison t) = true ∷ true ∷ []
+int_operands (Op.As source target) = true ∷ []
+int_operands (Op.Fit source target) = []
+int_operands (Op.Narrow source target) = []
+int_operands (Op.SequenceOf element size) = []
+int_operands (Op.SetOf element size) = []
+int_operands (Op.SequenceSize element) = []
+int_operands (Op.SetSize element) = []
+int_operands (Op.InSequence element) = []
+int_operands (Op.InSet element) = []
+int_operands (Op.Item element) = false ∷ true ∷ []
+int_operands (Op.Construct t c) = []
+int_operands (Op.HasConstructor t c) = []
+int_operands (Op.Part t target parts) = []
+int_operands (Op.ObjectsOf types) = []
+int_operands (Op.NoneFits t) = []
 
 -- a conversion is no node of the text: what is said of its operand is said of it
 abbrev pub is_conversion : Op → Bool

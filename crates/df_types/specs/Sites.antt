@@ -13,9 +13,9 @@ site_of (Apply op at es) = []
 site_of (Junction connective first rest) = []
 site_of (Chain ty first rest) = []
 site_of (If ty arms otherwise) = []
-site_of (Let variable value body) = []
+site_of (Let variable is_ghost value body) = []
 site_of (Call callee types at es) = []
-site_of (Quantify site at quantifier variable over triggers body) = site ∷ []
+site_of (Quantify site at quantifier variable extent triggers body) = site ∷ []
 site_of (Old at e) = []
 
 abbrev pub site_of_source : Source → List ℕ
@@ -41,7 +41,7 @@ sites_by (While site at guard invariants decreases body) = site ∷ []
 sites_by (Break at) = []
 sites_by (Return at update) = sites_of_update update
 sites_by (Check demand) = []
-sites_by (Prove site at aim body) = site ∷ []
+sites_by (Prove site at aim body) = numbers_from site (suc (length aim.ranges))
 sites_by (Print at operands) = []
 sites_by (Publish site at class fields this) = site ∷ []
 sites_by (Ghost body) = []

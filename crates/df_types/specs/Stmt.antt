@@ -4,7 +4,7 @@ use Rattle.df_base.specs.declared.pos.Pos.{Pos}
 use Rattle.df_types.specs.declared.kind.Kind.{Kind}
 use Rattle.df_types.specs.Ty.{Ty, Tys}
 use Rattle.df_types.specs.Op.{Op}
-use Rattle.df_types.specs.Expr.{Binder, Expr, Exprs, Over}
+use Rattle.df_types.specs.Expr.{Binder, Expr, Exprs, Extent}
 
 -- what is to be true, and what is wrong where it is not
 pub record Demand : Type 0 where
@@ -45,13 +45,13 @@ pub record Update : Type 0 where
 -- a bound variable with its range
 pub record Range : Type 0 where
   pub variable : Binder
-  pub over : Over
+  pub extent : Extent
 
--- what a proof is for: for each value of the range, or once; and what is known behind it
+-- what a proof is for: for all values of the ranges, where what is given is true, or once
 pub record Aim : Type 0 where
-  pub range : Option Range
+  pub ranges : List Range
+  pub given : Option Expr
   pub claims : List Demand
-  pub known : List Expr
 
 -- Places where something is handed in to a modular run have a number of their own in the declaration.
 mutual

@@ -18,7 +18,7 @@ use Rattle.df_types.specs.Ty.{tys_of}
 use Rattle.df_types.specs.TyView.{ty_of}
 use Rattle.df_types.specs.OpView.{op_of}
 use Rattle.df_types.specs.Expr.{Expr, exprs_of}
-use Rattle.df_types.specs.ExprView.{binder_of, expr_of, over_of}
+use Rattle.df_types.specs.ExprView.{binder_of, expr_of, extent_of}
 use Rattle.df_types.specs.Stmt.{Demand, Typed, Target, Nowhere, LocalAt, FieldAt, ElementAt, CallOf, Source, Single, Results, NewArray, Update, Range, Aim, Stmt, Declare, Assign, Choose, Branch, While, Break, Return, Check, Prove, Print, Publish, Ghost, Stmts, Branches, no_branch, branch, stmts_of}
 
 abbrev pub demand_of : declared_demand.Demand → Demand
@@ -45,10 +45,10 @@ abbrev pub update_of : declared_update.Update → Update
 update_of x = record { targets = map target_of x.targets.items; sources = map source_of x.sources.items }
 
 abbrev pub range_of : declared_range.Range → Range
-range_of x = record { variable = binder_of x.variable; over = over_of x.over }
+range_of x = record { variable = binder_of x.variable; extent = extent_of x.extent }
 
 abbrev pub aim_of : declared_aim.Aim → Aim
-aim_of x = record { range = option_map range_of x.range; claims = map demand_of x.claims.items; known = map expr_of x.known.items }
+aim_of x = record { ranges = map range_of x.ranges.items; given = option_map expr_of x.given; claims = map demand_of x.claims.items }
 
 pub record Guarded : Type 0 where
   pub guard : Expr

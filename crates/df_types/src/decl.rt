@@ -25,13 +25,14 @@ pub struct Newtype {
     ghost holds_default: { IsWithin interval.low interval.high default },
 }
 
-/// A local of a declaration, a field, or a part of a constructor. A part without a name has its type's
-/// place.
+/// A local of a declaration, a field, or a part of a constructor. A part or a function's result without a name has
+/// its type's place; a local that the text does not write, as the value of a `match`, is no place of compiled code.
 #[derive(Drop)]
 pub struct Variable {
     pub declared: Declared,
     pub ty: Ty,
     pub is_ghost: bool,
+    pub is_written: bool,
 }
 
 /// A type parameter; `has_equality` where it is marked `(==)`.

@@ -21,13 +21,14 @@ pub enum Quantifier {
     Exists,
 }
 
-/// A variable that an expression or a choice binds.
+/// A variable that an expression, a proof or a choice binds. One that the text does not write, as the value of a
+/// `match`, is no place of compiled code.
 #[derive(Drop)]
 pub struct Binder {
     pub name: Name,
     pub pos: Pos,
     pub ty: Ty,
-    pub is_ghost: bool,
+    pub is_written: bool,
 }
 
 /// An expression. `pos` is that of its sign, or else of its first token.
@@ -76,6 +77,7 @@ pub enum Expr {
     },
     Let {
         variable: Binder,
+        is_ghost: bool,
         value: Box<Expr>,
         body: Box<Expr>,
     },
@@ -86,13 +88,13 @@ pub enum Expr {
         pos: Pos,
         arguments: Vec<Expr>,
     },
-    /// Over a range of values, with a number of its own in the declaration; `pos` is its word.
+    /// Extent a range of values, with a number of its own in the declaration; `pos` is its word.
     Quantify {
         site: usize,
         pos: Pos,
         quantifier: Quantifier,
         variable: Binder,
-        over: Over,
+        extent: Extent,
         triggers: Vec<Trigger>,
         body: Box<Expr>,
     },
@@ -131,7 +133,7 @@ pub struct Arm {
 /// The range of a variable.
 #[cycle(expr)]
 #[derive(Drop)]
-pub enum Over {
+pub enum Extent {
     /// Numbers or characters of the type between two ends.
     Between {
         ty: Ty,

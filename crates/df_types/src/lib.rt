@@ -15,7 +15,7 @@ pub use decl::{
     Class, Constructor, Datatype, Decl, Declared, Function, Head, Method, Newtype, Param,
     TypeParameter, Variable,
 };
-pub use expr::{Arm, Binder, Connective, Expr, Link, Operand, Over, Quantifier, Trigger};
+pub use expr::{Arm, Binder, Connective, Expr, Link, Operand, Extent, Quantifier, Trigger};
 pub use interval::Interval;
 pub use kind::Kind;
 pub use op::{Comparison, Op, PartOf};

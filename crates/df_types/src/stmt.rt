@@ -1,13 +1,14 @@
 //! Typed statements.
 
-use crate::expr::{Binder, Expr, Over};
+use crate::expr::{Binder, Expr, Extent};
 use crate::kind::Kind;
 use crate::op::Op;
 use crate::ty::{DeclId, Ty};
 use df_base::{Name, Pos};
 
-/// What is to be true, and the kind that is told where it is not; `pos` is the first token of a
-/// contract's or an invariant's expression, or the word `assert`.
+/// What is to be true, and the kind that is told where it is not; `pos` is the first token of the expression of
+/// a contract, an invariant or an `ensures` of a `forall` statement, of the first line of a step of `calc`, or the
+/// word `assert`.
 #[derive(Drop)]
 pub struct Demand {
     pub kind: Kind,
@@ -91,15 +92,16 @@ pub struct Update {
 #[derive(Drop)]
 pub struct Range {
     pub variable: Binder,
-    pub over: Over,
+    pub extent: Extent,
 }
 
-/// What a proof is for: for each value of a range, or once; and what is known behind it.
+/// What a proof is for: for all values of the ranges, where what is given is true, or once. Just that is known
+/// behind it.
 #[derive(Drop)]
 pub struct Aim {
-    pub range: Option<Range>,
+    pub ranges: Vec<Range>,
+    pub given: Option<Expr>,
     pub claims: Vec<Demand>,
-    pub known: Vec<Expr>,
 }
 
 /// A guard, and the statements that it guards.
@@ -150,7 +152,7 @@ pub enum Stmt {
         update: Option<Update>,
     },
     Check(Demand),
-    /// A proof of its own, whose changes are dropped.
+    /// A proof of its own, whose changes are dropped. It has as many sites as ranges and one more, from this on.
     Prove {
         site: usize,
         pos: Pos,
