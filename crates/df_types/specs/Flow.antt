@@ -190,9 +190,9 @@ abbrev mutual
   flow g before (Prove site at aim body) =
       let proof = in_proof g aim.ranges in
       goes_to before
-          (faults_in_given (watching proof before) aim.given
-          ++ (faults_in_ranges (ghost_watching g before) aim.ranges
-          ++ all_inserted (faults_in_each (watching proof before) (of_demands aim.claims)) (flow_all proof before body).faults))
+      (faults_in_given (watching proof before) aim.given
+      ++ (faults_in_ranges (ghost_watching g before) aim.ranges
+      ++ all_inserted (faults_in_each (watching proof before) (of_demands aim.claims)) (flow_all proof before body).faults))
   flow g before (Print at operands) = goes_to before (faults_in_each (watching g before) (of_typed operands) ++ fault_if g.watch.is_ghost at (Breaks 4))
   flow g before (Publish site at class fields this) = goes_to (set_assigned true before this) (missing g.head before at fields)
   flow g before (Ghost body) = flow_all (in_ghost g) before body
