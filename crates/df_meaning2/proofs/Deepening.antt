@@ -14,7 +14,7 @@ use Rattle.df_meaning2.specs.State.{State, with_bound, with_store, reading_insid
 use Rattle.df_meaning2.specs.Meaning.{Meaning, as_kind, asked_at}
 use Rattle.df_meaning2.specs.Execution.{Flow, Next, Returned, Broken, Given, Loop, Actions, loop_of}
 use Rattle.df_meaning2.specs.Whole.{entered, apply_function, apply_by, end_of, run_body, run_method, call_by, behind_turn, turn_of_loop, turn_by, pick_next, prove_each, prove_all, meaning_with, acting, apply_at, whole, call_at, turn_at, doing}
-use Rattle.df_meaning2.specs.Growing.{MeansLess, LoopBelow, DoesLess}
+use Rattle.df_meaning2.specs.Growing.{MeansLess, RangesBelow, LoopBelow, DoesLess}
 use Rattle.df_meaning2.proofs.Outcomes.{same_grows, after_grows, choice_grows, found_grows}
 use Rattle.df_meaning2.proofs.Evaluating.{evaluate_grows, check_all_grows}
 use Rattle.df_meaning2.proofs.Executing.{execute_grows, stmts_grow, loop_grows}
@@ -29,9 +29,11 @@ each_proof_grows : (f g : State → Outcome State) → ((s : State) → f s ⊑ 
 each_proof_grows f g h s [] = refl
 each_proof_grows f g h s (v ∷ vs) = after_grows _ _ _ _ (h (with_bound s v)) (λ t. each_proof_grows f g h (with_store s t.store) vs)
 
-pub proofs_grow : (f g : State → Outcome State) → ((s : State) → f s ⊑ g s) → (s : State) (vs : Option (List Value)) → prove_all f s vs ⊑ prove_all g s vs
-proofs_grow f g h s None = h s
-proofs_grow f g h s (Some vs) = each_proof_grows f g h s vs
+pub proofs_grow : (ranges others : List (State → Outcome (List Value))) (f g : State → Outcome State) → RangesBelow ranges others → ((s : State) → f s ⊑ g s) → (s : State) → prove_all ranges f s ⊑ prove_all others g s
+proofs_grow [] [] f g r h s = h s
+proofs_grow [] (y ∷ ys) f g r h s = absurd r
+proofs_grow (x ∷ xs) [] f g r h s = absurd r
+proofs_grow (x ∷ xs) (y ∷ ys) f g r h s = after_grows _ _ _ _ (r.0 s) (λ vs. each_proof_grows _ _ (proofs_grow xs ys f g r.1 h) s vs)
 
 -- ---- functions
 
@@ -107,7 +109,7 @@ acting_grows p f g c d t u functions calls turns = record {
   pick = λ site count x y h s. pick_grows x y h s.store.choices s;
   new = λ site s. refl;
   elements = λ site element size s. same_grows _;
-  prove = λ site vs x y known and_known h e s. proofs_grow x y h s vs;
+  prove = λ site xs ys x y known and_known r h e s. proofs_grow xs ys x y r h s;
 }
 
 module _ (p : Program) where

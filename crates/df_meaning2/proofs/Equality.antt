@@ -116,7 +116,7 @@ inserted_ascends v (w ∷ ws) h = by_order (precedes v w) (same v w) refl refl (
     by_order false true e k again = h
     by_order false false e k again =
         and_from (precedes_first w (values_of (insert v ws))) (is_ascending (values_of (insert v ws)))
-            (first_inserted ws (total v w e k) (and_parts (precedes_first w (values_of ws)) (is_ascending (values_of ws)) h).0) again
+        (first_inserted ws (total v w e k) (and_parts (precedes_first w (values_of ws)) (is_ascending (values_of ws)) h).0) again
 
 pub ascending_ascends : (vs : List Value) → is_ascending (values_of (ascending vs)) ≡ true
 ascending_ascends [] = refl

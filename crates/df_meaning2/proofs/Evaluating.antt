@@ -38,7 +38,7 @@ module _ (p : Program) (first : ℕ → ℕ) (f g : Applying) (h : (at : Pos) (c
     grows s (Junction connective e rest) = after_grows _ _ _ _ (grows s e) (λ v. lazily_grows s connective v rest)
     grows s (Chain t e rest) = after_grows _ _ _ _ (grows s e) (λ v. links_grow s v rest)
     grows s (If t arms otherwise) = arms_grow s arms _ _ (grows s otherwise)
-    grows s (Let variable value body) = after_grows _ _ _ _ (grows s value) (λ v. grows (with_bound s v) body)
+    grows s (Let variable is_ghost value body) = after_grows _ _ _ _ (grows s value) (λ v. grows (with_bound s v) body)
     grows s (Call callee types at es) = after_grows _ _ _ _ (grow_all s es) (λ vs. h at callee (instances_of s.types types) vs s)
     grows s (Quantify site at q variable extent triggers body) =
         after_grows _ _ _ _ (range_grows_here s extent) (λ vs. each_grows q _ _ (λ v. grows (with_bound s v) body) (led (first site) (filter (is_of p s.types variable.ty) vs)))

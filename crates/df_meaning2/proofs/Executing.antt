@@ -1,5 +1,5 @@
 -- More depth keeps what statements do.
-use Rattle.std.proofs.Common.{ℕ, ℤ, pos, int_le, Bool, List, [], ◌∷◌, map, length, Option, None, Some, if◌then◌else◌, false, refl, subst}
+use Rattle.std.proofs.Common.{ℕ, ℤ, pos, int_le, Bool, List, [], ◌∷◌, map, length, Option, None, Some, refl, ap, subst}
 use Rattle.std.specs.Ordering.{int_eq}
 use Rattle.df_base.specs.declared.pos.Pos.{Pos}
 use Rattle.df_types.specs.declared.kind.Kind.TheVariants as kinds
@@ -8,15 +8,16 @@ use Rattle.df_types.specs.Op.{Op}
 use Rattle.df_types.specs.Expr.{Expr, Exprs}
 use Rattle.df_types.specs.Stmt.{Demand, Typed, Target, Nowhere, LocalAt, FieldAt, ElementAt, Source, Single, Results, NewArray, Update, Range, Stmt, Declare, Assign, Choose, Branch, While, Break, Return, Check, Prove, Print, Publish, Ghost, Stmts, done, next, Branches, no_branch, branch}
 use Rattle.df_types.specs.Program.{Program}
+use Rattle.df_types.specs.Aims.{known_behind}
 use Rattle.df_types.specs.Measures.{loop_measure}
 use Rattle.df_meaning2.specs.Value.{Value, is_among, truth_of, number_of}
 use Rattle.df_meaning2.specs.Outcome.{Outcome, Gives, ◌⊑◌}
 use Rattle.df_meaning2.specs.Answer.{count}
 use Rattle.df_meaning2.specs.Printing.{text_of}
 use Rattle.df_meaning2.specs.State.{State, with_bound, with_text}
-use Rattle.df_meaning2.specs.Meaning.{Meaning, as_kind, of_type}
-use Rattle.df_meaning2.specs.Execution.{Flow, Next, Returned, Broken, state_of, Loop, Actions, assigned_by_all, touched_by_all, convert_all, new_array, first_elements, execute_source, execute_sources, place_of, places_of, execute_update, execute_optional, some_meet, holds, meet, execute_choice, print_all, execute_publish, values_over, goes, dropped, conditions, execute, execute_all, execute_branches, loop_of}
-use Rattle.df_meaning2.specs.Growing.{MeansLess, LoopBelow, DoesLess}
+use Rattle.df_meaning2.specs.Meaning.{Meaning, as_kind}
+use Rattle.df_meaning2.specs.Execution.{Flow, Next, Returned, Broken, state_of, Loop, Actions, assigned_by_all, touched_by_all, convert_all, new_array, first_elements, execute_source, execute_sources, place_of, places_of, execute_update, execute_optional, some_meet, holds, meet, execute_choice, print_all, execute_publish, values_of_range, where_true, goes, dropped, conditions, execute, execute_all, execute_branches, loop_of}
+use Rattle.df_meaning2.specs.Growing.{MeansLess, RangesBelow, LoopBelow, DoesLess}
 use Rattle.df_meaning2.proofs.Outcomes.{same_grows, after_grows, choice_grows}
 use Rattle.df_meaning2.proofs.Evaluating.{row_grows, evaluate_grows, all_grow, range_grows, of_type_grows, check_grows, check_all_grows, assume_all_grows, measured_grows}
 
@@ -39,23 +40,28 @@ module _ (m n : Meaning) (h : MeansLess m n) where
   holds_grows : (s : State) (condition : Expr) → holds m s condition ⊑ holds n s condition
   holds_grows s condition = after_grows _ _ _ _ (evaluate_grows m n h s condition) (λ v. refl)
 
+  range_values_grow : (r : Range) (s : State) → values_of_range m r s ⊑ values_of_range n r s
+  range_values_grow r s = after_grows _ _ _ _ (range_grows m n h s r.extent) (λ vs. of_type_grows m n h s r.variable.ty vs (λ ws. Gives ws))
+
+  ranges_grow : (ranges : List Range) → RangesBelow (map (values_of_range m) ranges) (map (values_of_range n) ranges)
+  ranges_grow [] = tt
+  ranges_grow (r ∷ rs) = (range_values_grow r, ranges_grow rs)
+
   meet_grows : (s : State) (ranges : List Range) (condition : Expr) (vs : List Value) → meet m s ranges condition vs ⊑ meet n s ranges condition vs
   meet_grows s [] condition [] = holds_grows s condition
   meet_grows s [] condition (v ∷ vs) = refl
   meet_grows s (r ∷ rs) condition [] = refl
-  meet_grows s (r ∷ rs) condition (v ∷ vs) = after_grows _ _ _ _ (range_grows m n h s r.extent) (λ items.
-      subst (λ (p : Program). (if is_among v (of_type m s r.variable.ty items) then meet m (with_bound s v) rs condition vs else Gives false) ⊑ (if is_among v (of_type (record m { program = p }) s r.variable.ty items) then meet n (with_bound s v) rs condition vs else Gives false)) h.program
-      (choice_grows (is_among v (of_type m s r.variable.ty items)) _ _ _ _ (meet_grows (with_bound s v) rs condition vs) refl))
+  meet_grows s (r ∷ rs) condition (v ∷ vs) = after_grows _ _ _ _ (range_values_grow r s) (λ items. choice_grows (is_among v items) _ _ _ _ (meet_grows (with_bound s v) rs condition vs) refl)
+
+  where_grows : (given : Option Expr) (f g : State → Outcome State) → ((s : State) → f s ⊑ g s) → (s : State) → where_true m given f s ⊑ where_true n given g s
+  where_grows None f g e s = e s
+  where_grows (Some given) f g e s = after_grows _ _ _ _ (evaluate_grows m n h s given) (λ v. choice_grows (truth_of v) _ _ _ _ (e s) refl)
 
   print_grows : (s : State) (xs : List Typed) → print_all m s xs ⊑ print_all n s xs
   print_grows s [] = refl
   print_grows s (x ∷ xs) = after_grows _ _ _ _ (evaluate_grows m n h s x.value) (λ v.
       subst (λ (p : Program). print_all m (with_text s (text_of m.program (instance_of s.types x.ty) v)) xs ⊑ print_all n (with_text s (text_of p (instance_of s.types x.ty) v)) xs) h.program
       (print_grows (with_text s (text_of m.program (instance_of s.types x.ty) v)) xs))
-
-  over_grows : (s : State) (range : Option Range) → values_over m s range ⊑ values_over n s range
-  over_grows s None = refl
-  over_grows s (Some r) = after_grows _ _ _ _ (range_grows m n h s r.extent) (λ vs. of_type_grows m n h s r.variable.ty vs (λ ws. Gives (Some ws)))
 
 goes_grows : (f g : State → Outcome Flow) → ((s : State) → f s ⊑ g s) → (flow : Flow) → goes f flow ⊑ goes g flow
 goes_grows f g e (Next s) = e s
@@ -112,7 +118,7 @@ module _ (m n : Actions) (h : DoesLess m n) where
           site = refl;
           pos = refl;
           assigned = refl;
-          touches = refl;
+          touches = ap (λ (p : Program). touched_by_all p body) h.meaning.program;
           guard = λ t. evaluate_grows m.meaning n.meaning h.meaning t guard;
           check = λ kind t. check_all_grows m.meaning n.meaning h.meaning t (map (as_kind kind) invariants);
           assume = λ t. assume_all_grows m.meaning n.meaning h.meaning t (conditions invariants);
@@ -122,10 +128,11 @@ module _ (m n : Actions) (h : DoesLess m n) where
     execute_grows s (Break at) = refl
     execute_grows s (Return at update) = after_grows _ _ _ _ (optional_grows s update) (λ t. refl)
     execute_grows s (Check demand) = after_grows _ _ _ _ (check_grows m.meaning n.meaning h.meaning s demand) (λ t. refl)
-    execute_grows s (Prove site at aim body) = after_grows _ _ _ _ (over_grows m.meaning n.meaning h.meaning s aim.range) (λ vs. after_grows _ _ _ _
-        (h.prove site vs _ _ _ _ (λ t. after_grows _ _ _ _ (stmts_grow t body) (λ flow. check_all_grows m.meaning n.meaning h.meaning (dropped t (state_of flow)) aim.claims))
-        (λ t. assume_all_grows m.meaning n.meaning h.meaning t aim.known) s)
-        (λ t. refl))
+    execute_grows s (Prove site at aim body) = after_grows _ _ _ _
+        (h.prove site _ _ _ _ _ _ (ranges_grow m.meaning n.meaning h.meaning aim.ranges)
+        (where_grows m.meaning n.meaning h.meaning aim.given _ _ (λ t. after_grows _ _ _ _ (stmts_grow t body) (λ flow. check_all_grows m.meaning n.meaning h.meaning (dropped t (state_of flow)) aim.claims)))
+        (λ t. assume_all_grows m.meaning n.meaning h.meaning t (known_behind site at aim)) s)
+        (λ t. refl)
     execute_grows s (Print at operands) = after_grows _ _ _ _ (print_grows m.meaning n.meaning h.meaning s operands) (λ t. refl)
     execute_grows s (Publish site at class fields this) = after_grows _ _ _ _ (publish_grows s site class fields this) (λ t. refl)
     execute_grows s (Ghost body) = stmts_grow s body
@@ -143,7 +150,7 @@ module _ (m n : Actions) (h : DoesLess m n) where
     site = refl;
     pos = refl;
     assigned = refl;
-    touches = refl;
+    touches = ap (λ (p : Program). touched_by_all p body) h.meaning.program;
     guard = λ t. evaluate_grows m.meaning n.meaning h.meaning t guard;
     check = λ kind t. check_all_grows m.meaning n.meaning h.meaning t (map (as_kind kind) invariants);
     assume = λ t. assume_all_grows m.meaning n.meaning h.meaning t (conditions invariants);

@@ -10,7 +10,7 @@ use Rattle.df_types.specs.Expr.{Expr, Local, Bound, Apply, Junction, Chain, If, 
 use Rattle.df_types.specs.Program.{Param, Function, Program, function_at, types_of, result_type}
 use Rattle.df_types.specs.Types.{is_type}
 use Rattle.df_types.specs.Rows.{operands, result, allowed, compares}
-use Rattle.df_types.specs.ExprTyping.{Scope, with_type, is_at, parameters_at, signature_of, are_arguments, is_expr, are_exprs, are_truths, are_links, are_arms, is_range, are_triggers}
+use Rattle.df_types.specs.ExprTyping.{Scope, with_type, is_at, parameters_at, signature_of, are_types_for, is_expr, are_exprs, are_truths, are_links, are_arms, is_range, are_triggers}
 use Rattle.df_types.proofs.SameTypes.{same_type_equal, instance_twice}
 use Rattle.df_meaning2.specs.Value.{Value, Truth, values_of, truth_of}
 use Rattle.df_meaning2.specs.Outcome.{Outcome, Gives, Wrong, TooDeep, NoChoice, Dismissed, after, Each}
@@ -77,15 +77,12 @@ module _ (m : Meaning) (calls : CallsAreTyped m) where
   more_are : (w : Tys) (t : Ty) (ts : List Ty) (v : Value) (vs : List Value) → IsOf p w t v → AreOf p w ts vs → AreOf p w (t ∷ ts) (v ∷ vs)
   more_are w t ts v vs h k = record { by = and_from _ _ h.by k.by }
 
-  local_typed : (w : Tys) (ts : List Ty) (n : ℕ) (t : Ty) (o : Option Value) → is_at ts n t ≡ true → ((u : Ty) (v : Value) → slice_get ts n ≡ Some u → o ≡ Some v → IsOf p w u v) → Each (IsOf p w t) (there o)
-  local_typed w ts n t None e h = tt
-  local_typed w ts n t (Some v) e h = by_type (slice_get ts n) refl e
-    where
-      by_type : (o : Option Ty) → slice_get ts n ≡ o → option_map_or (same_type t) o false ≡ true → IsOf p w t v
-      by_type None g e = cc
-      by_type (Some u) g e = subst (λ x. IsOf p w x v) (sym (same_type_equal t u e)) (h u v g refl)
+  local_typed : (w : Tys) (there_at : Option Ty) (t : Ty) (o : Option Value) → is_at there_at t ≡ true → ((u : Ty) (v : Value) → there_at ≡ Some u → o ≡ Some v → IsOf p w u v) → Each (IsOf p w t) (there o)
+  local_typed w a t None e h = tt
+  local_typed w None t (Some v) e h = cc
+  local_typed w (Some u) t (Some v) e h = subst (λ x. IsOf p w x v) (sym (same_type_equal t u e)) (h u v refl refl)
 
-  bound_typed : (w : Tys) (ts : List Ty) (vs : List Value) (n : ℕ) (t : Ty) → AreOf p w ts vs → is_at ts n t ≡ true → Each (IsOf p w t) (there (slice_get vs n))
+  bound_typed : (w : Tys) (ts : List Ty) (vs : List Value) (n : ℕ) (t : Ty) → AreOf p w ts vs → is_at (slice_get ts n) t ≡ true → Each (IsOf p w t) (there (slice_get vs n))
   bound_typed w [] vs n t h e = cc
   bound_typed w (u ∷ ts) [] n t h e = tt
   bound_typed w (u ∷ ts) (v ∷ vs) zero t h e = subst (λ x. IsOf p w x v) (sym (same_type_equal t u e)) (first_is p w u ts (v ∷ vs) h)
@@ -103,7 +100,7 @@ module _ (m : Meaning) (calls : CallsAreTyped m) where
 
   mutual
     pub typed : (e : Expr) (g : Scope) (s : State) (t : Ty) → Agrees p g s → is_expr p g t e ≡ true → Each (IsOf p s.types t) (evaluate m s e)
-    typed (Local local name at) g s t h is = local_typed s.types g.locals local t (s.locals local) is (λ u v. h.locals local u v)
+    typed (Local local name at) g s t h is = local_typed s.types (g.locals local) t (s.locals local) is (λ u v. h.locals local u v)
     typed (Bound index name at) g s t h is = bound_typed s.types g.bound s.bound index t h.bound is
     typed (Apply op at es) g s t h is =
         let same = and_parts (same_type t (result op)) _ is in
@@ -121,18 +118,18 @@ module _ (m : Meaning) (calls : CallsAreTyped m) where
         let same = and_parts (same_type t own) (are_arms p g t arms && is_expr p g t otherwise) is in
         let are = and_parts (are_arms p g t arms) (is_expr p g t otherwise) same.1 in
         arms_typed arms g s t _ h are.0 (typed otherwise g s t h are.1)
-    typed (Let variable value body) g s t h is =
+    typed (Let variable is_ghost value body) g s t h is =
         let are = and_parts (is_expr p g variable.ty value) (is_expr p (with_type g variable.ty) t body) is in
         after_each _ _ _ _ (typed value g s variable.ty h are.0) (λ v k. typed body (with_type g variable.ty) (with_bound s v) t (bind_agrees g s variable.ty v h k) are.1)
     typed (Call callee types at es) g s t h is = by_function (function_at p callee) refl is (λ ts are. all_typed es g s ts h are)
       where
         by_function : (o : Option Function) → function_at p callee ≡ o
-            → option_map_or (λ (f : Function). same_type t (signature_of f.head types).result && (are_arguments p g.type_parameters f.head types && are_exprs p g (signature_of f.head types).parameters es)) o false ≡ true
+            → option_map_or (λ (f : Function). same_type t (signature_of f.head types).result && (are_types_for p g f.head types && are_exprs p g (signature_of f.head types).parameters es)) o false ≡ true
             → ((ts : List Ty) → are_exprs p g ts es ≡ true → Each (AreOf p s.types ts) (evaluate_all m s es)) → Each (IsOf p s.types t) (evaluate m s (Call callee types at es))
         by_function None e is rest = cc
         by_function (Some f) e is rest =
             let same = and_parts (same_type t (instance_of types (result_type f.head.results))) _ is in
-            let are = and_parts (are_arguments p g.type_parameters f.head types) (are_exprs p g (parameters_at f.head types) es) same.1 in
+            let are = and_parts (are_types_for p g f.head types) (are_exprs p g (parameters_at f.head types) es) same.1 in
             of_same s.types t (instance_of types (result_type f.head.results)) _ same.0 (after_each (AreOf p s.types (parameters_at f.head types)) (IsOf p s.types (instance_of types (result_type f.head.results))) _ _ (rest (parameters_at f.head types) are.1) (λ vs k.
             of_instance s.types types (result_type f.head.results) _
             (calls at callee f (instances_of s.types types) vs s e (record { by = subst (λ us. have_types p us (values_of vs) ≡ true) (types_twice s.types types f.head.parameters) k.by }))))

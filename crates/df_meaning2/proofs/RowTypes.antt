@@ -191,16 +191,30 @@ module _ (p : Program) (w : Tys) where
   naturals_fit (Number n) h = refl
   naturals_fit v h = cc
 
+  same_is : (t u : Ty) → same_type t u ≡ true → (v : Value) → is_of p w t v ≡ true → is_of p w u v ≡ true
+  same_is t u e v h = subst (λ x. is_of p w x v ≡ true) (same_type_equal t u e) h
+
   fit_is : (t u : Ty) → fits t u ≡ true → (v : Value) → is_of p w t v ≡ true → is_of p w u v ≡ true
+  fit_is (Newtype d) u e v h = same_is (Newtype d) u e v h
+  fit_is Int u e v h = same_is Int u e v h
   fit_is Nat Int e v h = naturals_fit v h
+  fit_is Nat u e v h = same_is Nat u e v h
+  fit_is Boolean u e v h = same_is Boolean u e v h
+  fit_is Char u e v h = same_is Char u e v h
   fit_is (AnyObject a) (AnyObject b) e v h = reference_fits a b v e h
+  fit_is (AnyObject a) u e v h = cc
   fit_is (Class a d) (AnyObject b) e v h = reference_fits a b v e h
   fit_is (Class a d) (Class b k) e v h = reference_fits a b v (and_parts (d == k) (b || not a) e).1 h
+  fit_is (Class a d) u e v h = cc
   fit_is (Array a t) (AnyObject b) e v h = reference_fits a b v e h
   fit_is (Array a t) (Array b u) e v h = reference_fits a b v (and_parts (same_type t u) (b || not a) e).1 h
+  fit_is (Array a t) u e v h = cc
   fit_is (Seq t) (Seq u) e v h = sequences_fit t u (fit_is t u e) v h
+  fit_is (Seq t) u e v h = cc
   fit_is (Set t) (Set u) e v h = sets_fit t u (fit_is t u e) v h
-  fit_is t u e v h = subst (λ x. is_of p w x v ≡ true) (same_type_equal t u e) h
+  fit_is (Set t) u e v h = cc
+  fit_is (Data d ts) u e v h = same_is (Data d ts) u e v h
+  fit_is (Parameter n) u e v h = same_is (Parameter n) u e v h
 
 -- ---- the rows
 

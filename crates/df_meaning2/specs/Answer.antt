@@ -9,7 +9,7 @@ use Rattle.df_types.specs.declared.op.Comparison.TheVariants.{Equal, NotEqual, L
 use Rattle.df_types.specs.Ty.{Ty, Newtype, Int, Nat, Boolean, Char, AnyObject, Class, Array, Seq, Set, Data, Parameter, Tys}
 use Rattle.df_types.specs.Op.{Op}
 use Rattle.df_types.specs.Program.{Program}
-use Rattle.df_meaning2.specs.Value.{Value, NullReference, Truth, Character, Number, Made, Sequence, values_of, same, set_of, is_among, number_of, truth_of, items_of, constructor_of, nat_of}
+use Rattle.df_meaning2.specs.Value.{Value, NullReference, Truth, Character, Number, Reference, Made, Sequence, Collection, Memory, list_of, values_of, same, within, set_of, is_among, number_of, truth_of, items_of, constructor_of, nat_of}
 use Rattle.df_meaning2.specs.Heap.{Heap, frame_members}
 use Rattle.df_meaning2.specs.Types.{is_of}
 
@@ -74,14 +74,26 @@ is_index n end = int_le (pos 0) n && int_lt n end
 abbrev pub item : List Value → ℤ → Answer
 item vs n = Asks kinds.Index (is_index n (count vs)) (Is (nth vs (nat_of n)))
 
+-- of sets: each member of the one is one of the other
+abbrev pub at_most : Value → Value → Bool
+at_most (Collection vs) w = within (list_of vs) (items_of w)
+at_most NullReference w = int_le (number_of NullReference) (number_of w)
+at_most (Truth b) w = int_le (number_of (Truth b)) (number_of w)
+at_most (Character c) w = int_le (number_of (Character c)) (number_of w)
+at_most (Number n) w = int_le (number_of (Number n)) (number_of w)
+at_most (Reference r) w = int_le (number_of (Reference r)) (number_of w)
+at_most (Made c vs) w = int_le (number_of (Made c vs)) (number_of w)
+at_most (Sequence vs) w = int_le (number_of (Sequence vs)) (number_of w)
+at_most (Memory objects) w = int_le (number_of (Memory objects)) (number_of w)
+
 -- characters by their codes
 abbrev pub compare : Comparison → Value → Value → Bool
 compare Equal v w = same v w
 compare NotEqual v w = not (same v w)
 compare Less v w = int_lt (number_of v) (number_of w)
-compare AtMost v w = int_le (number_of v) (number_of w)
+compare AtMost v w = at_most v w
 compare Greater v w = int_lt (number_of w) (number_of v)
-compare AtLeast v w = int_le (number_of w) (number_of v)
+compare AtLeast v w = at_most w v
 
 -- which part a destructor names, of those of the constructors that have it
 abbrev pub has_part : List (ℕ × ℕ) → ℕ → Bool

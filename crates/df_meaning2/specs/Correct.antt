@@ -22,7 +22,7 @@ use Rattle.df_meaning2.specs.Modular.{Oracle, blank, leaving, run}
 -- closed types for the type parameters of a declaration, and arguments of their types
 pub record AreArguments (p : Program) (head : Head) (types : Tys) (arguments : List Value) : Type 0 where
   pub count : length head.type_parameters ≡ ty_count types
-  pub closed : are_types p 0 types ≡ true
+  pub closed : are_types p [] types ≡ true
   pub typed : have_types p (map (instance_of types) (types_of head.parameters)) (values_of arguments) ≡ true
 
 -- where a declaration begins on them
@@ -91,7 +91,7 @@ pub record IsModularlyWrong (p : Program) (groups : List ℕ) (number : ℕ) (de
   pub depth : ℕ
   pub oracle : Oracle
   pub types : Tys
-  pub closed : are_types p 0 types ≡ true
+  pub closed : are_types p [] types ≡ true
   pub wrong : run (whole p depth) oracle groups number types decl ≡ Wrong at kind
 
 abbrev pub IsModularlySafe : Program → List ℕ → ℕ → Decl → Type 0

@@ -1,5 +1,5 @@
 -- Execution of statements, over what calls, loops, choices, new objects and proofs do.
-use Rattle.std.specs.Prelude.{ℕ, suc, ℤ, pos, int_le, Bool, true, false, ◌&&◌, ◌||◌, ◌==◌, List, [], ◌∷◌, ◌++◌, map, length, Option, None, Some, if◌then◌else◌}
+use Rattle.std.specs.Prelude.{ℕ, ℤ, pos, int_le, Bool, true, false, not, ◌&&◌, ◌||◌, ◌==◌, List, [], ◌∷◌, ◌++◌, map, length, Option, None, Some, if◌then◌else◌}
 use Rattle.std.specs.Ordering.{int_eq}
 use Rattle.df_base.specs.declared.pos.Pos.{Pos}
 use Rattle.df_types.specs.declared.kind.Kind.{Kind}
@@ -7,8 +7,11 @@ use Rattle.df_types.specs.declared.kind.Kind.TheVariants as kinds
 use Rattle.df_types.specs.declared.expr.Quantifier.TheVariants.{Exists}
 use Rattle.df_types.specs.Ty.{Ty, Class, Array, instance_of}
 use Rattle.df_types.specs.Op.{Op}
-use Rattle.df_types.specs.Expr.{Expr, Quantify, Extent, Exprs, no_trigger}
+use Rattle.df_types.specs.Expr.{Expr, Exprs}
 use Rattle.df_types.specs.Stmt.{Demand, Typed, Target, Nowhere, LocalAt, FieldAt, ElementAt, CallOf, Source, Single, Results, NewArray, Update, Range, Aim, Stmt, Declare, Assign, Choose, Branch, While, Break, Return, Check, Prove, Print, Publish, Ghost, Stmts, done, next, Branches, no_branch, branch}
+use Rattle.df_types.specs.Program.{Program}
+use Rattle.df_types.specs.Aims.{quantified, known_behind}
+use Rattle.df_types.specs.Faults.{is_ghost_callee}
 use Rattle.df_types.specs.Measures.{loop_measure}
 use Rattle.df_meaning2.specs.Value.{Value, NullReference, same, truth_of, number_of, nat_of, is_among}
 use Rattle.df_meaning2.specs.Heap.{Object, Instance, Elements, Heap, slots_at, is_there, may_change, put_slot, with_object}
@@ -63,8 +66,8 @@ pub record Actions : Type 0 where
   -- the reference of a new object, and the elements of a new array for which none are listed
   pub new : (site : ℕ) → State → Outcome Value
   pub elements : (site : ℕ) → Ty → ℤ → State → Outcome (List Value)
-  -- for each value of a range, or once: the proof; and what is known behind it
-  pub prove : (site : ℕ) → Option (List Value) → (State → Outcome State) → (State → Outcome State) → State → Outcome State
+  -- for all values of the ranges: the proof; and what is known behind it
+  pub prove : (site : ℕ) → List (State → Outcome (List Value)) → (State → Outcome State) → (State → Outcome State) → State → Outcome State
 
 -- ---- which locals statements assign
 
@@ -102,13 +105,13 @@ abbrev mutual
   assigned_in no_branch = []
   assigned_in (branch guard body rest) = assigned_by_all body ++ assigned_in rest
 
--- ---- which statements may change the heap: those that assign a field or an element, make an object, or call a method
+-- ---- which statements may change the heap: those that assign a field or an element, make an object, or call a method that is no lemma
 
-abbrev pub touched_in : List Source → Bool
-touched_in [] = false
-touched_in (Single ty value ∷ others) = touched_in others
-touched_in (Results call conversions ∷ others) = true
-touched_in (NewArray site element at size elements ∷ others) = true
+abbrev pub touched_in : Program → List Source → Bool
+touched_in p [] = false
+touched_in p (Single ty value ∷ others) = touched_in p others
+touched_in p (Results call conversions ∷ others) = not (is_ghost_callee p call.callee) || touched_in p others
+touched_in p (NewArray site element at size elements ∷ others) = true
 
 abbrev pub touched_at : List Target → Bool
 touched_at [] = false
@@ -117,32 +120,32 @@ touched_at (LocalAt local name at ty ∷ others) = touched_at others
 touched_at (FieldAt object class field at ty ∷ others) = true
 touched_at (ElementAt array index at ty ∷ others) = true
 
-abbrev pub touched_on_return : Option Update → Bool
-touched_on_return None = false
-touched_on_return (Some update) = touched_at update.targets || touched_in update.sources
+abbrev pub touched_on_return : Program → Option Update → Bool
+touched_on_return p None = false
+touched_on_return p (Some update) = touched_at update.targets || touched_in p update.sources
 
 abbrev mutual
-  pub touched_by : Stmt → Bool
-  touched_by (Declare locals) = false
-  touched_by (Assign update) = touched_at update.targets || touched_in update.sources
-  touched_by (Choose site at targets ranges condition) = touched_at targets
-  touched_by (Branch branches otherwise) = touched_by_branches branches || touched_by_all otherwise
-  touched_by (While site at guard invariants decreases body) = touched_by_all body
-  touched_by (Break at) = false
-  touched_by (Return at update) = touched_on_return update
-  touched_by (Check demand) = false
-  touched_by (Prove site at aim body) = false
-  touched_by (Print at operands) = false
-  touched_by (Publish site at class fields this) = true
-  touched_by (Ghost body) = touched_by_all body
+  pub touched_by : Program → Stmt → Bool
+  touched_by p (Declare locals) = false
+  touched_by p (Assign update) = touched_at update.targets || touched_in p update.sources
+  touched_by p (Choose site at targets ranges condition) = touched_at targets
+  touched_by p (Branch branches otherwise) = touched_by_branches p branches || touched_by_all p otherwise
+  touched_by p (While site at guard invariants decreases body) = touched_by_all p body
+  touched_by p (Break at) = false
+  touched_by p (Return at update) = touched_on_return p update
+  touched_by p (Check demand) = false
+  touched_by p (Prove site at aim body) = false
+  touched_by p (Print at operands) = false
+  touched_by p (Publish site at class fields this) = true
+  touched_by p (Ghost body) = touched_by_all p body
 
-  pub touched_by_all : Stmts → Bool
-  touched_by_all done = false
-  touched_by_all (next stmt others) = touched_by stmt || touched_by_all others
+  pub touched_by_all : Program → Stmts → Bool
+  touched_by_all p done = false
+  touched_by_all p (next stmt others) = touched_by p stmt || touched_by_all p others
 
-  pub touched_by_branches : Branches → Bool
-  touched_by_branches no_branch = false
-  touched_by_branches (branch guard body rest) = touched_by_all body || touched_by_branches rest
+  pub touched_by_branches : Program → Branches → Bool
+  touched_by_branches p no_branch = false
+  touched_by_branches p (branch guard body rest) = touched_by_all p body || touched_by_branches p rest
 
 -- ---- right sides
 
@@ -252,10 +255,13 @@ execute_optional m s (Some update) = execute_update m s update
 
 -- ---- choices
 
--- that some values of the ranges meet the condition; the quantifiers have the numbers from that of the choice on
+-- that some values of the ranges meet the condition
 abbrev pub some_meet : ℕ → Pos → List Range → Expr → Expr
-some_meet site at [] condition = condition
-some_meet site at (r ∷ rs) condition = Quantify site at Exists r.variable r.extent no_trigger (some_meet (suc site) at rs condition)
+some_meet site at ranges condition = quantified Exists site at ranges condition
+
+-- the values of a range that are of its variable's type
+abbrev pub values_of_range : Meaning → Range → State → Outcome (List Value)
+values_of_range m r s = after (evaluate_range m s r.extent) (λ vs. Gives (of_type m s r.variable.ty vs))
 
 abbrev pub holds : Meaning → State → Expr → Outcome Bool
 holds m s condition = after (evaluate m s condition) (λ v. Gives (truth_of v))
@@ -266,7 +272,7 @@ meet m s [] condition [] = holds m s condition
 meet m s [] condition (v ∷ vs) = Gives false
 meet m s (r ∷ rs) condition [] = Gives false
 meet m s (r ∷ rs) condition (v ∷ vs) =
-    after (evaluate_range m s r.extent) (λ items. if is_among v (of_type m s r.variable.ty items) then meet m (with_bound s v) rs condition vs else Gives false)
+    after (values_of_range m r s) (λ items. if is_among v items then meet m (with_bound s v) rs condition vs else Gives false)
 
 -- the condition must have a value on the whole range, and be true somewhere
 abbrev pub execute_choice : Actions → State → ℕ → Pos → List Target → List Range → Expr → Outcome State
@@ -298,9 +304,10 @@ abbrev pub execute_publish : Actions → State → ℕ → ℕ → List ℕ → 
 execute_publish m s site class fields this =
     after (m.new site s) (λ v. Gives (with_local (with_heap s (with_object s.store.heap v (Instance class (map (λ n. or_null (s.locals n)) fields)))) this (Some v)))
 
-abbrev pub values_over : Meaning → State → Option Range → Outcome (Option (List Value))
-values_over m s None = Gives None
-values_over m s (Some r) = after (evaluate_range m s r.extent) (λ vs. Gives (Some (of_type m s r.variable.ty vs)))
+-- where what is given is true, the proof
+abbrev pub where_true : Meaning → Option Expr → (State → Outcome State) → State → Outcome State
+where_true m None go s = go s
+where_true m (Some e) go s = after (evaluate m s e) (λ v. if truth_of v then go s else Gives s)
 
 -- ---- statements in order
 
@@ -334,7 +341,7 @@ abbrev mutual
         site = site;
         pos = at;
         assigned = assigned_by_all body;
-        touches = touched_by_all body;
+        touches = touched_by_all m.meaning.program body;
         guard = λ t. evaluate m.meaning t guard;
         check = λ kind t. check_all m.meaning t (map (as_kind kind) invariants);
         assume = λ t. assume_all m.meaning t (conditions invariants);
@@ -345,9 +352,9 @@ abbrev mutual
   execute m s (Return at update) = after (execute_optional m s update) (λ t. Gives (Returned t))
   execute m s (Check demand) = go_on (check m.meaning s demand)
   -- the body first, then the claims in the state before it
-  execute m s (Prove site at aim body) = after (values_over m.meaning s aim.range) (λ vs. go_on (m.prove site vs
-      (λ t. after (execute_all m t body) (λ flow. check_all m.meaning (dropped t (state_of flow)) aim.claims))
-      (λ t. assume_all m.meaning t aim.known) s))
+  execute m s (Prove site at aim body) = go_on (m.prove site (map (values_of_range m.meaning) aim.ranges)
+      (where_true m.meaning aim.given (λ t. after (execute_all m t body) (λ flow. check_all m.meaning (dropped t (state_of flow)) aim.claims)))
+      (λ t. assume_all m.meaning t (known_behind site at aim)) s)
   execute m s (Print at operands) = go_on (print_all m.meaning s operands)
   execute m s (Publish site at class fields this) = go_on (execute_publish m s site class fields this)
   execute m s (Ghost body) = execute_all m s body
@@ -368,7 +375,7 @@ loop_of m site at guard invariants decreases body = record {
   site = site;
   pos = at;
   assigned = assigned_by_all body;
-  touches = touched_by_all body;
+  touches = touched_by_all m.meaning.program body;
   guard = λ t. evaluate m.meaning t guard;
   check = λ kind t. check_all m.meaning t (map (as_kind kind) invariants);
   assume = λ t. assume_all m.meaning t (conditions invariants);

@@ -1,5 +1,5 @@
 -- That more depth keeps an answer.
-use Rattle.std.specs.Prelude.{◌≡◌, ◌≤◌, ℕ, ℤ, Bool, List, Option}
+use Rattle.std.specs.Prelude.{◌≡◌, ◌≤◌, ℕ, ℤ, Bool, List, [], ◌∷◌}
 use Rattle.df_base.specs.declared.pos.Pos.{Pos}
 use Rattle.df_types.specs.declared.kind.Kind.{Kind}
 use Rattle.df_types.specs.Ty.{Ty, Tys}
@@ -30,6 +30,12 @@ pub record LoopBelow (l k : Loop) : Type 0 where
   pub measure : (s : State) → l.measure s ⊑ k.measure s
   pub body : (s : State) → l.body s ⊑ k.body s
 
+abbrev pub RangesBelow : List (State → Outcome (List Value)) → List (State → Outcome (List Value)) → Type 0
+RangesBelow [] [] = Unit {0}
+RangesBelow [] (y ∷ ys) = ⊥
+RangesBelow (x ∷ xs) [] = ⊥
+RangesBelow (x ∷ xs) (y ∷ ys) = ((s : State) → x s ⊑ y s) × RangesBelow xs ys
+
 -- what the one does the other does, unless it was too deep
 pub record DoesLess (m n : Actions) : Type 0 where
   pub meaning : MeansLess m.meaning n.meaning
@@ -38,8 +44,8 @@ pub record DoesLess (m n : Actions) : Type 0 where
   pub pick : (site count : ℕ) (f g : List Value → Outcome Bool) → ((vs : List Value) → f vs ⊑ g vs) → (s : State) → m.pick site count f s ⊑ n.pick site count g s
   pub new : (site : ℕ) (s : State) → m.new site s ⊑ n.new site s
   pub elements : (site : ℕ) (t : Ty) (size : ℤ) (s : State) → m.elements site t size s ⊑ n.elements site t size s
-  pub prove : (site : ℕ) (vs : Option (List Value)) (f g known and_known : State → Outcome State)
-      → ((s : State) → f s ⊑ g s) → ((s : State) → known s ⊑ and_known s) → (s : State) → m.prove site vs f known s ⊑ n.prove site vs g and_known s
+  pub prove : (site : ℕ) (ranges others : List (State → Outcome (List Value))) (f g known and_known : State → Outcome State) → RangesBelow ranges others
+      → ((s : State) → f s ⊑ g s) → ((s : State) → known s ⊑ and_known s) → (s : State) → m.prove site ranges f known s ⊑ n.prove site others g and_known s
 
 abbrev pub ExpressionsGrow : Type 0
 ExpressionsGrow = (m n : Meaning) → MeansLess m n → (s : State) (e : Expr) → evaluate m s e ⊑ evaluate n s e

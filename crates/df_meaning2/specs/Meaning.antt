@@ -98,7 +98,7 @@ abbrev mutual
   evaluate m s (Junction connective first rest) = after (evaluate m s first) (λ v. evaluate_lazily m s connective v rest)
   evaluate m s (Chain t first rest) = after (evaluate m s first) (λ v. evaluate_links m s v rest)
   evaluate m s (If t arms otherwise) = evaluate_arms m s arms (evaluate m s otherwise)
-  evaluate m s (Let variable value body) = after (evaluate m s value) (λ v. evaluate m (with_bound s v) body)
+  evaluate m s (Let variable is_ghost value body) = after (evaluate m s value) (λ v. evaluate m (with_bound s v) body)
   evaluate m s (Call callee types at es) = after (evaluate_all m s es) (λ vs. m.apply at callee (instances_of s.types types) vs s)
   evaluate m s (Quantify site at q variable extent triggers body) =
       after (evaluate_range m s extent) (λ vs. each q (λ v. evaluate m (with_bound s v) body) (led (m.first site) (filter (is_of m.program s.types variable.ty) vs)))

@@ -6,7 +6,8 @@ use Rattle.std.specs.Option.{option_map_or}
 use Rattle.df_base.specs.declared.pos.Pos.{Pos}
 use Rattle.df_types.specs.declared.kind.Kind.{Kind}
 use Rattle.df_types.specs.declared.kind.Kind.TheVariants as kinds
-use Rattle.df_types.specs.Ty.{Ty, AnyObject, Seq, Parameter, Tys, no_ty, and_ty, instances_of, same_types}
+use Rattle.df_types.specs.Ty.{Ty, AnyObject, Seq, Tys, instances_of, same_types}
+use Rattle.df_types.specs.Regular.{own_types}
 use Rattle.df_types.specs.Expr.{Expr, Local, Bound, Apply, Junction, Chain, If, Let, Call, Quantify, Old, Exprs, no_expr, expr, Links, no_link, link, Arms, no_arm, arm, Extent, Between, Among}
 use Rattle.df_types.specs.Stmt.{Demand, CallOf, Stmt}
 use Rattle.df_types.specs.Program.{Param, Head, Function, Method, Decl, NewtypeDecl, DatatypeDecl, ClassDecl, FunctionDecl, MethodDecl, Program, function_at, method_at}
@@ -150,14 +151,14 @@ abbrev pub modular_pick : Oracle → (site count : ℕ) → (List Value → Outc
 modular_pick o site count fits s =
     after (or_dismissed (fits (numbered (o.free site) 0 count))) (λ b. if b then Gives (record { values = numbered (o.free site) 0 count; state = s }) else Dismissed)
 
--- a value of the range, if it is one
-abbrev pub taking : Value → Option (List Value) → State → Outcome State
-taking v None s = Gives s
-taking v (Some range) s = if is_among v range then Gives (with_bound s v) else Dismissed
+-- values of the ranges, if they are such
+abbrev pub taking : (ℕ → Value) → ℕ → List (State → Outcome (List Value)) → State → Outcome State
+taking free part [] s = Gives s
+taking free part (range ∷ ranges) s = after (range s) (λ vs. if is_among (free part) vs then taking free (suc part) ranges (with_bound s (free part)) else Dismissed)
 
--- the run ends in the proof of one value, or goes on from what is known behind it
-abbrev pub modular_prove : Oracle → (site : ℕ) → Option (List Value) → (State → Outcome State) → (State → Outcome State) → State → Outcome State
-modular_prove o site range go known s = if o.inside site then after (after (taking (o.free site 0) range s) go) (λ u. Dismissed) else or_dismissed (known s)
+-- the run ends in the proof for some values, or goes on from what is known behind it
+abbrev pub modular_prove : Oracle → (site : ℕ) → List (State → Outcome (List Value)) → (State → Outcome State) → (State → Outcome State) → State → Outcome State
+modular_prove o site ranges go known s = if o.inside site then after (after (taking (o.free site) 0 ranges s) go) (λ u. Dismissed) else or_dismissed (known s)
 
 -- any reference that is not used
 abbrev pub modular_new : Program → Oracle → (site : ℕ) → State → Outcome Value
@@ -189,7 +190,7 @@ reads_parameter n (Apply op at es) = false
 reads_parameter n (Junction connective first rest) = false
 reads_parameter n (Chain ty first rest) = false
 reads_parameter n (If ty arms otherwise) = false
-reads_parameter n (Let variable value body) = false
+reads_parameter n (Let variable is_ghost value body) = false
 reads_parameter n (Call callee types at es) = false
 reads_parameter n (Quantify site at quantifier variable extent triggers body) = false
 reads_parameter n (Old at e) = false
@@ -218,9 +219,9 @@ abbrev mutual
   resulting f (Junction connective first rest) = Junction connective (resulting f first) (resulting_all f rest)
   resulting f (Chain ty first rest) = Chain ty (resulting f first) (resulting_links f rest)
   resulting f (If ty arms otherwise) = If ty (resulting_arms f arms) (resulting f otherwise)
-  resulting f (Let variable value body) = Let variable (resulting f value) (resulting f body)
+  resulting f (Let variable is_ghost value body) = Let variable is_ghost (resulting f value) (resulting f body)
   resulting f (Call callee types at es) = if calls_itself f callee types es then Local f.result 0 at else Call callee types at (resulting_all f es)
-  resulting f (Quantify site at quantifier variable extent triggers body) = Quantify site at quantifier variable (resulting_over f extent) triggers (resulting f body)
+  resulting f (Quantify site at quantifier variable extent triggers body) = Quantify site at quantifier variable (resulting_extent f extent) triggers (resulting f body)
   resulting f (Old at e) = Old at (resulting f e)
 
   pub resulting_all : Itself → Exprs → Exprs
@@ -235,13 +236,9 @@ abbrev mutual
   resulting_arms f no_arm = no_arm
   resulting_arms f (arm guard value rest) = arm (resulting f guard) (resulting f value) (resulting_arms f rest)
 
-  pub resulting_over : Itself → Extent → Extent
-  resulting_over f (Between ty low low_strict high high_strict) = Between ty (resulting f low) low_strict (resulting f high) high_strict
-  resulting_over f (Among ty container) = Among ty (resulting f container)
-
-abbrev pub own_types : ℕ → ℕ → Tys
-own_types from zero = no_ty
-own_types from (suc n) = and_ty (Parameter from) (own_types (suc from) n)
+  pub resulting_extent : Itself → Extent → Extent
+  resulting_extent f (Between ty low low_strict high high_strict) = Between ty (resulting f low) low_strict (resulting f high) high_strict
+  resulting_extent f (Among ty container) = Among ty (resulting f container)
 
 abbrev pub result_local : List Param → ℕ
 result_local [] = 0

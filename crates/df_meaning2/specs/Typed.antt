@@ -1,5 +1,5 @@
 -- That what is well typed gives values of its type.
-use Rattle.std.specs.Prelude.{◌≡◌, ℕ, true, List, map, slice_get, Some}
+use Rattle.std.specs.Prelude.{◌≡◌, ℕ, true, List, map, Some}
 use Rattle.df_base.specs.declared.pos.Pos.{Pos}
 use Rattle.df_types.specs.Ty.{Ty, Tys, instance_of}
 use Rattle.df_types.specs.Op.{Op}
@@ -31,7 +31,7 @@ RowsAreTyped = (view : View) (op : Op) (vs : List Value) → allowed view.progra
 
 -- a local that has a value has one of its type, and so have the binders
 pub record Agrees (p : Program) (g : Scope) (s : State) : Type 0 where
-  pub locals : (n : ℕ) (t : Ty) (v : Value) → slice_get g.locals n ≡ Some t → s.locals n ≡ Some v → IsOf p s.types t v
+  pub locals : (n : ℕ) (t : Ty) (v : Value) → g.locals n ≡ Some t → s.locals n ≡ Some v → IsOf p s.types t v
   pub bound : AreOf p s.types g.bound s.bound
 
 -- functions give values of their types on arguments of the types of their parameters

@@ -7,7 +7,8 @@ use Rattle.df_types.specs.Ty.{Ty, Newtype, Int, Nat, Boolean, Char, AnyObject, C
 use Rattle.df_types.specs.Stmt.{CallOf, Stmt, Declare, Assign, Choose, Branch, While, Break, Return, Check, Prove, Print, Publish, Ghost}
 use Rattle.df_types.specs.Expr.{Expr}
 use Rattle.df_types.specs.Program as programs
-use Rattle.df_types.specs.Program.{Param, Head, Function, Method, Constructor, Program, function_at, method_at, newtype_at, constructors_at}
+use Rattle.df_types.specs.Program.{Param, Head, Function, Method, Program, function_at, method_at, newtype_at}
+use Rattle.df_types.specs.Types.{has_default}
 use Rattle.df_types.specs.Measures.{frame_objects}
 use Rattle.df_meaning2.specs.Value.{Value, NullReference, Truth, Character, Number, Reference, Made, Sequence, Collection, no_value, truth_of, nat_of}
 use Rattle.df_meaning2.specs.Heap.{lies_in_readable, lies_in_changeable, least_unused}
@@ -107,41 +108,37 @@ abbrev pub default_in : Option programs.Newtype → Value
 default_in None = Number (pos 0)
 default_in (Some x) = Number x.default
 
--- a datatype's first constructor, where it takes no arguments
-abbrev pub default_made : List Constructor → Outcome Value
-default_made [] = Dismissed
-default_made (c ∷ cs) = elim c.parts [
-  | [] ↦ Gives (Made 0 no_value)
-  | part ∷ parts ↦ Dismissed
-]
+-- of the types that have one
+abbrev pub default_value : Program → Ty → Value
+default_value p (Newtype d) = default_in (newtype_at p d)
+default_value p Int = Number (pos 0)
+default_value p Nat = Number (pos 0)
+default_value p Boolean = Truth false
+default_value p Char = Character 68
+default_value p (AnyObject nullable) = NullReference
+default_value p (Class nullable d) = NullReference
+default_value p (Array nullable t) = NullReference
+default_value p (Seq t) = Sequence no_value
+default_value p (Set t) = Collection no_value
+default_value p (Data d ts) = Made 0 no_value
+default_value p (Parameter n) = NullReference
 
--- other types have none
 abbrev pub default_of : Program → Ty → Outcome Value
-default_of p (Newtype d) = Gives (default_in (newtype_at p d))
-default_of p Int = Gives (Number (pos 0))
-default_of p Nat = Gives (Number (pos 0))
-default_of p Boolean = Gives (Truth false)
-default_of p Char = Gives (Character 68)
-default_of p (AnyObject nullable) = if nullable then Gives NullReference else Dismissed
-default_of p (Class nullable d) = if nullable then Gives NullReference else Dismissed
-default_of p (Array nullable t) = if nullable then Gives NullReference else Dismissed
-default_of p (Seq t) = Gives (Sequence no_value)
-default_of p (Set t) = Gives (Collection no_value)
-default_of p (Data d ts) = default_made (constructors_at p d)
-default_of p (Parameter n) = Dismissed
+default_of p t = if has_default p t then Gives (default_value p t) else Dismissed
 
 abbrev pub repeated : ℕ → Value → List Value
 repeated zero v = []
 repeated (suc n) v = v ∷ repeated n v
 
--- each value of the range has its proof; choices that one takes are taken for the next
+-- each value has its proof; choices that one takes are taken for the next
 abbrev pub prove_each : (State → Outcome State) → State → List Value → Outcome State
 prove_each go s [] = Gives s
 prove_each go s (v ∷ vs) = after (go (with_bound s v)) (λ t. prove_each go (with_store s t.store) vs)
 
-abbrev pub prove_all : (State → Outcome State) → State → Option (List Value) → Outcome State
-prove_all go s None = go s
-prove_all go s (Some vs) = prove_each go s vs
+-- the ranges, each over the values of those before it
+abbrev pub prove_all : List (State → Outcome (List Value)) → (State → Outcome State) → State → Outcome State
+prove_all [] go s = go s
+prove_all (range ∷ ranges) go s = after (range s) (λ vs. prove_each (prove_all ranges go) s vs)
 
 -- ---- by depth
 
@@ -157,7 +154,7 @@ acting meaning call turn = record {
   pick = λ site count fits s. pick_next fits s.store.choices s;
   new = λ site s. Gives (Reference (least_unused s.store.heap));
   elements = λ site element size s. after (default_of meaning.program (instance_of s.types element)) (λ v. Gives (repeated (nat_of size) v));
-  prove = λ site vs go known s. prove_all go s vs;
+  prove = λ site ranges go known s. prove_all ranges go s;
 }
 
 -- each called body leaves one less depth for what is in it
