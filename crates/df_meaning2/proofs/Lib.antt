@@ -6,3 +6,4 @@ pub mod Deepening
 pub mod Alls
 pub mod RowTypes
 pub mod ExprTypes
+pub mod Printed

@@ -13,3 +13,4 @@ pub mod Modular
 pub mod Correct
 pub mod Growing
 pub mod Typed
+pub mod Texts

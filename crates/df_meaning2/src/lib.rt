@@ -4,6 +4,7 @@
 
 ghost use Rattle.df_meaning2.specs.Growing.{ExpressionsGrow, StatementsGrow, WholesGrow, MethodsGrow};
 ghost use Rattle.df_meaning2.specs.Typed.{RowsAreTyped, ExpressionsAreTyped};
+ghost use Rattle.df_meaning2.specs.Texts.{StatementsKeepText, MethodsKeepText};
 
 /// What expressions evaluate to over a meaning that says less, they do over one that says more.
 pub fn expressions_grow()
@@ -33,4 +34,14 @@ pub fn rows_are_typed()
 /// The value of a well-typed expression is of its type.
 pub fn expressions_are_typed()
     ensures { ExpressionsAreTyped }
+{}
+
+/// A whole run of a statement keeps in front what was printed before it.
+pub fn statements_keep_text()
+    ensures { StatementsKeepText }
+{}
+
+/// And so does one of a method.
+pub fn methods_keep_text()
+    ensures { MethodsKeepText }
 {}

@@ -53,7 +53,8 @@ pub record Aim : Type 0 where
   pub given : Option Expr
   pub claims : List Demand
 
--- Places where something is handed in to a modular run have a number of their own in the declaration.
+-- Calls, loops, choices, proofs and new objects have a number of their own in the declaration, by which a modular run finds what is
+-- handed in.
 mutual
   pub data Stmt : Type 0 where
     Declare : (locals : List ℕ) → Stmt

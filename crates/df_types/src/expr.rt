@@ -88,7 +88,7 @@ pub enum Expr {
         pos: Pos,
         arguments: Vec<Expr>,
     },
-    /// Extent a range of values, with a number of its own in the declaration; `pos` is its word.
+    /// Over a range of values, with a number that no quantifier inside it has; `pos` is its word.
     Quantify {
         site: usize,
         pos: Pos,

@@ -112,8 +112,8 @@ pub struct Branch {
     pub body: Vec<Stmt>,
 }
 
-/// A statement. Places where something is handed in to a modular run have a number of their own in the
-/// declaration, `site`.
+/// A statement. Calls, loops, choices, proofs and new objects have a number of their own in the declaration, `site`,
+/// by which a modular run finds what is handed in; 0 is none.
 #[cycle(stmt)]
 #[derive(Drop)]
 pub enum Stmt {
@@ -122,7 +122,8 @@ pub enum Stmt {
         locals: Vec<usize>,
     },
     Assign(Update),
-    /// Values of the ranges that meet the condition; with several ranges it has as many sites, from this on.
+    /// Values of the ranges that meet the condition; the quantifier of each range has the number of the site, counted
+    /// on.
     Choose {
         site: usize,
         pos: Pos,
@@ -152,7 +153,8 @@ pub enum Stmt {
         update: Option<Update>,
     },
     Check(Demand),
-    /// A proof of its own, whose changes are dropped. It has as many sites as ranges and one more, from this on.
+    /// A proof of its own, whose changes are dropped. In what is known behind it the quantifier of each range has a
+    /// number from behind the site on.
     Prove {
         site: usize,
         pos: Pos,
