@@ -17,7 +17,7 @@ use Rattle.df_meaning2.specs.Outcome.{Outcome, Gives, Wrong, TooDeep, NoChoice, 
 use Rattle.df_meaning2.specs.Printing.{text_of}
 use Rattle.df_meaning2.specs.State.{State, with_local, with_bound, with_heap, with_text, with_store, entering}
 use Rattle.df_meaning2.specs.Meaning.{Meaning, evaluate, check, check_all, as_kind, asked_at, assume_all}
-use Rattle.df_meaning2.specs.Execution.{Flow, Next, Returned, Broken, state_of, Given, Loop, Actions, Place, NoPlace, LocalPlace, SlotPlace, Placed, new_array, first_elements, execute_source, execute_sources, places_of, put, same_place, if_equal, put_all, execute_update, execute_optional, some_meet, meet, execute_choice, declare_all, print_all, execute_publish, values_of_range, where_true, goes, dropped, conditions, execute, execute_all, execute_branches, loop_of}
+use Rattle.df_meaning2.specs.Execution.{Flow, Next, Returned, Broken, state_of, Given, Loop, Actions, Place, NoPlace, LocalPlace, SlotPlace, Placed, new_array, convert_all, first_elements, execute_source, execute_sources, places_of, put, same_place, if_equal, put_all, execute_update, execute_optional, some_meet, meet, execute_choice, declare_all, print_all, execute_publish, values_of_range, where_true, goes, dropped, conditions, execute, execute_all, execute_branches, loop_of}
 use Rattle.df_meaning2.specs.Whole.{results_in, end_of, run_body, run_method, call_by, behind_turn, turn_of_loop, turn_by, pick_next, prove_each, prove_all, whole, call_at, turn_at, doing}
 use Rattle.df_meaning2.specs.Texts.{Extends, FlowExtends, GivenExtends}
 use Rattle.df_meaning2.proofs.ExprTypes.{after_each, any_after, choice_each}
@@ -110,7 +110,7 @@ module _ (m : Actions) (h : KeepsText m) where
   source_extends : (s : State) (source : Source) → Each (GivenExtends s) (execute_source m s source)
   source_extends s (Single ty value) = any_after (GivenExtends s) (evaluate m.meaning s value) _ (λ v. extends_self s)
   source_extends s (Results call conversions) = any_after (GivenExtends s) _ _ (λ vs.
-      after_each (GivenExtends s) (GivenExtends s) (m.call call vs s) _ (h.call call vs s) (λ given k. any_after (GivenExtends s) _ _ (λ ws. k)))
+      after_each (GivenExtends s) (GivenExtends s) (m.call call vs s) _ (h.call call vs s) (λ given k. any_after {A = List Value} (GivenExtends s) (convert_all m.meaning given.state call.pos conversions given.values) (λ ws. Gives (record { values = ws; state = given.state })) (λ ws. k)))
   source_extends s (NewArray site element at size elements) = any_after (GivenExtends s) (evaluate m.meaning s size) _ (λ n.
       any_after (GivenExtends s) (first_elements m s site element at (number_of n) elements) _ (λ vs. any_after (GivenExtends s) (m.new site s) _ (λ v. stays s _ refl)))
 
