@@ -52,20 +52,25 @@ bound_by g (r ∷ rs) = bound_by (with_type g r.variable.ty) rs
 abbrev pub inside_proof : Setting → List Range → Setting
 inside_proof g ranges = record g { in_loop = false; scope = bound_by g.scope ranges }
 
--- a declared local is there behind its declaration, in the list of statements in which that stands
-abbrev pub behind : Setting → Stmt → Setting
-behind g (Declare locals) = record g { scope = declaring g.head g.scope locals }
-behind g (Assign update) = g
-behind g (Choose site at targets ranges condition) = g
-behind g (Branch branches otherwise) = g
-behind g (While site at guard invariants decreases body) = g
-behind g (Break at) = g
-behind g (Return at update) = g
-behind g (Check demand) = g
-behind g (Prove site at aim body) = g
-behind g (Print at operands) = g
-behind g (Publish site at class fields this) = g
-behind g (Ghost body) = g
+-- A declared local is there behind its declaration, in the list of statements in which that stands; a ghost mark is no scope.
+abbrev mutual
+  pub behind : Setting → Stmt → Setting
+  behind g (Declare locals) = record g { scope = declaring g.head g.scope locals }
+  behind g (Assign update) = g
+  behind g (Choose site at targets ranges condition) = g
+  behind g (Branch branches otherwise) = g
+  behind g (While site at guard invariants decreases body) = g
+  behind g (Break at) = g
+  behind g (Return at update) = g
+  behind g (Check demand) = g
+  behind g (Prove site at aim body) = g
+  behind g (Print at operands) = g
+  behind g (Publish site at class fields this) = g
+  behind g (Ghost body) = behind_all g body
+
+  pub behind_all : Setting → Stmts → Setting
+  behind_all g done = g
+  behind_all g (next stmt others) = behind_all (behind g stmt) others
 
 -- ---- expressions of statements
 
