@@ -1,10 +1,10 @@
 -- What is correct, over whole runs alone; and what is safe, over modular runs alone.
-use Rattle.std.specs.Prelude.{◌≡◌, ◌≢◌, ℕ, true, length, List, [], ◌∷◌, map, slice_get, Some}
+use Rattle.std.specs.Prelude.{◌≡◌, ◌≢◌, ℕ, true, List, [], ◌∷◌, map, slice_get, Some}
 use Rattle.df_base.specs.declared.pos.Pos.{Pos}
 use Rattle.df_types.specs.declared.kind.Kind.{Kind}
-use Rattle.df_types.specs.Ty.{Tys, ty_count, instance_of}
+use Rattle.df_types.specs.Ty.{Tys, instance_of}
 use Rattle.df_types.specs.Program.{Param, Head, Function, Method, Decl, Program, function_at, method_at, types_of}
-use Rattle.df_types.specs.Types.{are_types}
+use Rattle.df_types.specs.Types.{are_arguments, are_types}
 use Rattle.df_types.specs.Calls.{AreGroups}
 use Rattle.df_types.specs.Measures.{frame_objects}
 use Rattle.df_meaning2.specs.Value.{Value, values_of, items_of, is_among}
@@ -19,9 +19,9 @@ use Rattle.df_meaning2.specs.Modular.{Oracle, blank, leaving, run}
 
 -- ---- arguments
 
--- closed types for the type parameters of a declaration, and arguments of their types
+-- closed types for the type parameters of a declaration, with equality where one is marked, and arguments of their types
 pub record AreArguments (p : Program) (head : Head) (types : Tys) (arguments : List Value) : Type 0 where
-  pub count : length head.type_parameters ≡ ty_count types
+  pub marked : are_arguments p [] head.type_parameters types ≡ true
   pub closed : are_types p [] types ≡ true
   pub typed : have_types p (map (instance_of types) (types_of head.parameters)) (values_of arguments) ≡ true
 
