@@ -1,6 +1,6 @@
 -- Modular runs of one declaration: functions have their values by whole runs, behind what their calls demand; what calls, loops,
 -- choices and proofs do is handed in, found by the number of the place.
-use Rattle.std.specs.Prelude.{ℕ, ℤ, zero, suc, Bool, true, false, not, ◌&&◌, ◌==◌, List, [], ◌∷◌, length, map, Option, None, Some, if◌then◌else◌}
+use Rattle.std.specs.Prelude.{ℕ, ℤ, zero, suc, Bool, true, false, not, ◌&&◌, ◌==◌, List, [], ◌∷◌, length, map, is_none, Option, None, Some, if◌then◌else◌}
 use Rattle.std.specs.Ordering.{int_eq}
 use Rattle.std.specs.Option.{option_map_or}
 use Rattle.df_base.specs.declared.pos.Pos.{Pos}
@@ -72,9 +72,14 @@ check_decrease run at callee now = if in_group run callee then falls_from at now
 abbrev pub leaving : List Param → List Value → State → State
 leaving params vs s = record s { locals = given params vs s.locals }
 
+-- in what it requires and reads, and in the measure itself, no call into the own group is below
+abbrev pub is_never_below : Running → ℕ → Bool
+is_never_below run callee = in_group run callee && is_none run.entry
+
 -- What it requires and reads; the decrease; then its value, which meets what it ensures. `deep` is whole at the depth.
 abbrev pub apply_head : Meaning → Oracle → Running → Pos → ℕ → Tys → List Value → State → Function → Outcome Value
 apply_head deep o run at callee types arguments s f =
+    if is_never_below run callee then Wrong at kinds.Decreases else
     entered (dismissing o deep) at types f.head arguments s (λ t.
     after (check_decrease run at callee (measured (dismissing o deep) (reading_all t) (function_measure f.head))) (λ now.
     after (or_dismissed (deep.apply at callee types arguments s)) (λ v.
