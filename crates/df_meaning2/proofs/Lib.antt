@@ -7,3 +7,4 @@ pub mod Alls
 pub mod RowTypes
 pub mod ExprTypes
 pub mod Printed
+mod Samples

@@ -1,13 +1,13 @@
 -- What is correct, over whole runs alone; and what is safe, over modular runs alone.
-use Rattle.std.specs.Prelude.{◌≡◌, ◌≢◌, ℕ, true, length, List, [], ◌∷◌, map, slice_get, Some}
+use Rattle.std.specs.Prelude.{◌≡◌, ◌≢◌, ℕ, true, List, [], ◌∷◌, map, slice_get, Some}
 use Rattle.df_base.specs.declared.pos.Pos.{Pos}
 use Rattle.df_types.specs.declared.kind.Kind.{Kind}
-use Rattle.df_types.specs.Ty.{Tys, ty_count, instance_of}
-use Rattle.df_types.specs.Program.{Param, Head, Function, Method, Decl, Program, function_at, method_at, types_of}
-use Rattle.df_types.specs.Types.{are_types}
+use Rattle.df_types.specs.Ty.{Tys, instance_of}
+use Rattle.df_types.specs.Program.{Param, TypeParameter, Head, Function, Method, Decl, NewtypeDecl, DatatypeDecl, ClassDecl, FunctionDecl, MethodDecl, Program, function_at, method_at, types_of}
+use Rattle.df_types.specs.Types.{are_arguments, are_types}
 use Rattle.df_types.specs.Calls.{AreGroups}
 use Rattle.df_types.specs.Measures.{frame_objects}
-use Rattle.df_meaning2.specs.Value.{Value, values_of, items_of, is_among}
+use Rattle.df_meaning2.specs.Value.{Value, values_of, items_of, is_among, no_object}
 use Rattle.df_meaning2.specs.Heap.{Heap, keeps}
 use Rattle.df_meaning2.specs.Outcome.{Outcome, Gives, Wrong, TooDeep, Dismissed}
 use Rattle.df_meaning2.specs.Types.{have_types}
@@ -19,9 +19,9 @@ use Rattle.df_meaning2.specs.Modular.{Oracle, blank, leaving, run}
 
 -- ---- arguments
 
--- closed types for the type parameters of a declaration, and arguments of their types
+-- closed types for the type parameters of a declaration, with equality where one is marked, and arguments of their types
 pub record AreArguments (p : Program) (head : Head) (types : Tys) (arguments : List Value) : Type 0 where
-  pub count : length head.type_parameters ≡ ty_count types
+  pub marked : are_arguments p [] head.type_parameters types ≡ true
   pub closed : are_types p [] types ≡ true
   pub typed : have_types p (map (instance_of types) (types_of head.parameters)) (values_of arguments) ≡ true
 
@@ -50,9 +50,13 @@ IsCorrectFunction p number f = (types : Tys) (arguments : List Value) (heap : He
 
 -- ---- methods, lemmas and constructors
 
+-- where a run of the method is called from: all may be changed there
+abbrev pub outside : Tys → Heap → State
+outside types heap = record (blank types heap) { entry = no_object }
+
 -- a run of the method, with the choices that it takes
 abbrev pub run_at : Program → ℕ → Method → Tys → List Value → Heap → List (List Value) → Outcome Given
-run_at p depth m types arguments heap choices = run_method (doing p depth) m.head.declared.pos types arguments (with_choices (blank types heap) choices) m
+run_at p depth m types arguments heap choices = run_method (doing p depth) m.head.declared.pos types arguments (with_choices (outside types heap) choices) m
 
 -- it comes to an end at some depth
 pub record Ends (p : Program) (m : Method) (types : Tys) (arguments : List Value) (heap : Heap) (choices : List (List Value)) : Type 0 where
@@ -86,11 +90,19 @@ pub record IsCorrect (p : Program) : Type 0 where
 
 -- ---- safety
 
+abbrev pub type_parameters_of : Decl → List TypeParameter
+type_parameters_of (NewtypeDecl x) = []
+type_parameters_of (DatatypeDecl x) = []
+type_parameters_of (ClassDecl x) = []
+type_parameters_of (FunctionDecl f) = f.head.type_parameters
+type_parameters_of (MethodDecl m) = m.head.type_parameters
+
 -- a declaration has a modular run that is wrong at a position by an obligation of a kind
 pub record IsModularlyWrong (p : Program) (groups : List ℕ) (number : ℕ) (decl : Decl) (at : Pos) (kind : Kind) : Type 0 where
   pub depth : ℕ
   pub oracle : Oracle
   pub types : Tys
+  pub marked : are_arguments p [] (type_parameters_of decl) types ≡ true
   pub closed : are_types p [] types ≡ true
   pub wrong : run (whole p depth) oracle groups number types decl ≡ Wrong at kind
 

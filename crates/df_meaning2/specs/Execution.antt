@@ -82,7 +82,7 @@ assigned_at_all [] = []
 assigned_at_all (target ∷ others) = assigned_at target ++ assigned_at_all others
 
 abbrev mutual
-  -- what a `return` gives reaches no further turn and nothing behind the loop, and what a proof assigns is dropped
+  -- what a `return` does reaches no further turn and nothing behind the loop, and what a proof assigns is dropped
   pub assigned_by : Stmt → List Assigned
   assigned_by (Declare locals) = []
   assigned_by (Assign update) = assigned_at_all update.targets
@@ -120,10 +120,6 @@ touched_at (LocalAt local name at ty ∷ others) = touched_at others
 touched_at (FieldAt object class field at ty ∷ others) = true
 touched_at (ElementAt array index at ty ∷ others) = true
 
-abbrev pub touched_on_return : Program → Option Update → Bool
-touched_on_return p None = false
-touched_on_return p (Some update) = touched_at update.targets || touched_in p update.sources
-
 abbrev mutual
   pub touched_by : Program → Stmt → Bool
   touched_by p (Declare locals) = false
@@ -132,7 +128,7 @@ abbrev mutual
   touched_by p (Branch branches otherwise) = touched_by_branches p branches || touched_by_all p otherwise
   touched_by p (While site at guard invariants decreases body) = touched_by_all p body
   touched_by p (Break at) = false
-  touched_by p (Return at update) = touched_on_return p update
+  touched_by p (Return at update) = false
   touched_by p (Check demand) = false
   touched_by p (Prove site at aim body) = false
   touched_by p (Print at operands) = false
@@ -211,7 +207,7 @@ abbrev pub place_of : Meaning → State → Pos → Target → Outcome Placed
 place_of m s outer (Nowhere ty) = Gives (record { place = NoPlace; pos = outer })
 place_of m s outer (LocalAt local name at ty) = Gives (record { place = LocalPlace local; pos = at })
 place_of m s outer (FieldAt object class field at ty) = after (evaluate m s object) (λ v. slot_place s at (Class false class) v (pos field))
-place_of m s outer (ElementAt array index at ty) = after (evaluate m s array) (λ v. after (evaluate m s index) (λ n. slot_place s at (Array false ty) v (number_of n)))
+place_of m s outer (ElementAt array index at ty) = after (evaluate m s array) (λ v. after (evaluate m s index) (λ n. slot_place s at (Array false (instance_of s.types ty)) v (number_of n)))
 
 abbrev pub places_of : Meaning → State → List Target → Outcome (List Placed)
 places_of m s [] = Gives []

@@ -2,7 +2,7 @@
 use Rattle.std.specs.Prelude.{ℕ, zero, suc, Bool, true, false, ◌&&◌, ◌||◌, ◌==◌, List, [], ◌∷◌, ◌++◌, length, slice_set, Option, None, Some, if◌then◌else◌}
 use Rattle.std.specs.Option.{option_map, option_map_or, option_and_then}
 use Rattle.std.specs.List.{list_all, filter_map}
-use Rattle.df_types.specs.Ty.{Ty, Newtype, Int, Nat, Boolean, Char, AnyObject, Class, Array, Seq, Set, Data, Parameter}
+use Rattle.df_types.specs.Ty.{Ty, Newtype, Int, Nat, Boolean, Char, AnyObject, Class, Array, Seq, Set, Data, Parameter, same_type}
 use Rattle.df_meaning2.specs.Value.{Value, NullReference, Truth, Character, Number, Reference, Made, Sequence, Collection, Memory, list_of, values_of, same, is_among, items_of, reference_of, Objects, no_object, instance_at, elements_at}
 
 pub data Object : Type 0 where
@@ -47,7 +47,7 @@ is_of_kind (AnyObject nullable) object = true
 is_of_kind (Class nullable decl) (Instance class slots) = decl == class
 is_of_kind (Class nullable decl) (Elements element slots) = false
 is_of_kind (Array nullable t) (Instance class slots) = false
-is_of_kind (Array nullable t) (Elements element slots) = true
+is_of_kind (Array nullable t) (Elements element slots) = same_type t element
 is_of_kind (Seq t) object = false
 is_of_kind (Set t) object = false
 is_of_kind (Data d ts) object = false
@@ -121,7 +121,7 @@ least_unused heap = unused_from heap (object_count heap) 1
 
 abbrev pub is_shaped : Object → Object → Bool
 is_shaped (Instance class slots) (Instance other others) = (class == other) && (length slots == length others)
-is_shaped (Elements element slots) (Elements other others) = length slots == length others
+is_shaped (Elements element slots) (Elements other others) = same_type element other && (length slots == length others)
 is_shaped (Instance class slots) (Elements other others) = false
 is_shaped (Elements element slots) (Instance other others) = false
 

@@ -1,6 +1,6 @@
 -- Modular runs of one declaration: functions have their values by whole runs, behind what their calls demand; what calls, loops,
 -- choices and proofs do is handed in, found by the number of the place.
-use Rattle.std.specs.Prelude.{ℕ, ℤ, zero, suc, Bool, true, false, not, ◌&&◌, ◌==◌, List, [], ◌∷◌, length, map, Option, None, Some, if◌then◌else◌}
+use Rattle.std.specs.Prelude.{ℕ, ℤ, zero, suc, Bool, true, false, not, ◌&&◌, ◌==◌, List, [], ◌∷◌, length, map, is_none, Option, None, Some, if◌then◌else◌}
 use Rattle.std.specs.Ordering.{int_eq}
 use Rattle.std.specs.Option.{option_map_or}
 use Rattle.df_base.specs.declared.pos.Pos.{Pos}
@@ -48,8 +48,8 @@ or_dismissed NoChoice = Dismissed
 or_dismissed Dismissed = Dismissed
 
 -- contracts of callees are evaluated over it: a call in them that has no value keeps the run from counting
-abbrev pub dismissing : Meaning → Meaning
-dismissing deep = record deep { apply = λ at callee types arguments s. or_dismissed (deep.apply at callee types arguments s) }
+abbrev pub dismissing : Oracle → Meaning → Meaning
+dismissing o deep = record deep { first = o.first; apply = λ at callee types arguments s. or_dismissed (deep.apply at callee types arguments s) }
 
 -- ---- decreases
 
@@ -72,20 +72,25 @@ check_decrease run at callee now = if in_group run callee then falls_from at now
 abbrev pub leaving : List Param → List Value → State → State
 leaving params vs s = record s { locals = given params vs s.locals }
 
+-- in what it requires and reads, and in the measure itself, no call into the own group is below
+abbrev pub is_never_below : Running → ℕ → Bool
+is_never_below run callee = in_group run callee && is_none run.entry
+
 -- What it requires and reads; the decrease; then its value, which meets what it ensures. `deep` is whole at the depth.
-abbrev pub apply_head : Meaning → Running → Pos → ℕ → Tys → List Value → State → Function → Outcome Value
-apply_head deep run at callee types arguments s f =
-    entered (dismissing deep) at types f.head arguments s (λ t.
-    after (check_decrease run at callee (measured (dismissing deep) (reading_all t) (function_measure f.head))) (λ now.
+abbrev pub apply_head : Meaning → Oracle → Running → Pos → ℕ → Tys → List Value → State → Function → Outcome Value
+apply_head deep o run at callee types arguments s f =
+    if is_never_below run callee then Wrong at kinds.Decreases else
+    entered (dismissing o deep) at types f.head arguments s (λ t.
+    after (check_decrease run at callee (measured (dismissing o deep) (reading_all t) (function_measure f.head))) (λ now.
     after (or_dismissed (deep.apply at callee types arguments s)) (λ v.
-    after (or_dismissed (assume_all (dismissing deep) (leaving f.head.results (v ∷ []) (reading_all t)) (conditions f.head.postconditions))) (λ u. Gives v))))
+    after (or_dismissed (assume_all (dismissing o deep) (leaving f.head.results (v ∷ []) (reading_all t)) (conditions f.head.postconditions))) (λ u. Gives v))))
 
 -- the meaning of a declaration's own text
 abbrev pub demanding : Meaning → Oracle → Running → Meaning
 demanding deep o run = record {
   program = deep.program;
   first = o.first;
-  apply = λ at callee types arguments s. option_map_or (apply_head deep run at callee types arguments s) (function_at deep.program callee) Dismissed;
+  apply = λ at callee types arguments s. option_map_or (apply_head deep o run at callee types arguments s) (function_at deep.program callee) Dismissed;
 }
 
 -- ---- what is handed in
@@ -106,13 +111,13 @@ abbrev pub call_head : Meaning → Oracle → Running → CallOf → List Value 
 call_head deep o run call arguments s m =
     let types = instances_of s.types call.types in
     let begun = entering types m.head.parameters arguments s in
-    after (check_all (dismissing deep) begun (map (asked_at call.pos kinds.Requires) m.head.preconditions)) (λ t.
-    after (evaluate (dismissing deep) begun (frame_objects m.head)) (λ frame.
+    after (check_all (dismissing o deep) begun (map (asked_at call.pos kinds.Requires) m.head.preconditions)) (λ t.
+    after (evaluate (dismissing o deep) begun (frame_objects m.head)) (λ frame.
     if lies_in_changeable s.changeable s.entry frame then
-    after (check_decrease run call.pos call.callee (measured (dismissing deep) begun (method_measure m.head))) (λ now.
+    after (check_decrease run call.pos call.callee (measured (dismissing o deep) begun (method_measure m.head))) (λ now.
     after (handed deep.program types (o.free call.site) m.head.results) (λ vs.
     after (changed_heap (o.heap call.site) (not m.head.is_ghost) (λ v. is_among v (items_of frame)) s) (λ heap.
-    after (or_dismissed (assume_all (dismissing deep) (with_heap (leaving m.head.results vs begun) heap) (conditions m.head.postconditions))) (λ u.
+    after (or_dismissed (assume_all (dismissing o deep) (with_heap (leaving m.head.results vs begun) heap) (conditions m.head.postconditions))) (λ u.
     Gives (record { values = vs; state = with_heap s heap })))))
     else Wrong call.pos kinds.Modifies))
 
