@@ -64,8 +64,21 @@ impl Ty {
         ensures { result ≡ same_type (pure.Array nullable (ty_of self.now)) (ty_of other.now) }
     {
         match other {
-            Ty::Array { nullable: own, element } => nullable == *own && self.is_same(element),
-            Ty::Newtype(_) | Ty::Int | Ty::Nat | Ty::Bool | Ty::Char | Ty::Object { .. } | Ty::Class { .. } | Ty::Seq(_) | Ty::Set(_) | Ty::Datatype { .. } | Ty::Parameter(_) => false,
+            Ty::Array {
+                nullable: own,
+                element,
+            } => nullable == *own && self.is_same(element),
+            Ty::Newtype(_)
+            | Ty::Int
+            | Ty::Nat
+            | Ty::Bool
+            | Ty::Char
+            | Ty::Object { .. }
+            | Ty::Class { .. }
+            | Ty::Seq(_)
+            | Ty::Set(_)
+            | Ty::Datatype { .. }
+            | Ty::Parameter(_) => false,
         }
     }
 
@@ -75,7 +88,17 @@ impl Ty {
     {
         match other {
             Ty::Seq(element) => self.is_same(element),
-            Ty::Newtype(_) | Ty::Int | Ty::Nat | Ty::Bool | Ty::Char | Ty::Object { .. } | Ty::Class { .. } | Ty::Array { .. } | Ty::Set(_) | Ty::Datatype { .. } | Ty::Parameter(_) => false,
+            Ty::Newtype(_)
+            | Ty::Int
+            | Ty::Nat
+            | Ty::Bool
+            | Ty::Char
+            | Ty::Object { .. }
+            | Ty::Class { .. }
+            | Ty::Array { .. }
+            | Ty::Set(_)
+            | Ty::Datatype { .. }
+            | Ty::Parameter(_) => false,
         }
     }
 
@@ -85,7 +108,17 @@ impl Ty {
     {
         match other {
             Ty::Set(element) => self.is_same(element),
-            Ty::Newtype(_) | Ty::Int | Ty::Nat | Ty::Bool | Ty::Char | Ty::Object { .. } | Ty::Class { .. } | Ty::Array { .. } | Ty::Seq(_) | Ty::Datatype { .. } | Ty::Parameter(_) => false,
+            Ty::Newtype(_)
+            | Ty::Int
+            | Ty::Nat
+            | Ty::Bool
+            | Ty::Char
+            | Ty::Object { .. }
+            | Ty::Class { .. }
+            | Ty::Array { .. }
+            | Ty::Seq(_)
+            | Ty::Datatype { .. }
+            | Ty::Parameter(_) => false,
         }
     }
 
@@ -195,8 +228,21 @@ fn are_arguments(arguments: &Vec<Ty>, decl: DeclId, other: &Ty) -> bool
     ensures { result ≡ same_type (pure.Data decl (tys_of (map ty_of arguments.now.items))) (ty_of other.now) }
 {
     match other {
-        Ty::Datatype { decl: own, arguments: others } => decl == *own && are_same(arguments, others),
-        Ty::Newtype(_) | Ty::Int | Ty::Nat | Ty::Bool | Ty::Char | Ty::Object { .. } | Ty::Class { .. } | Ty::Array { .. } | Ty::Seq(_) | Ty::Set(_) | Ty::Parameter(_) => false,
+        Ty::Datatype {
+            decl: own,
+            arguments: others,
+        } => decl == *own && are_same(arguments, others),
+        Ty::Newtype(_)
+        | Ty::Int
+        | Ty::Nat
+        | Ty::Bool
+        | Ty::Char
+        | Ty::Object { .. }
+        | Ty::Class { .. }
+        | Ty::Array { .. }
+        | Ty::Seq(_)
+        | Ty::Set(_)
+        | Ty::Parameter(_) => false,
     }
 }
 
@@ -225,7 +271,17 @@ fn is_newtype(other: &Ty, decl: DeclId) -> bool
 {
     match other {
         Ty::Newtype(own) => decl == *own,
-        Ty::Int | Ty::Nat | Ty::Bool | Ty::Char | Ty::Object { .. } | Ty::Class { .. } | Ty::Array { .. } | Ty::Seq(_) | Ty::Set(_) | Ty::Datatype { .. } | Ty::Parameter(_) => false,
+        Ty::Int
+        | Ty::Nat
+        | Ty::Bool
+        | Ty::Char
+        | Ty::Object { .. }
+        | Ty::Class { .. }
+        | Ty::Array { .. }
+        | Ty::Seq(_)
+        | Ty::Set(_)
+        | Ty::Datatype { .. }
+        | Ty::Parameter(_) => false,
     }
 }
 
@@ -234,7 +290,17 @@ fn is_int(other: &Ty) -> bool
 {
     match other {
         Ty::Int => true,
-        Ty::Newtype(_) | Ty::Nat | Ty::Bool | Ty::Char | Ty::Object { .. } | Ty::Class { .. } | Ty::Array { .. } | Ty::Seq(_) | Ty::Set(_) | Ty::Datatype { .. } | Ty::Parameter(_) => false,
+        Ty::Newtype(_)
+        | Ty::Nat
+        | Ty::Bool
+        | Ty::Char
+        | Ty::Object { .. }
+        | Ty::Class { .. }
+        | Ty::Array { .. }
+        | Ty::Seq(_)
+        | Ty::Set(_)
+        | Ty::Datatype { .. }
+        | Ty::Parameter(_) => false,
     }
 }
 
@@ -243,7 +309,17 @@ fn is_nat(other: &Ty) -> bool
 {
     match other {
         Ty::Nat => true,
-        Ty::Newtype(_) | Ty::Int | Ty::Bool | Ty::Char | Ty::Object { .. } | Ty::Class { .. } | Ty::Array { .. } | Ty::Seq(_) | Ty::Set(_) | Ty::Datatype { .. } | Ty::Parameter(_) => false,
+        Ty::Newtype(_)
+        | Ty::Int
+        | Ty::Bool
+        | Ty::Char
+        | Ty::Object { .. }
+        | Ty::Class { .. }
+        | Ty::Array { .. }
+        | Ty::Seq(_)
+        | Ty::Set(_)
+        | Ty::Datatype { .. }
+        | Ty::Parameter(_) => false,
     }
 }
 
@@ -252,7 +328,17 @@ fn is_bool(other: &Ty) -> bool
 {
     match other {
         Ty::Bool => true,
-        Ty::Newtype(_) | Ty::Int | Ty::Nat | Ty::Char | Ty::Object { .. } | Ty::Class { .. } | Ty::Array { .. } | Ty::Seq(_) | Ty::Set(_) | Ty::Datatype { .. } | Ty::Parameter(_) => false,
+        Ty::Newtype(_)
+        | Ty::Int
+        | Ty::Nat
+        | Ty::Char
+        | Ty::Object { .. }
+        | Ty::Class { .. }
+        | Ty::Array { .. }
+        | Ty::Seq(_)
+        | Ty::Set(_)
+        | Ty::Datatype { .. }
+        | Ty::Parameter(_) => false,
     }
 }
 
@@ -261,7 +347,17 @@ fn is_char(other: &Ty) -> bool
 {
     match other {
         Ty::Char => true,
-        Ty::Newtype(_) | Ty::Int | Ty::Nat | Ty::Bool | Ty::Object { .. } | Ty::Class { .. } | Ty::Array { .. } | Ty::Seq(_) | Ty::Set(_) | Ty::Datatype { .. } | Ty::Parameter(_) => false,
+        Ty::Newtype(_)
+        | Ty::Int
+        | Ty::Nat
+        | Ty::Bool
+        | Ty::Object { .. }
+        | Ty::Class { .. }
+        | Ty::Array { .. }
+        | Ty::Seq(_)
+        | Ty::Set(_)
+        | Ty::Datatype { .. }
+        | Ty::Parameter(_) => false,
     }
 }
 
@@ -270,7 +366,17 @@ fn is_object(other: &Ty, nullable: bool) -> bool
 {
     match other {
         Ty::Object { nullable: own } => nullable == *own,
-        Ty::Newtype(_) | Ty::Int | Ty::Nat | Ty::Bool | Ty::Char | Ty::Class { .. } | Ty::Array { .. } | Ty::Seq(_) | Ty::Set(_) | Ty::Datatype { .. } | Ty::Parameter(_) => false,
+        Ty::Newtype(_)
+        | Ty::Int
+        | Ty::Nat
+        | Ty::Bool
+        | Ty::Char
+        | Ty::Class { .. }
+        | Ty::Array { .. }
+        | Ty::Seq(_)
+        | Ty::Set(_)
+        | Ty::Datatype { .. }
+        | Ty::Parameter(_) => false,
     }
 }
 
@@ -278,8 +384,21 @@ fn is_class(other: &Ty, nullable: bool, decl: DeclId) -> bool
     ensures { result ≡ same_type (pure.Class nullable decl) (ty_of other.now) }
 {
     match other {
-        Ty::Class { nullable: own, decl: class } => nullable == *own && decl == *class,
-        Ty::Newtype(_) | Ty::Int | Ty::Nat | Ty::Bool | Ty::Char | Ty::Object { .. } | Ty::Array { .. } | Ty::Seq(_) | Ty::Set(_) | Ty::Datatype { .. } | Ty::Parameter(_) => false,
+        Ty::Class {
+            nullable: own,
+            decl: class,
+        } => nullable == *own && decl == *class,
+        Ty::Newtype(_)
+        | Ty::Int
+        | Ty::Nat
+        | Ty::Bool
+        | Ty::Char
+        | Ty::Object { .. }
+        | Ty::Array { .. }
+        | Ty::Seq(_)
+        | Ty::Set(_)
+        | Ty::Datatype { .. }
+        | Ty::Parameter(_) => false,
     }
 }
 
@@ -288,6 +407,16 @@ fn is_parameter(other: &Ty, number: usize) -> bool
 {
     match other {
         Ty::Parameter(own) => number == *own,
-        Ty::Newtype(_) | Ty::Int | Ty::Nat | Ty::Bool | Ty::Char | Ty::Object { .. } | Ty::Class { .. } | Ty::Array { .. } | Ty::Seq(_) | Ty::Set(_) | Ty::Datatype { .. } => false,
+        Ty::Newtype(_)
+        | Ty::Int
+        | Ty::Nat
+        | Ty::Bool
+        | Ty::Char
+        | Ty::Object { .. }
+        | Ty::Class { .. }
+        | Ty::Array { .. }
+        | Ty::Seq(_)
+        | Ty::Set(_)
+        | Ty::Datatype { .. } => false,
     }
 }
