@@ -33,4 +33,4 @@ pub use kind::Kind;
 pub use op::{Comparison, Op, PartOf};
 pub use program::Program;
 pub use stmt::{Aim, Branch, Call, Demand, Range, Source, Stmt, Target, Typed, Update};
-pub use ty::{DeclId, Ty};
+pub use ty::{DeclId, Ty, copies};
