@@ -1,4 +1,4 @@
--- Of all derivations of some tokens, the trees of the grammar reach furthest.
+-- Where a derivation of the same tokens first differs from the tree of the grammar, it ends and the tree goes on.
 use Rattle.std.specs.Prelude.{◌≡◌, ℕ, ◌⊎◌, false, List, [], ◌++◌, drop}
 use Rattle.df_tok.specs.Token.{Token}
 use Rattle.df_tree.specs.declared.production.Part.TheVariants.{Nonterminal}

@@ -165,7 +165,7 @@ counted IfMore before inside each filled = max before (if filled then one_more i
 counted Each before inside each filled = each
 
 abbrev mutual
-  -- the height of a tree and of what stands before it
+  -- the height of a tree and of what stands before it: a suffix counts over the primary before it
   pub height_over : ℕ → Tree → ℕ
   height_over before (Leaf x) = before
   height_over before (Node n ts) = counted (row n).counting before (all_over 0 ts) (each_over before ts) (has_more ts)
@@ -181,7 +181,7 @@ abbrev mutual
 abbrev pub height : Tree → ℕ
 height t = height_over 0 t
 
--- how many nodes then do at most
+-- the bound of the nodes of such a tree that stand inside one another, by the ranks
 abbrev pub depth_limit : ℕ
 depth_limit = 10251
 

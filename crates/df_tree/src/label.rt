@@ -28,11 +28,13 @@ pub enum Label {
     Parameter,
     /// What stands behind `returns`: `{ parameter }`.
     Results,
-    /// A clause with its condition.
+    /// `requires`: its condition.
     Requires,
+    /// `ensures`: its condition.
     Ensures,
+    /// `invariant`: its condition.
     Invariant,
-    /// A clause with its values, at least one.
+    /// `decreases`: its values, at least one.
     Decreases,
     /// A type that is a word, which is kept.
     BasicType,
@@ -86,7 +88,7 @@ pub enum Label {
     Product,
     /// An operand and the type behind `as`.
     As,
-    /// `-` and its operand.
+    /// `-` and its operand; the sign is kept, as it is between operands.
     Negate,
     /// The operand of `!`.
     Not,

@@ -27,8 +27,8 @@ pub fn lies_in_text()
     ensures { LiesInText }
 {}
 
-/// Of all derivations of some tokens by the productions, the tree of the grammar reaches furthest: where another first
-/// differs from it, a production ends there that goes on in the tree.
+/// Where another derivation of some tokens by the productions first differs from the tree of the grammar, a production ends
+/// in it that goes on in the tree.
 pub fn reaches_furthest()
     ensures text { IsFurthest }
     ensures part { IsFurthestPart }

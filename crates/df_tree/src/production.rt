@@ -40,12 +40,12 @@ pub struct Production<P> {
     pub greedy: bool,
     /// It begins only where its classes say so.
     pub narrow: bool,
-    /// The classes of its first token; of its second token, where that counts; of the token after it.
+    /// The classes of its first token; of its second token, where that counts; and, for proofs alone, of the token after it.
     pub first: u8,
     pub second: u8,
     pub follow: u8,
     pub counting: Counting,
-    /// Where it is not always counted: more than the rank of its parts.
+    /// For proofs alone, where it is not always counted: more than the rank of its parts.
     pub rank: u8,
 }
 
