@@ -4,9 +4,9 @@ use Rattle.std.specs.List.{list_all}
 use Rattle.std.specs.Option.{option_and_then}
 use Rattle.std.proofs.lemmas.Bool.{and_parts, and_from}
 use Rattle.df_tok.specs.Token.{Token}
-use Rattle.df_tree.specs.declared.row.Form.{Form}
-use Rattle.df_tree.specs.declared.row.Form.TheVariants.{All, One, Many}
-use Rattle.df_tree.specs.declared.row.Part.{Part}
+use Rattle.df_tree.specs.declared.production.Form.{Form}
+use Rattle.df_tree.specs.declared.production.Form.TheVariants.{All, One, Many}
+use Rattle.df_tree.specs.declared.production.Part.{Part}
 use Rattle.df_pexpr.specs.declared.reader.Step.{Step}
 use Rattle.df_pexpr.specs.declared.reader.Step.TheVariants.{Read, Done}
 use Rattle.df_tree.specs.Terminal.{terminal}

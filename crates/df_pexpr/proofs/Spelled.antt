@@ -5,8 +5,8 @@ use Rattle.std.proofs.lemmas.Option.{same_Some}
 use Rattle.std.proofs.lemmas.List.{length-map}
 use Rattle.df_tok.specs.Token.{Token, view}
 use Rattle.df_tok.specs.declared.token.Token as declared
-use Rattle.df_tree.specs.declared.row.Part.{Part}
-use Rattle.df_tree.specs.declared.row.Part.TheVariants.{Nonterminal}
+use Rattle.df_tree.specs.declared.production.Part.{Part}
+use Rattle.df_tree.specs.declared.production.Part.TheVariants.{Nonterminal}
 use Rattle.df_tree.specs.Tree.{Tree, leaves}
 use Rattle.df_tree.specs.Ast.{Asts, asts_of}
 use Rattle.df_tree.specs.Grammar.{part_of, height_limit, depth_limit, height, IsSettled, IsTreeOf, IsPartAt}

@@ -3,10 +3,10 @@ use Rattle.std.specs.Prelude.{ℕ, zero, suc, ◌+◌, ◌-◌, ◌==◌, nat_lt
 use Rattle.df_tok.specs.Token.{Token}
 use Rattle.df_tree.specs.Ast.{ast_of}
 use Rattle.df_tree.specs.Terminal.{terminal}
-use Rattle.df_tree.specs.declared.row.Counting.{Counting}
-use Rattle.df_tree.specs.declared.row.Counting.TheVariants.{Never, Always, IfMore, Each}
-use Rattle.df_tree.specs.declared.row.Part.{Part}
-use Rattle.df_tree.specs.declared.row.Part.TheVariants.{Terminal, Nonterminal}
+use Rattle.df_tree.specs.declared.production.Counting.{Counting}
+use Rattle.df_tree.specs.declared.production.Counting.TheVariants.{Never, Always, IfMore, Each}
+use Rattle.df_tree.specs.declared.production.Part.{Part}
+use Rattle.df_tree.specs.declared.production.Part.TheVariants.{Terminal, Nonterminal}
 use Rattle.df_tree.specs.Row.{Row}
 use Rattle.df_tree.specs.Grammar.{row, begins, counted, one_more, height_limit, depth_limit}
 use Rattle.df_tree.specs.Building.{Frame, opened, keep, enter, outside, leave}

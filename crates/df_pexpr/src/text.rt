@@ -11,6 +11,7 @@ ghost use Rattle.df_tree.specs.Ast.{asts_of, ast_of};
 ghost use Rattle.df_tree.specs.Grammar.{depth_limit, IsTreeOf, IsPartAt};
 ghost use Rattle.df_tree.specs.Spelling.{IsAstOf, IsAstAt};
 ghost use Rattle.df_pexpr.specs.Construction.{attempt_of, attempt_from};
+ghost use Rattle.df_pexpr.specs.Position.{place_of, CannotGoOn};
 
 use crate::building::{Outcome, opened};
 use crate::height::HEIGHT_LIMIT;
@@ -43,24 +44,26 @@ fn read(
 }
 
 /// The position of the token of a number, or of the last one where there is none.
-fn pos_at(tokens: &[Token], at: usize) -> Pos {
-    match tokens.get(at) {
+#[tactic(auto, using(crate::proofs::Walk::place_is))]
+fn place_of(tokens: &[Token], at: usize) -> Pos
+    ensures { result ≡ place_of (map view tokens.now) at }
+{
+    let last = tokens.len().saturating_sub(1);
+    match tokens.get(at.min(last)) {
         Some(token) => token.pos,
-        None => match tokens {
-            [.., last] => last.pos,
-            [] => Pos { line: 1, col: 1 },
-        },
+        None => Pos { line: 1, col: 1 },
     }
 }
 
 /// The syntax is refused, at the token of a number.
 fn syntax(tokens: &[Token], at: usize) -> Refusal
     ensures code { result.code ≡ codes.Syntax }
+    ensures pos { result.pos ≡ place_of (map view tokens.now) at }
     ensures detail { result.detail ≡ details.Nothing }
 {
     Refusal {
         code: Code::Syntax,
-        pos: pos_at(tokens, at),
+        pos: place_of(tokens, at),
         detail: Detail::Nothing,
     }
 }
@@ -83,11 +86,13 @@ pub fn part(
     }
 }
 
-/// The syntax tree of the production that all of the tokens spell. Where there is none, the syntax is refused, at the token
-/// where reading stopped.
+/// The syntax tree of the production that all of the tokens spell. Where there is none, the syntax is refused, at the first
+/// token with which no such text goes on, or at the last one.
 pub fn whole(alloc: Global, tokens: &Tokens, production: u16) -> Result<Vec<Ast>, Stop>
     ensures whole { IfOk result (λ items. IsAstOf production (map view tokens.now.all.items) (asts_of (map ast_of items.items))) }
     ensures refused { (r : Refusal) → result ≡ Err (Refused r) → (t : Tree) → IsTreeOf production (map view tokens.now.all.items) t → ⊥ }
+    // No text that begins like this one, up to the token at the position, is spelled.
+    ensures place { (r : Refusal) → result ≡ Err (Refused r) → CannotGoOn production (map view tokens.now.all.items) r.pos }
     ensures syntax { (r : Refusal) → result ≡ Err (Refused r) → (r.code ≡ codes.Syntax) × (r.detail ≡ details.Nothing) }
 {
     match read(alloc, &tokens.all, 0, production)? {

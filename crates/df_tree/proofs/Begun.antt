@@ -4,10 +4,10 @@ use Rattle.std.specs.List.{list_all}
 use Rattle.std.proofs.lemmas.Bool.{and_parts, and_from, or_left}
 use Rattle.std.proofs.lemmas.Option.{same_Some}
 use Rattle.df_tok.specs.Token.{Token}
-use Rattle.df_tree.specs.declared.row.Form.{Form}
-use Rattle.df_tree.specs.declared.row.Form.TheVariants.{All, One, Many}
-use Rattle.df_tree.specs.declared.row.Part.{Part}
-use Rattle.df_tree.specs.declared.row.Part.TheVariants.{Terminal, Nonterminal}
+use Rattle.df_tree.specs.declared.production.Form.{Form}
+use Rattle.df_tree.specs.declared.production.Form.TheVariants.{All, One, Many}
+use Rattle.df_tree.specs.declared.production.Part.{Part}
+use Rattle.df_tree.specs.declared.production.Part.TheVariants.{Terminal, Nonterminal}
 use Rattle.df_tree.specs.Terminal.{terminal}
 use Rattle.df_tree.specs.Tree.{Tree, Leaf, Node, Trees, none, more, leaves, leaves_all}
 use Rattle.df_tree.specs.Row.{Row}

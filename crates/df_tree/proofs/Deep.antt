@@ -3,11 +3,11 @@ use Rattle.std.proofs.Common.{◌≡◌, ℕ, zero, suc, ◌+◌, ◌*◌, ◌�
 use Rattle.std.specs.List.{list_all}
 use Rattle.std.proofs.lemmas.Bool.{and_parts, or_cases}
 use Rattle.std.proofs.lemmas.Option.{same_Some}
-use Rattle.df_tree.specs.declared.row.Counting.{Counting}
-use Rattle.df_tree.specs.declared.row.Counting.TheVariants.{Never, Always, IfMore, Each}
-use Rattle.df_tree.specs.declared.row.Form.{Form}
-use Rattle.df_tree.specs.declared.row.Form.TheVariants.{All, One, Many}
-use Rattle.df_tree.specs.declared.row.Part.{Part}
+use Rattle.df_tree.specs.declared.production.Counting.{Counting}
+use Rattle.df_tree.specs.declared.production.Counting.TheVariants.{Never, Always, IfMore, Each}
+use Rattle.df_tree.specs.declared.production.Form.{Form}
+use Rattle.df_tree.specs.declared.production.Form.TheVariants.{All, One, Many}
+use Rattle.df_tree.specs.declared.production.Part.{Part}
 use Rattle.df_tree.specs.Tree.{Tree, Leaf, Node, Trees, none, more, depth, depth_all}
 use Rattle.df_tree.specs.Row.{Row}
 use Rattle.df_tree.specs.Grammar.{row, part_of, May, IsTree, Are, height_limit, depth_limit, one_more, has_more, counted, height_over, all_over, each_over, height}
