@@ -1,5 +1,5 @@
 -- No tree of the grammar spells a word outside the language.
-use Rattle.std.proofs.Common.{◌≡◌, ℕ, zero, suc, ◌==◌, Bool, true, false, not, ◌&&◌, List, [], ◌∷◌, ◌++◌, Option, Some, None, refl, sym, subst, ap, ◌∙◌}
+use Rattle.std.proofs.Common.{◌≡◌, ℕ, zero, suc, ◌==◌, Bool, true, false, not, ◌&&◌, List, [], ◌∷◌, ◌++◌, Option, Some, None, if◌then◌else◌, refl, sym, subst, ap, ◌∙◌}
 use Rattle.std.specs.List.{AllByRecursion, list_all}
 use Rattle.std.proofs.lemmas.Bool.{and_parts}
 use Rattle.df_lemmas.proofs.Alls.{all_joined}
@@ -17,7 +17,7 @@ use Rattle.df_tree.specs.Row.{Row}
 use Rattle.df_tree.specs.Grammar.{declarations, statements, expressions, row, part_of, May, IsTree, Are, IsTreeOf}
 use Rattle.df_tree.proofs.Fine.{row_has}
 use Rattle.df_tree.proofs.Deep.{may_pass}
-use Rattle.df_pdecl.specs.Refusing.{outside_of, or_else, begins_attribute, first_outside_after, first_outside}
+use Rattle.df_pdecl.specs.Refusing.{outside_of, or_else, begins_attribute, named_outside, first_outside}
 
 -- neither a word outside the language nor the sign of an attribute
 abbrev is_inside : ℕ → Bool
@@ -69,8 +69,8 @@ all_inside : (tokens : List Token) → AllByRecursion Inside tokens → first_ou
 unfolding terminal
 all_inside [] h = refl
 all_inside (t ∷ tokens) h =
-    ap (λ (o : Option Refusal). or_else o (first_outside_after (begins_attribute t.kind) tokens)) (kind_inside t.kind t.text t.pos h.0)
-    ∙ ap (λ (b : Bool). first_outside_after b tokens) (kind_quiet t.kind h.0) ∙ all_inside tokens h.1
+    ap (λ (o : Option Refusal). or_else (or_else o (if begins_attribute t.kind then named_outside tokens else None)) (first_outside tokens)) (kind_inside t.kind t.text t.pos h.0)
+    ∙ ap (λ (b : Bool). or_else (if b then named_outside tokens else None) (first_outside tokens)) (kind_quiet t.kind h.0) ∙ all_inside tokens h.1
 
 pub none_outside : (n : ℕ) (tokens : List Token) (t : Tree) → IsTreeOf n tokens t → first_outside tokens ≡ None
 none_outside n tokens t of =

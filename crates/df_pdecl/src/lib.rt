@@ -1,10 +1,9 @@
 //! The parser of files: reads the one that tokens spell.
 #![tactic(auto)]
 
-ghost use Rattle.std.specs.Prelude.{◌≡◌, ℕ, List, None, map, IfOk, Err};
+ghost use Rattle.std.specs.Prelude.{◌≡◌, None, map, IfOk, Err};
 ghost use Rattle.df_base.specs.declared.refusal.Refusal.{Refusal};
 ghost use Rattle.df_base.specs.declared.refusal.Stop.TheVariants.{Refused};
-ghost use Rattle.df_tok.specs.Token as token;
 ghost use Rattle.df_tok.specs.Token.{view};
 ghost use Rattle.df_tree.specs.Tree as concrete;
 ghost use Rattle.df_tree.specs.Grammar.{IsTreeOf};
@@ -37,6 +36,7 @@ fn places(alloc: Global, tokens: &[Token]) -> Result<Vec<Pos>, Memory>
 /// memory was refused.
 pub fn parse(alloc: Global, tokens: &Tokens) -> Result<Tree, Stop>
     ensures file { IfOk result (λ tree. IsSource (map view tokens.now.all.items) tree) }
+    ensures inside { IfOk result (λ tree. outside_in (map view tokens.now.all.items) ≡ None) }
     ensures refused { (r : Refusal) → result ≡ Err (Refused r) → (t : concrete.Tree) → IsTreeOf rows.FILE (map view tokens.now.all.items) t → ⊥ }
     // Where no word is outside the language, no source that begins like this one, up to the token at the position, is spelled.
     ensures place { (r : Refusal) → result ≡ Err (Refused r) → outside_in (map view tokens.now.all.items) ≡ None → CannotGoOn rows.FILE (map view tokens.now.all.items) r.pos }
@@ -46,14 +46,9 @@ pub fn parse(alloc: Global, tokens: &Tokens) -> Result<Tree, Stop>
     match first_outside(&tokens.all) {
         Some(refusal) => Err(Stop::Refused(refusal)),
         None => {
-            let items = whole(alloc, tokens, FILE)?;
+            let file = whole(alloc, tokens, FILE)?;
             let places = places(alloc, &tokens.all)?;
-            Ok(Tree { items, places })
+            Ok(Tree { file, places })
         }
     }
 }
-
-/// What the grammar spells has no word outside the language: so one is refused wherever one stands.
-pub fn spelled_is_inside()
-    ensures { (n : ℕ) (tokens : List token.Token) (t : concrete.Tree) → IsTreeOf n tokens t → outside_in tokens ≡ None }
-{}

@@ -13,8 +13,8 @@ use Rattle.df_tree.specs.Grammar.{row, kinds_of, is_in, first_terminal, first_in
 use Rattle.df_tree.specs.Building.{Frame, keep, outside}
 use Rattle.df_pexpr.specs.declared.reader.Step.{Step}
 use Rattle.df_pexpr.specs.declared.reader.Step.TheVariants.{Read, Done, Fail}
-use Rattle.df_pexpr.specs.Reading.{step, chosen_step, turn_limit}
-use Rattle.df_pexpr.specs.Construction.{Construction, Attempt, Success, Failure, and_then, Sofar, Builder, height_before, room_inside, height_so_far, begun, further, finished, by_step_of, grow, node_built, taken, leaf_built, builder}
+use Rattle.df_pexpr.specs.mirror.Reading.{step, chosen_step, turn_limit}
+use Rattle.df_pexpr.specs.mirror.Construction.{Construction, Attempt, Success, Failure, and_then, Sofar, Builder, height_before, room_inside, height_so_far, begun, further, finished, by_step_of, grow, node_built, taken, leaf_built, builder}
 
 -- ---- where reading ends
 

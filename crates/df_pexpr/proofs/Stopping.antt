@@ -1,19 +1,19 @@
 -- Where reading stops, no text that begins like this one goes on.
-use Rattle.std.proofs.Common.{◌≡◌, ℕ, zero, suc, ◌+◌, ◌-◌, ◌<◌, ◌≤◌, ◌^◌, min, ◌⊎◌, inl, inr, Bool, true, false, not, ◌&&◌, ◌||◌, List, [], ◌∷◌, drop, take, length, Option, Some, None, if◌then◌else◌, refl, sym, ap, ◌∙◌, subst, arith}
+use Rattle.std.proofs.Common.{◌≡◌, ℕ, zero, suc, ◌+◌, ◌-◌, ◌<◌, ◌≤◌, ◌^◌, min, ◌⊎◌, inl, inr, Bool, true, false, not, ◌&&◌, ◌||◌, List, [], ◌∷◌, drop, take, take-take, length, Option, Some, None, if◌then◌else◌, refl, sym, ap, ◌∙◌, subst, arith}
 use Rattle.std.specs.List.{list_all, list_any}
 use Rattle.std.specs.Option.{option_map, option_map_or}
-use Rattle.std.proofs.lemmas.Bool.{cases_lt}
+use Rattle.std.proofs.lemmas.Bool.{or_parts, cases_Bool, cases_lt}
 use Rattle.std.proofs.lemmas.List.{length-take}
 use Rattle.df_tok.specs.Token.{Token}
 use Rattle.df_tree.specs.Terminal.{terminal}
 use Rattle.df_tree.specs.declared.production.Part.TheVariants.{Nonterminal}
 use Rattle.df_tree.specs.Tree.{Tree}
 use Rattle.df_tree.specs.Row.{Row}
-use Rattle.df_tree.specs.Grammar.{declarations, statements, expressions, classes, nothing, row, kinds_of, is_in, is_nil, first_terminal, first_in, second_in, begins, height_limit, depth_limit, IsTreeOf}
+use Rattle.df_tree.specs.Grammar.{declarations, statements, expressions, classes, nothing, row, kinds_of, is_in, is_nil, first_terminal, first_in, second_in, begins, height_limit, IsTreeOf}
 use Rattle.df_tree.specs.Building.{opened}
-use Rattle.df_tree.proofs.Begun.{flag_cases}
 use Rattle.df_tree.proofs.Fine.{row_has}
-use Rattle.df_pexpr.specs.Construction.{Construction, Attempt, Success, Failure, builder, attempt_from}
+use Rattle.df_pexpr.specs.mirror.Reading.{depth_limit}
+use Rattle.df_pexpr.specs.mirror.Construction.{Construction, Attempt, Success, Failure, builder, attempt_from}
 use Rattle.df_pexpr.specs.Position.{looks, looks_behind, reach}
 use Rattle.df_pexpr.proofs.Complete.{token_limit}
 use Rattle.df_pexpr.proofs.Spelled.{IsAttempt, text_too_long, no_text}
@@ -21,14 +21,8 @@ use Rattle.df_pexpr.proofs.Local.{end_of, head, Alike, AlikeUpTo, same_first, bu
 
 -- ---- the same tokens from a number on
 
-take_less : (k m : ℕ) (xs : List Token) → k ≤ m → take k (take m xs) ≡ take k xs
-take_less zero m xs le = refl
-take_less (suc k) zero xs le = absurd (omega (arith, le))
-take_less (suc k) (suc m) [] le = refl
-take_less (suc k) (suc m) (x ∷ xs) le = ap (λ ys. x ∷ ys) (take_less k m xs (omega (arith, le)))
-
 window_of : (at k m : ℕ) (xs : List Token) → at + k ≤ m → take k (drop at (take m xs)) ≡ take k (drop at xs)
-window_of zero k m xs le = take_less k m xs (omega (arith, le))
+window_of zero k m xs le = take-take k m xs (omega (arith, le))
 window_of (suc at) k zero xs le = absurd (omega (arith, le))
 window_of (suc at) k (suc m) [] le = refl
 window_of (suc at) k (suc m) (x ∷ xs) le = window_of at k m xs (omega (arith, le))
@@ -36,13 +30,9 @@ window_of (suc at) k (suc m) (x ∷ xs) le = window_of at k m xs (omega (arith, 
 window : (at k m : ℕ) (xs ys : List Token) → take m xs ≡ take m ys → at + k ≤ m → take k (drop at xs) ≡ take k (drop at ys)
 window at k m xs ys e le = sym (window_of at k m xs le) ∙ ap (λ zs. take k (drop at zs)) e ∙ window_of at k m ys le
 
-head_of : (ts : List Token) → head (take 1 ts) ≡ head ts
-head_of [] = refl
-head_of (x ∷ xs) = refl
-
-head_of_two : (ts : List Token) → head (take 2 ts) ≡ head ts
-head_of_two [] = refl
-head_of_two (x ∷ xs) = refl
+head_of : (k : ℕ) (ts : List Token) → head (take (suc k) ts) ≡ head ts
+head_of k [] = refl
+head_of k (x ∷ xs) = refl
 
 begins_of_two : (r : Row) (ts : List Token) → begins r (take 2 ts) ≡ begins r ts
 begins_of_two r [] = refl
@@ -52,18 +42,14 @@ begins_of_two r (x ∷ y ∷ xs) = refl
 alike_by_two : (ts us : List Token) → take 2 ts ≡ take 2 us → Alike ts us
 alike_by_two ts us e = record {
   rows = λ n. sym (begins_of_two (row n) ts) ∙ ap (begins (row n)) e ∙ begins_of_two (row n) us;
-  heads = sym (head_of_two ts) ∙ ap head e ∙ head_of_two us;
+  heads = sym (head_of 1 ts) ∙ ap head e ∙ head_of 1 us;
 }
 
 -- ---- one token is enough where no production looks behind it
 
-or_none : (a b : Bool) → (a || b) ≡ false → (a ≡ false) × (b ≡ false)
-or_none true b e = absurd cc
-or_none false b e = (refl, e)
-
 any_none : (f : Row → Bool) (rows : List Row) → list_any f rows ≡ false → list_all (λ r. not (f r)) rows ≡ true
 any_none f [] e = refl
-any_none f (r ∷ rows) e = let parts = or_none (f r) (list_any f rows) e in rw parts.0 (any_none f rows parts.1)
+any_none f (r ∷ rows) e = let parts = or_parts (f r) (list_any f rows) e in rw parts.0 (any_none f rows parts.1)
 
 not_looking : (a b : Bool) → not (not a && b) ≡ true → (a ≡ true) ⊎ (b ≡ false)
 not_looking true b e = inl refl
@@ -77,8 +63,8 @@ nothing_looks kind = refl
 row_looks : (kind n : ℕ) → looks_behind kind ≡ false → (is_nil (kinds_of (row n).second) ≡ true) ⊎ (is_in kind (kinds_of (row n).first) ≡ false)
 unfolding looks_behind
 row_looks kind n e =
-    let one = or_none (list_any (looks kind) declarations) (list_any (looks kind) statements || list_any (looks kind) expressions) e in
-    let two = or_none (list_any (looks kind) statements) (list_any (looks kind) expressions) one.1 in
+    let one = or_parts (list_any (looks kind) declarations) (list_any (looks kind) statements || list_any (looks kind) expressions) e in
+    let two = or_parts (list_any (looks kind) statements) (list_any (looks kind) expressions) one.1 in
     not_looking (is_nil (kinds_of (row n).second)) (is_in kind (kinds_of (row n).first))
     (row_has (λ r. not (looks kind r)) n (nothing_looks kind) (any_none (looks kind) declarations one.0) (any_none (looks kind) statements two.0) (any_none (looks kind) expressions two.1))
 
@@ -115,10 +101,10 @@ alike_at : (tokens others : List Token) (stop : ℕ) → take (reach tokens stop
 alike_at tokens others stop e = by (first_terminal (drop stop tokens)) refl
   where
     one : head (drop stop tokens) ≡ head (drop stop others)
-    one = sym (head_of (drop stop tokens)) ∙ ap head (window stop 1 (reach tokens stop) tokens others e (reach_least tokens stop)) ∙ head_of (drop stop others)
+    one = sym (head_of 0 (drop stop tokens)) ∙ ap head (window stop 1 (reach tokens stop) tokens others e (reach_least tokens stop)) ∙ head_of 0 (drop stop others)
     by : (o : Option ℕ) → first_terminal (drop stop tokens) ≡ o → Alike (drop stop tokens) (drop stop others)
     by None here = alike_by_one (drop stop tokens) (drop stop others) one (λ kind f. absurd (let g : ◌≡◌ {A = Option ℕ} None (Some kind) = sym here ∙ f in cc))
-    by (Some kind) here = elim (flag_cases (looks_behind kind)) [
+    by (Some kind) here = elim (cases_Bool (looks_behind kind)) [
       | inr quiet ↦ alike_by_one (drop stop tokens) (drop stop others) one (λ other f. subst (λ k. looks_behind k ≡ false) (same_kind kind other (sym here ∙ f)) quiet)
       | inl loud ↦ (let far : reach tokens stop ≡ stop + 2 = ap (λ o. option_map_or (λ k. if looks_behind k then stop + 2 else stop + 1) o (stop + 1)) here ∙ ap (λ b. if b then stop + 2 else stop + 1) loud in
           alike_by_two (drop stop tokens) (drop stop others) (window stop 2 (reach tokens stop) tokens others e (omega (arith, far))))

@@ -10,14 +10,14 @@ use Rattle.df_pexpr.specs.declared.reader.Step.{Step}
 use Rattle.df_pexpr.specs.declared.reader.Step.TheVariants.{Read, Done, Fail}
 use Rattle.df_tree.specs.Row.{Row}
 use Rattle.df_tree.specs.Grammar.{row, first_in, second_in, is_nil}
-use Rattle.df_pexpr.specs.Reading.{step}
+use Rattle.df_pexpr.specs.mirror.Reading.{step}
 use Rattle.df_tree.specs.Building.{Frame}
 use Rattle.df_tok.specs.Token.{view}
 use Rattle.df_tok.specs.declared.token.Token as declared
 use Rattle.df_tree.specs.Terminal.{terminal, terminal_of}
 use Rattle.std.proofs.lemmas.Option.{slice_get_read}
 use Rattle.df_tree.specs.Grammar.{first_terminal}
-use Rattle.df_pexpr.specs.Construction.{Attempt, Success, Failure, and_then, Construction, Sofar, Builder, builder, node_built, taken, leaf_built, grow, by_step_of, finished, further, height_before, height_so_far}
+use Rattle.df_pexpr.specs.mirror.Construction.{Attempt, Success, Failure, and_then, Construction, Sofar, Builder, builder, node_built, taken, leaf_built, grow, by_step_of, finished, further, height_before, height_so_far}
 
 drop_next : {A : Type 0} (xs : List A) (at : ℕ) → drop 1 (drop at xs) ≡ drop (suc at) xs
 drop_next [] zero = refl

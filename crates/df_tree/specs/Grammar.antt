@@ -181,10 +181,6 @@ abbrev mutual
 abbrev pub height : Tree → ℕ
 height t = height_over 0 t
 
--- the bound of the nodes of such a tree that stand inside one another, by the ranks
-abbrev pub depth_limit : ℕ
-depth_limit = 10251
-
 -- The tree of this production spells the tokens.
 pub record IsTreeOf (n : ℕ) (tokens : List Token) (t : Tree) : Type 0 where
   pub starts : part_of t ≡ Nonterminal n

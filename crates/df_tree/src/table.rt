@@ -685,7 +685,7 @@ const DECLARATION_ROWS: &[GrammarRow] = &[
     // decreases_clause
     all!(Make Decreases; Never 33; DECREASES => AFTER_FUNCTION_RESULT; word DECREASES, sub EXPRESSIONS),
     // type: "int" | "nat" | "bool" | "char" | name
-    one!(Pass; Never 1; FIRST_OF_TYPE => AFTER_TYPE; sub BASIC_TYPE, sub NAMED_TYPE),
+    one!(Close; Never 1; FIRST_OF_TYPE => AFTER_TYPE; sub BASIC_TYPE, sub NAMED_TYPE),
     // basic_type
     one!(Make BasicType; Always 0; FIRST_OF_BASIC_TYPE => AFTER_TYPE; word INT, word NAT, word BOOL, word CHAR),
     // named_type

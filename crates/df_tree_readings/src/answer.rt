@@ -1,6 +1,6 @@
 //! What a source is read as.
 
-use crate::printing::put_trees;
+use crate::printing::put_tree;
 use anyhow::Result;
 use df_base::{Code, Global, Names, Pos, Stop};
 use df_pdecl::parse;
@@ -18,25 +18,25 @@ pub(crate) enum Part {
     Pattern,
 }
 
-/// The trees that were read, and the number of the token behind them.
-type Read = (Vec<Ast>, usize);
+/// The tree that was read, and the number of the token behind it.
+type Read = (Ast, usize);
 
 fn read(alloc: Global, tokens: &Tokens, part: Part) -> Result<Read, Stop> {
     match part {
-        Part::File => Ok((parse(alloc, tokens)?.items, tokens.all.len())),
+        Part::File => Ok((parse(alloc, tokens)?.file, tokens.all.len())),
         Part::Expression => expression(alloc, tokens, 0),
         Part::Type => ty(alloc, tokens, 0),
         Part::Pattern => pattern(alloc, tokens, 0),
     }
 }
 
-fn count(trees: &[Ast]) -> u64 {
+fn count(tree: &Ast) -> u64 {
     let mut found = 0u64;
-    for tree in trees {
-        found = found.saturating_add(match tree {
-            Ast::Leaf(_) => 0,
-            Ast::Node(_, _, inside) => count(inside).saturating_add(1),
-        });
+    if let Ast::Node(_, _, inside) = tree {
+        found = 1;
+        for part in inside {
+            found = found.saturating_add(count(part));
+        }
     }
     found
 }
@@ -65,13 +65,13 @@ fn refusal(alloc: Global, stop: Stop) -> Result<String, AllocError> {
 }
 
 fn told(alloc: Global, read: &Read, is_short: bool) -> Result<String, AllocError> {
-    let (trees, after) = read;
+    let (tree, after) = read;
     if !is_short {
-        let nodes = count(trees);
+        let nodes = count(tree);
         return format!(in alloc; "{nodes} nodes");
     }
     let mut text = format!(in alloc; "{after}")?;
-    put_trees(alloc, &mut text, trees)?;
+    put_tree(alloc, &mut text, tree)?;
     Ok(text)
 }
 

@@ -73,8 +73,8 @@ fn tell_all(rt: &HostRuntime, text: &str, is_older: bool) -> Result<()> {
 }
 
 fn main(rt: HostRuntime) -> Result<()> {
-    let file = word(&rt, 1, "data/sources")?;
+    let file = word(&rt, 1, "sources")?;
     let word = word(&rt, 2, "newer")?;
     let text = fs::read_to_string(&rt, file.as_str()).context("the sources")?;
-    tell_all(&rt, text.as_str(), word == "older")
+    tell_all(&rt, text.as_str(), word.as_str() == "older")
 }

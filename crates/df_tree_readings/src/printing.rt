@@ -100,22 +100,21 @@ fn put_mark(alloc: Global, text: &mut String, mark: &Mark) -> Result<(), AllocEr
     }
 }
 
-/// Writes trees, each node with its text.
-pub(crate) fn put_trees(alloc: Global, text: &mut String, trees: &[Ast]) -> Result<(), AllocError> {
-    for tree in trees {
-        match tree {
-            Ast::Leaf(mark) => put_mark(alloc, text, mark)?,
-            Ast::Node(label, span, inside) => {
-                text.push_str(" (")?;
-                text.push_str(name_of(*label))?;
-                text.push_str(" ")?;
-                put_number(alloc, text, span.start as u128)?;
-                text.push_str("-")?;
-                put_number(alloc, text, span.after as u128)?;
-                put_trees(alloc, text, inside)?;
-                text.push_str(")")?;
+/// Writes a tree, each node with its text.
+pub(crate) fn put_tree(alloc: Global, text: &mut String, tree: &Ast) -> Result<(), AllocError> {
+    match tree {
+        Ast::Leaf(mark) => put_mark(alloc, text, mark),
+        Ast::Node(label, span, inside) => {
+            text.push_str(" (")?;
+            text.push_str(name_of(*label))?;
+            text.push_str(" ")?;
+            put_number(alloc, text, span.start as u128)?;
+            text.push_str("-")?;
+            put_number(alloc, text, span.after as u128)?;
+            for part in inside {
+                put_tree(alloc, text, part)?;
             }
+            text.push_str(")")
         }
     }
-    Ok(())
 }

@@ -64,3 +64,7 @@ abbrev pub reader : ℕ → Reader
 reader left (Terminal kind) tokens = leaf kind tokens
 reader zero (Nonterminal n) tokens = None
 reader (suc left) (Nonterminal n) tokens = node (reader left) n tokens
+
+-- how many nodes may stand inside one another
+abbrev pub depth_limit : ℕ
+depth_limit = 10251
