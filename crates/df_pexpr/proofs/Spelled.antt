@@ -119,9 +119,6 @@ last_is items [] last e one = ap (λ xs. asts_of (map ast_of xs)) e
 last_is items (x ∷ []) last e one = absurd (let two : Next (ast_of x) (Next (ast_of last) Nil) ≡ Next one.ast Nil = sym (ap (λ xs. asts_of (map ast_of xs)) e) ∙ one.is in cc)
 last_is items (x ∷ y ∷ front) last e one = absurd (let two : Next (ast_of x) (Next (ast_of y) (asts_of (map ast_of (front ++ last ∷ [])))) ≡ Next one.ast Nil = sym (ap (λ xs. asts_of (map ast_of xs)) e) ∙ one.is in cc)
 
-pub none_is_not_one : (items : List declared_ast.Ast) → items ≡ [] → IsOne (asts_of (map ast_of items)) → ⊥
-none_is_not_one items e one = let no : Nil ≡ Next one.ast Nil = sym (ap (λ xs. asts_of (map ast_of xs)) e) ∙ one.is in cc
-
 never_fits : (x : Construction) → x.height ≤ height_limit → None ≡ fit height_limit x → ⊥
 never_fits x le e = by (nat_lt height_limit x.height) (le-ltb height_limit x.height le) e
   where
