@@ -79,4 +79,3 @@ none_outside n tokens t of =
 
 pub outside_spells_none : (n : ℕ) (tokens : List Token) (r : Refusal) (t : Tree) → first_outside tokens ≡ Some r → IsTreeOf n tokens t → ⊥
 outside_spells_none n tokens r t e of = let none_there : first_outside tokens ≡ None = none_outside n tokens t of in cc
-

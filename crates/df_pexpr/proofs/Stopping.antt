@@ -102,6 +102,7 @@ alike_at tokens others stop e = by (first_terminal (drop stop tokens)) refl
   where
     one : head (drop stop tokens) ≡ head (drop stop others)
     one = sym (head_of 0 (drop stop tokens)) ∙ ap head (window stop 1 (reach tokens stop) tokens others e (reach_least tokens stop)) ∙ head_of 0 (drop stop others)
+
     by : (o : Option ℕ) → first_terminal (drop stop tokens) ≡ o → Alike (drop stop tokens) (drop stop others)
     by None here = alike_by_one (drop stop tokens) (drop stop others) one (λ kind f. absurd (let g : ◌≡◌ {A = Option ℕ} None (Some kind) = sym here ∙ f in cc))
     by (Some kind) here = elim (cases_Bool (looks_behind kind)) [

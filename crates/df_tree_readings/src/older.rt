@@ -37,11 +37,7 @@ fn told(alloc: Global, one: Option<Refusal>, other: Option<Refusal>) -> Result<S
     }
 }
 
-fn difference_with(
-    alloc: Global,
-    source: &[u8],
-    names: &mut Names,
-) -> Result<String, AllocError> {
+fn difference_with(alloc: Global, source: &[u8], names: &mut Names) -> Result<String, AllocError> {
     if names.len() > 9 {
         return String::from_str(alloc, "memory");
     }
