@@ -1,16 +1,15 @@
 -- What the columns of a production have to be, for those of its parts.
-use Rattle.std.proofs.Common.{◌≡◌, ℕ, zero, suc, ◌+◌, nat_lt, Bool, true, false, not, ◌&&◌, ◌||◌, List, [], ◌∷◌, ◌++◌, length, slice_get, if◌then◌else◌, refl, ltb-true, arith, ◌≤◌, ◌<◌}
+use Rattle.std.proofs.Common.{◌≡◌, ℕ, zero, suc, ◌+◌, nat_lt, Bool, true, false, not, ◌&&◌, ◌||◌, List, [], ◌∷◌, ◌++◌, length, ◌-◌, if◌then◌else◌, refl, ltb-true, arith, ◌≤◌, ◌<◌}
 use Rattle.std.specs.List.{list_all}
-use Rattle.std.specs.Option.{option_map_or}
 use Rattle.std.proofs.lemmas.Bool.{and_parts}
-use Rattle.df_tree.specs.declared.row.Counting.{Counting}
-use Rattle.df_tree.specs.declared.row.Counting.TheVariants.{Never, Always, IfMore, Each}
-use Rattle.df_tree.specs.declared.row.Form.{Form}
-use Rattle.df_tree.specs.declared.row.Form.TheVariants.{All, One, Many}
-use Rattle.df_tree.specs.declared.row.Part.{Part}
-use Rattle.df_tree.specs.declared.row.Part.TheVariants.{Terminal, Nonterminal}
+use Rattle.df_tree.specs.declared.production.Counting.{Counting}
+use Rattle.df_tree.specs.declared.production.Counting.TheVariants.{Never, Always, IfMore, Each}
+use Rattle.df_tree.specs.declared.production.Form.{Form}
+use Rattle.df_tree.specs.declared.production.Form.TheVariants.{All, One, Many}
+use Rattle.df_tree.specs.declared.production.Part.{Part}
+use Rattle.df_tree.specs.declared.production.Part.TheVariants.{Terminal, Nonterminal}
 use Rattle.df_tree.specs.Row.{Row}
-use Rattle.df_tree.specs.Grammar.{grammar, classes, kinds_of, nothing, row, is_nil}
+use Rattle.df_tree.specs.Grammar.{declarations, statements, expressions, classes, kinds_of, nothing, entry_in, row, is_nil}
 use Rattle.df_tree.proofs.Classes.{subset, apart}
 
 abbrev pub first_of : Part → List ℕ
@@ -96,9 +95,17 @@ unfit : ℕ → List Row → List ℕ
 unfit n [] = []
 unfit n (r ∷ rows) = if fine r then unfit (n + 1) rows else n ∷ unfit (n + 1) rows
 
-none_is_unfit : unfit 0 grammar ≡ []
-unfolding unfit grammar row kinds_of classes
-none_is_unfit = refl
+no_declaration_unfit : unfit 0 declarations ≡ []
+unfolding unfit declarations statements expressions row kinds_of classes
+no_declaration_unfit = refl
+
+no_statement_unfit : unfit 1000 statements ≡ []
+unfolding unfit declarations statements expressions row kinds_of classes
+no_statement_unfit = refl
+
+no_expression_unfit : unfit 2000 expressions ≡ []
+unfolding unfit declarations statements expressions row kinds_of classes
+no_expression_unfit = refl
 
 all_fit : (n : ℕ) (rows : List Row) → unfit n rows ≡ [] → list_all fine rows ≡ true
 unfolding unfit
@@ -109,18 +116,28 @@ all_fit n (r ∷ rows) e = fits (fine r) e (λ f. all_fit (n + 1) rows f)
     fits true e others = others e
     fits false e others = absurd cc
 
+-- what holds of all entries holds of each production
+entry_has : (test : Row → Bool) (rows : List Row) (n : ℕ) → test nothing ≡ true → list_all test rows ≡ true → test (entry_in rows n) ≡ true
+entry_has test [] n none all = none
+entry_has test (r ∷ rows) zero none all = (and_parts (test r) (list_all test rows) all).0
+entry_has test (r ∷ rows) (suc n) none all = entry_has test rows n none (and_parts (test r) (list_all test rows) all).1
+
+pub row_has : (test : Row → Bool) (n : ℕ) → test nothing ≡ true → list_all test declarations ≡ true → list_all test statements ≡ true → list_all test expressions ≡ true → test (row n) ≡ true
+unfolding row
+row_has test n none d s e = pick (nat_lt n 1000) (nat_lt n 2000)
+  where
+    pick : (b c : Bool) → test (if b then entry_in declarations n else (if c then entry_in statements (n - 1000) else entry_in expressions (n - 2000))) ≡ true
+    pick true c = entry_has test declarations n none d
+    pick false true = entry_has test statements (n - 1000) none s
+    pick false false = entry_has test expressions (n - 2000) none e
+
 nothing_fine : fine nothing ≡ true
 unfolding kinds_of classes
 nothing_fine = refl
 
-entry_fine : (rows : List Row) (n : ℕ) → list_all fine rows ≡ true → fine (option_map_or (λ r. r) (slice_get rows n) nothing) ≡ true
-entry_fine [] n all = nothing_fine
-entry_fine (r ∷ rows) zero all = (and_parts (fine r) (list_all fine rows) all).0
-entry_fine (r ∷ rows) (suc n) all = entry_fine rows n (and_parts (fine r) (list_all fine rows) all).1
-
 both_fine : (n : ℕ) → fine (row n) ≡ true
-unfolding row
-both_fine n = entry_fine grammar n (all_fit 0 grammar none_is_unfit)
+both_fine n =
+    row_has fine n nothing_fine (all_fit 0 declarations no_declaration_unfit) (all_fit 1000 statements no_statement_unfit) (all_fit 2000 expressions no_expression_unfit)
 
 pub row_fine : (n : ℕ) → fine_by (row n).form (row n) ≡ true
 row_fine n = (and_parts (fine_by (row n).form (row n)) (low_by (row n).counting (row n).rank (row n).parts && (exact_by (row n).form (row n) && short (row n))) (both_fine n)).0
