@@ -1,6 +1,5 @@
 -- The lists inside the code's expressions and statements, without where they lie in memory, and what they call.
-use Rattle.std.specs.Prelude.{ℕ, List, [], ◌∷◌, map, Option, None, Some}
-use Rattle.std.specs.Option.{option_map}
+use Rattle.std.specs.Prelude.{ℕ, List, map}
 use Rattle.std.specs.List.{flat_map}
 use Rattle.df_types.specs.declared.expr.Expr as declared
 use Rattle.df_types.specs.declared.expr.Operand as declared_operand

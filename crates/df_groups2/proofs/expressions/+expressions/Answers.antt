@@ -1,9 +1,9 @@
-use Rattle.std.proofs.Common.{◌≡◌, List, [], ◌∷◌, ◌++◌, map, rules, ap, ◌∙◌}
+use Rattle.std.proofs.Common.{◌≡◌, [], ◌∷◌, ◌++◌, map, rules, ap, ◌∙◌}
 use Rattle.df_types.specs.declared.expr.Expr.TheFolds as folds
 use Rattle.df_types.specs.declared.expr.Expr.TheViews as views
 use Rattle.df_types.specs.Ty.{tys_of}
 use Rattle.df_types.specs.TyView.{ty_of}
-use Rattle.df_types.specs.Expr.{Expr, Junction, Chain, If, Let, Call}
+use Rattle.df_types.specs.Expr.{Junction, Chain, If, Let, Call}
 use Rattle.df_types.specs.ExprView.{folded, binder_of, expr_of, extent_of}
 use Rattle.df_types.specs.Gathering.{gather, gather_all, gather_links, gather_arms, gather_extent}
 use Rattle.df_types.specs.Calls.{called}

@@ -1,4 +1,4 @@
-use Rattle.std.proofs.Common.{◌≡◌, map, rules, ap, ◌∙◌, sym}
+use Rattle.std.proofs.Common.{map, rules, ap, ◌∙◌, sym}
 use Rattle.std.specs.Option.{option_map}
 use Rattle.df_types.specs.Expr.{exprs_of}
 use Rattle.df_types.specs.ExprView.{expr_of}

@@ -1,4 +1,4 @@
-use Rattle.std.proofs.Common.{◌≡◌, rules, ap, ◌∙◌, sym}
+use Rattle.std.proofs.Common.{rules, ap, ◌∙◌, sym}
 use Rattle.df_types.specs.StmtView.{source_of}
 use Rattle.df_types.specs.Gathering.{gather_all, of_source}
 use Rattle.df_types.specs.Calls.{called}
