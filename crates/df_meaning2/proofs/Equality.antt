@@ -4,7 +4,9 @@ use Rattle.std.proofs.lemmas.Int.{ints}
 use Rattle.std.proofs.lemmas.Bool.{eqb-true, and_parts, and_from, not-true}
 use Rattle.df_lemmas.proofs.Numbers.{equal_self}
 use Rattle.std.specs.Ordering.{int_eq}
-use Rattle.df_meaning2.specs.Value.{Value, NullReference, Truth, Character, Number, Reference, Made, Sequence, Collection, Memory, Values, no_value, value, list_of, values_of, same_truth, same, all_same, rank_of, precedes, list_precedes, precedes_first, is_ascending, insert, ascending}
+use Rattle.df_types.specs.Ty.{same_type}
+use Rattle.df_types.proofs.SameTypes.{same_type_equal, same_type_self}
+use Rattle.df_meaning2.specs.Value.{Objects, no_object, instance_at, elements_at, same_objects, Value, NullReference, Truth, Character, Number, Reference, Made, Sequence, Collection, Memory, Values, no_value, value, list_of, values_of, same_truth, same, all_same, rank_of, precedes, list_precedes, precedes_first, is_ascending, insert, ascending}
 
 number_equal : (a b : _) → int_eq a b ≡ true → a ≡ b
 number_equal a b h = grind (arith, ints)
@@ -24,6 +26,7 @@ mutual
   same_equal (Made a vs) (Made b ws) h = let hs = and_parts (a == b) (all_same vs ws) h in ap (λ x. Made x vs) (eqb-true a b hs.0) ∙ ap (Made b) (all_same_equal vs ws hs.1)
   same_equal (Sequence vs) (Sequence ws) h = ap Sequence (all_same_equal vs ws h)
   same_equal (Collection vs) (Collection ws) h = ap Collection (all_same_equal vs ws h)
+  same_equal (Memory a) (Memory b) h = ap Memory (same_objects_equal a b h)
   same_equal v w h = cc
 
   pub all_same_equal : (vs ws : Values) → all_same vs ws ≡ true → vs ≡ ws
@@ -31,6 +34,47 @@ mutual
   all_same_equal no_value (value w ws) h = cc
   all_same_equal (value v vs) no_value h = cc
   all_same_equal (value v vs) (value w ws) h = let hs = and_parts (same v w) (all_same vs ws) h in ap (λ x. value x vs) (same_equal v w hs.0) ∙ ap (value w) (all_same_equal vs ws hs.1)
+
+  pub same_objects_equal : (a b : Objects) → same_objects a b ≡ true → a ≡ b
+  same_objects_equal no_object no_object h = refl
+  same_objects_equal (instance_at r c vs rest) (instance_at k d ws others) h =
+      let hs = and_parts (r == k) ((c == d) && (all_same vs ws && same_objects rest others)) h in
+      let are = and_parts (c == d) (all_same vs ws && same_objects rest others) hs.1 in
+      let parts = and_parts (all_same vs ws) (same_objects rest others) are.1 in
+      ap (λ x. instance_at x c vs rest) (eqb-true r k hs.0) ∙ (ap (λ x. instance_at k x vs rest) (eqb-true c d are.0)
+      ∙ (ap (λ x. instance_at k d x rest) (all_same_equal vs ws parts.0) ∙ ap (instance_at k d ws) (same_objects_equal rest others parts.1)))
+  same_objects_equal (elements_at r t vs rest) (elements_at k u ws others) h =
+      let hs = and_parts (r == k) (same_type t u && (all_same vs ws && same_objects rest others)) h in
+      let are = and_parts (same_type t u) (all_same vs ws && same_objects rest others) hs.1 in
+      let parts = and_parts (all_same vs ws) (same_objects rest others) are.1 in
+      ap (λ x. elements_at x t vs rest) (eqb-true r k hs.0) ∙ (ap (λ x. elements_at k x vs rest) (same_type_equal t u are.0)
+      ∙ (ap (λ x. elements_at k u x rest) (all_same_equal vs ws parts.0) ∙ ap (elements_at k u ws) (same_objects_equal rest others parts.1)))
+  same_objects_equal a b h = cc
+
+number_self : (a : _) → int_eq a a ≡ true
+number_self a = grind (arith, ints)
+
+mutual
+  pub same_self : (v : Value) → same v v ≡ true
+  same_self NullReference = refl
+  same_self (Truth true) = refl
+  same_self (Truth false) = refl
+  same_self (Character a) = equal_self a
+  same_self (Number a) = number_self a
+  same_self (Reference a) = equal_self a
+  same_self (Made a vs) = and_from (a == a) (all_same vs vs) (equal_self a) (all_same_self vs)
+  same_self (Sequence vs) = all_same_self vs
+  same_self (Collection vs) = all_same_self vs
+  same_self (Memory a) = same_objects_self a
+
+  pub all_same_self : (vs : Values) → all_same vs vs ≡ true
+  all_same_self no_value = refl
+  all_same_self (value v vs) = and_from (same v v) (all_same vs vs) (same_self v) (all_same_self vs)
+
+  pub same_objects_self : (a : Objects) → same_objects a a ≡ true
+  same_objects_self no_object = refl
+  same_objects_self (instance_at r c vs rest) = and_from (r == r) _ (equal_self r) (and_from (c == c) _ (equal_self c) (and_from (all_same vs vs) _ (all_same_self vs) (same_objects_self rest)))
+  same_objects_self (elements_at r t vs rest) = and_from (r == r) _ (equal_self r) (and_from (same_type t t) _ (same_type_self t) (and_from (all_same vs vs) _ (all_same_self vs) (same_objects_self rest)))
 
 pub turned : (v w : Value) → same v w ≡ true → same w v ≡ true
 turned v w h = let e = same_equal v w h in subst (λ x. same w x ≡ true) (sym e) (subst (λ x. same x w ≡ true) e h)

@@ -16,7 +16,7 @@ use Rattle.df_meaning2.specs.Answer.{count}
 use Rattle.df_meaning2.specs.Printing.{text_of}
 use Rattle.df_meaning2.specs.State.{State, with_bound, with_text}
 use Rattle.df_meaning2.specs.Meaning.{Meaning, as_kind}
-use Rattle.df_meaning2.specs.Execution.{Flow, Next, Returned, Broken, state_of, Loop, Actions, assigned_by_all, touched_by_all, convert_all, new_array, first_elements, execute_source, execute_sources, place_of, places_of, execute_update, execute_optional, some_meet, holds, meet, execute_choice, print_all, execute_publish, values_of_range, where_true, goes, dropped, conditions, execute, execute_all, execute_branches, loop_of}
+use Rattle.df_meaning2.specs.Execution.{Flow, Next, Returned, Broken, state_of, Loop, Actions, assigned_by_all, touched_by_all, convert_all, new_array, first_elements, execute_source, execute_sources, place_of, places_of, execute_update, execute_optional, some_meet, holds, meet, execute_choice, print_all, values_in, execute_publish, values_of_range, where_true, goes, dropped, conditions, execute, execute_all, execute_branches, loop_of}
 use Rattle.df_meaning2.specs.Growing.{MeansLess, RangesBelow, LoopBelow, DoesLess}
 use Rattle.df_meaning2.proofs.Outcomes.{same_grows, after_grows, choice_grows}
 use Rattle.df_meaning2.proofs.Evaluating.{row_grows, evaluate_grows, all_grow, range_grows, of_type_grows, check_grows, check_all_grows, assume_all_grows, measured_grows}
@@ -105,7 +105,7 @@ module _ (m n : Actions) (h : DoesLess m n) where
       after_grows _ _ _ _ (places_grow m.meaning n.meaning h.meaning given.state targets) (λ places. same_grows _))) refl)
 
   publish_grows : (s : State) (site class : ℕ) (fields : List ℕ) (this : ℕ) → execute_publish m s site class fields this ⊑ execute_publish n s site class fields this
-  publish_grows s site class fields this = after_grows _ _ _ _ (h.new site s) (λ v. refl)
+  publish_grows s site class fields this = after_grows _ _ _ _ (same_grows (values_in fields s.locals)) (λ slots. after_grows _ _ _ _ (h.new site s) (λ v. refl))
 
   mutual
     pub execute_grows : (s : State) (stmt : Stmt) → execute m s stmt ⊑ execute n s stmt

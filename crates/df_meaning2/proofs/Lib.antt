@@ -1,5 +1,6 @@
 pub mod Outcomes
 pub mod Equality
+pub mod Kept
 pub mod Evaluating
 pub mod Executing
 pub mod Deepening

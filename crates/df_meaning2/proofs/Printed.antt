@@ -17,7 +17,7 @@ use Rattle.df_meaning2.specs.Outcome.{Outcome, Gives, Wrong, TooDeep, NoChoice, 
 use Rattle.df_meaning2.specs.Printing.{text_of}
 use Rattle.df_meaning2.specs.State.{State, with_local, with_bound, with_heap, with_text, with_store, entering}
 use Rattle.df_meaning2.specs.Meaning.{Meaning, evaluate, check, check_all, as_kind, asked_at, assume_all}
-use Rattle.df_meaning2.specs.Execution.{Flow, Next, Returned, Broken, state_of, Given, Loop, Actions, Place, NoPlace, LocalPlace, SlotPlace, Placed, new_array, convert_all, first_elements, execute_source, execute_sources, places_of, put, same_place, if_equal, put_all, execute_update, execute_optional, some_meet, meet, execute_choice, declare_all, print_all, execute_publish, values_of_range, where_true, goes, dropped, conditions, execute, execute_all, execute_branches, loop_of}
+use Rattle.df_meaning2.specs.Execution.{Flow, Next, Returned, Broken, state_of, Given, Loop, Actions, Place, NoPlace, LocalPlace, SlotPlace, Placed, new_array, convert_all, first_elements, execute_source, execute_sources, places_of, put, same_place, if_equal, put_all, execute_update, execute_optional, some_meet, meet, execute_choice, declare_all, print_all, values_in, execute_publish, values_of_range, where_true, goes, dropped, conditions, execute, execute_all, execute_branches, loop_of}
 use Rattle.df_meaning2.specs.Whole.{results_in, end_of, run_body, run_method, call_by, behind_turn, turn_of_loop, turn_by, pick_next, prove_each, prove_all, whole, call_at, turn_at, doing}
 use Rattle.df_meaning2.specs.Texts.{Extends, FlowExtends, GivenExtends}
 use Rattle.df_meaning2.proofs.ExprTypes.{after_each, any_after, choice_each}
@@ -135,7 +135,7 @@ module _ (m : Actions) (h : KeepsText m) where
       any_after (Extends s) (places_of m.meaning given.state targets) _ (λ places. goes_on_state s given.state _ k (puts_extend given.state [] places given.values)))) tt)
 
   publish_extends : (s : State) (site class : ℕ) (fields : List ℕ) (this : ℕ) → Each (Extends s) (execute_publish m s site class fields this)
-  publish_extends s site class fields this = any_after (Extends s) (m.new site s) _ (λ v. stays s _ refl)
+  publish_extends s site class fields this = any_after (Extends s) (values_in fields s.locals) _ (λ slots. any_after (Extends s) (m.new site s) _ (λ v. stays s _ refl))
 
   goes_extends : (s : State) (go : State → Outcome Flow) → ((t : State) → Each (FlowExtends t) (go t)) → (flow : Flow) → FlowExtends s flow → Each (FlowExtends s) (goes go flow)
   goes_extends s go e (Next t) k = flows_on s t (go t) k (e t)

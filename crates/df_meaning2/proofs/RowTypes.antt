@@ -7,7 +7,7 @@ use Rattle.std.specs.Option.{option_map, option_map_or}
 use Rattle.df_types.specs.Ty.{Ty, Newtype, Int, Nat, Boolean, Char, AnyObject, Class, Array, Seq, Set, Data, Parameter, Tys, list_of_tys, same_type, instance_of, instances_of}
 use Rattle.df_types.specs.Op.{Op}
 use Rattle.df_types.specs.Program.{Program, Variable, constructors_at, parts_at, parts_of}
-use Rattle.df_types.specs.Types.{is_nullable, fits, has_constructor}
+use Rattle.df_types.specs.Types.{is_nullable, is_reference_type, is_framed, fits, has_constructor}
 use Rattle.df_types.specs.Rows.{repeated_type, operands, result, is_part, allowed}
 use Rattle.df_types.proofs.SameTypes.{same_type_equal, instance_twice}
 use Rattle.df_meaning2.specs.Value.{Value, NullReference, Truth, Character, Number, Reference, Made, Sequence, Collection, Memory, Values, no_value, value, list_of, values_of, is_ascending, ascending, items_of, reference_of, constructor_of, set_of, nat_of}
@@ -79,28 +79,47 @@ module _ (p : Program) (w : Tys) where
 
   -- ---- frames
 
-  optional_all : (o : Option ℕ) (vs : List Value) → AllOf (AnyObject false) vs → AllOf (AnyObject false) (cons_option (option_map Reference o) vs)
-  optional_all None vs h = h
-  optional_all (Some r) vs h = record { by = (record { by = refl }, h.by) }
+  optional_all : (o : Option ℕ) (vs : List Value) → option_map_or (nat_lt 0) o true ≡ true → AllOf (AnyObject false) vs → AllOf (AnyObject false) (cons_option (option_map Reference o) vs)
+  optional_all None vs e h = h
+  optional_all (Some r) vs e h = record { by = (record { by = e }, h.by) }
 
-  references_all : (vs : List Value) → AllOf (AnyObject false) (references_in vs)
-  references_all [] = record { by = tt }
-  references_all (v ∷ vs) = optional_all (reference_of v) (references_in vs) (references_all vs)
+  reference_positive : (b : Bool) (v : Value) → is_reference b v ≡ true → option_map_or (nat_lt 0) (reference_of v) true ≡ true
+  reference_positive b (Reference r) h = h
+  reference_positive b v h = refl
 
-  members_all : (v : Value) → AllOf (AnyObject false) (members_in v)
-  members_all NullReference = record { by = tt }
-  members_all (Truth b) = record { by = tt }
-  members_all (Character code) = record { by = tt }
-  members_all (Number n) = record { by = tt }
-  members_all (Reference r) = record { by = (record { by = refl }, tt) }
-  members_all (Made c vs) = record { by = tt }
-  members_all (Sequence vs) = record { by = tt }
-  members_all (Collection vs) = references_all (list_of vs)
-  members_all (Memory n) = record { by = tt }
+  of_reference_type : (t : Ty) → is_reference_type t ≡ true → (v : Value) → IsOf p w t v → option_map_or (nat_lt 0) (reference_of v) true ≡ true
+  of_reference_type (AnyObject b) e v h = reference_positive b v h.by
+  of_reference_type (Class b d) e v h = reference_positive b v h.by
+  of_reference_type (Array b t) e v h = reference_positive b v h.by
+  of_reference_type t e v h = cc
 
-  frame_all : (vs : List Value) → AllOf (AnyObject false) (frame_members vs)
-  frame_all [] = record { by = tt }
-  frame_all (v ∷ vs) = record { by = all_append (IsOf p w (AnyObject false)) (members_in v) (frame_members vs) (members_all v).by (frame_all vs).by }
+  references_all : (t : Ty) → is_reference_type t ≡ true → (vs : List Value) → AllOf t vs → AllOf (AnyObject false) (references_in vs)
+  references_all t e [] h = record { by = tt }
+  references_all t e (v ∷ vs) h = optional_all (reference_of v) (references_in vs) (of_reference_type t e v h.by.0) (references_all t e vs (record { by = h.by.1 }))
+
+  object_members : (b : Bool) (v : Value) → is_reference b v ≡ true → AllOf (AnyObject false) (members_in v)
+  object_members b NullReference h = record { by = tt }
+  object_members b (Reference r) h = record { by = (record { by = h }, tt) }
+  object_members b v h = cc
+
+  set_members : (t : Ty) → is_reference_type t ≡ true → (v : Value) → is_of p w (Set t) v ≡ true → AllOf (AnyObject false) (members_in v)
+  set_members t e (Collection vs) h = references_all t e (list_of vs) (from_values t vs (and_parts (is_ascending vs) (all_have_type p (instance_of w t) vs) h).1)
+  set_members t e v h = cc
+
+  members_all : (t : Ty) → is_framed t ≡ true → (v : Value) → IsOf p w t v → AllOf (AnyObject false) (members_in v)
+  members_all (AnyObject b) e v h = object_members b v h.by
+  members_all (Class b d) e v h = object_members b v h.by
+  members_all (Array b t) e v h = object_members b v h.by
+  members_all (Set t) e v h = set_members t e v h.by
+  members_all t e v h = cc
+
+  frame_all : (ts : List Ty) → list_all is_framed ts ≡ true → (vs : List Value) → AreOf p w ts vs → AllOf (AnyObject false) (frame_members vs)
+  frame_all [] e [] h = record { by = tt }
+  frame_all [] e (v ∷ vs) h = cc h.by
+  frame_all (t ∷ ts) e [] h = cc h.by
+  frame_all (t ∷ ts) e (v ∷ vs) h =
+      let are = and_parts (is_framed t) (list_all is_framed ts) e in
+      record { by = all_append (IsOf p w (AnyObject false)) (members_in v) (frame_members vs) (members_all t are.0 v (first_is t ts (v ∷ vs) h)).by (frame_all ts are.1 vs (others_are t ts (v ∷ vs) h)).by }
 
   -- ---- parts of datatypes
 
@@ -166,7 +185,7 @@ module _ (p : Program) (w : Tys) where
   reference_fits a true NullReference h k = refl
   reference_fits true false NullReference h k = cc
   reference_fits false false NullReference h k = cc
-  reference_fits a b (Reference r) h k = refl
+  reference_fits a b (Reference r) h k = k
   reference_fits a b (Truth x) h k = cc
   reference_fits a b (Character x) h k = cc
   reference_fits a b (Number x) h k = cc
@@ -258,5 +277,5 @@ module _ (view : View) where
   row_is (Op.Construct t c) vs is h = made_is p w t c vs is h
   row_is (Op.HasConstructor t c) vs is h = truth_is _
   row_is (Op.Part t target parts) vs is h = part_is p w t target _ parts is (first_is p w _ _ vs h)
-  row_is (Op.ObjectsOf types) vs is h = set_is p w (AnyObject false) _ (frame_all p w vs)
+  row_is (Op.ObjectsOf types) vs is h = set_is p w (AnyObject false) _ (frame_all p w (list_of_tys types) is vs h)
   row_is (Op.NoneFits t) vs is h = λ e. cc e

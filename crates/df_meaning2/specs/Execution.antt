@@ -13,14 +13,14 @@ use Rattle.df_types.specs.Program.{Program}
 use Rattle.df_types.specs.Aims.{quantified, known_behind}
 use Rattle.df_types.specs.Faults.{is_ghost_callee}
 use Rattle.df_types.specs.Measures.{loop_measure}
-use Rattle.df_meaning2.specs.Value.{Value, NullReference, same, truth_of, number_of, nat_of, is_among}
+use Rattle.df_meaning2.specs.Value.{Value, same, truth_of, number_of, nat_of, is_among}
 use Rattle.df_meaning2.specs.Heap.{Object, Instance, Elements, Heap, slots_at, is_there, may_change, put_slot, with_object}
 use Rattle.df_meaning2.specs.Outcome.{Outcome, Gives, Wrong, Dismissed, after}
 use Rattle.df_meaning2.specs.Types.{is_of}
 use Rattle.df_meaning2.specs.Answer.{answer, count, is_index}
 use Rattle.df_meaning2.specs.Printing.{text_of}
-use Rattle.df_meaning2.specs.State.{State, with_store, with_local, with_bound, with_heap, with_text}
-use Rattle.df_meaning2.specs.Meaning.{Meaning, view_of, answered, evaluate, evaluate_all, evaluate_range, of_type, check, check_all, as_kind, assume_all, Measured, measured}
+use Rattle.df_meaning2.specs.State.{Locals, State, with_store, with_local, with_bound, with_heap, with_text}
+use Rattle.df_meaning2.specs.Meaning.{Meaning, view_of, answered, there, evaluate, evaluate_all, evaluate_range, of_type, check, check_all, as_kind, assume_all, Measured, measured}
 
 -- a statement goes on, returns from its declaration, or breaks out of its loop
 pub data Flow : Type 0 where
@@ -291,14 +291,17 @@ abbrev pub print_all : Meaning → State → List Typed → Outcome State
 print_all m s [] = Gives s
 print_all m s (x ∷ others) = after (evaluate m s x.value) (λ v. print_all m (with_text s (text_of m.program (instance_of s.types x.ty) v)) others)
 
-abbrev pub or_null : Option Value → Value
-or_null None = NullReference
-or_null (Some v) = v
+-- the values of locals; one that has none keeps the run from counting
+abbrev pub values_in : List ℕ → Locals → Outcome (List Value)
+values_in [] locals = Gives []
+values_in (n ∷ ns) locals = after (there (locals n)) (λ v. after (values_in ns locals) (λ vs. Gives (v ∷ vs)))
 
 -- the locals of a first phase become the fields of a new object
 abbrev pub execute_publish : Actions → State → ℕ → ℕ → List ℕ → ℕ → Outcome State
 execute_publish m s site class fields this =
-    after (m.new site s) (λ v. Gives (with_local (with_heap s (with_object s.store.heap v (Instance class (map (λ n. or_null (s.locals n)) fields)))) this (Some v)))
+    after (values_in fields s.locals) (λ slots.
+    after (m.new site s) (λ v.
+    Gives (with_local (with_heap s (with_object s.store.heap v (Instance class slots))) this (Some v))))
 
 -- where what is given is true, the proof
 abbrev pub where_true : Meaning → Option Expr → (State → Outcome State) → State → Outcome State

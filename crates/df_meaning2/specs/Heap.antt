@@ -3,7 +3,7 @@ use Rattle.std.specs.Prelude.{ℕ, zero, suc, Bool, true, false, ◌&&◌, ◌||
 use Rattle.std.specs.Option.{option_map, option_map_or, option_and_then}
 use Rattle.std.specs.List.{list_all, filter_map}
 use Rattle.df_types.specs.Ty.{Ty, Newtype, Int, Nat, Boolean, Char, AnyObject, Class, Array, Seq, Set, Data, Parameter, same_type}
-use Rattle.df_meaning2.specs.Value.{Value, NullReference, Truth, Character, Number, Reference, Made, Sequence, Collection, Memory, list_of, values_of, same, is_among, items_of, reference_of, Objects, no_object, instance_at, elements_at}
+use Rattle.df_meaning2.specs.Value.{Value, NullReference, Truth, Character, Number, Reference, Made, Sequence, Collection, Memory, list_of, values_of, all_same, is_among, items_of, reference_of, Objects, no_object, instance_at, elements_at}
 
 pub data Object : Type 0 where
   Instance : (class : ℕ) (slots : List Value) → Object
@@ -125,16 +125,10 @@ is_shaped (Elements element slots) (Elements other others) = same_type element o
 is_shaped (Instance class slots) (Elements other others) = false
 is_shaped (Elements element slots) (Instance other others) = false
 
-abbrev pub are_alike : List Value → List Value → Bool
-are_alike [] [] = true
-are_alike [] (w ∷ ws) = false
-are_alike (v ∷ vs) [] = false
-are_alike (v ∷ vs) (w ∷ ws) = same v w && are_alike vs ws
-
 abbrev pub is_kept : Bool → Option Object → Option Object → Bool
 is_kept is_free None b = true
 is_kept is_free (Some a) None = false
-is_kept is_free (Some a) (Some b) = is_shaped a b && (is_free || are_alike (slots_of a) (slots_of b))
+is_kept is_free (Some a) (Some b) = is_shaped a b && (is_free || all_same (values_of (slots_of a)) (values_of (slots_of b)))
 
 abbrev pub keeps_each : (Value → Bool) → Heap → Heap → Heap → Bool
 keeps_each free heap later no_object = true

@@ -84,6 +84,10 @@ strictly is_strict n = if is_strict then n +ℤ pos 1 else n
 abbrev pub between : Ty → Value → Bool → Value → Bool → List Value
 between t a low b high = counted t (strictly low (number_of a)) (nat_of (strictly (not high) (number_of b) -ℤ strictly low (number_of a)))
 
+-- the members of a range that are of the variable's type
+abbrev pub of_type : Meaning → State → Ty → List Value → List Value
+of_type m s t vs = filter (is_of m.program s.types t) vs
+
 -- ---- expressions
 
 -- the heap parts are read at entry; locals keep their present values
@@ -101,7 +105,7 @@ abbrev mutual
   evaluate m s (Let variable is_ghost value body) = after (evaluate m s value) (λ v. evaluate m (with_bound s v) body)
   evaluate m s (Call callee types at es) = after (evaluate_all m s es) (λ vs. m.apply at callee (instances_of s.types types) vs s)
   evaluate m s (Quantify site at q variable extent triggers body) =
-      after (evaluate_range m s extent) (λ vs. each q (λ v. evaluate m (with_bound s v) body) (led (m.first site) (filter (is_of m.program s.types variable.ty) vs)))
+      after (evaluate_range m s extent) (λ vs. each q (λ v. evaluate m (with_bound s v) body) (led (m.first site) (of_type m s variable.ty vs)))
   evaluate m s (Old at e) = evaluate m (at_entry s) e
 
   pub evaluate_all : Meaning → State → Exprs → Outcome (List Value)
@@ -126,10 +130,6 @@ abbrev mutual
   pub evaluate_range : Meaning → State → Extent → Outcome (List Value)
   evaluate_range m s (Between t low low_strict high high_strict) = after (evaluate m s low) (λ a. after (evaluate m s high) (λ b. Gives (between t a low_strict b high_strict)))
   evaluate_range m s (Among t container) = after (evaluate m s container) (λ v. Gives (items_of v))
-
--- the members of a range that are of the variable's type
-abbrev pub of_type : Meaning → State → Ty → List Value → List Value
-of_type m s t vs = filter (is_of m.program s.types t) vs
 
 -- ---- demands
 

@@ -1,8 +1,9 @@
 -- Modular runs of one declaration: functions have their values by whole runs, behind what their calls demand; what calls, loops,
 -- choices and proofs do is handed in, found by the number of the place.
-use Rattle.std.specs.Prelude.{ℕ, ℤ, zero, suc, Bool, true, false, not, ◌&&◌, ◌==◌, List, [], ◌∷◌, length, map, is_none, Option, None, Some, if◌then◌else◌}
+use Rattle.std.specs.Prelude.{ℕ, ℤ, zero, suc, Bool, true, false, not, ◌&&◌, ◌||◌, ◌==◌, List, [], ◌∷◌, length, map, is_none, Option, None, Some, if◌then◌else◌}
 use Rattle.std.specs.Ordering.{int_eq}
 use Rattle.std.specs.Option.{option_map_or}
+use Rattle.std.specs.List.{list_any}
 use Rattle.df_base.specs.declared.pos.Pos.{Pos}
 use Rattle.df_types.specs.declared.kind.Kind.{Kind}
 use Rattle.df_types.specs.declared.kind.Kind.TheVariants as kinds
@@ -10,11 +11,11 @@ use Rattle.df_types.specs.Ty.{Ty, AnyObject, Seq, Tys, instances_of, same_types}
 use Rattle.df_types.specs.Regular.{own_types}
 use Rattle.df_types.specs.Expr.{Expr, Local, Bound, Apply, Junction, Chain, If, Let, Call, Quantify, Old, Exprs, no_expr, expr, Links, no_link, link, Arms, no_arm, arm, Extent, Between, Among}
 use Rattle.df_types.specs.Stmt.{Demand, CallOf, Stmt}
-use Rattle.df_types.specs.Program.{Param, Head, Function, Method, Decl, NewtypeDecl, DatatypeDecl, ClassDecl, FunctionDecl, MethodDecl, Program, function_at, method_at}
+use Rattle.df_types.specs.Program.{Param, Head, Function, Method, Decl, NewtypeDecl, DatatypeDecl, ClassDecl, FunctionDecl, MethodDecl, Program, function_at, method_at, types_of}
 use Rattle.df_types.specs.Measures.{function_measure, method_measure, frame_objects}
 use Rattle.df_types.specs.Calls.{group_at}
 use Rattle.df_meaning2.specs.Value.{Value, Collection, no_value, items_of, truth_of, is_among}
-use Rattle.df_meaning2.specs.Heap.{Heap, may_change, keeps, lies_in_changeable, is_new}
+use Rattle.df_meaning2.specs.Heap.{Heap, may_change, keeps, lies_in_changeable, is_new, is_there}
 use Rattle.df_meaning2.specs.Outcome.{Outcome, Gives, Wrong, TooDeep, NoChoice, Dismissed, after}
 use Rattle.df_meaning2.specs.Types.{is_of}
 use Rattle.df_meaning2.specs.Answer.{count}
@@ -106,6 +107,20 @@ changed_heap heap touches free s = if touches then (if keeps free s.store.heap h
 
 -- ---- calls of methods and lemmas
 
+-- a constructor: its `this` is its result
+abbrev pub is_constructor : Head → Bool
+is_constructor head = option_map_or (λ n. list_any (λ (x : Param). x.local == n) head.results) head.receiver false
+
+-- objects of the types that were not there before
+abbrev pub are_new : List Ty → Heap → Heap → List Value → Bool
+are_new [] before later vs = true
+are_new (t ∷ ts) before later [] = true
+are_new (t ∷ ts) before later (v ∷ vs) = (is_new before v && is_there later t v) && are_new ts before later vs
+
+-- what a constructor gives is new
+abbrev pub is_made : Head → Heap → Heap → List Value → Bool
+is_made head before later vs = not (is_constructor head) || are_new (types_of head.results) before later vs
+
 -- what is required, the frame, the decrease, and then any results that meet what is ensured
 abbrev pub call_head : Meaning → Oracle → Running → CallOf → List Value → State → Method → Outcome Given
 call_head deep o run call arguments s m =
@@ -117,8 +132,10 @@ call_head deep o run call arguments s m =
     after (check_decrease run call.pos call.callee (measured (dismissing o deep) begun (method_measure m.head))) (λ now.
     after (handed deep.program types (o.free call.site) m.head.results) (λ vs.
     after (changed_heap (o.heap call.site) (not m.head.is_ghost) (λ v. is_among v (items_of frame)) s) (λ heap.
+    if is_made m.head s.store.heap heap vs then
     after (or_dismissed (assume_all (dismissing o deep) (with_heap (leaving m.head.results vs begun) heap) (conditions m.head.postconditions))) (λ u.
-    Gives (record { values = vs; state = with_heap s heap })))))
+    Gives (record { values = vs; state = with_heap s heap }))
+    else Dismissed)))
     else Wrong call.pos kinds.Modifies))
 
 abbrev pub modular_call : Meaning → Oracle → Running → CallOf → List Value → State → Outcome Given
@@ -126,10 +143,12 @@ modular_call deep o run call arguments s = option_map_or (call_head deep o run c
 
 -- ---- loops
 
--- the assigned locals take what is handed in, of their types
+-- An assigned local that has a value takes what is handed in, of its type. One that has none is assigned in each turn before it is read.
 abbrev pub havocked : Program → (ℕ → Value) → List Assigned → State → Outcome State
 havocked p free [] s = Gives s
-havocked p free (x ∷ xs) s = if is_of p s.types x.ty (free x.local) then havocked p free xs (with_local s x.local (Some (free x.local))) else Dismissed
+havocked p free (x ∷ xs) s =
+    option_map_or (λ v. if is_of p s.types x.ty (free x.local) then havocked p free xs (with_local s x.local (Some (free x.local))) else Dismissed)
+    (s.locals x.local) (havocked p free xs s)
 
 -- behind the body the invariants hold and the measure has fallen, and the run ends
 abbrev pub behind_once : Loop → List Measured → Flow → Outcome Flow

@@ -15,7 +15,7 @@ is_in_newtype p d n = option_map_or (λ (x : programs.Newtype). is_within x n) (
 
 abbrev pub is_reference : Bool → Value → Bool
 is_reference nullable NullReference = nullable
-is_reference nullable (Reference r) = true
+is_reference nullable (Reference r) = nat_lt 0 r
 is_reference nullable v = false
 
 -- By the value alone: ranges, null only where the type allows it, constructors, parts, elements. A type parameter has no value by itself.

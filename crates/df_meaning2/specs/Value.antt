@@ -2,7 +2,7 @@
 use Rattle.std.specs.Prelude.{ℕ, suc, ◌+◌, ℤ, pos, Bool, true, false, not, ◌&&◌, ◌||◌, ◌==◌, nat_lt, int_lt, List, [], ◌∷◌, filter, Option, None, Some, if◌then◌else◌}
 use Rattle.std.specs.Ordering.{int_eq}
 use Rattle.std.specs.List.{list_any, list_all}
-use Rattle.df_types.specs.Ty.{Ty}
+use Rattle.df_types.specs.Ty.{Ty, same_type}
 
 mutual
   pub data Value : Type 0 where
@@ -52,12 +52,19 @@ abbrev mutual
   same (Made a parts) (Made b others) = (a == b) && all_same parts others
   same (Sequence vs) (Sequence ws) = all_same vs ws
   same (Collection vs) (Collection ws) = all_same vs ws
+  same (Memory a) (Memory b) = same_objects a b
   same v w = false
 
   pub all_same : Values → Values → Bool
   all_same no_value no_value = true
   all_same (value v vs) (value w ws) = same v w && all_same vs ws
   all_same vs ws = false
+
+  pub same_objects : Objects → Objects → Bool
+  same_objects no_object no_object = true
+  same_objects (instance_at r class vs rest) (instance_at k other ws others) = (r == k) && ((class == other) && (all_same vs ws && same_objects rest others))
+  same_objects (elements_at r element vs rest) (elements_at k other ws others) = (r == k) && (same_type element other && (all_same vs ws && same_objects rest others))
+  same_objects a b = false
 
 -- ---- order: by kind, then by number, then part by part
 

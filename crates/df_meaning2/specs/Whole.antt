@@ -15,7 +15,7 @@ use Rattle.df_meaning2.specs.Heap.{lies_in_readable, lies_in_changeable, least_u
 use Rattle.df_meaning2.specs.Outcome.{Outcome, Gives, Wrong, TooDeep, NoChoice, Dismissed, after}
 use Rattle.df_meaning2.specs.State.{Locals, Store, State, with_store, with_bound, with_choices, reading_inside, entering}
 use Rattle.df_meaning2.specs.Meaning.{Meaning, evaluate, check_all, as_kind, asked_at}
-use Rattle.df_meaning2.specs.Execution.{Flow, Next, Returned, Broken, Given, Loop, Actions, execute_all, loop_of}
+use Rattle.df_meaning2.specs.Execution.{Flow, Next, Returned, Broken, Given, Loop, Actions, values_in, execute_all, loop_of}
 
 -- ---- functions
 
@@ -38,10 +38,9 @@ apply_by m at callee types arguments s = option_map_or (apply_function m at type
 
 -- ---- methods
 
--- the values of the results; one that has none keeps the run from counting
+-- the values of the results
 abbrev pub results_in : List Param → Locals → Outcome (List Value)
-results_in [] locals = Gives []
-results_in (x ∷ xs) locals = option_map_or (λ v. after (results_in xs locals) (λ vs. Gives (v ∷ vs))) (locals x.local) Dismissed
+results_in results locals = values_in (map (λ (x : Param). x.local) results) locals
 
 -- a body ends in a state; a break out of no loop is none of a well-typed program
 abbrev pub end_of : Flow → Outcome State

@@ -14,6 +14,7 @@
 //! - Left open until type parameters have a source: whether compiled calls may take type arguments that don't compile.
 #![tactic(auto)]
 
+mod conversion;
 mod decl;
 mod expr;
 mod interval;
