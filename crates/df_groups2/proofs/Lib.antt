@@ -1,0 +1,12 @@
+mod Membership
+mod Paths
+mod Rests
+mod Working
+mod Entering
+mod Searches
+mod Reversing
+mod Fillings
+mod Groupings
+mod Numbering
+mod Gatherings
+mod Reaching

@@ -1,0 +1,11 @@
+pub mod Parts
+pub mod Graph
+pub mod GraphView
+pub mod Reversed
+pub mod Finishing
+pub mod Work
+pub mod Searching
+pub mod Filling
+pub mod Grouping
+pub mod Calls
+pub mod Laws
