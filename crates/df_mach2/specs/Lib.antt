@@ -1,0 +1,10 @@
+pub mod Name
+pub mod Value
+pub mod Row
+pub mod Shape
+pub mod Text
+pub mod State
+pub mod Step
+pub mod Run
+pub mod Front
+pub mod View
