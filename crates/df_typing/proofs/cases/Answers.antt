@@ -1,0 +1,23 @@
+use Rattle.std.proofs.Common.{refl}
+use Rattle.df_typing.specs.Form.{form_of, forms}
+use Rattle.df_typing.proofs.cases.Goals as goal
+
+pub returns : goal.returns
+unfolding form_of forms
+returns c = record {
+  parameter_told = refl;
+  leak_told = refl;
+  nested_told = refl;
+  again_told = refl;
+  given_told = refl;
+  negated_told = refl;
+  branches_told = refl;
+  late_told = refl;
+  never_told = refl;
+  used_told = refl;
+  ends_told = refl;
+  lemmacall_told = refl;
+  funstmt_told = refl;
+  calc_told = refl;
+  good_told = refl;
+}
