@@ -119,11 +119,10 @@ compare positions ty (one ∷ []) (expr a (expr b no_expr)) = Apply (Op.Compare 
 compare positions ty all (expr a es) = Chain ty a (links positions all es)
 compare positions ty all no_expr = nothing
 
--- one alone is itself
+-- there may be one alone
 abbrev pub joined : Connective → Exprs → Expr
 joined connective no_expr = nothing
-joined connective (expr e no_expr) = e
-joined connective (expr e (expr next es)) = Junction connective e (expr next es)
+joined connective (expr e es) = Junction connective e es
 
 abbrev pub reversed : Exprs → Exprs → Exprs
 reversed no_expr behind = behind

@@ -1,6 +1,6 @@
 -- What a file declares: its newtypes, and what can be called. A declaration's number is its place in the source; of two of one name
 -- the first counts.
-use Rattle.std.specs.Prelude.{ℕ, suc, ◌==◌, Bool, true, false, if◌then◌else◌, List, [], ◌∷◌, ◌++◌, Option, Some, None}
+use Rattle.std.specs.Prelude.{ℕ, suc, ◌==◌, Bool, true, false, if◌then◌else◌, List, [], ◌∷◌, ◌++◌, Option, Some, None, is_some}
 use Rattle.std.specs.Option.{option_map}
 use Rattle.df_tok.specs.declared.token.Kind.{Kind}
 use Rattle.df_tok.specs.declared.token.Kind.TheVariants as kinds
@@ -103,20 +103,22 @@ signature_of declares.Lemma table inside = Some (signature_by callables.Lemma ta
 
 -- ---- the table of declarations
 
-abbrev pub entry_if : Option Named → ℕ → Option Global → List Entry
-entry_if (Some named) decl (Some global) = record { name = named.name; decl = decl; is = global } ∷ []
-entry_if named decl global = []
+-- one more, if its name is new
+abbrev pub with_entry : List Entry → Option Named → ℕ → Option Global → List Entry
+with_entry before (Some named) decl (Some global) =
+    if is_some (entry_of before named.name) then before else before ++ record { name = named.name; decl = decl; is = global } ∷ []
+with_entry before named decl global = before
 
 abbrev pub global_of : Declares → List Entry → Asts → Option Global
 global_of declares.Newtype types inside = Some TheNewtype
 global_of declared types inside = option_map TheCallable (signature_of declared types inside)
 
--- of declarations that are counted from this number, over a table that knows the types
-abbrev pub entries_from : List Entry → ℕ → Asts → List Entry
-entries_from types decl Nil = []
-entries_from types decl (Next (Kept x) rest) = entries_from types decl rest
-entries_from types decl (Next (Made label span inside) rest) =
-    entry_if (name_in (marks inside)) decl (global_of (form_of label).declares types inside) ++ entries_from types (suc decl) rest
+-- behind these, of declarations that are counted from this number, over a table that knows the types
+abbrev pub entries_behind : (before types : List Entry) → ℕ → Asts → List Entry
+entries_behind before types decl Nil = before
+entries_behind before types decl (Next (Kept x) rest) = entries_behind before types decl rest
+entries_behind before types decl (Next (Made label span inside) rest) =
+    entries_behind (with_entry before (name_in (marks inside)) decl (global_of (form_of label).declares types inside)) types (suc decl) rest
 
 -- the declarations of a file
 abbrev pub declarations : Asts → Asts
@@ -124,6 +126,9 @@ declarations Nil = Nil
 declarations (Next (Kept x) rest) = declarations rest
 declarations (Next (Made label span inside) rest) = inside
 
--- Which names are types is known by the declarations alone.
+-- which names are types is known by the declarations alone
+abbrev pub types_of : Asts → List Entry
+types_of file = entries_behind [] [] 0 (declarations file)
+
 abbrev pub table_of : Asts → List Entry
-table_of file = entries_from (entries_from [] 0 (declarations file)) 0 (declarations file)
+table_of file = entries_behind [] (types_of file) 0 (declarations file)

@@ -20,4 +20,17 @@ returns c = record {
   funstmt_told = refl;
   calc_told = refl;
   good_told = refl;
+  inner_let_told = refl;
+  calls_told = refl;
+  mixed_told = refl;
+  loops_told = refl;
+  calculations_told = refl;
+  literals_told = refl;
+  late_typed = refl;
+  inner_let_typed = refl;
+  calls_typed = refl;
+  mixed_typed = refl;
+  loops_typed = refl;
+  calculations_typed = refl;
+  literals_typed = refl;
 }
