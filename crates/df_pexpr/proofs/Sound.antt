@@ -14,6 +14,7 @@ use Rattle.df_tree.specs.Tree.{Tree, Leaf, Node, Trees, none, more, trees_of, le
 use Rattle.df_tree.specs.Row.{Row}
 use Rattle.df_tree.specs.Grammar.{row, part_of, IsAmong, May, MayEnd, IsTree, Are, begins, begins_part, chosen, is_open, Stops, IsSettled, AreSettled}
 use Rattle.df_pexpr.specs.mirror.Reading.{Reading, Reader, chosen_step, placed_step, step, by_step, children, turn_limit, node, leaf, reader}
+use Rattle.df_tree.proofs.Single.{if_cases}
 use Rattle.df_tree.proofs.Followed.{any_row}
 use Rattle.df_pexpr.proofs.Complete.{joined, joined_none, joined_more, length_pushed}
 
@@ -44,10 +45,6 @@ chosen_done : (empty : Bool) (o : Option Part) → chosen_step empty o ≡ Done 
 chosen_done empty (Some q) e = absurd cc
 chosen_done true None e = (refl, refl)
 chosen_done false None e = absurd cc
-
-if_cases : {A : Type 0} (b : Bool) (x y z : A) → (if b then x else y) ≡ z → ((b ≡ true) × (x ≡ z)) ⊎ ((b ≡ false) × (y ≡ z))
-if_cases true x y z e = inl (refl, e)
-if_cases false x y z e = inr (refl, e)
 
 read_means : (form : Form) (r : Row) (k : ℕ) (tokens : List Token) (p : Part) → step form r k tokens ≡ Read p → May form r.parts k p
 read_means All r k tokens p e = placed_some (slice_get r.parts k) p e

@@ -1,7 +1,7 @@
 -- What the reader does token by token, and tree by tree.
 use Rattle.std.proofs.Common.{◌≡◌, ℕ, zero, suc, ◌+◌, ◌-◌, ◌<◌, ◌≤◌, nat_lt, Bool, true, false, List, [], ◌∷◌, ◌++◌, map, length, min, get_or, drop, Option, Some, None, slice_get, refl, sym, ap, ◌∙◌, arith, if◌then◌else◌, ◌==◌}
 use Rattle.std.specs.Option.{option_and_then, option_map, option_map_or}
-use Rattle.std.proofs.lemmas.List.{length-map}
+use Rattle.std.proofs.lemmas.List.{length-map, map-append}
 use Rattle.df_pexpr.specs.Position.{place_of}
 use Rattle.df_tok.specs.Token.{Token}
 use Rattle.df_tree.specs.declared.production.Part.{Part}
@@ -31,12 +31,10 @@ second_is kinds tokens at b e f =
     rw e (rw (drop_next tokens at) (rw next f))
 
 pub map_pushed : {A B : Type 0} (f : A → B) (xs : List A) (x : A) → map f (xs ++ x ∷ []) ≡ map f xs ++ f x ∷ []
-map_pushed f [] x = refl
-map_pushed f (y ∷ xs) x = ap (λ ys. f y ∷ ys) (map_pushed f xs x)
+map_pushed f xs x = map-append f xs (x ∷ [])
 
 pub map_joined : {A B : Type 0} (f : A → B) (xs ys : List A) → map f (xs ++ ys) ≡ map f xs ++ map f ys
-map_joined f [] ys = refl
-map_joined f (x ∷ xs) ys = ap (λ zs. f x ∷ zs) (map_joined f xs ys)
+map_joined f xs ys = map-append f xs ys
 
 -- the token of a number, where there is one
 pub terminal_there : (tokens : List declared.Token) (at : ℕ) → first_terminal (drop at (map view tokens)) ≡ option_map (λ (t : declared.Token). terminal (view t)) (slice_get tokens at)

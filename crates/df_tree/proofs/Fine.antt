@@ -9,7 +9,10 @@ use Rattle.df_tree.specs.declared.production.Form.TheVariants.{All, One, Many}
 use Rattle.df_tree.specs.declared.production.Part.{Part}
 use Rattle.df_tree.specs.declared.production.Part.TheVariants.{Terminal, Nonterminal}
 use Rattle.df_tree.specs.Row.{Row}
-use Rattle.df_tree.specs.Grammar.{declarations, statements, expressions, classes, kinds_of, nothing, entry_in, row, is_nil}
+use Rattle.df_tree.specs.declared.label.Way.{Way}
+use Rattle.df_tree.specs.declared.label.Way.TheVariants.{Pass, Title, Wrap, Make, Close}
+use Rattle.df_tree.specs.declared.table.TheConstants.{KEPT}
+use Rattle.df_tree.specs.Grammar.{declarations, statements, expressions, classes, kinds_of, is_in, nothing, entry_in, row, is_nil}
 use Rattle.df_tree.proofs.Classes.{subset, apart}
 
 abbrev pub first_of : Part → List ℕ
@@ -83,12 +86,63 @@ exact_by All r = subset (kinds_of r.first) (first_of_all r.parts [])
 exact_by One r = subset (kinds_of r.first) (firsts_of r.parts)
 exact_by Many r = subset (kinds_of r.first) (firsts_of r.parts)
 
+-- Its token is not kept.
+abbrev pub is_silent : Part → Bool
+is_silent (Terminal kind) = not (is_in kind (kinds_of KEPT))
+is_silent (Nonterminal n) = false
+
+abbrev pub keeps_by : (Part → Bool) → Way → Row → Bool
+keeps_by keeps Pass r = list_all keeps r.parts
+keeps_by keeps (Title label) r = true
+keeps_by keeps (Wrap label) r = true
+keeps_by keeps (Make label) r = false
+keeps_by keeps Close r = false
+
+-- A frame that closes as one node still does so behind the part.
+abbrev pub keeps : ℕ → Part → Bool
+keeps zero p = false
+keeps (suc k) (Terminal kind) = is_silent (Terminal kind)
+keeps (suc k) (Nonterminal n) = keeps_by (keeps k) (row n).way (row n)
+
+abbrev pub run_gives : (Part → Bool) → (Part → Bool) → List Part → Bool
+run_gives gives keeps [] = false
+run_gives gives keeps (p ∷ ps) = if is_silent p then run_gives gives keeps ps else gives p && list_all keeps ps
+
+abbrev pub form_gives : (Part → Bool) → (Part → Bool) → Form → Row → Bool
+form_gives gives keeps All r = run_gives gives keeps r.parts
+form_gives gives keeps One r = not r.empty && list_all gives r.parts
+form_gives gives keeps Many r = false
+
+abbrev pub gives_by : (Part → Bool) → (Part → Bool) → Way → Row → Bool
+gives_by gives keeps Pass r = form_gives gives keeps r.form r
+gives_by gives keeps (Title label) r = true
+gives_by gives keeps (Wrap label) r = true
+gives_by gives keeps (Make label) r = true
+gives_by gives keeps Close r = true
+
+-- A frame that was empty closes as one node behind the part.
+abbrev pub gives : ℕ → Part → Bool
+gives zero p = false
+gives (suc k) (Terminal kind) = false
+gives (suc k) (Nonterminal n) = gives_by (gives k) (keeps k) (row n).way (row n)
+
+-- A frame that a production closes does so as one node.
+abbrev pub closes_by : Way → Row → Bool
+closes_by Pass r = true
+closes_by (Title label) r = true
+closes_by (Wrap label) r = true
+closes_by (Make label) r = true
+closes_by Close r = form_gives (gives 9) (keeps 9) r.form r
+
 -- It has few parts.
 abbrev short : Row → Bool
 short r = nat_lt (length r.parts) 100
 
+abbrev others : Row → Bool
+others r = low_by r.counting r.rank r.parts && (exact_by r.form r && short r)
+
 abbrev pub fine : Row → Bool
-fine r = fine_by r.form r && (low_by r.counting r.rank r.parts && (exact_by r.form r && short r))
+fine r = fine_by r.form r && (closes_by r.way r && others r)
 
 -- the numbers of the productions whose columns are wrong
 unfit : ℕ → List Row → List ℕ
@@ -140,26 +194,26 @@ both_fine n =
     row_has fine n nothing_fine (all_fit 0 declarations no_declaration_unfit) (all_fit 1000 statements no_statement_unfit) (all_fit 2000 expressions no_expression_unfit)
 
 pub row_fine : (n : ℕ) → fine_by (row n).form (row n) ≡ true
-row_fine n = (and_parts (fine_by (row n).form (row n)) (low_by (row n).counting (row n).rank (row n).parts && (exact_by (row n).form (row n) && short (row n))) (both_fine n)).0
+row_fine n = (and_parts (fine_by (row n).form (row n)) (closes_by (row n).way (row n) && others (row n)) (both_fine n)).0
 
-low_parts : (n : ℕ) → low_by (row n).counting (row n).rank (row n).parts ≡ true
-low_parts n =
-    let others = (and_parts (fine_by (row n).form (row n)) (low_by (row n).counting (row n).rank (row n).parts && (exact_by (row n).form (row n) && short (row n))) (both_fine n)).1 in
-    (and_parts (low_by (row n).counting (row n).rank (row n).parts) (exact_by (row n).form (row n) && short (row n)) others).0
+pub row_closes : (n : ℕ) → closes_by (row n).way (row n) ≡ true
+row_closes n = (and_parts (closes_by (row n).way (row n)) (others (row n)) (and_parts (fine_by (row n).form (row n)) (closes_by (row n).way (row n) && others (row n)) (both_fine n)).1).0
+
+row_others : (n : ℕ) → (low_by (row n).counting (row n).rank (row n).parts ≡ true) × ((exact_by (row n).form (row n) && short (row n)) ≡ true)
+row_others n =
+    let rest = (and_parts (fine_by (row n).form (row n)) (closes_by (row n).way (row n) && others (row n)) (both_fine n)).1 in
+    and_parts (low_by (row n).counting (row n).rank (row n).parts) (exact_by (row n).form (row n) && short (row n)) (and_parts (closes_by (row n).way (row n)) (others (row n)) rest).1
 
 pub row_short : (n : ℕ) → length (row n).parts < 100
-row_short n =
-    let others = (and_parts (fine_by (row n).form (row n)) (low_by (row n).counting (row n).rank (row n).parts && (exact_by (row n).form (row n) && short (row n))) (both_fine n)).1 in
-    let last = (and_parts (low_by (row n).counting (row n).rank (row n).parts) (exact_by (row n).form (row n) && short (row n)) others).1 in
-    ltb-true (length (row n).parts) 100 (and_parts (exact_by (row n).form (row n)) (short (row n)) last).1
+row_short n = ltb-true (length (row n).parts) 100 (and_parts (exact_by (row n).form (row n)) (short (row n)) (row_others n).1).1
 
 abbrev pub lower : ℕ → Part → Bool
 lower b p = nat_lt (rank_of p) b || is_word p
 
 pub row_low : (n : ℕ) → list_all (lower (bound (row n).counting (row n).rank)) (row n).parts ≡ true
-row_low n = (and_parts (nat_lt (row n).rank (top_rank + 1)) (list_all (lower (bound (row n).counting (row n).rank)) (row n).parts) (low_parts n)).1
+row_low n = (and_parts (nat_lt (row n).rank (top_rank + 1)) (list_all (lower (bound (row n).counting (row n).rank)) (row n).parts) (row_others n).0).1
 
 pub row_rank : (n : ℕ) → (row n).rank ≤ top_rank
 row_rank n =
-    let e = (and_parts (nat_lt (row n).rank (top_rank + 1)) (list_all (lower (bound (row n).counting (row n).rank)) (row n).parts) (low_parts n)).0 in
+    let e = (and_parts (nat_lt (row n).rank (top_rank + 1)) (list_all (lower (bound (row n).counting (row n).rank)) (row n).parts) (row_others n).0).0 in
     omega (arith, ltb-true (row n).rank (top_rank + 1) e)

@@ -8,57 +8,16 @@ use Rattle.df_tree.specs.declared.production.Form.{Form}
 use Rattle.df_tree.specs.declared.production.Form.TheVariants.{All, One, Many}
 use Rattle.df_tree.specs.declared.production.Part.{Part}
 use Rattle.df_tree.specs.declared.production.Part.TheVariants.{Terminal, Nonterminal}
-use Rattle.df_tree.specs.declared.table.TheConstants.{FILE, EXPRESSION, TYPE, PATTERN, KEPT}
+use Rattle.df_tree.specs.declared.table.TheConstants.{FILE, EXPRESSION, TYPE, PATTERN}
 use Rattle.df_tree.specs.Tree.{Tree, Leaf, Node, Trees, none, more, leaves, leaves_all}
 use Rattle.df_tree.specs.Row.{Row}
 use Rattle.df_tree.specs.Ast.{Ast, Kept, asts_of}
-use Rattle.df_tree.specs.Grammar.{declarations, statements, expressions, classes, row, kinds_of, is_in, part_of, May, MayEnd, IsTree, Are}
+use Rattle.df_tree.specs.Grammar.{declarations, statements, expressions, row, part_of, May, MayEnd, IsTree, Are}
 use Rattle.df_tree.specs.Building.{Frame, opened, added, mark_at, matters, closed, enter, leave, built, built_all, ast_from}
 use Rattle.df_tree.specs.Spelling.{IsOne, MakesOne}
+use Rattle.df_tree.proofs.Fine.{is_silent, keeps_by, keeps, run_gives, form_gives, gives_by, gives, closes_by, row_closes}
 use Rattle.df_tree.proofs.Begun.{AreOf, are_of}
 use Rattle.df_tree.proofs.Deep.{may_pass}
-
--- ---- what the columns say, to so many productions inside one another
-
--- Its token is not kept.
-abbrev is_silent : Part → Bool
-is_silent (Terminal kind) = not (is_in kind (kinds_of KEPT))
-is_silent (Nonterminal n) = false
-
-abbrev keeps_by : (Part → Bool) → Way → Row → Bool
-keeps_by keeps Pass r = list_all keeps r.parts
-keeps_by keeps (Title label) r = true
-keeps_by keeps (Wrap label) r = true
-keeps_by keeps (Make label) r = false
-keeps_by keeps Close r = false
-
--- A frame that closes as one node still does so behind the part.
-abbrev keeps : ℕ → Part → Bool
-keeps zero p = false
-keeps (suc k) (Terminal kind) = is_silent (Terminal kind)
-keeps (suc k) (Nonterminal n) = keeps_by (keeps k) (row n).way (row n)
-
-abbrev run_gives : (Part → Bool) → (Part → Bool) → List Part → Bool
-run_gives gives keeps [] = false
-run_gives gives keeps (p ∷ ps) = if is_silent p then run_gives gives keeps ps else gives p && list_all keeps ps
-
-abbrev form_gives : (Part → Bool) → (Part → Bool) → Form → Row → Bool
-form_gives gives keeps All r = run_gives gives keeps r.parts
-form_gives gives keeps One r = not r.empty && list_all gives r.parts
-form_gives gives keeps Many r = false
-
-abbrev gives_by : (Part → Bool) → (Part → Bool) → Way → Row → Bool
-gives_by gives keeps Pass r = form_gives gives keeps r.form r
-gives_by gives keeps (Title label) r = true
-gives_by gives keeps (Wrap label) r = true
-gives_by gives keeps (Make label) r = true
-gives_by gives keeps Close r = form_gives gives keeps r.form r
-
--- A frame that was empty closes as one node behind the part.
-abbrev gives : ℕ → Part → Bool
-gives zero p = false
-gives (suc k) (Terminal kind) = false
-gives (suc k) (Nonterminal n) = gives_by (gives k) (keeps k) (row n).way (row n)
 
 -- ---- what is built
 
@@ -118,9 +77,9 @@ mutual
   all_close none k at frame r j each right c = c
   all_close (more t ts) k at frame r j each right c = all_close ts k (at + length (leaves t)) (built at frame t) r (suc j) each.1 right.2 (still_closes t k at frame each.0 right.1 c)
 
-if_cases : (b c d : Bool) → (if b then c else d) ≡ true → ((b ≡ true) × (c ≡ true)) ⊎ (d ≡ true)
-if_cases true c d h = inl (refl, h)
-if_cases false c d h = inr h
+pub if_cases : {A : Type 0} (b : Bool) (x y z : A) → (if b then x else y) ≡ z → ((b ≡ true) × (x ≡ z)) ⊎ ((b ≡ false) × (y ≡ z))
+if_cases true x y z e = inl (refl, e)
+if_cases false x y z e = inr (refl, e)
 
 by_form : (form : Form) (k at : ℕ) (r : Row) (ts : Trees) → r.form ≡ form → form_gives (gives k) (keeps k) form r ≡ true
     → (r.form ≡ All → run_gives (gives k) (keeps k) r.parts ≡ true → (start : ℕ) → Closes (built_all at (opened start) ts))
@@ -129,13 +88,13 @@ by_form All k at r ts e h run one = run e h
 by_form One k at r ts e h run one = one e (and_parts (not r.empty) (list_all (gives k) r.parts) h)
 by_form Many k at r ts e h run one = absurd (never h)
 
-by_way : (way : Way) (k at start after : ℕ) (r : Row) (ts : Trees) → gives_by (gives k) (keeps k) way r ≡ true → (form_gives (gives k) (keeps k) r.form r ≡ true → (s : ℕ) → Closes (built_all at (opened s) ts))
-    → Closes (leave way (opened start) after (built_all at (enter way at (opened start)) ts))
-by_way Pass k at start after r ts h inside = inside h start
-by_way (Title label) k at start after r ts h inside = λ end. record { ast = _; is = refl }
-by_way (Wrap label) k at start after r ts h inside = λ end. record { ast = _; is = refl }
-by_way (Make label) k at start after r ts h inside = λ end. record { ast = _; is = refl }
-by_way Close k at start after r ts h inside = λ end. record { ast = (inside h at after).ast; is = (inside h at after).is }
+by_way : (way : Way) (k at start after : ℕ) (r : Row) (ts : Trees) → closes_by way r ≡ true → gives_by (gives k) (keeps k) way r ≡ true
+    → ((j : ℕ) → form_gives (gives j) (keeps j) r.form r ≡ true → (s : ℕ) → Closes (built_all at (opened s) ts)) → Closes (leave way (opened start) after (built_all at (enter way at (opened start)) ts))
+by_way Pass k at start after r ts closes h inside = inside k h start
+by_way (Title label) k at start after r ts closes h inside = λ end. record { ast = _; is = refl }
+by_way (Wrap label) k at start after r ts closes h inside = λ end. record { ast = _; is = refl }
+by_way (Make label) k at start after r ts closes h inside = λ end. record { ast = _; is = refl }
+by_way Close k at start after r ts closes h inside = λ end. record { ast = (inside 9 closes at after).ast; is = (inside 9 closes at after).is }
 
 mutual
   gives_one : (t : Tree) (k at start : ℕ) → gives k (part_of t) ≡ true → IsTree t → Closes (built at (opened start) t)
@@ -143,8 +102,8 @@ mutual
   gives_one (Leaf x) (suc k) at start h right = absurd (never h)
   gives_one (Node n ts) zero at start h right = absurd (never h)
   gives_one (Node n ts) (suc k) at start h right =
-      by_way (row n).way k at start (at + length (leaves_all ts)) (row n) ts h (λ g. by_form (row n).form k at (row n) ts refl g
-      (λ e run s. run_closes ts k at s (row n) 0 (row n).parts (are_of (row n) 0 ts e right) right run) (λ e one s. one_closes ts k at s (row n) e one right))
+      by_way (row n).way k at start (at + length (leaves_all ts)) (row n) ts (row_closes n) h (λ j g. by_form (row n).form j at (row n) ts refl g
+      (λ e run s. run_closes ts j at s (row n) 0 (row n).parts (are_of (row n) 0 ts e right) right run) (λ e one s. one_closes ts j at s (row n) e one right))
 
   one_closes : (ts : Trees) (k at start : ℕ) (r : Row) → r.form ≡ One → (not r.empty ≡ true) × (list_all (gives k) r.parts ≡ true) → Are r 0 ts → Closes (built_all at (opened start) ts)
   one_closes none k at start r e one right = absurd (let empty : r.empty ≡ true = (subst (λ f. MayEnd f r 0) e right) refl in never (subst (λ b. not b ≡ true) empty one.0))
@@ -155,10 +114,10 @@ mutual
   run_closes none k at start r j [] of right h = absurd (never h)
   run_closes none k at start r j (p ∷ ps) of right h = absurd of
   run_closes (more t ts) k at start r j [] of right h = absurd of
-  run_closes (more t ts) k at start r j (p ∷ ps) of right h = elim (if_cases (is_silent p) (run_gives (gives k) (keeps k) ps) (gives k p && list_all (keeps k) ps) h) [
+  run_closes (more t ts) k at start r j (p ∷ ps) of right h = elim (if_cases (is_silent p) (run_gives (gives k) (keeps k) ps) (gives k p && list_all (keeps k) ps) true h) [
     | inl (silent, later) ↦ subst (λ f. Closes (built_all (at + length (leaves t)) f ts)) (sym (silent_adds_none at (opened start) t (subst (λ q. is_silent q ≡ true) of.0 silent)))
         (run_closes ts k (at + length (leaves t)) start r (suc j) ps of.1 right.2 later)
-    | inr here ↦ (let both = and_parts (gives k p) (list_all (keeps k) ps) here in
+    | inr (loud, here) ↦ (let both = and_parts (gives k p) (list_all (keeps k) ps) here in
         all_close ts k (at + length (leaves t)) (built at (opened start) t) r (suc j) (each_of k ps ts of.1 both.1) right.2
         (gives_one t k at start (subst (λ q. gives k q ≡ true) of.0 both.0) right.1))
   ]
@@ -172,9 +131,9 @@ has_frame (Wrap label) = false
 has_frame (Make label) = true
 has_frame Close = true
 
-abbrev single : Part → Bool
-single (Terminal kind) = false
-single (Nonterminal n) = has_frame (row n).way && gives 40 (Nonterminal n)
+abbrev is_framed : Part → Bool
+is_framed (Terminal kind) = false
+is_framed (Nonterminal n) = has_frame (row n).way && gives 1 (Nonterminal n)
 
 same_title : (way : Way) (frame : Frame) (after : ℕ) (inner : Frame) → has_frame way ≡ true → (leave way frame after inner).title ≡ frame.title
 same_title Pass frame after inner h = absurd (never h)
@@ -183,29 +142,29 @@ same_title (Wrap label) frame after inner h = absurd (never h)
 same_title (Make label) frame after inner h = refl
 same_title Close frame after inner h = refl
 
-makes_one : (n : ℕ) → single (Nonterminal n) ≡ true → MakesOne n
-makes_one n h at t part right = by t right (subst (λ p. single p ≡ true) (sym part) h)
+makes_one : (n : ℕ) → is_framed (Nonterminal n) ≡ true → MakesOne n
+makes_one n h at t part right = by t right (subst (λ p. is_framed p ≡ true) (sym part) h)
   where
-    by : (t : Tree) → IsTree t → single (part_of t) ≡ true → IsOne (ast_from at t)
+    by : (t : Tree) → IsTree t → is_framed (part_of t) ≡ true → IsOne (ast_from at t)
     by (Leaf x) right h = absurd (never h)
     by (Node m ts) right h =
-        let both = and_parts (has_frame (row m).way) (gives 40 (Nonterminal m)) h in
-        let one = gives_one (Node m ts) 40 at at both.1 right 0 in
+        let both = and_parts (has_frame (row m).way) (gives 1 (Nonterminal m)) h in
+        let one = gives_one (Node m ts) 1 at at both.1 right 0 in
         let untitled : (built at (opened at) (Node m ts)).title ≡ None = same_title (row m).way (opened at) (at + length (leaves_all ts)) (built_all at (enter (row m).way at (opened at)) ts) both.0 in
         record { ast = one.ast; is = ap asts_of (ap (λ title. closed title 0 (built at (opened at) (Node m ts))) (sym untitled) ∙ one.is) }
 
 pub file_makes_one : MakesOne FILE
-unfolding row declarations statements expressions kinds_of classes
+unfolding row declarations statements expressions
 file_makes_one = makes_one FILE refl
 
 pub expression_makes_one : MakesOne EXPRESSION
-unfolding row declarations statements expressions kinds_of classes
+unfolding row declarations statements expressions
 expression_makes_one = makes_one EXPRESSION refl
 
 pub type_makes_one : MakesOne TYPE
-unfolding row declarations statements expressions kinds_of classes
+unfolding row declarations statements expressions
 type_makes_one = makes_one TYPE refl
 
 pub pattern_makes_one : MakesOne PATTERN
-unfolding row declarations statements expressions kinds_of classes
+unfolding row declarations statements expressions
 pattern_makes_one = makes_one PATTERN refl

@@ -1125,7 +1125,7 @@ const EXPRESSION_ROWS: &[GrammarRow] = &[
     // targets
     greedy_many!(Pass; Never 3; AS => AFTER_NAMED_TYPE; sub TARGET),
     // target
-    all!(Wrap As; Never 2; AS => AFTER_NAMED_TYPE; word AS, sub TARGET_TYPE),
+    all!(Title As; Never 2; AS => AFTER_NAMED_TYPE; word AS, sub TARGET_TYPE),
     // target_type
     one!(Pass; Never 1; FIRST_OF_TARGET_TYPE => AFTER_NAMED_TYPE; sub NUMERIC_TYPE, sub NAMED_TYPE),
     // numeric_type
