@@ -7,5 +7,7 @@ pub mod Deepening
 pub mod Alls
 pub mod RowTypes
 pub mod ExprTypes
+pub mod StmtTypes
+pub mod Declared
 pub mod Printed
 mod Samples

@@ -15,7 +15,7 @@ is_below (Made c vs) (Made d ws) = nat_lt (weight (Made c vs)) (weight (Made d w
 is_below (Made c vs) (Sequence ws) = nat_lt (weight (Made c vs)) (weight (Sequence ws))
 is_below (Sequence vs) (Made d ws) = nat_lt (weight (Sequence vs)) (weight (Made d ws))
 is_below (Sequence vs) (Sequence ws) = nat_lt (weight (Sequence vs)) (weight (Sequence ws))
-is_below (Collection vs) (Collection ws) = within (list_of vs) (list_of ws) && not (same (Collection vs) (Collection ws))
+is_below (Collection vs) (Collection ws) = within (list_of vs) (list_of ws) && not (within (list_of ws) (list_of vs))
 is_below v w = false
 
 -- equal weights count as equal

@@ -3,7 +3,7 @@
 #![tactic(auto)]
 
 ghost use Rattle.df_meaning2.specs.Growing.{ExpressionsGrow, StatementsGrow, WholesGrow, MethodsGrow};
-ghost use Rattle.df_meaning2.specs.Typed.{RowsAreTyped, ExpressionsAreTyped};
+ghost use Rattle.df_meaning2.specs.Typed.{RowsAreTyped, ExpressionsAreTyped, StatementsAreTyped, WholesAreTyped, ModularRunsAreTyped};
 ghost use Rattle.df_meaning2.specs.Texts.{StatementsKeepText, MethodsKeepText};
 
 /// What expressions evaluate to over a meaning that says less, they do over one that says more.
@@ -34,6 +34,11 @@ pub fn rows_are_typed()
 /// The value of a well-typed expression is of its type.
 pub fn expressions_are_typed()
     ensures { ExpressionsAreTyped }
+{}
+
+/// A well-typed statement leaves in each local that has a value one of its type, however it ends.
+pub fn statements_are_typed()
+    ensures { StatementsAreTyped }
 {}
 
 /// A whole run of a statement keeps in front what was printed before it.
