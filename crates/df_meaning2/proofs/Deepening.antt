@@ -1,23 +1,23 @@
 -- More depth keeps what functions, calls, loops and proofs do.
-use Rattle.std.proofs.Common.{◌≤◌, ℕ, zero, suc, Bool, List, [], ◌∷◌, map, Option, None, Some, refl, subst, arith}
+use Rattle.std.proofs.Common.{◌≤◌, ℕ, zero, suc, Bool, List, [], ◌∷◌, map, refl, subst, arith}
 use Rattle.std.specs.Option.{option_map_or}
 use Rattle.df_base.specs.declared.pos.Pos.{Pos}
 use Rattle.df_types.specs.declared.kind.Kind.TheVariants as kinds
-use Rattle.df_types.specs.Ty.{Ty, Tys, instances_of}
+use Rattle.df_types.specs.Ty.{Tys, instances_of}
 use Rattle.df_types.specs.Stmt.{CallOf, Stmt, Declare, Assign, Choose, Branch, While, Break, Return, Check, Prove, Print, Publish, Ghost}
 use Rattle.df_types.specs.Program.{Head, Function, Method, Program, function_at, method_at}
 use Rattle.df_types.specs.Measures.{frame_objects}
 use Rattle.df_meaning2.specs.Value.{Value, truth_of}
 use Rattle.df_meaning2.specs.Heap.{lies_in_readable, lies_in_changeable}
-use Rattle.df_meaning2.specs.Outcome.{Outcome, TooDeep, Dismissed, ◌⊑◌}
-use Rattle.df_meaning2.specs.State.{State, with_bound, with_store, reading_inside, entering}
+use Rattle.df_meaning2.specs.Outcome.{Outcome, Dismissed, ◌⊑◌}
+use Rattle.df_meaning2.specs.State.{State, with_bound, with_store}
 use Rattle.df_meaning2.specs.Meaning.{Meaning, as_kind, asked_at}
-use Rattle.df_meaning2.specs.Execution.{Flow, Next, Returned, Broken, Given, Loop, Actions, loop_of}
+use Rattle.df_meaning2.specs.Execution.{Flow, Next, Returned, Broken, Given, Loop, Actions}
 use Rattle.df_meaning2.specs.Whole.{entered, apply_function, apply_by, end_of, run_body, run_method, call_by, behind_turn, turn_of_loop, turn_by, pick_next, prove_each, prove_all, meaning_with, acting, apply_at, whole, call_at, turn_at, doing}
 use Rattle.df_meaning2.specs.Growing.{MeansLess, RangesBelow, LoopBelow, DoesLess}
 use Rattle.df_meaning2.proofs.Outcomes.{same_grows, after_grows, choice_grows, found_grows}
 use Rattle.df_meaning2.proofs.Evaluating.{evaluate_grows, check_all_grows}
-use Rattle.df_meaning2.proofs.Executing.{execute_grows, stmts_grow, loop_grows}
+use Rattle.df_meaning2.proofs.Executing.{stmts_grow, loop_grows}
 
 -- ---- what is the same at each depth
 

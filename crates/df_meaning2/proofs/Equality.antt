@@ -1,12 +1,12 @@
 -- The test of values is equality, and the order of values is total: so sets ascend.
 use Rattle.std.proofs.Common.{◌≡◌, ℕ, Bool, true, false, not, ◌&&◌, ◌||◌, ◌==◌, nat_lt, int_lt, if◌then◌else◌, List, [], ◌∷◌, refl, sym, ap, ◌∙◌, subst, arith}
 use Rattle.std.proofs.lemmas.Int.{ints}
-use Rattle.std.proofs.lemmas.Bool.{eqb-true, and_parts, and_from, not-true}
+use Rattle.std.proofs.lemmas.Bool.{eqb-true, and_parts, and_from}
 use Rattle.df_lemmas.proofs.Numbers.{equal_self}
 use Rattle.std.specs.Ordering.{int_eq}
 use Rattle.df_types.specs.Ty.{same_type}
 use Rattle.df_types.proofs.SameTypes.{same_type_equal, same_type_self}
-use Rattle.df_meaning2.specs.Value.{Objects, no_object, instance_at, elements_at, same_objects, Value, NullReference, Truth, Character, Number, Reference, Made, Sequence, Collection, Memory, Values, no_value, value, list_of, values_of, same_truth, same, all_same, rank_of, precedes, list_precedes, precedes_first, is_ascending, insert, ascending}
+use Rattle.df_meaning2.specs.Value.{Objects, no_object, instance_at, elements_at, same_objects, Value, NullReference, Truth, Character, Number, Reference, Made, Sequence, Collection, Memory, Values, no_value, value, values_of, same_truth, same, all_same, rank_of, precedes, list_precedes, precedes_first, is_ascending, insert, ascending}
 
 number_equal : (a b : _) → int_eq a b ≡ true → a ≡ b
 number_equal a b h = grind (arith, ints)

@@ -1,5 +1,5 @@
 -- More depth keeps the value of an expression.
-use Rattle.std.proofs.Common.{◌≡◌, ℕ, List, [], ◌∷◌, filter, refl, sym, ap, subst}
+use Rattle.std.proofs.Common.{◌≡◌, ℕ, List, [], ◌∷◌, filter, refl, subst}
 use Rattle.df_base.specs.declared.pos.Pos.{Pos}
 use Rattle.df_types.specs.declared.expr.Connective.{Connective}
 use Rattle.df_types.specs.declared.expr.Quantifier.{Quantifier}
@@ -15,7 +15,7 @@ use Rattle.df_meaning2.specs.Answer.{answer, compare}
 use Rattle.df_meaning2.specs.State.{State, with_bound}
 use Rattle.df_meaning2.specs.Meaning.{Meaning, answered, view_of, each, ends, led, at_entry, evaluate, evaluate_all, evaluate_lazily, evaluate_links, evaluate_arms, evaluate_range, of_type, check, check_all, assume_all, measured}
 use Rattle.df_meaning2.specs.Growing.{MeansLess}
-use Rattle.df_meaning2.proofs.Outcomes.{same_grows, equal_grows, after_grows, choice_grows}
+use Rattle.df_meaning2.proofs.Outcomes.{same_grows, after_grows, choice_grows}
 
 pub each_grows : (q : Quantifier) (f g : Value → Outcome Value) → ((v : Value) → f v ⊑ g v) → (vs : List Value) → each q f vs ⊑ each q g vs
 each_grows q f g h [] = refl

@@ -1,6 +1,5 @@
 -- More depth keeps what statements do.
-use Rattle.std.proofs.Common.{ℕ, ℤ, pos, int_le, Bool, List, [], ◌∷◌, map, length, Option, None, Some, refl, ap, subst}
-use Rattle.std.specs.Ordering.{int_eq}
+use Rattle.std.proofs.Common.{ℕ, ℤ, pos, int_le, List, [], ◌∷◌, map, length, Option, None, Some, refl, ap, subst}
 use Rattle.df_base.specs.declared.pos.Pos.{Pos}
 use Rattle.df_types.specs.declared.kind.Kind.TheVariants as kinds
 use Rattle.df_types.specs.Ty.{Ty, instance_of}
@@ -12,11 +11,10 @@ use Rattle.df_types.specs.Aims.{known_behind}
 use Rattle.df_types.specs.Measures.{loop_measure}
 use Rattle.df_meaning2.specs.Value.{Value, is_among, truth_of, number_of}
 use Rattle.df_meaning2.specs.Outcome.{Outcome, Gives, ◌⊑◌}
-use Rattle.df_meaning2.specs.Answer.{count}
 use Rattle.df_meaning2.specs.Printing.{text_of}
 use Rattle.df_meaning2.specs.State.{State, with_bound, with_text}
 use Rattle.df_meaning2.specs.Meaning.{Meaning, as_kind}
-use Rattle.df_meaning2.specs.Execution.{Flow, Next, Returned, Broken, state_of, Loop, Actions, assigned_by_all, touched_by_all, convert_all, new_array, first_elements, execute_source, execute_sources, place_of, places_of, execute_update, execute_optional, some_meet, holds, meet, execute_choice, print_all, values_in, execute_publish, values_of_range, where_true, goes, dropped, conditions, execute, execute_all, execute_branches, loop_of}
+use Rattle.df_meaning2.specs.Execution.{Flow, Next, Returned, Broken, state_of, Actions, touched_by_all, convert_all, new_array, first_elements, execute_source, execute_sources, place_of, places_of, execute_update, execute_optional, some_meet, holds, meet, execute_choice, print_all, values_in, execute_publish, values_of_range, where_true, goes, dropped, conditions, execute, execute_all, execute_branches, loop_of}
 use Rattle.df_meaning2.specs.Growing.{MeansLess, RangesBelow, LoopBelow, DoesLess}
 use Rattle.df_meaning2.proofs.Outcomes.{same_grows, after_grows, choice_grows}
 use Rattle.df_meaning2.proofs.Evaluating.{row_grows, evaluate_grows, all_grow, range_grows, of_type_grows, check_grows, check_all_grows, assume_all_grows, measured_grows}

@@ -9,8 +9,8 @@ use Rattle.df_types.specs.Ty.{Ty, Boolean, Tys, same_type, instance_of, instance
 use Rattle.df_types.specs.Expr.{Expr, Local, Bound, Apply, Junction, Chain, If, Let, Call, Quantify, Old, Exprs, no_expr, expr, Links, no_link, link, Arms, no_arm, arm}
 use Rattle.df_types.specs.Program.{Param, Function, Program, function_at, types_of, result_type}
 use Rattle.df_types.specs.Types.{is_type}
-use Rattle.df_types.specs.Rows.{operands, result, allowed, compares}
-use Rattle.df_types.specs.ExprTyping.{Scope, with_type, is_at, parameters_at, signature_of, are_types_for, is_expr, are_exprs, are_truths, are_links, are_arms, is_range, are_triggers}
+use Rattle.df_types.specs.Rows.{operands, result, allowed}
+use Rattle.df_types.specs.ExprTyping.{Scope, with_type, is_at, parameters_at, signature_of, are_types_for, is_expr, are_exprs, are_truths, are_links, are_arms}
 use Rattle.df_types.proofs.SameTypes.{same_type_equal, instance_twice}
 use Rattle.df_meaning2.specs.Value.{Value, Truth, values_of, truth_of}
 use Rattle.df_meaning2.specs.Outcome.{Outcome, Gives, Wrong, TooDeep, NoChoice, Dismissed, after, Each}

@@ -1,10 +1,10 @@
 -- A heap keeps its own objects.
-use Rattle.std.proofs.Common.{◌≡◌, ◌==◌, ◌&&◌, ◌||◌, Bool, true, false, length, Option, None, Some, refl}
+use Rattle.std.proofs.Common.{◌≡◌, ◌==◌, ◌||◌, Bool, true, false, length, Option, None, Some, refl}
 use Rattle.std.proofs.lemmas.Bool.{and_from}
 use Rattle.df_lemmas.proofs.Numbers.{equal_self}
 use Rattle.df_types.specs.Ty.{same_type}
 use Rattle.df_types.proofs.SameTypes.{same_type_self}
-use Rattle.df_meaning2.specs.Value.{Value, Reference, values_of, all_same, no_object, instance_at, elements_at}
+use Rattle.df_meaning2.specs.Value.{Value, Reference, values_of, no_object, instance_at, elements_at}
 use Rattle.df_meaning2.specs.Heap.{Object, Instance, Elements, slots_of, Heap, find, is_shaped, is_kept, keeps_each, keeps}
 use Rattle.df_meaning2.proofs.Equality.{all_same_self}
 

@@ -9,5 +9,6 @@ pub mod RowTypes
 pub mod ExprTypes
 pub mod StmtTypes
 pub mod Declared
+pub mod WholeTypes
 pub mod Printed
 mod Samples

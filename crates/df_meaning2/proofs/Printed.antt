@@ -1,24 +1,24 @@
 -- What was printed stays in front.
-use Rattle.std.proofs.Common.{◌≡◌, ℕ, zero, suc, ℤ, pos, int_le, Bool, true, false, if◌then◌else◌, List, [], ◌∷◌, ◌++◌, map, length, Option, None, Some, refl, sym, ap, ◌∙◌}
+use Rattle.std.proofs.Common.{◌≡◌, ℕ, zero, suc, Bool, List, [], ◌∷◌, ◌++◌, map, length, Option, None, Some, refl, sym, ap, ◌∙◌}
 use Rattle.std.specs.Option.{option_map_or}
 use Rattle.std.proofs.lemmas.List.{append_assoc, append-nil}
 use Rattle.df_base.specs.declared.pos.Pos.{Pos}
 use Rattle.df_types.specs.declared.kind.Kind.{Kind}
 use Rattle.df_types.specs.declared.kind.Kind.TheVariants as kinds
-use Rattle.df_types.specs.Ty.{Ty, Tys, instance_of, instances_of}
-use Rattle.df_types.specs.Expr.{Expr, Exprs}
+use Rattle.df_types.specs.Ty.{Tys, instance_of, instances_of}
+use Rattle.df_types.specs.Expr.{Expr}
 use Rattle.df_types.specs.Stmt.{Demand, Typed, Target, CallOf, Source, Single, Results, NewArray, Update, Range, Stmt, Declare, Assign, Choose, Branch, While, Break, Return, Check, Prove, Print, Publish, Ghost, Stmts, done, next, Branches, no_branch, branch}
 use Rattle.df_types.specs.Program.{Program, Method, method_at}
-use Rattle.df_types.specs.Measures.{frame_objects, loop_measure}
+use Rattle.df_types.specs.Measures.{frame_objects}
 use Rattle.df_types.specs.Aims.{known_behind}
 use Rattle.df_meaning2.specs.Value.{Value, same, truth_of, number_of}
 use Rattle.df_meaning2.specs.Heap.{lies_in_changeable}
 use Rattle.df_meaning2.specs.Outcome.{Outcome, Gives, Wrong, TooDeep, NoChoice, Dismissed, after, Each}
 use Rattle.df_meaning2.specs.Printing.{text_of}
-use Rattle.df_meaning2.specs.State.{State, with_local, with_bound, with_heap, with_text, with_store, entering}
+use Rattle.df_meaning2.specs.State.{State, with_local, with_bound, with_text, with_store, entering}
 use Rattle.df_meaning2.specs.Meaning.{Meaning, evaluate, check, check_all, as_kind, asked_at, assume_all}
-use Rattle.df_meaning2.specs.Execution.{Flow, Next, Returned, Broken, state_of, Given, Loop, Actions, Place, NoPlace, LocalPlace, SlotPlace, Placed, new_array, convert_all, first_elements, execute_source, execute_sources, places_of, put, same_place, if_equal, put_all, execute_update, execute_optional, some_meet, meet, execute_choice, declare_all, print_all, values_in, execute_publish, values_of_range, where_true, goes, dropped, conditions, execute, execute_all, execute_branches, loop_of}
-use Rattle.df_meaning2.specs.Whole.{results_in, end_of, run_body, run_method, call_by, behind_turn, turn_of_loop, turn_by, pick_next, prove_each, prove_all, whole, call_at, turn_at, doing}
+use Rattle.df_meaning2.specs.Execution.{Flow, Next, Returned, Broken, state_of, Given, Loop, Actions, Place, NoPlace, LocalPlace, SlotPlace, Placed, convert_all, first_elements, execute_source, execute_sources, places_of, put, same_place, if_equal, put_all, execute_update, execute_optional, some_meet, meet, execute_choice, declare_all, print_all, values_in, execute_publish, where_true, goes, dropped, execute, execute_all, execute_branches, loop_of}
+use Rattle.df_meaning2.specs.Whole.{results_in, end_of, run_body, run_method, call_by, behind_turn, turn_by, pick_next, prove_each, prove_all, call_at, turn_at, doing}
 use Rattle.df_meaning2.specs.Texts.{Extends, FlowExtends, GivenExtends}
 use Rattle.df_meaning2.proofs.ExprTypes.{after_each, any_after, choice_each}
 

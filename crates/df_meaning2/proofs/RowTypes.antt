@@ -1,5 +1,5 @@
 -- Each operation gives values of its type.
-use Rattle.std.proofs.Common.{◌≡◌, ◌<◌, ℕ, zero, suc, ℤ, pos, negsuc, int_le, int_lt, nat_lt, Bool, true, false, not, ◌&&◌, ◌||◌, ◌==◌, if◌then◌else◌, List, [], ◌∷◌, ◌++◌, length, map, drop, slice_get, slice_index_or, Option, None, Some, refl, sym, ap, ◌∙◌, subst, arith}
+use Rattle.std.proofs.Common.{◌≡◌, ◌<◌, ℕ, zero, suc, ℤ, pos, negsuc, int_le, int_lt, nat_lt, Bool, true, false, not, ◌||◌, ◌==◌, if◌then◌else◌, List, [], ◌∷◌, length, map, drop, slice_get, Option, None, Some, refl, sym, ap, ◌∙◌, subst, arith}
 use Rattle.std.proofs.lemmas.Int.{ints}
 use Rattle.std.proofs.lemmas.Bool.{eqb-true, and_parts, and_from}
 use Rattle.std.specs.List.{list_all, cons_option, AllByRecursion}
@@ -13,7 +13,7 @@ use Rattle.df_types.proofs.SameTypes.{same_type_equal, instance_twice}
 use Rattle.df_meaning2.specs.Value.{Value, NullReference, Truth, Character, Number, Reference, Made, Sequence, Collection, Memory, Values, no_value, value, list_of, values_of, is_ascending, ascending, items_of, reference_of, constructor_of, set_of, nat_of}
 use Rattle.df_meaning2.specs.Heap.{references_in, members_in, frame_members}
 use Rattle.df_meaning2.specs.Types.{is_reference, has_type, all_have_type, have_types, is_of}
-use Rattle.df_meaning2.specs.Answer.{View, Answer, Is, Asks, EachAnswer, in_type, nth, number_at, count, is_index, item, has_part, part_in, answer}
+use Rattle.df_meaning2.specs.Answer.{View, Is, in_type, nth, number_at, count, is_index, has_part, part_in, answer}
 use Rattle.df_meaning2.specs.Typed.{IsOf, AreOf, AnswerIsOf}
 use Rattle.df_meaning2.proofs.Equality.{ascending_ascends}
 use Rattle.df_meaning2.proofs.Alls.{values_again, all_append, all_nth, all_ascending}

@@ -1,26 +1,21 @@
 -- Small programs on which the definitions are computed. Positions tell which node is meant.
-use Rattle.std.proofs.Common.{◌≡◌, ℕ, ℤ, pos, negsuc, Bool, true, false, List, [], ◌∷◌, Option, None, Some, codes, refl}
+use Rattle.std.proofs.Common.{◌≡◌, ℕ, ℤ, pos, Bool, true, false, List, [], ◌∷◌, None, codes, refl}
 use Rattle.df_base.specs.declared.pos.Pos.{Pos}
 use Rattle.df_types.specs.declared.kind.Kind.TheVariants as kinds
-use Rattle.df_types.specs.declared.op.Comparison.{Comparison}
-use Rattle.df_types.specs.declared.op.Comparison.TheVariants.{Equal, Less, AtMost}
-use Rattle.df_types.specs.declared.expr.Connective.TheVariants.{And}
+use Rattle.df_types.specs.declared.op.Comparison.TheVariants.{Equal}
 use Rattle.df_types.specs.declared.expr.Quantifier.TheVariants.{Forall}
-use Rattle.df_types.specs.Ty.{Ty, Int, Nat, Boolean, Seq, no_ty}
-use Rattle.df_types.specs.Ty as types
+use Rattle.df_types.specs.Ty.{Ty, Int, Nat, no_ty}
 use Rattle.df_types.specs.Op.{Op}
-use Rattle.df_types.specs.Expr.{Expr, Local, Bound, Apply, If, Call, Quantify, Exprs, no_expr, expr, no_arm, arm, Between, Among, no_trigger}
-use Rattle.df_types.specs.Stmt.{Stmt, Declare, Assign, Choose, While, Check, Prove, Print, Ghost, Stmts, done, next, LocalAt, Single}
-use Rattle.df_types.specs.Program.{Declared, Variable, Param, Head, Function, Method, Decl, NewtypeDecl, FunctionDecl, MethodDecl, Program}
+use Rattle.df_types.specs.Expr.{Expr, Local, Bound, Apply, If, Call, Quantify, no_expr, expr, no_arm, arm, Between, no_trigger}
+use Rattle.df_types.specs.Program.{Declared, Variable, Param, Head, Decl, FunctionDecl, Program}
 use Rattle.df_types.specs.Typing.{is_program}
 use Rattle.df_types.specs.Flow.{faults_of}
 use Rattle.df_meaning2.specs.Value.{Value, Number, Truth}
-use Rattle.df_meaning2.specs.Outcome.{Outcome, Gives, Wrong, TooDeep, NoChoice}
-use Rattle.df_meaning2.specs.State.{State, entering, with_choices}
+use Rattle.df_meaning2.specs.Outcome.{Gives, Wrong, TooDeep}
+use Rattle.df_meaning2.specs.State.{State}
 use Rattle.df_meaning2.specs.Value as values
 use Rattle.df_meaning2.specs.Meaning.{evaluate, Meaning}
-use Rattle.df_meaning2.specs.Execution.{Given}
-use Rattle.df_meaning2.specs.Whole.{whole, doing, run_method}
+use Rattle.df_meaning2.specs.Whole.{whole}
 use Rattle.df_meaning2.specs.Modular.{blank}
 
 abbrev at : ℕ → Pos

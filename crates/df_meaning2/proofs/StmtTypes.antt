@@ -1,33 +1,31 @@
 -- Statements keep the types of locals.
-use Rattle.std.proofs.Common.{◌≡◌, ℕ, zero, suc, pos, Bool, true, false, not, ◌&&◌, ◌||◌, ◌==◌, if◌then◌else◌, List, [], ◌∷◌, ◌++◌, filter, map, length, Option, None, Some, unwrap_or, refl, sym, ap, ◌∙◌, subst}
-use Rattle.std.specs.Option.{option_map, option_map_or}
+use Rattle.std.proofs.Common.{◌≡◌, ℕ, pos, Bool, true, false, not, ◌&&◌, ◌||◌, ◌==◌, if◌then◌else◌, List, [], ◌∷◌, ◌++◌, filter, map, length, Option, None, Some, unwrap_or, refl, sym, ap, ◌∙◌, subst}
+use Rattle.std.specs.Option.{option_map_or}
 use Rattle.std.specs.List.{AllByRecursion, list_all, flat_map}
 use Rattle.std.proofs.lemmas.Bool.{eqb-true, and_parts, and_from}
 use Rattle.df_base.specs.declared.pos.Pos.{Pos}
-use Rattle.df_types.specs.declared.kind.Kind.{Kind}
 use Rattle.df_types.specs.declared.kind.Kind.TheVariants as kinds
-use Rattle.df_types.specs.Ty.{Ty, Int, Boolean, AnyObject, Class, Array, Tys, same_type, same_type_list, instance_of, instances_of}
+use Rattle.df_types.specs.Ty.{Ty, Boolean, AnyObject, Class, Array, Tys, same_type, same_type_list, instance_of, instances_of}
 use Rattle.df_types.specs.Op.{Op}
-use Rattle.df_types.specs.Expr.{Expr, Exprs}
-use Rattle.df_types.specs.Stmt.{Demand, Typed, Target, Nowhere, LocalAt, FieldAt, ElementAt, CallOf, Source, Single, Results, NewArray, Update, Range, Aim, Stmt, Declare, Assign, Choose, Branch, While, Break, Return, Check, Prove, Print, Publish, Ghost, Stmts, done, next, Branches, no_branch, branch}
-use Rattle.df_types.specs.Program.{Program, Variable, Param, Head, Method, method_at, types_of}
-use Rattle.df_types.specs.Program as programs
+use Rattle.df_types.specs.Expr.{Expr}
+use Rattle.df_types.specs.Stmt.{Demand, Typed, Target, Nowhere, LocalAt, FieldAt, ElementAt, Source, Single, Results, NewArray, Update, Range, Stmt, Declare, Assign, Choose, Branch, While, Break, Return, Check, Prove, Print, Publish, Ghost, Stmts, done, next, Branches, no_branch, branch}
+use Rattle.df_types.specs.Program.{Program, Head, Method, method_at, types_of}
 use Rattle.df_types.specs.Rows.{operands, result, allowed, is_conversion}
 use Rattle.df_types.specs.Aims.{known_behind}
-use Rattle.df_types.specs.Measures.{is_local, loop_measure}
+use Rattle.df_types.specs.Measures.{is_local}
 use Rattle.df_types.specs.ExprTyping.{Scope, is_at, parameters_at, results_at, are_types_for, is_expr, are_exprs}
-use Rattle.df_types.specs.StmtTyping.{type_of_local, declaring, Setting, behind, behind_all, source_types, is_conversion_of, are_conversions, is_source, is_parameter, is_target, target_type, are_targets, is_update, is_return, are_results, range_types, are_for_fields, is_publishing, are_ranges, is_stmt, are_stmts, are_branches, are_demands, may_be_typed, bound_by}
+use Rattle.df_types.specs.StmtTyping.{type_of_local, declaring, Setting, behind, behind_all, source_types, is_conversion_of, are_conversions, is_source, is_parameter, is_target, target_type, are_targets, is_update, is_return, are_results, range_types, is_publishing, are_ranges, is_stmt, are_stmts, are_branches, are_demands, may_be_typed, bound_by}
 use Rattle.df_types.proofs.SameTypes.{same_type_equal}
 use Rattle.df_meaning2.specs.Value.{Value, values_of, same, is_among, truth_of, number_of, nat_of}
 use Rattle.df_meaning2.specs.Heap.{is_there, may_change, slots_at}
 use Rattle.df_meaning2.specs.Outcome.{Outcome, Gives, Wrong, TooDeep, NoChoice, Dismissed, after, Each}
-use Rattle.df_meaning2.specs.Types.{has_type, is_of, have_types}
+use Rattle.df_meaning2.specs.Types.{is_of, have_types}
 use Rattle.df_meaning2.specs.Answer.{count, is_index, answer}
 use Rattle.df_meaning2.specs.Printing.{text_of}
 use Rattle.df_meaning2.specs.State.{State, with_local, with_bound, with_text}
-use Rattle.df_meaning2.specs.Meaning.{Meaning, view_of, answered, evaluate, evaluate_all, evaluate_range, of_type, check, check_all, as_kind, assume_all}
-use Rattle.df_meaning2.specs.Execution.{Flow, Next, Returned, Broken, state_of, Given, Assigned, Loop, Actions, assigned_at, assigned_at_all, assigned_by, assigned_by_all, assigned_in, convert_all, first_elements, execute_source, execute_sources, Place, NoPlace, LocalPlace, SlotPlace, Placed, slot_place, place_of, places_of, put, same_place, if_equal, put_all, execute_update, execute_optional, some_meet, meet, execute_choice, declare_all, print_all, values_in, execute_publish, values_of_range, where_true, goes, dropped, conditions, execute, execute_all, execute_branches, loop_of}
-use Rattle.df_meaning2.specs.Typed.{IsOf, AreOf, Agrees, CallsAreTyped, IsTyped, FlowIsTyped, IsWithin, KeepsLocals, AreGiven, IsPicked, IsLocalOf, LoopIsTyped, ActsTyped}
+use Rattle.df_meaning2.specs.Meaning.{Meaning, view_of, evaluate, evaluate_range, of_type, check, check_all, as_kind, assume_all}
+use Rattle.df_meaning2.specs.Execution.{Flow, Next, Returned, Broken, state_of, Actions, assigned_at, assigned_at_all, assigned_by, assigned_by_all, assigned_in, convert_all, first_elements, execute_source, execute_sources, Place, NoPlace, LocalPlace, SlotPlace, Placed, slot_place, place_of, places_of, put, same_place, if_equal, put_all, execute_update, execute_optional, some_meet, meet, execute_choice, declare_all, print_all, values_in, execute_publish, where_true, goes, dropped, conditions, execute, execute_all, execute_branches, loop_of}
+use Rattle.df_meaning2.specs.Typed.{IsOf, AreOf, Agrees, IsTyped, FlowIsTyped, IsWithin, KeepsLocals, AreGiven, IsPicked, IsLocalOf, ActsTyped}
 use Rattle.df_meaning2.proofs.Equality.{same_equal}
 use Rattle.df_meaning2.proofs.Alls.{all_append}
 use Rattle.df_meaning2.proofs.RowTypes.{first_is, others_are, row_is}
@@ -41,7 +39,7 @@ kept_self s = record { types = refl; locals = refl; bound = refl }
 pub kept_then : (s t u : State) → KeepsLocals s t → KeepsLocals t u → KeepsLocals s u
 kept_then s t u h k = record { types = k.types ∙ h.types; locals = k.locals ∙ h.locals; bound = k.bound ∙ h.bound }
 
-kept_on : (s t : State) (o : Outcome State) → KeepsLocals s t → Each (KeepsLocals t) o → Each (KeepsLocals s) o
+pub kept_on : (s t : State) (o : Outcome State) → KeepsLocals s t → Each (KeepsLocals t) o → Each (KeepsLocals s) o
 kept_on s t o h k = each_from (KeepsLocals t) (KeepsLocals s) o (λ u l. kept_then s t u h l) k
   where
     each_from : {A : Type 0} (P Q : A → Type 0) (o : Outcome A) → ((a : A) → P a → Q a) → Each P o → Each Q o
@@ -94,7 +92,7 @@ among_filtered test v (u ∷ us) h = by_test (test u) refl h (among_filtered tes
     by_test false e h go = go h
 
 module _ (p : Program) (w : Tys) where
-  more_are : (t : Ty) (ts : List Ty) (v : Value) (vs : List Value) → IsOf p w t v → AreOf p w ts vs → AreOf p w (t ∷ ts) (v ∷ vs)
+  pub more_are : (t : Ty) (ts : List Ty) (v : Value) (vs : List Value) → IsOf p w t v → AreOf p w ts vs → AreOf p w (t ∷ ts) (v ∷ vs)
   more_are t ts v vs h k = record { by = and_from _ _ h.by k.by }
 
   one_is : (t : Ty) (v : Value) → IsOf p w t v → AreOf p w (t ∷ []) (v ∷ [])

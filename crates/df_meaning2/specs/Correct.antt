@@ -3,7 +3,7 @@ use Rattle.std.specs.Prelude.{◌≡◌, ◌≢◌, ℕ, true, List, [], ◌∷�
 use Rattle.df_base.specs.declared.pos.Pos.{Pos}
 use Rattle.df_types.specs.declared.kind.Kind.{Kind}
 use Rattle.df_types.specs.Ty.{Tys, instance_of}
-use Rattle.df_types.specs.Program.{Param, TypeParameter, Head, Function, Method, Decl, NewtypeDecl, DatatypeDecl, ClassDecl, FunctionDecl, MethodDecl, Program, function_at, method_at, types_of}
+use Rattle.df_types.specs.Program.{TypeParameter, Head, Function, Method, Decl, NewtypeDecl, DatatypeDecl, ClassDecl, FunctionDecl, MethodDecl, Program, function_at, method_at, types_of}
 use Rattle.df_types.specs.Types.{are_arguments, are_types}
 use Rattle.df_types.specs.Calls.{AreGroups}
 use Rattle.df_types.specs.Measures.{frame_objects}

@@ -8,15 +8,14 @@ use Rattle.df_types.specs.declared.expr.Quantifier.TheVariants.{Exists}
 use Rattle.df_types.specs.Ty.{Ty, Class, Array, instance_of}
 use Rattle.df_types.specs.Op.{Op}
 use Rattle.df_types.specs.Expr.{Expr, Exprs}
-use Rattle.df_types.specs.Stmt.{Demand, Typed, Target, Nowhere, LocalAt, FieldAt, ElementAt, CallOf, Source, Single, Results, NewArray, Update, Range, Aim, Stmt, Declare, Assign, Choose, Branch, While, Break, Return, Check, Prove, Print, Publish, Ghost, Stmts, done, next, Branches, no_branch, branch}
+use Rattle.df_types.specs.Stmt.{Demand, Typed, Target, Nowhere, LocalAt, FieldAt, ElementAt, CallOf, Source, Single, Results, NewArray, Update, Range, Stmt, Declare, Assign, Choose, Branch, While, Break, Return, Check, Prove, Print, Publish, Ghost, Stmts, done, next, Branches, no_branch, branch}
 use Rattle.df_types.specs.Program.{Program}
 use Rattle.df_types.specs.Aims.{quantified, known_behind}
 use Rattle.df_types.specs.Faults.{is_ghost_callee}
 use Rattle.df_types.specs.Measures.{loop_measure}
 use Rattle.df_meaning2.specs.Value.{Value, same, truth_of, number_of, nat_of, is_among}
-use Rattle.df_meaning2.specs.Heap.{Object, Instance, Elements, Heap, slots_at, is_there, may_change, put_slot, with_object}
-use Rattle.df_meaning2.specs.Outcome.{Outcome, Gives, Wrong, Dismissed, after}
-use Rattle.df_meaning2.specs.Types.{is_of}
+use Rattle.df_meaning2.specs.Heap.{Instance, Elements, slots_at, is_there, may_change, put_slot, with_object}
+use Rattle.df_meaning2.specs.Outcome.{Outcome, Gives, Wrong, after}
 use Rattle.df_meaning2.specs.Answer.{answer, count, is_index}
 use Rattle.df_meaning2.specs.Printing.{text_of}
 use Rattle.df_meaning2.specs.State.{Locals, State, with_store, with_local, with_bound, with_heap, with_text}

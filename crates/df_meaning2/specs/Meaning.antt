@@ -1,5 +1,5 @@
 -- Evaluation of expressions, over what functions mean.
-use Rattle.std.specs.Prelude.{ℕ, zero, suc, ℤ, pos, ◌+ℤ◌, ◌-ℤ◌, Bool, true, false, not, ◌&&◌, ◌||◌, List, [], ◌∷◌, ◌++◌, filter, slice_get, Option, None, Some, if◌then◌else◌}
+use Rattle.std.specs.Prelude.{ℕ, zero, suc, ℤ, pos, ◌+ℤ◌, ◌-ℤ◌, Bool, true, false, not, ◌&&◌, ◌||◌, List, [], ◌∷◌, filter, slice_get, Option, None, Some, if◌then◌else◌}
 use Rattle.df_base.specs.declared.pos.Pos.{Pos}
 use Rattle.df_types.specs.declared.kind.Kind.{Kind}
 use Rattle.df_types.specs.declared.expr.Connective.{Connective}
@@ -14,7 +14,7 @@ use Rattle.df_meaning2.specs.Value.{Value, Truth, truth_of, number_of, items_of,
 use Rattle.df_meaning2.specs.Outcome.{Outcome, Gives, Wrong, Dismissed, after}
 use Rattle.df_meaning2.specs.Types.{is_of}
 use Rattle.df_meaning2.specs.Answer.{Answer, Is, Asks, View, answer, compare, number_in}
-use Rattle.df_meaning2.specs.State.{State, with_bound, with_heap, reading_all}
+use Rattle.df_meaning2.specs.State.{State, with_bound, with_heap}
 
 -- What a function gives on arguments at types, called in a state; and which value of a quantifier's range is looked at first: no value
 -- depends on it, only which of several wrong ones tells.

@@ -5,12 +5,11 @@ use Rattle.std.specs.Ordering.{int_eq}
 use Rattle.std.specs.Option.{option_map_or}
 use Rattle.std.specs.List.{list_any}
 use Rattle.df_base.specs.declared.pos.Pos.{Pos}
-use Rattle.df_types.specs.declared.kind.Kind.{Kind}
 use Rattle.df_types.specs.declared.kind.Kind.TheVariants as kinds
 use Rattle.df_types.specs.Ty.{Ty, AnyObject, Seq, Tys, instances_of, same_types}
 use Rattle.df_types.specs.Regular.{own_types}
 use Rattle.df_types.specs.Expr.{Expr, Local, Bound, Apply, Junction, Chain, If, Let, Call, Quantify, Old, Exprs, no_expr, expr, Links, no_link, link, Arms, no_arm, arm, Extent, Between, Among}
-use Rattle.df_types.specs.Stmt.{Demand, CallOf, Stmt}
+use Rattle.df_types.specs.Stmt.{Demand, CallOf}
 use Rattle.df_types.specs.Program.{Param, Head, Function, Method, Decl, NewtypeDecl, DatatypeDecl, ClassDecl, FunctionDecl, MethodDecl, Program, function_at, method_at, types_of}
 use Rattle.df_types.specs.Measures.{function_measure, method_measure, frame_objects}
 use Rattle.df_types.specs.Calls.{group_at}

@@ -1,7 +1,7 @@
 -- The order by which recursion and loops end.
 use Rattle.std.specs.Prelude.{pos, Bool, true, false, not, ◌&&◌, ◌||◌, ◌==◌, int_le, int_lt, nat_lt, List, [], ◌∷◌, if◌then◌else◌}
 use Rattle.df_types.specs.Measures.{is_parameter_type}
-use Rattle.df_meaning2.specs.Value.{Value, NullReference, Truth, Character, Number, Reference, Made, Sequence, Collection, Values, list_of, same, within, weight}
+use Rattle.df_meaning2.specs.Value.{Value, NullReference, Truth, Character, Number, Reference, Made, Sequence, Collection, list_of, same, within, weight}
 use Rattle.df_meaning2.specs.Meaning.{Measured}
 
 -- Numbers below one from 0 on, `false` below `true`, characters by their codes, sets by proper subset, null below other references,

@@ -1,10 +1,10 @@
 -- The text that prints a value, by its type.
-use Rattle.std.specs.Prelude.{ℕ, Bool, true, false, ◌==◌, List, [], ◌∷◌, ◌++◌, codes, slice_get, Option, None, Some, if◌then◌else◌}
+use Rattle.std.specs.Prelude.{ℕ, Bool, true, false, ◌==◌, List, [], ◌∷◌, ◌++◌, codes, slice_get, if◌then◌else◌}
 use Rattle.std.specs.Option.{option_map_or}
 use Rattle.std.specs.Fmt.{signed_decimal}
-use Rattle.df_types.specs.Ty.{Ty, Newtype, Int, Nat, Boolean, Char, AnyObject, Class, Array, Seq, Set, Data, Parameter, instance_of}
+use Rattle.df_types.specs.Ty.{Ty, Char, Seq, Data}
 use Rattle.df_types.specs.Program.{Program, Constructor, constructors_at, parts_of}
-use Rattle.df_meaning2.specs.Value.{Value, NullReference, Truth, Character, Number, Reference, Made, Sequence, Collection, Memory, Values, no_value, value}
+use Rattle.df_meaning2.specs.Value.{Value, Truth, Character, Number, Made, Sequence, Values, no_value, value}
 
 abbrev pub truth_text : Bool → List ℕ
 truth_text true = codes "true"

@@ -1,7 +1,7 @@
 -- Which values a type has.
 use Rattle.std.specs.Prelude.{ℕ, Bool, true, false, ◌&&◌, nat_lt, int_le, ℤ, pos, List, [], ◌∷◌, length}
 use Rattle.std.specs.Option.{option_map_or}
-use Rattle.df_types.specs.Ty.{Ty, Newtype, Int, Nat, Boolean, Char, AnyObject, Class, Array, Seq, Set, Data, Parameter, Tys, instance_of}
+use Rattle.df_types.specs.Ty.{Ty, Newtype, Int, Nat, Boolean, Char, AnyObject, Class, Array, Seq, Set, Data, Tys, instance_of}
 use Rattle.df_types.specs.Program as programs
 use Rattle.df_types.specs.Program.{Program, newtype_at, constructors_at, parts_of}
 use Rattle.df_meaning2.specs.Value.{Value, NullReference, Truth, Character, Number, Reference, Made, Sequence, Collection, Values, no_value, value, is_ascending}

@@ -1,11 +1,10 @@
 -- Whole runs: called bodies and turns of loops run, as deep as the depth reaches.
-use Rattle.std.specs.Prelude.{ℕ, zero, suc, pos, ℤ, Bool, true, false, ◌==◌, List, [], ◌∷◌, ◌++◌, map, Option, None, Some, if◌then◌else◌}
+use Rattle.std.specs.Prelude.{ℕ, zero, suc, pos, Bool, false, List, [], ◌∷◌, map, Option, None, Some, if◌then◌else◌}
 use Rattle.std.specs.Option.{option_map_or}
 use Rattle.df_base.specs.declared.pos.Pos.{Pos}
 use Rattle.df_types.specs.declared.kind.Kind.TheVariants as kinds
 use Rattle.df_types.specs.Ty.{Ty, Newtype, Int, Nat, Boolean, Char, AnyObject, Class, Array, Seq, Set, Data, Parameter, Tys, instance_of, instances_of}
 use Rattle.df_types.specs.Stmt.{CallOf, Stmt, Declare, Assign, Choose, Branch, While, Break, Return, Check, Prove, Print, Publish, Ghost}
-use Rattle.df_types.specs.Expr.{Expr}
 use Rattle.df_types.specs.Program as programs
 use Rattle.df_types.specs.Program.{Param, Head, Function, Method, Program, function_at, method_at, newtype_at}
 use Rattle.df_types.specs.Types.{has_default}
@@ -13,7 +12,7 @@ use Rattle.df_types.specs.Measures.{frame_objects}
 use Rattle.df_meaning2.specs.Value.{Value, NullReference, Truth, Character, Number, Reference, Made, Sequence, Collection, no_value, truth_of, nat_of}
 use Rattle.df_meaning2.specs.Heap.{lies_in_readable, lies_in_changeable, least_unused}
 use Rattle.df_meaning2.specs.Outcome.{Outcome, Gives, Wrong, TooDeep, NoChoice, Dismissed, after}
-use Rattle.df_meaning2.specs.State.{Locals, Store, State, with_store, with_bound, with_choices, reading_inside, entering}
+use Rattle.df_meaning2.specs.State.{Locals, State, with_store, with_bound, with_choices, reading_inside, entering}
 use Rattle.df_meaning2.specs.Meaning.{Meaning, evaluate, check_all, as_kind, asked_at}
 use Rattle.df_meaning2.specs.Execution.{Flow, Next, Returned, Broken, Given, Loop, Actions, values_in, execute_all, loop_of}
 

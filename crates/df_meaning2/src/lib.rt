@@ -41,6 +41,16 @@ pub fn statements_are_typed()
     ensures { StatementsAreTyped }
 {}
 
+/// Whole runs of a well-typed program: functions give values of their types, methods results of theirs.
+pub fn wholes_are_typed()
+    ensures { WholesAreTyped }
+{}
+
+/// And modular runs, whatever is handed in.
+pub fn modular_runs_are_typed()
+    ensures { ModularRunsAreTyped }
+{}
+
 /// A whole run of a statement keeps in front what was printed before it.
 pub fn statements_keep_text()
     ensures { StatementsKeepText }

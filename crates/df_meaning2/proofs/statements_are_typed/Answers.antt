@@ -1,6 +1,3 @@
-use Rattle.std.proofs.Common.{subst, sym, refl}
-use Rattle.df_types.specs.StmtTyping.{Setting, is_stmt}
-use Rattle.df_meaning2.specs.Typed.{IsTyped}
 use Rattle.df_meaning2.proofs.StmtTypes.{any_stmt_typed}
 use Rattle.df_meaning2.proofs.statements_are_typed.Goals as goal
 

@@ -1,4 +1,4 @@
-use Rattle.std.proofs.Common.{◌≡◌, ◌≤◌, length, sym, ◌∙◌, arith}
+use Rattle.std.proofs.Common.{◌≤◌, length, sym, ◌∙◌, arith}
 use Rattle.df_types.specs.TyView.{ty_of}
 use Rattle.df_types.proofs.Lists.{unequal, both_done}
 use Rattle.df_types.proofs.ty.+same.Goals as goal
