@@ -27,11 +27,15 @@ HasRoom (Ok (Some words)) room = room ≤ vec_capacity words
 HasRoom (Ok None) room = Unit {0}
 HasRoom (Err e) room = Unit {0}
 
--- words over another store have the values that they had, and no less room
-pub record SameValues (new store : Store) (words old : Vec Word Global) : Type 0 where
-  pub values : map (value_in (values_in new)) words.items ≡ map (value_in (values_in store)) old.items
+-- words over another store have the values that these had, and there is room for so many
+pub record SameWords (new store : Store) (words : Vec Word Global) (old : List Word) (room : ℕ) : Type 0 where
+  pub values : map (value_in (values_in new)) words.items ≡ map (value_in (values_in store)) old
   pub within : are_within (size_of new) words.items ≡ true
-  pub room : vec_capacity old ≤ vec_capacity words
+  pub wide : room ≤ vec_capacity words
+
+-- words over another store have the values that they had, and no less room
+abbrev pub SameValues : (new store : Store) → (words old : Vec Word Global) → Type 0
+SameValues new store words old = SameWords new store words old.items (vec_capacity old)
 
 abbrev pub IfCompacted : Result (Option Compacted) AllocError → Store → (locals operands slots : Vec Word Global) → Type 0
 IfCompacted (Ok (Some c)) store locals operands slots = SameValues c.store store c.locals locals × SameValues c.store store c.operands operands × SameValues c.store store c.slots slots
