@@ -270,6 +270,12 @@ abbrev pub both_alike : Here → List (Option Ty) → List Placed
 both_alike here (one ∷ other ∷ []) = asked here.text (Alike one other) ∷ []
 both_alike here types = []
 
+-- from type to type, each told from the beginning to behind that type
+abbrev pub each_cast : Here → ℕ → (source : Option Ty) → (targets : List (Option Ty)) → List Placed
+each_cast here k source [] = []
+each_cast here k source (target ∷ targets) =
+    asked (through here.text (text_at here.text k (texts here.inside)) here.text.place) (Cast source target) ∷ each_cast here (suc k) target targets
+
 abbrev pub each_printed : Here → ℕ → List (Option Ty) → List Placed
 each_printed here k [] = []
 each_printed here k (ty ∷ types) = asked_of_part here k (Printed ty) ∷ each_printed here (suc k) types
@@ -289,7 +295,7 @@ asks_of table around here tests.ArgumentCount = option_map_or (λ (signature : S
 asks_of table around here tests.IsCalled = asked here.text (Called (may_be_called (form_at here).is_call here.facts.used here.facts.meaning)) ∷ []
 asks_of table around here tests.IsNoCallee = asked here.text (Called false) ∷ []
 asks_of table around here (tests.BranchesAlike k) = both_alike here (drop k here.types)
-asks_of table around here tests.IsCast = asked here.text (Cast (first here.types) (at_place 1 here.types)) ∷ []
+asks_of table around here tests.IsCast = each_cast here 1 (first here.types) (others here.types)
 asks_of table around here tests.IsEnough = (if length (sources here) == 0 then [] else asked here.text (Assigned (are_enough here.facts.before (sources here))) ∷ [])
 asks_of table around here tests.IsReturn = asked here.text (Returned (none_or_enough (length around.results) (sources here))) ∷ []
 asks_of table around here tests.IsInLoop = asked here.text (Leaves here.facts.around.is_loop) ∷ []

@@ -112,11 +112,11 @@ numbered_if namings.Nameless source otherwise types is_ghost_around span facts =
 numbered_if namings.Value source otherwise types is_ghost_around span facts = []
 numbered_if namings.Type source otherwise types is_ghost_around span facts = []
 
--- in the order of the text, which is that of their numbers
+-- In the order of the text, which is that of their numbers. Behind `ghost` all that is declared is ghost.
 abbrev pub locals_in : Source → Named → List Inferred → (is_ghost_around : Bool) → Notes → List Numbered
 locals_in source otherwise types is_ghost_around NoNote = []
 locals_in source otherwise types is_ghost_around (Note label span facts parts inside rest) =
-    locals_in source otherwise types is_ghost_around inside
+    locals_in source otherwise types (is_ghost_around || is_ghost facts.marks) inside
     ++ numbered_if (form_of label).naming source otherwise types is_ghost_around span facts
     ++ locals_in source otherwise types is_ghost_around rest
 

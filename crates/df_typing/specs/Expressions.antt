@@ -119,6 +119,11 @@ compare positions ty (one ∷ []) (expr a (expr b no_expr)) = Apply (Op.Compare 
 compare positions ty all (expr a es) = Chain ty a (links positions all es)
 compare positions ty all no_expr = nothing
 
+-- from type to type
+abbrev pub cast : Pos → Expr → (source : Ty) → (targets : List (Option Ty)) → Expr
+cast at e source [] = e
+cast at e source (target ∷ targets) = cast at (Apply (Op.As source (known target)) at (expr e no_expr)) (known target) targets
+
 -- there may be one alone
 abbrev pub joined : Connective → Exprs → Expr
 joined connective no_expr = nothing
@@ -210,7 +215,7 @@ meaning positions here own es = by (form_of here.label).means where
   by meanings.Disjunction = joined connectives.Or es
   by meanings.Implication = joined connectives.Implies es
   by meanings.Explication = joined connectives.Explies (reversed es no_expr)
-  by meanings.Conversion = Apply (Op.As (known (first here.types)) (known own)) at (expr (head_expr es) no_expr)
+  by meanings.Conversion = cast at (head_expr es) (known (first here.types)) (others here.types)
   by meanings.Call = calling at es here.facts.meaning
   by meanings.Choice = branch (known own) es
   by meanings.Binding = binding positions here es

@@ -144,6 +144,10 @@ sight_at k parts = elim (slice_get parts k) [
   | None ↦ closed None
 ]
 
+abbrev pub last_sight : Sight → List Sight → Sight
+last_sight last [] = last
+last_sight last (sight ∷ sights) = last_sight sight sights
+
 -- no sign belongs to a literal through parentheses, and a call in them is no right side
 abbrev pub passed : Sight → Sight
 passed sight = record sight { is_digits = false; values = One }
@@ -195,6 +199,7 @@ sight_of owns.Digits table facts is_call parts = opened true false
 sight_of owns.Minus table facts is_call parts = minus (sight_at 0 parts)
 sight_of owns.Arithmetic table facts is_call parts = operated parts
 sight_of (owns.Passed k) table facts is_call parts = passed (sight_at k parts)
+sight_of owns.Last table facts is_call parts = passed (last_sight (closed None) parts)
 sight_of (owns.Branches k) table facts is_call parts = branched (drop k parts)
 sight_of owns.Named table facts is_call parts = named_sight is_call facts.meaning
 sight_of owns.Type table facts is_call parts = closed (type_by table facts.marks)

@@ -110,6 +110,8 @@ pub enum Own {
     Arithmetic,
     /// That of this part.
     Passed(usize),
+    /// That of the last part.
+    Last,
     /// What the parts from this one on have in common.
     Branches(usize),
     /// That of what its name means.
@@ -166,7 +168,7 @@ pub enum Test {
     IsNoCallee,
     /// The parts from this one on are of one type.
     BranchesAlike(usize),
-    /// The first part goes to the type that is the second.
+    /// The first part goes to the type that is the second, from there to the next.
     IsCast,
     /// As many values as places.
     IsEnough,
@@ -564,7 +566,7 @@ const FORMS: &[Row] = &[
     ARITHMETIC,
     // As
     Form {
-        own: Own::Passed(1),
+        own: Own::Last,
         tests: &[Test::IsCast],
         means: Means::Conversion,
         ..PLAIN
