@@ -2,7 +2,7 @@
 use Rattle.std.specs.Prelude.{ℕ, Bool, true, false, ◌&&◌, List, [], ◌∷◌, map, slice_get, Option}
 use Rattle.std.specs.Option.{option_map_or}
 use Rattle.df_types.specs.Ty.{Ty, Newtype, Int, Nat, Boolean, Char, AnyObject, Class, Array, Seq, Set, Data, Parameter, Tys, same_type, instance_of}
-use Rattle.df_types.specs.Expr.{Binder, Expr, Local, Bound, Apply, Junction, Chain, If, Let, Call, Quantify, Old, Exprs, no_expr, expr, Links, no_link, link, Arms, no_arm, arm, Extent, Between, Among, Triggers, no_trigger, trigger}
+use Rattle.df_types.specs.Expr.{Expr, Local, Bound, Apply, Junction, Chain, If, Let, Call, Quantify, Old, Exprs, no_expr, expr, Links, no_link, link, Arms, no_arm, arm, Extent, Between, Among, Triggers, no_trigger, trigger}
 use Rattle.df_types.specs.Program.{Program, TypeParameter, Param, Head, Function, function_at, result_type}
 use Rattle.df_types.specs.Types.{are_arguments, is_type, are_types, is_ordered, converts}
 use Rattle.df_types.specs.Rows.{operands, result, allowed, compares}

@@ -1,5 +1,5 @@
 -- The code's expressions, without where they lie in memory; operations of one level are those of two, from the left.
-use Rattle.std.specs.Prelude.{ℕ, List, [], ◌∷◌, map}
+use Rattle.std.specs.Prelude.{List, [], ◌∷◌, map}
 use Rattle.df_base.specs.declared.pos.Pos.{Pos}
 use Rattle.df_types.specs.declared.op.Comparison.{Comparison}
 use Rattle.df_types.specs.declared.expr.Binder as declared_binder
@@ -11,7 +11,7 @@ use Rattle.df_types.specs.Ty.{Ty, tys_of}
 use Rattle.df_types.specs.TyView.{ty_of}
 use Rattle.df_types.specs.Op.{Op}
 use Rattle.df_types.specs.OpView.{op_of}
-use Rattle.df_types.specs.Expr.{Binder, Expr, Local, Bound, Apply, Junction, Chain, If, Let, Call, Quantify, Old, Exprs, no_expr, expr, Links, no_link, link, Arms, no_arm, arm, Extent, Between, Among, Triggers, no_trigger, trigger, exprs_of}
+use Rattle.df_types.specs.Expr.{Binder, Expr, Local, Bound, Apply, Junction, Chain, If, Let, Call, Quantify, Old, no_expr, expr, Links, no_link, link, Arms, no_arm, arm, Extent, Between, Among, Triggers, no_trigger, trigger, exprs_of}
 
 abbrev pub binder_of : declared_binder.Binder → Binder
 binder_of x = record { name = x.name; pos = x.pos; ty = ty_of x.ty; is_written = x.is_written }

@@ -1,15 +1,13 @@
 -- What expressions break of the ghost rules and of definite assignment, in the order of the text.
 use Rattle.df_base.specs.declared.pos.Pos.{Pos}
-use Rattle.std.specs.Prelude.{ℕ, Bool, true, false, not, ◌&&◌, ◌||◌, ◌==◌, List, [], ◌∷◌, ◌++◌, map, slice_get, slice_index_or, Option, None, Some, if◌then◌else◌}
+use Rattle.std.specs.Prelude.{ℕ, Bool, true, false, not, ◌&&◌, ◌||◌, List, [], ◌∷◌, ◌++◌, map, slice_index_or, Option, None, Some, if◌then◌else◌}
 use Rattle.std.specs.Option.{option_map_or}
 use Rattle.std.specs.List.{list_any}
-use Rattle.df_types.specs.declared.op.Comparison.{Comparison}
 use Rattle.df_types.specs.declared.expr.Connective.{Connective}
 use Rattle.df_types.specs.declared.expr.Connective.TheVariants.{And, Or, Implies, Explies}
 use Rattle.df_types.specs.Ty.{Ty}
-use Rattle.df_types.specs.Op.{Op}
-use Rattle.df_types.specs.Expr.{Binder, Expr, Local, Bound, Apply, Junction, Chain, If, Let, Call, Quantify, Old, Exprs, no_expr, expr, Links, no_link, link, Arms, no_arm, arm, Extent, Between, Among}
-use Rattle.df_types.specs.Program.{Program, Variable, Param, Head, TypeParameter, head_at}
+use Rattle.df_types.specs.Expr.{Expr, Local, Bound, Apply, Junction, Chain, If, Let, Call, Quantify, Old, Exprs, no_expr, expr, Links, no_link, link, Arms, no_arm, arm, Extent, Between, Among}
+use Rattle.df_types.specs.Program.{Program, Param, Head, TypeParameter, head_at}
 use Rattle.df_types.specs.Rows.{ghost_operands, is_ghost_op, equated, equated_by}
 use Rattle.df_types.specs.Equality.{may_equate}
 

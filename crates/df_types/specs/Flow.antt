@@ -1,12 +1,12 @@
 -- The discipline of ghost code and definite assignment in one flow: what statements break, in the order of the text, and which
 -- locals have a value behind them.
-use Rattle.std.specs.Prelude.{◌≡◌, ℕ, Bool, true, false, not, ◌&&◌, ◌||◌, ◌==◌, nat_lt, if◌then◌else◌, List, [], ◌∷◌, ◌++◌, map, length, take, drop, replicate, slice_get, Option, None, Some}
+use Rattle.std.specs.Prelude.{◌≡◌, ℕ, Bool, true, false, not, ◌&&◌, ◌||◌, ◌==◌, nat_lt, if◌then◌else◌, List, [], ◌∷◌, ◌++◌, take, drop, slice_get, Option, None, Some}
 use Rattle.std.specs.List.{flat_map}
 use Rattle.std.specs.Option.{option_map_or}
 use Rattle.df_base.specs.declared.pos.Pos.{Pos}
-use Rattle.df_types.specs.Expr.{Expr, Extent, Between, Among, Exprs, no_expr, expr}
-use Rattle.df_types.specs.Stmt.{Demand, Typed, Target, Nowhere, LocalAt, FieldAt, ElementAt, CallOf, Source, Single, Results, NewArray, Update, Range, Aim, Stmt, Declare, Assign, Choose, Branch, While, Break, Return, Check, Prove, Print, Publish, Ghost, Stmts, done, next, Branches, no_branch, branch}
-use Rattle.df_types.specs.Program.{Variable, Param, Head, Function, Method, Decl, NewtypeDecl, DatatypeDecl, ClassDecl, FunctionDecl, MethodDecl, Program, head_at}
+use Rattle.df_types.specs.Expr.{Expr, Exprs}
+use Rattle.df_types.specs.Stmt.{Target, Nowhere, LocalAt, FieldAt, ElementAt, Source, Single, Results, NewArray, Update, Range, Stmt, Declare, Assign, Choose, Branch, While, Break, Return, Check, Prove, Print, Publish, Ghost, Stmts, done, next, Branches, no_branch, branch}
+use Rattle.df_types.specs.Program.{Variable, Head, Method, Decl, NewtypeDecl, DatatypeDecl, ClassDecl, FunctionDecl, MethodDecl, Program, head_at}
 use Rattle.df_types.specs.Gathering.{of_demands, of_typed, of_optional}
 use Rattle.df_types.specs.Faults.{Breaks, Unassigned, Fault, fault, fault_if, Assigned, Unreached, Reached, has_value, Watch, ghostly, with_assigned, is_ghost_at, param_marks, call_marks, is_ghost_callee, faults_in, faults_in_all, faults_in_extent}
 use Rattle.df_types.specs.Ghosts.{watch_of, is_ghost_field, arity, is_ghost_source, proof_watch}

@@ -1,12 +1,11 @@
 -- Which statements are ghost code. Their marks stand just where a statement of compiled code is ghost.
-use Rattle.std.specs.Prelude.{ℕ, suc, Bool, true, false, not, ◌&&◌, ◌||◌, List, [], ◌∷◌, length, map, take, drop, Option, None, Some}
+use Rattle.std.specs.Prelude.{ℕ, Bool, true, false, not, ◌&&◌, ◌||◌, List, [], ◌∷◌, length, take, drop}
 use Rattle.std.specs.Option.{option_map_or}
 use Rattle.std.specs.List.{list_all}
-use Rattle.df_types.specs.Expr.{Expr}
-use Rattle.df_types.specs.Stmt.{Target, Nowhere, LocalAt, FieldAt, ElementAt, CallOf, Source, Single, Results, NewArray, Update, Range, Aim, Stmt, Declare, Assign, Choose, Branch, While, Break, Return, Check, Prove, Print, Publish, Ghost, Stmts, done, next, Branches, no_branch, branch}
-use Rattle.df_types.specs.Program.{Program, Variable, Class, Head, class_at}
+use Rattle.df_types.specs.Stmt.{Target, Nowhere, LocalAt, FieldAt, ElementAt, Source, Single, Results, NewArray, Range, Stmt, Declare, Assign, Choose, Branch, While, Break, Return, Check, Prove, Print, Publish, Ghost, Stmts, done, next, Branches, no_branch, branch}
+use Rattle.df_types.specs.Program.{Program, Class, Head, class_at}
 use Rattle.df_types.specs.Rows.{marks_of}
-use Rattle.df_types.specs.Faults.{Assigned, Unreached, Watch, ghostly, with_mark, is_ghost_at, is_ghost_callee, mentions_ghost}
+use Rattle.df_types.specs.Faults.{Unreached, Watch, ghostly, with_mark, is_ghost_at, is_ghost_callee, mentions_ghost}
 
 -- of a declaration's body or contract; a ghost function or a lemma is ghost code
 abbrev pub watch_of : Program → Head → Watch

@@ -1,5 +1,5 @@
 -- Measures of loops and declarations: their own, or those by default.
-use Rattle.std.specs.Prelude.{ℕ, ℤ, negsuc, ◌==◌, Bool, true, false, not, List, [], ◌∷◌, ◌++◌, map, filter, slice_get, ◌&&◌, Option, None, Some}
+use Rattle.std.specs.Prelude.{ℕ, negsuc, ◌==◌, Bool, true, false, not, List, [], ◌∷◌, ◌++◌, map, filter, slice_get, ◌&&◌, Option, None, Some}
 use Rattle.std.specs.Option.{option_map_or, option_and_then, unwrap_or}
 use Rattle.df_base.specs.declared.pos.Pos.{Pos}
 use Rattle.df_types.specs.declared.op.Comparison.{Comparison}

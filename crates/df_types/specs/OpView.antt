@@ -1,5 +1,5 @@
 -- The code's operations, without where they lie in memory.
-use Rattle.std.specs.Prelude.{ℕ, List, map}
+use Rattle.std.specs.Prelude.{ℕ, map}
 use Rattle.df_types.specs.declared.op.Op as declared
 use Rattle.df_types.specs.declared.op.Op.TheVariants as ops
 use Rattle.df_types.specs.declared.op.PartOf as declared_part

@@ -1,6 +1,6 @@
 -- Inside a group of datatypes that stand in one another's parts each is used at just its parameters in order.
-use Rattle.std.specs.Prelude.{ℕ, zero, suc, Bool, true, false, not, ◌&&◌, ◌||◌, ◌==◌, length}
-use Rattle.std.specs.List.{list_all, list_any}
+use Rattle.std.specs.Prelude.{ℕ, zero, suc, Bool, false, not, ◌&&◌, ◌||◌, ◌==◌, length}
+use Rattle.std.specs.List.{list_any}
 use Rattle.df_types.specs.Ty.{Ty, Newtype, Int, Nat, Boolean, Char, AnyObject, Class, Array, Seq, Set, Data, Parameter, Tys, no_ty, and_ty, same_types}
 use Rattle.df_types.specs.Program.{Program, Variable, Constructor, Datatype, constructors_at}
 

@@ -1,11 +1,11 @@
 -- Which statements are well typed.
-use Rattle.std.specs.Prelude.{ℕ, Bool, true, false, not, ◌&&◌, ◌==◌, List, [], ◌∷◌, ◌++◌, map, is_some, slice_get, Option, None, Some, if◌then◌else◌}
+use Rattle.std.specs.Prelude.{ℕ, Bool, true, false, not, ◌&&◌, ◌==◌, List, [], ◌∷◌, map, is_some, slice_get, Option, None, Some, if◌then◌else◌}
 use Rattle.std.specs.Option.{option_map, option_map_or}
 use Rattle.std.specs.List.{list_all, list_any, flat_map}
-use Rattle.df_types.specs.Ty.{Ty, Int, Boolean, Class, Array, Tys, same_type, same_type_list}
+use Rattle.df_types.specs.Ty.{Ty, Int, Boolean, Class, Array, same_type, same_type_list}
 use Rattle.df_types.specs.Op.{Op}
 use Rattle.df_types.specs.Expr.{Expr, Exprs, no_expr, expr}
-use Rattle.df_types.specs.Stmt.{Demand, Typed, Target, Nowhere, LocalAt, FieldAt, ElementAt, CallOf, Source, Single, Results, NewArray, Update, Range, Aim, Stmt, Declare, Assign, Choose, Branch, While, Break, Return, Check, Prove, Print, Publish, Ghost, Stmts, done, next, Branches, no_branch, branch}
+use Rattle.df_types.specs.Stmt.{Demand, Typed, Target, Nowhere, LocalAt, FieldAt, ElementAt, Source, Single, Results, NewArray, Update, Range, Stmt, Declare, Assign, Choose, Branch, While, Break, Return, Check, Prove, Print, Publish, Ghost, Stmts, done, next, Branches, no_branch, branch}
 use Rattle.df_types.specs.Program as programs
 use Rattle.df_types.specs.Program.{Program, Variable, Param, Head, Method, method_at, class_at, variable_types}
 use Rattle.df_types.specs.Types.{is_type, is_framed, has_default}

@@ -1,5 +1,5 @@
 -- The code's statements, without where they lie in memory.
-use Rattle.std.specs.Prelude.{List, [], ◌∷◌, map, Option, None, Some}
+use Rattle.std.specs.Prelude.{List, [], ◌∷◌, map}
 use Rattle.std.specs.Option.{option_map}
 use Rattle.df_types.specs.declared.stmt.Demand as declared_demand
 use Rattle.df_types.specs.declared.stmt.Typed as declared_typed

@@ -1,5 +1,4 @@
 -- The code's types, without where they lie in memory.
-use Rattle.std.specs.Prelude.{List, [], ◌∷◌}
 use Rattle.df_types.specs.declared.ty.Ty as declared
 use Rattle.df_types.specs.declared.ty.Ty.TheOpen.{Ty-F}
 use Rattle.df_types.specs.declared.ty.Ty.TheFolds.{fold-Ty}

@@ -14,6 +14,7 @@
 //! - Left open until type parameters have a source: whether compiled calls may take type arguments that don't compile.
 #![tactic(auto)]
 
+mod conversion;
 mod decl;
 mod expr;
 mod interval;
@@ -33,4 +34,4 @@ pub use kind::Kind;
 pub use op::{Comparison, Op, PartOf};
 pub use program::Program;
 pub use stmt::{Aim, Branch, Call, Demand, Range, Source, Stmt, Target, Typed, Update};
-pub use ty::{DeclId, Ty};
+pub use ty::{DeclId, Ty, copies};

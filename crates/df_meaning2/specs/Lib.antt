@@ -1,0 +1,16 @@
+pub mod Value
+pub mod Heap
+pub mod Outcome
+pub mod Types
+pub mod Answer
+pub mod Printing
+pub mod State
+pub mod Meaning
+pub mod Order
+pub mod Execution
+pub mod Whole
+pub mod Modular
+pub mod Correct
+pub mod Growing
+pub mod Typed
+pub mod Texts
