@@ -1,7 +1,6 @@
 -- No tree of the grammar spells a word outside the language.
-use Rattle.std.proofs.Common.{◌≡◌, ℕ, zero, suc, ◌==◌, Bool, true, false, not, ◌&&◌, List, [], ◌∷◌, ◌++◌, Option, Some, None, slice_get, refl, sym, subst, ap, ◌∙◌}
+use Rattle.std.proofs.Common.{◌≡◌, ℕ, zero, suc, ◌==◌, Bool, true, false, not, ◌&&◌, List, [], ◌∷◌, ◌++◌, Option, Some, None, if◌then◌else◌, refl, sym, subst, ap, ◌∙◌}
 use Rattle.std.specs.List.{AllByRecursion, list_all}
-use Rattle.std.specs.Option.{option_map_or}
 use Rattle.std.proofs.lemmas.Bool.{and_parts}
 use Rattle.df_lemmas.proofs.Alls.{all_joined}
 use Rattle.df_base.specs.declared.pos.Pos.{Pos}
@@ -10,14 +9,15 @@ use Rattle.df_tok.specs.declared.token.Kind.{Kind}
 use Rattle.df_tok.specs.declared.token.Kind.TheVariants as kinds
 use Rattle.df_tok.specs.declared.sign.Sign.TheVariants as signs
 use Rattle.df_tok.specs.Token.{Token}
-use Rattle.df_tree.specs.declared.row.Part.{Part}
-use Rattle.df_tree.specs.declared.row.Part.TheVariants.{Terminal, Nonterminal}
+use Rattle.df_tree.specs.declared.production.Part.{Part}
+use Rattle.df_tree.specs.declared.production.Part.TheVariants.{Terminal, Nonterminal}
 use Rattle.df_tree.specs.Terminal.{terminal, terminal_of, of_sign}
 use Rattle.df_tree.specs.Tree.{Tree, Leaf, Node, Trees, none, more, leaves, leaves_all}
 use Rattle.df_tree.specs.Row.{Row}
-use Rattle.df_tree.specs.Grammar.{grammar, row, nothing, part_of, May, IsTree, Are, IsTreeOf}
+use Rattle.df_tree.specs.Grammar.{declarations, statements, expressions, row, part_of, May, IsTree, Are, IsTreeOf}
+use Rattle.df_tree.proofs.Fine.{row_has}
 use Rattle.df_tree.proofs.Deep.{may_pass}
-use Rattle.df_pdecl.specs.Refusing.{outside_of, or_else, begins_attribute, first_outside_after, first_outside}
+use Rattle.df_pdecl.specs.Refusing.{outside_of, or_else, begins_attribute, named_outside, first_outside}
 
 -- neither a word outside the language nor the sign of an attribute
 abbrev is_inside : ℕ → Bool
@@ -30,18 +30,20 @@ part_inside (Nonterminal n) = true
 abbrev row_inside : Row → Bool
 row_inside r = list_all part_inside r.parts
 
-rows_inside : list_all row_inside grammar ≡ true
-unfolding grammar
-rows_inside = refl
+declarations_inside : list_all row_inside declarations ≡ true
+unfolding declarations
+declarations_inside = refl
 
-entry_inside : (rows : List Row) (n : ℕ) → list_all row_inside rows ≡ true → row_inside (option_map_or (λ r. r) (slice_get rows n) nothing) ≡ true
-entry_inside [] n all = refl
-entry_inside (r ∷ rows) zero all = (and_parts (row_inside r) (list_all row_inside rows) all).0
-entry_inside (r ∷ rows) (suc n) all = entry_inside rows n (and_parts (row_inside r) (list_all row_inside rows) all).1
+statements_inside : list_all row_inside statements ≡ true
+unfolding statements
+statements_inside = refl
+
+expressions_inside : list_all row_inside expressions ≡ true
+unfolding expressions
+expressions_inside = refl
 
 each_row_inside : (n : ℕ) → row_inside (row n) ≡ true
-unfolding row
-each_row_inside n = entry_inside grammar n rows_inside
+each_row_inside n = row_has row_inside n refl declarations_inside statements_inside expressions_inside
 
 abbrev Inside : Token → Type 0
 Inside x = is_inside (terminal x) ≡ true
@@ -67,11 +69,13 @@ all_inside : (tokens : List Token) → AllByRecursion Inside tokens → first_ou
 unfolding terminal
 all_inside [] h = refl
 all_inside (t ∷ tokens) h =
-    ap (λ (o : Option Refusal). or_else o (first_outside_after (begins_attribute t.kind) tokens)) (kind_inside t.kind t.text t.pos h.0)
-    ∙ ap (λ (b : Bool). first_outside_after b tokens) (kind_quiet t.kind h.0) ∙ all_inside tokens h.1
+    ap (λ (o : Option Refusal). or_else (or_else o (if begins_attribute t.kind then named_outside tokens else None)) (first_outside tokens)) (kind_inside t.kind t.text t.pos h.0)
+    ∙ ap (λ (b : Bool). or_else (if b then named_outside tokens else None) (first_outside tokens)) (kind_quiet t.kind h.0) ∙ all_inside tokens h.1
+
+pub none_outside : (n : ℕ) (tokens : List Token) (t : Tree) → IsTreeOf n tokens t → first_outside tokens ≡ None
+none_outside n tokens t of =
+    let inside : part_inside (part_of t) ≡ true = rw of.starts refl in
+    all_inside tokens (subst (AllByRecursion Inside) of.spelled (tree_inside t of.right inside))
 
 pub outside_spells_none : (n : ℕ) (tokens : List Token) (r : Refusal) (t : Tree) → first_outside tokens ≡ Some r → IsTreeOf n tokens t → ⊥
-outside_spells_none n tokens r t e of =
-    let inside : part_inside (part_of t) ≡ true = rw of.starts refl in
-    let none_there : first_outside tokens ≡ None = all_inside tokens (subst (AllByRecursion Inside) of.spelled (tree_inside t of.right inside)) in
-    cc
+outside_spells_none n tokens r t e of = let none_there : first_outside tokens ≡ None = none_outside n tokens t of in cc

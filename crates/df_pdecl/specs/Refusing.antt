@@ -40,23 +40,24 @@ begins_with_false (token ∷ tokens) = is_false token.kind
 abbrev pub is_attribute_outside : List ℕ → List Token → Bool
 is_attribute_outside text after = same_text (text_codes "axiom") text || (same_text (text_codes "extern") text || (same_text (text_codes "verify") text && begins_with_false after))
 
--- the refusal of a token behind the sign of an attribute
+-- the refusal of the name of an attribute
 abbrev pub attribute_outside : Kind → Pos → List ℕ → List Token → Option Refusal
 attribute_outside (kinds.Name name) pos text after = if is_attribute_outside text after then Some (record { code = codes.Outside; pos = pos; detail = details.Word name }) else None
 attribute_outside kind pos text after = None
 
--- the refusal of a token, which may stand behind that sign, before others
-abbrev pub outside_at : Bool → Token → List Token → Option Refusal
-outside_at true token after = or_else (outside_of token) (attribute_outside token.kind token.pos token.text after)
-outside_at false token after = outside_of token
+-- the refusal of an attribute by its name, which comes first
+abbrev pub named_outside : List Token → Option Refusal
+named_outside [] = None
+named_outside (name ∷ after) = attribute_outside name.kind name.pos name.text after
 
--- the refusal of the first token that is a word outside the language
-abbrev pub first_outside_after : Bool → List Token → Option Refusal
-first_outside_after behind [] = None
-first_outside_after behind (token ∷ tokens) = or_else (outside_at behind token tokens) (first_outside_after (begins_attribute token.kind) tokens)
+-- the refusal of a token that is a word outside the language, or begins an attribute outside it
+abbrev pub outside_at : Token → List Token → Option Refusal
+outside_at token after = or_else (outside_of token) (if begins_attribute token.kind then named_outside after else None)
 
+-- the refusal of the first one
 abbrev pub first_outside : List Token → Option Refusal
-first_outside tokens = first_outside_after false tokens
+first_outside [] = None
+first_outside (token ∷ tokens) = or_else (outside_at token tokens) (first_outside tokens)
 
 -- A word outside the language comes first, and else the syntax is refused, with nothing more told.
 abbrev pub IsRefusalOr : Option Refusal → Refusal → Type 0

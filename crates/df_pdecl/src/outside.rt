@@ -2,7 +2,7 @@
 
 ghost use Rattle.std.specs.Prelude.{◌≡◌, map};
 ghost use Rattle.df_tok.specs.Token.{view};
-ghost use Rattle.df_pdecl.specs.Refusing.{outside_of, begins_attribute as kind_begins_attribute, begins_with_false as begins_false, is_attribute_outside as is_outside_attribute, attribute_outside as outside_attribute, outside_at as token_outside, first_outside};
+ghost use Rattle.df_pdecl.specs.Refusing.{outside_of, begins_attribute as kind_begins_attribute, begins_with_false as begins_false, is_attribute_outside as is_outside_attribute, attribute_outside as outside_attribute, named_outside as attribute_named, outside_at as token_outside, first_outside};
 
 use df_base::{Code, Detail, Refusal};
 use df_tok::{Kind, Sign, Token, Word};
@@ -66,13 +66,23 @@ fn attribute_outside(token: &Token, after: &[Token]) -> Option<Refusal>
     }
 }
 
-/// The refusal of a token, which may stand behind the sign of an attribute, before others.
-fn outside_at(behind: bool, token: &Token, after: &[Token]) -> Option<Refusal>
-    ensures { result ≡ token_outside behind (view token.now) (map view after.now) }
+/// The refusal of an attribute outside the language, whose name comes first.
+fn named_outside(tokens: &[Token]) -> Option<Refusal>
+    ensures { result ≡ attribute_named (map view tokens.now) }
+{
+    match tokens {
+        [name, after @ ..] => attribute_outside(name, after),
+        [] => None,
+    }
+}
+
+/// The refusal of a token that is outside the language, or begins an attribute outside it, before others.
+fn outside_at(token: &Token, after: &[Token]) -> Option<Refusal>
+    ensures { result ≡ token_outside (view token.now) (map view after.now) }
 {
     match outside(token) {
         Some(refusal) => Some(refusal),
-        None if behind => attribute_outside(token, after),
+        None if begins_attribute(token) => named_outside(after),
         None => None,
     }
 }
@@ -81,12 +91,10 @@ fn outside_at(behind: bool, token: &Token, after: &[Token]) -> Option<Refusal>
 pub(crate) fn first_outside(tokens: &[Token]) -> Option<Refusal>
     ensures { result ≡ first_outside (map view tokens.now) }
 {
-    let mut behind = false;
     for (number, token) in tokens.iter().enumerate() {
-        if let Some(refusal) = outside_at(behind, token, &tokens[number + 1..]) {
+        if let Some(refusal) = outside_at(token, &tokens[number + 1..]) {
             return Some(refusal);
         }
-        behind = begins_attribute(token);
     }
     None
 }

@@ -4,22 +4,21 @@ use Rattle.std.specs.Option.{option_and_then, option_map}
 use Rattle.df_tok.specs.Token.{Token}
 use Rattle.df_tree.specs.declared.label.Way.{Way}
 use Rattle.df_tree.specs.declared.label.Way.TheVariants.{Pass, Title, Wrap, Make, Close}
-use Rattle.df_tree.specs.declared.row.Counting.{Counting}
-use Rattle.df_tree.specs.declared.row.Counting.TheVariants.{Never, Always, IfMore, Each}
-use Rattle.df_tree.specs.declared.row.Part.{Part}
-use Rattle.df_tree.specs.declared.row.Part.TheVariants.{Terminal, Nonterminal}
+use Rattle.df_tree.specs.declared.production.Counting.{Counting}
+use Rattle.df_tree.specs.declared.production.Counting.TheVariants.{Never, Always, IfMore, Each}
+use Rattle.df_tree.specs.declared.production.Part.{Part}
+use Rattle.df_tree.specs.declared.production.Part.TheVariants.{Terminal, Nonterminal}
 use Rattle.df_pexpr.specs.declared.reader.Step.{Step}
 use Rattle.df_pexpr.specs.declared.reader.Step.TheVariants.{Read, Done, Fail}
 use Rattle.df_tree.specs.Tree.{Tree, Leaf, Node, Trees, none, more, trees_of, leaves, leaves_all}
 use Rattle.df_tree.specs.Row.{Row}
 use Rattle.df_tree.specs.Grammar.{row, begins, height_limit, one_more, is_some, is_filled, has_more, counted, height_over, all_over, each_over}
-use Rattle.df_pexpr.specs.Reading.{Reading, Reader, step, by_step, children, turn_limit, leaf, reader}
+use Rattle.df_pexpr.specs.mirror.Reading.{Reading, Reader, step, by_step, children, turn_limit, leaf, reader}
 use Rattle.df_tree.specs.Building.{Frame, enter, outside, leave, built, built_all}
-use Rattle.df_pexpr.specs.Construction.{Construction, Attempt, Success, Failure, and_then, Sofar, Builder, height_at, height_before, height_behind, room_inside, height_so_far, begun, further, finished, by_step_of, grow, taken, leaf_built, builder}
-use Rattle.std.proofs.lemmas.Bool.{ltb-false, le-ltb, lt-ltb, cases_lt}
+use Rattle.df_pexpr.specs.mirror.Construction.{Construction, Attempt, Success, Failure, and_then, Sofar, Builder, height_at, height_before, height_behind, room_inside, height_so_far, begun, further, finished, by_step_of, grow, taken, leaf_built, builder}
+use Rattle.std.proofs.lemmas.Bool.{cases_Bool, ltb-false, le-ltb, lt-ltb, cases_lt}
 use Rattle.std.proofs.lemmas.Option.{same_Some}
 use Rattle.df_tree.specs.Terminal.{terminal}
-use Rattle.df_tree.proofs.Begun.{flag_cases}
 use Rattle.df_tree.proofs.Deep.{one_more_is, raises_all, raises_each}
 use Rattle.df_pexpr.proofs.Complete.{joined, joined_none, joined_more}
 use Rattle.df_pexpr.proofs.Sound.{sound, then_some}
@@ -129,13 +128,13 @@ more_joined (t ∷ []) rest e = absurd (let f : false ≡ true = e in cc)
 more_joined (t ∷ u ∷ ts) rest e = e
 
 one_more_at_most : (h : ℕ) → one_more h ≤ h + 1
-one_more_at_most h = elim (flag_cases (nat_lt h height_limit)) [
+one_more_at_most h = elim (cases_Bool (nat_lt h height_limit)) [
   | inl e ↦ rw e (omega arith)
   | inr e ↦ rw e (omega (arith, ltb-false h height_limit e))
 ]
 
 one_more_above : (room h : ℕ) → room ≤ height_limit → room ≤ h → room < one_more h
-one_more_above room h limit le = elim (flag_cases (nat_lt h height_limit)) [
+one_more_above room h limit le = elim (cases_Bool (nat_lt h height_limit)) [
   | inl e ↦ rw e (omega (arith, le))
   | inr e ↦ rw e (omega (arith, limit))
 ]

@@ -2,22 +2,23 @@
 use Rattle.std.proofs.Common.{◌≡◌, ℕ, zero, suc, ◌<◌, ◌≤◌, ◌==◌, inl, inr, Bool, true, false, not, ◌&&◌, ◌||◌, cond, List, [], ◌∷◌, ◌++◌, length, Option, Some, None, slice_get, if◌then◌else◌, refl, sym, ap, ◌∙◌, subst, append_assoc, length-append, eqb-true, arith}
 use Rattle.std.specs.List.{list_all}
 use Rattle.std.specs.Option.{option_and_then}
-use Rattle.std.proofs.lemmas.Bool.{and_parts, and_from}
+use Rattle.std.proofs.lemmas.Bool.{cases_Bool, and_parts, and_from}
 use Rattle.df_tok.specs.Token.{Token}
-use Rattle.df_tree.specs.declared.row.Form.{Form}
-use Rattle.df_tree.specs.declared.row.Form.TheVariants.{All, One, Many}
-use Rattle.df_tree.specs.declared.row.Part.{Part}
+use Rattle.df_tree.specs.declared.production.Form.{Form}
+use Rattle.df_tree.specs.declared.production.Form.TheVariants.{All, One, Many}
+use Rattle.df_tree.specs.declared.production.Part.{Part}
 use Rattle.df_pexpr.specs.declared.reader.Step.{Step}
 use Rattle.df_pexpr.specs.declared.reader.Step.TheVariants.{Read, Done}
 use Rattle.df_tree.specs.Terminal.{terminal}
-use Rattle.df_tree.specs.Tree.{Tree, Leaf, Node, Trees, none, more, trees_of, leaves, leaves_all, depth, depth_all}
+use Rattle.df_tree.specs.Tree.{Tree, Leaf, Node, Trees, none, more, trees_of, leaves, leaves_all}
 use Rattle.df_tree.specs.Row.{Row}
 use Rattle.df_tree.specs.Grammar.{row, kinds_of, part_of, IsAmong, May, MayEnd, IsTree, Are, begins, begins_part, chosen, is_open, IsSettled, AreSettled}
-use Rattle.df_pexpr.specs.Reading.{Reading, Reader, chosen_step, placed_step, step, by_step, children, turn_limit, reader}
+use Rattle.df_pexpr.specs.mirror.Reading.{Reading, Reader, chosen_step, placed_step, step, by_step, children, turn_limit, reader}
 use Rattle.df_tree.proofs.Classes.{subset, apart, first_apart}
 use Rattle.df_tree.proofs.Fine.{first_of, empty_of, follows, first_of_all, wide, all_fine, choice_fine, stops, fine_by, row_fine, row_short}
-use Rattle.df_tree.proofs.Begun.{begins_first, among_fine, Begun, EachBegun, AreOf, are_of, begun, each_begun, empty_or, flag_cases, form_cases, choice_of, among_of, empty_choice, not_empty, same_kind}
+use Rattle.df_tree.proofs.Begun.{begins_first, among_fine, Begun, EachBegun, AreOf, are_of, begun, each_begun, empty_or, form_cases, choice_of, among_of, empty_choice, not_empty, same_kind}
 use Rattle.df_tree.proofs.Chosen.{begins_choice, get_past}
+use Rattle.df_tree.proofs.Deep.{depth, depth_all}
 use Rattle.df_tree.proofs.Followed.{any_row}
 
 -- ---- the step
@@ -37,7 +38,7 @@ many_empty r f = empty_choice Many r (λ h. cc) f tt
 
 step_ends : (form : Form) (r : Row) (k : ℕ) (tokens : List Token) → fine_by form r ≡ true → MayEnd form r k → (is_open form k ≡ true → chosen r.parts tokens ≡ None) → step form r k tokens ≡ Done
 step_ends All r k tokens f may stops = ap placed_step (get_past r.parts k may)
-step_ends One r k tokens f may stops = elim (flag_cases (k == 0)) [
+step_ends One r k tokens f may stops = elim (cases_Bool (k == 0)) [
   | inl e ↦ rw e (ends_choice r.empty (chosen r.parts tokens) (may (eqb-true k 0 e)) (stops e))
   | inr e ↦ rw e refl
 ]

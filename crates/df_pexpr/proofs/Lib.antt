@@ -3,3 +3,5 @@ pub mod Complete
 pub mod Sound
 pub mod Built
 pub mod Spelled
+pub mod Local
+pub mod Stopping

@@ -3,17 +3,18 @@ use Rattle.std.proofs.Common.{◌≡◌, ℕ, zero, suc, ◌≤◌, ◌==◌, �
 use Rattle.std.specs.Option.{option_and_then}
 use Rattle.std.proofs.lemmas.Option.{same_Some}
 use Rattle.df_tok.specs.Token.{Token}
-use Rattle.df_tree.specs.declared.row.Form.{Form}
-use Rattle.df_tree.specs.declared.row.Form.TheVariants.{All, One, Many}
-use Rattle.df_tree.specs.declared.row.Part.{Part}
-use Rattle.df_tree.specs.declared.row.Part.TheVariants.{Terminal, Nonterminal}
+use Rattle.df_tree.specs.declared.production.Form.{Form}
+use Rattle.df_tree.specs.declared.production.Form.TheVariants.{All, One, Many}
+use Rattle.df_tree.specs.declared.production.Part.{Part}
+use Rattle.df_tree.specs.declared.production.Part.TheVariants.{Terminal, Nonterminal}
 use Rattle.df_pexpr.specs.declared.reader.Step.{Step}
 use Rattle.df_pexpr.specs.declared.reader.Step.TheVariants.{Read, Done, Fail}
 use Rattle.df_tree.specs.Terminal.{terminal}
-use Rattle.df_tree.specs.Tree.{Tree, Leaf, Node, Trees, none, more, trees_of, leaves, leaves_all, depth, depth_all}
+use Rattle.df_tree.specs.Tree.{Tree, Leaf, Node, Trees, none, more, trees_of, leaves, leaves_all}
 use Rattle.df_tree.specs.Row.{Row}
 use Rattle.df_tree.specs.Grammar.{row, part_of, IsAmong, May, MayEnd, IsTree, Are, begins, begins_part, chosen, is_open, Stops, IsSettled, AreSettled}
-use Rattle.df_pexpr.specs.Reading.{Reading, Reader, chosen_step, placed_step, step, by_step, children, turn_limit, node, leaf, reader}
+use Rattle.df_pexpr.specs.mirror.Reading.{Reading, Reader, chosen_step, placed_step, step, by_step, children, turn_limit, node, leaf, reader}
+use Rattle.df_tree.proofs.Single.{if_cases}
 use Rattle.df_tree.proofs.Followed.{any_row}
 use Rattle.df_pexpr.proofs.Complete.{joined, joined_none, joined_more, length_pushed}
 
@@ -44,10 +45,6 @@ chosen_done : (empty : Bool) (o : Option Part) → chosen_step empty o ≡ Done 
 chosen_done empty (Some q) e = absurd cc
 chosen_done true None e = (refl, refl)
 chosen_done false None e = absurd cc
-
-if_cases : {A : Type 0} (b : Bool) (x y z : A) → (if b then x else y) ≡ z → ((b ≡ true) × (x ≡ z)) ⊎ ((b ≡ false) × (y ≡ z))
-if_cases true x y z e = inl (refl, e)
-if_cases false x y z e = inr (refl, e)
 
 read_means : (form : Form) (r : Row) (k : ℕ) (tokens : List Token) (p : Part) → step form r k tokens ≡ Read p → May form r.parts k p
 read_means All r k tokens p e = placed_some (slice_get r.parts k) p e
@@ -94,79 +91,75 @@ end_means Many r k tokens e within = let d = chosen_done r.empty (chosen r.parts
 -- ---- the trees of a production
 
 -- what was read at these tokens
-pub record IsReading (left : ℕ) (p : Part) (tokens : List Token) (x : Reading) : Type 0 where
+pub record IsReading (p : Part) (tokens : List Token) (x : Reading) : Type 0 where
   pub part : part_of x.tree ≡ p
   pub right : IsTree x.tree
   pub spelled : leaves x.tree ++ x.behind ≡ tokens
   pub settled : IsSettled any_row x.tree x.behind
-  pub low : depth x.tree ≤ left
 
 -- what was read behind the trees before
-record IsRest (left n k : ℕ) (before : List Tree) (tokens : List Token) (x : Reading) : Type 0 where
+record IsRest (n k : ℕ) (before : List Tree) (tokens : List Token) (x : Reading) : Type 0 where
   pub trees : Trees
   pub is : x.tree ≡ Node n (joined before trees)
   pub right : Are (row n) k trees
   pub spelled : leaves_all trees ++ x.behind ≡ tokens
   pub settled : AreSettled any_row (row n) k trees x.behind
-  pub low : depth_all trees ≤ left
 
 pub then_some : {A B : Type 0} (f : A → Option B) (o : Option A) (y : B) → option_and_then f o ≡ Some y → (x : A) × (o ≡ Some x) × (f x ≡ Some y)
 then_some f (Some x) y e = (x, refl, e)
 then_some f None y e = absurd cc
 
-abbrev Sound : ℕ → Reader → Type 0
-Sound left read = (p : Part) (tokens : List Token) (x : Reading) → read p tokens ≡ Some x → IsReading left p tokens x
+abbrev Sound : Reader → Type 0
+Sound read = (p : Part) (tokens : List Token) (x : Reading) → read p tokens ≡ Some x → IsReading p tokens x
 
-in_front : (left n k : ℕ) (before : List Tree) (tokens : List Token) (p : Part) (y x : Reading) → May (row n).form (row n).parts k p → IsReading left p tokens y → IsRest left n (suc k) (before ++ y.tree ∷ []) y.behind x
-    → IsRest left n k before tokens x
-in_front left n k before tokens p y x may one others = record {
+in_front : (n k : ℕ) (before : List Tree) (tokens : List Token) (p : Part) (y x : Reading) → May (row n).form (row n).parts k p → IsReading p tokens y → IsRest n (suc k) (before ++ y.tree ∷ []) y.behind x
+    → IsRest n k before tokens x
+in_front n k before tokens p y x may one others = record {
   trees = more y.tree others.trees;
   is = others.is ∙ ap (Node n) (joined_more before y.tree others.trees);
   right = (rw one.part may, one.right, others.right);
   spelled = append_assoc (leaves y.tree) (leaves_all others.trees) x.behind ∙ ap (λ ts. leaves y.tree ++ ts) others.spelled ∙ one.spelled;
   settled = (subst (IsSettled any_row y.tree) (sym others.spelled) one.settled, others.settled);
-  low = omega (arith, one.low, others.low);
 }
 
-at_end : (left n k : ℕ) (before : List Tree) (tokens : List Token) (x : Reading) → MayEnd (row n).form (row n) k → Stops (row n) k tokens → record { tree = Node n (trees_of before); behind = tokens } ≡ x → IsRest left n k before tokens x
-at_end left n k before tokens x end stops same = subst (IsRest left n k before tokens) same (record {
+at_end : (n k : ℕ) (before : List Tree) (tokens : List Token) (x : Reading) → MayEnd (row n).form (row n) k → Stops (row n) k tokens → record { tree = Node n (trees_of before); behind = tokens } ≡ x → IsRest n k before tokens x
+at_end n k before tokens x end stops same = subst (IsRest n k before tokens) same (record {
   trees = none;
   is = ap (Node n) (sym (joined_none before));
   right = end;
   spelled = refl;
   settled = λ marked. stops;
-  low = omega arith;
 })
 
-by_step_sound : (left n k : ℕ) (before : List Tree) (tokens : List Token) (x : Reading) (reads : Part → Option Reading) (s : Step) → step (row n).form (row n) k tokens ≡ s → Within (row n).form (row n) k
+by_step_sound : (n k : ℕ) (before : List Tree) (tokens : List Token) (x : Reading) (reads : Part → Option Reading) (s : Step) → step (row n).form (row n) k tokens ≡ s → Within (row n).form (row n) k
     → by_step (Some (record { tree = Node n (trees_of before); behind = tokens })) reads s ≡ Some x
-    → ((p : Part) → May (row n).form (row n).parts k p → reads p ≡ Some x → IsRest left n k before tokens x)
-    → IsRest left n k before tokens x
-by_step_sound left n k before tokens x reads Fail e within f goes_on = absurd cc
-by_step_sound left n k before tokens x reads Done e within f goes_on =
+    → ((p : Part) → May (row n).form (row n).parts k p → reads p ≡ Some x → IsRest n k before tokens x)
+    → IsRest n k before tokens x
+by_step_sound n k before tokens x reads Fail e within f goes_on = absurd cc
+by_step_sound n k before tokens x reads Done e within f goes_on =
     let means = end_means (row n).form (row n) k tokens e within in
-    at_end left n k before tokens x means.0 means.1 (same_Some _ x f)
-by_step_sound left n k before tokens x reads (Read p) e within f goes_on = goes_on p (read_means (row n).form (row n) k tokens p e) f
+    at_end n k before tokens x means.0 means.1 (same_Some _ x f)
+by_step_sound n k before tokens x reads (Read p) e within f goes_on = goes_on p (read_means (row n).form (row n) k tokens p e) f
 
-children_sound : (left : ℕ) (read : Reader) → Sound left read → (room n k : ℕ) (before : List Tree) (tokens : List Token) (x : Reading) → length before ≡ k → Within (row n).form (row n) k
-    → children read room n before tokens ≡ Some x → IsRest left n k before tokens x
+children_sound : (read : Reader) → Sound read → (room n k : ℕ) (before : List Tree) (tokens : List Token) (x : Reading) → length before ≡ k → Within (row n).form (row n) k
+    → children read room n before tokens ≡ Some x → IsRest n k before tokens x
 unfolding children
-children_sound left read sound zero n k before tokens x at within e = absurd cc
-children_sound left read sound (suc room) n k before tokens x at within e =
-    by_step_sound left n k before tokens x _ (step (row n).form (row n) (length before) tokens) (rw at refl) within e
+children_sound read sound zero n k before tokens x at within e = absurd cc
+children_sound read sound (suc room) n k before tokens x at within e =
+    by_step_sound n k before tokens x _ (step (row n).form (row n) (length before) tokens) (rw at refl) within e
     (λ p may f.
     let done = then_some (λ (y : Reading). children read room n (before ++ y.tree ∷ []) y.behind) (read p tokens) x f in
-    in_front left n k before tokens p done.0 x may (sound p tokens done.0 done.1)
-    (children_sound left read sound room n (suc k) (before ++ done.0.tree ∷ []) done.0.behind x (length_pushed before done.0.tree ∙ ap suc at)
+    in_front n k before tokens p done.0 x may (sound p tokens done.0 done.1)
+    (children_sound read sound room n (suc k) (before ++ done.0.tree ∷ []) done.0.behind x (length_pushed before done.0.tree ∙ ap suc at)
     (goes_within (row n).form (row n) k p may) done.2))
 
 -- ---- the whole
 
-leaf_sound : (left kind : ℕ) (tokens : List Token) (x : Reading) → leaf kind tokens ≡ Some x → IsReading left (Terminal kind) tokens x
-leaf_sound left kind [] x e = absurd cc
-leaf_sound left kind (t ∷ ts) x e = elim (if_cases ((terminal t) == kind) (Some (record { tree = Leaf t; behind = ts })) None (Some x) e) [
-  | inl (same, f) ↦ subst (IsReading left (Terminal kind) (t ∷ ts)) (same_Some _ x f)
-      (record { part = ap Terminal (eqb-true (terminal t) kind same); right = tt; spelled = refl; settled = tt; low = omega arith })
+leaf_sound : (kind : ℕ) (tokens : List Token) (x : Reading) → leaf kind tokens ≡ Some x → IsReading (Terminal kind) tokens x
+leaf_sound kind [] x e = absurd cc
+leaf_sound kind (t ∷ ts) x e = elim (if_cases ((terminal t) == kind) (Some (record { tree = Leaf t; behind = ts })) None (Some x) e) [
+  | inl (same, f) ↦ subst (IsReading (Terminal kind) (t ∷ ts)) (same_Some _ x f)
+      (record { part = ap Terminal (eqb-true (terminal t) kind same); right = tt; spelled = refl; settled = tt })
   | inr (other, f) ↦ absurd cc
 ]
 
@@ -175,21 +168,20 @@ not_refused true true e f = refl
 not_refused true false e f = sym e
 not_refused false c e f = absurd cc
 
-node_sound : (left n : ℕ) (tokens : List Token) (x : Reading) → Sound left (reader left) → node (reader left) n tokens ≡ Some x → IsReading (suc left) (Nonterminal n) tokens x
+node_sound : (left n : ℕ) (tokens : List Token) (x : Reading) → Sound (reader left) → node (reader left) n tokens ≡ Some x → IsReading (Nonterminal n) tokens x
 node_sound left n tokens x sound e = elim (if_cases ((row n).narrow && not (begins (row n) tokens)) None (children (reader left) turn_limit n [] tokens) (Some x) e) [
   | inl (narrow, f) ↦ absurd cc
   | inr (narrow, f) ↦
-      (let rest = children_sound left (reader left) sound turn_limit n 0 [] tokens x refl (begins_within (row n).form (row n)) f in
+      (let rest = children_sound (reader left) sound turn_limit n 0 [] tokens x refl (begins_within (row n).form (row n)) f in
       record {
         part = ap part_of rest.is;
         right = subst IsTree (sym rest.is) rest.right;
         spelled = ap (λ t. leaves t ++ x.behind) rest.is ∙ rest.spelled;
         settled = subst (λ t. IsSettled any_row t x.behind) (sym rest.is) ((λ h. rw rest.spelled (not_refused (row n).narrow (begins (row n) tokens) narrow h)), rest.settled);
-        low = subst (λ t. depth t ≤ suc left) (sym rest.is) (omega (arith, rest.low));
       })
 ]
 
-pub sound : (left : ℕ) (p : Part) (tokens : List Token) (x : Reading) → reader left p tokens ≡ Some x → IsReading left p tokens x
-sound left (Terminal kind) tokens x e = leaf_sound left kind tokens x e
+pub sound : (left : ℕ) (p : Part) (tokens : List Token) (x : Reading) → reader left p tokens ≡ Some x → IsReading p tokens x
+sound left (Terminal kind) tokens x e = leaf_sound kind tokens x e
 sound zero (Nonterminal n) tokens x e = absurd cc
 sound (suc left) (Nonterminal n) tokens x e = node_sound left n tokens x (λ q others y f. sound left q others y f) e

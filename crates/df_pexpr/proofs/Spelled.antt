@@ -2,27 +2,24 @@
 use Rattle.std.proofs.Common.{◌≡◌, ℕ, ◌+◌, ◌<◌, ◌≤◌, nat_lt, Bool, true, false, inl, List, [], ◌∷◌, ◌++◌, length, drop, map, Option, Some, None, if◌then◌else◌, refl, sym, ap, ◌∙◌, subst, length-append, length-drop, arith}
 use Rattle.std.proofs.lemmas.Bool.{ltb-false, le-ltb}
 use Rattle.std.proofs.lemmas.Option.{same_Some}
-use Rattle.std.proofs.lemmas.List.{length-map}
+use Rattle.std.proofs.lemmas.List.{append-nil, drop_all, length-map}
 use Rattle.df_tok.specs.Token.{Token, view}
 use Rattle.df_tok.specs.declared.token.Token as declared
-use Rattle.df_tree.specs.declared.row.Part.{Part}
-use Rattle.df_tree.specs.declared.row.Part.TheVariants.{Nonterminal}
+use Rattle.df_tree.specs.declared.ast.Ast as declared_ast
+use Rattle.df_tree.specs.declared.production.Part.{Part}
+use Rattle.df_tree.specs.declared.production.Part.TheVariants.{Nonterminal}
 use Rattle.df_tree.specs.Tree.{Tree, leaves}
-use Rattle.df_tree.specs.Ast.{Asts, asts_of}
-use Rattle.df_tree.specs.Grammar.{part_of, height_limit, depth_limit, height, IsSettled, IsTreeOf, IsPartAt}
+use Rattle.df_tree.specs.Ast.{Ast, Asts, Nil, Next, asts_of, ast_of}
+use Rattle.df_tree.specs.Grammar.{part_of, height_limit, height, IsSettled, IsTreeOf, IsPartAt}
 use Rattle.df_tree.specs.Building.{Frame, opened}
-use Rattle.df_tree.specs.Spelling.{IsAstOf, IsAstAt}
+use Rattle.df_tree.specs.Spelling.{IsAstOf, IsAstAt, IsOne, MakesOne}
 use Rattle.df_tree.proofs.Deep.{low_is_shallow}
 use Rattle.df_tree.proofs.Followed.{greedy_row, any_row, nothing_follows, settled_all, settled_greedy}
-use Rattle.df_pexpr.specs.Reading.{Reading, reader}
-use Rattle.df_pexpr.specs.Construction.{Construction, Attempt, Success, Failure, builder, attempt_from}
+use Rattle.df_pexpr.specs.mirror.Reading.{Reading, reader, depth_limit}
+use Rattle.df_pexpr.specs.mirror.Construction.{Construction, Attempt, Success, Failure, builder, attempt_from}
 use Rattle.df_pexpr.proofs.Complete.{complete, token_limit}
 use Rattle.df_pexpr.proofs.Sound.{sound}
 use Rattle.df_pexpr.proofs.Built.{construction, made, fit, Fitting, builds, dropped_whole}
-
-append_end : (xs : List Token) → xs ++ [] ≡ xs
-append_end [] = refl
-append_end (x ∷ xs) = ap (λ ys. x ∷ ys) (append_end xs)
 
 -- what reading from one token on comes to
 pub record IsAttempt (n : ℕ) (tokens : List Token) (start : ℕ) (a : Attempt) : Type 0 where
@@ -73,14 +70,10 @@ as_part n tokens u of = record {
   starts = of.starts;
   right = of.right;
   place = (let e : length (leaves u) ≡ length tokens = ap length of.spelled in omega (arith, e));
-  spelled = ap (λ ts. leaves u ++ ts) (dropped tokens) ∙ append_end (leaves u) ∙ of.spelled;
-  settled = subst (IsSettled any_row u) (sym (dropped tokens)) (settled_all u [] of.right of.settled (nothing_follows n (part_of u) of.starts));
+  spelled = ap (λ ts. leaves u ++ ts) (drop_all (length tokens) tokens (omega arith)) ∙ append-nil (leaves u) ∙ of.spelled;
+  settled = subst (IsSettled any_row u) (sym (drop_all (length tokens) tokens (omega arith))) (settled_all u [] of.right of.settled (nothing_follows n (part_of u) of.starts));
   low = of.low;
 }
-  where
-    dropped : (ts : List Token) → drop (length ts) ts ≡ []
-    dropped [] = refl
-    dropped (t ∷ ts) = dropped ts
 
 -- ---- parts
 
@@ -101,8 +94,8 @@ part_of_it n tokens start found it =
 only_it : (n : ℕ) (tokens : List Token) (start : ℕ) (found : Construction) (it : IsRead n tokens start found) → length tokens < token_limit → (after : ℕ) (u : Tree) → IsPartAt n tokens start after u → u ≡ it.reading.tree
 only_it n tokens start found it few after u of = ap (λ (x : Reading). x.tree) (same_Some _ _ (sym (reads n tokens start after u few of) ∙ it.read))
 
-pub part_found : (n : ℕ) (tokens : List Token) (start : ℕ) (found : Construction) (items : Asts) → IsAttempt n tokens start (Success found) → items ≡ asts_of found.frame.items → IsAstAt n tokens start found.behind items
-part_found n tokens start found items a e =
+pub part_found : (n : ℕ) (tokens : List Token) (start : ℕ) (found : Construction) (ast : Ast) → IsAttempt n tokens start (Success found) → asts_of found.frame.items ≡ Next ast Nil → IsAstAt n tokens start found.behind ast
+part_found n tokens start found ast a e =
     let it = is_read n tokens start found a in
     let here = part_of_it n tokens start found it in
     record {
@@ -111,8 +104,20 @@ part_found n tokens start found items a e =
       only = λ after u of. (
           let same : u ≡ it.reading.tree = only_it n tokens start found it a.few after u of in
           (of.place ∙ ap (λ t. start + length (leaves t)) same ∙ sym here.place, same));
-      is = e ∙ ap (λ (c : Construction). asts_of c.frame.items) it.is;
+      is = sym (ap (λ (c : Construction). asts_of c.frame.items) it.is) ∙ e;
     }
+
+pub one_found : (n : ℕ) (tokens : List Token) (start : ℕ) (found : Construction) → MakesOne n → IsAttempt n tokens start (Success found) → IsOne (asts_of found.frame.items)
+one_found n tokens start found one a =
+    let it = is_read n tokens start found a in
+    let r = sound depth_limit (Nonterminal n) (drop start tokens) it.reading it.read in
+    subst IsOne (sym (ap (λ (c : Construction). asts_of c.frame.items) it.is)) (one start it.reading.tree r.part r.right)
+
+-- the one of a list
+pub last_is : (items front : List declared_ast.Ast) (last : declared_ast.Ast) → items ≡ front ++ last ∷ [] → IsOne (asts_of (map ast_of items)) → asts_of (map ast_of items) ≡ Next (ast_of last) Nil
+last_is items [] last e one = ap (λ xs. asts_of (map ast_of xs)) e
+last_is items (x ∷ []) last e one = absurd (let two : Next (ast_of x) (Next (ast_of last) Nil) ≡ Next one.ast Nil = sym (ap (λ xs. asts_of (map ast_of xs)) e) ∙ one.is in cc)
+last_is items (x ∷ y ∷ front) last e one = absurd (let two : Next (ast_of x) (Next (ast_of y) (asts_of (map ast_of (front ++ last ∷ [])))) ≡ Next one.ast Nil = sym (ap (λ xs. asts_of (map ast_of xs)) e) ∙ one.is in cc)
 
 never_fits : (x : Construction) → x.height ≤ height_limit → None ≡ fit height_limit x → ⊥
 never_fits x le e = by (nat_lt height_limit x.height) (le-ltb height_limit x.height le) e
@@ -133,8 +138,8 @@ no_more [] [] le = refl
 no_more [] (y ∷ ys) le = absurd (omega arith)
 no_more (x ∷ xs) ys le = no_more xs ys (omega (arith, le))
 
-pub text_found : (n : ℕ) (tokens : List Token) (found : Construction) (items : Asts) → IsAttempt n tokens 0 (Success found) → items ≡ asts_of found.frame.items → length tokens ≤ found.behind → IsAstOf n tokens items
-text_found n tokens found items a e le =
+pub text_found : (n : ℕ) (tokens : List Token) (found : Construction) (ast : Ast) → IsAttempt n tokens 0 (Success found) → asts_of found.frame.items ≡ Next ast Nil → length tokens ≤ found.behind → IsAstOf n tokens ast
+text_found n tokens found ast a e le =
     let it = is_read n tokens 0 found a in
     let r = sound depth_limit (Nonterminal n) tokens it.reading it.read in
     let place : found.behind ≡ 0 + length (leaves it.reading.tree) = ap (λ (c : Construction). c.behind) it.is in
@@ -144,12 +149,12 @@ text_found n tokens found items a e le =
       spells = record {
         starts = r.part;
         right = r.right;
-        spelled = sym (append_end (leaves it.reading.tree)) ∙ ap (λ ts. leaves it.reading.tree ++ ts) (sym nil) ∙ r.spelled;
+        spelled = sym (append-nil (leaves it.reading.tree)) ∙ ap (λ ts. leaves it.reading.tree ++ ts) (sym nil) ∙ r.spelled;
         settled = subst (IsSettled greedy_row it.reading.tree) nil (settled_greedy it.reading.tree it.reading.behind r.settled);
         low = it.low;
       };
       only = λ u of. only_it n tokens 0 found it a.few (length tokens) u (as_part n tokens u of);
-      is = e ∙ ap (λ (c : Construction). asts_of c.frame.items) it.is;
+      is = sym (ap (λ (c : Construction). asts_of c.frame.items) it.is) ∙ e;
     }
 
 pub text_too_long : (n : ℕ) (tokens : List Token) (found : Construction) → IsAttempt n tokens 0 (Success found) → found.behind < length tokens → (u : Tree) → IsTreeOf n tokens u → ⊥

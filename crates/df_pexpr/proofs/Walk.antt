@@ -1,21 +1,23 @@
 -- What the reader does token by token, and tree by tree.
-use Rattle.std.proofs.Common.{◌≡◌, ℕ, zero, suc, ◌+◌, ◌-◌, ◌<◌, ◌≤◌, nat_lt, Bool, true, false, List, [], ◌∷◌, ◌++◌, map, length, get_or, drop, Option, Some, None, slice_get, refl, sym, ap, ◌∙◌, arith, if◌then◌else◌, ◌==◌}
-use Rattle.std.specs.Option.{option_and_then, option_map}
+use Rattle.std.proofs.Common.{◌≡◌, ℕ, zero, suc, ◌+◌, ◌-◌, ◌<◌, ◌≤◌, nat_lt, Bool, true, false, List, [], ◌∷◌, ◌++◌, map, length, min, get_or, drop, Option, Some, None, slice_get, refl, sym, ap, ◌∙◌, arith, if◌then◌else◌, ◌==◌}
+use Rattle.std.specs.Option.{option_and_then, option_map, option_map_or}
+use Rattle.std.proofs.lemmas.List.{length-map, map-append}
+use Rattle.df_pexpr.specs.Position.{place_of}
 use Rattle.df_tok.specs.Token.{Token}
-use Rattle.df_tree.specs.declared.row.Part.{Part}
-use Rattle.df_tree.specs.declared.row.Part.TheVariants.{Nonterminal}
+use Rattle.df_tree.specs.declared.production.Part.{Part}
+use Rattle.df_tree.specs.declared.production.Part.TheVariants.{Nonterminal}
 use Rattle.df_pexpr.specs.declared.reader.Step.{Step}
 use Rattle.df_pexpr.specs.declared.reader.Step.TheVariants.{Read, Done, Fail}
 use Rattle.df_tree.specs.Row.{Row}
 use Rattle.df_tree.specs.Grammar.{row, first_in, second_in, is_nil}
-use Rattle.df_pexpr.specs.Reading.{step}
+use Rattle.df_pexpr.specs.mirror.Reading.{step}
 use Rattle.df_tree.specs.Building.{Frame}
 use Rattle.df_tok.specs.Token.{view}
 use Rattle.df_tok.specs.declared.token.Token as declared
 use Rattle.df_tree.specs.Terminal.{terminal, terminal_of}
 use Rattle.std.proofs.lemmas.Option.{slice_get_read}
 use Rattle.df_tree.specs.Grammar.{first_terminal}
-use Rattle.df_pexpr.specs.Construction.{Attempt, Success, Failure, and_then, Construction, Sofar, Builder, builder, node_built, taken, leaf_built, grow, by_step_of, finished, further, height_before, height_so_far}
+use Rattle.df_pexpr.specs.mirror.Construction.{Attempt, Success, Failure, and_then, Construction, Sofar, Builder, builder, node_built, taken, leaf_built, grow, by_step_of, finished, further, height_before, height_so_far}
 
 drop_next : {A : Type 0} (xs : List A) (at : ℕ) → drop 1 (drop at xs) ≡ drop (suc at) xs
 drop_next [] zero = refl
@@ -29,12 +31,10 @@ second_is kinds tokens at b e f =
     rw e (rw (drop_next tokens at) (rw next f))
 
 pub map_pushed : {A B : Type 0} (f : A → B) (xs : List A) (x : A) → map f (xs ++ x ∷ []) ≡ map f xs ++ f x ∷ []
-map_pushed f [] x = refl
-map_pushed f (y ∷ xs) x = ap (λ ys. f y ∷ ys) (map_pushed f xs x)
+map_pushed f xs x = map-append f xs (x ∷ [])
 
 pub map_joined : {A B : Type 0} (f : A → B) (xs ys : List A) → map f (xs ++ ys) ≡ map f xs ++ map f ys
-map_joined f [] ys = refl
-map_joined f (x ∷ xs) ys = ap (λ zs. f x ∷ zs) (map_joined f xs ys)
+map_joined f xs ys = map-append f xs ys
 
 -- the token of a number, where there is one
 pub terminal_there : (tokens : List declared.Token) (at : ℕ) → first_terminal (drop at (map view tokens)) ≡ option_map (λ (t : declared.Token). terminal (view t)) (slice_get tokens at)
@@ -66,6 +66,14 @@ leaf_there before frame at kind tokens = there at tokens
 pub leaf_found : (before : ℕ) (frame : Frame) (at kind : ℕ) (tokens : List declared.Token) (t : declared.Token) → at < length tokens → t ≡ get_or tokens at t
     → leaf_built before frame at kind (drop at (map view tokens)) ≡ taken before frame at kind (view t)
 leaf_found before frame at kind tokens t lt e = leaf_there before frame at kind tokens ∙ ap (leaf_by before frame at kind) (there_in tokens at t lt e)
+
+place_in : (tokens : List declared.Token) (i : ℕ) → option_map_or (λ (x : Token). x.pos) (slice_get (map view tokens) i) (record { line = 1; col = 1 }) ≡ option_map_or (λ (t : declared.Token). t.pos) (slice_get tokens i) (record { line = 1; col = 1 })
+place_in [] i = refl
+place_in (t ∷ ts) zero = refl
+place_in (t ∷ ts) (suc i) = place_in ts i
+
+pub place_is : (tokens : List declared.Token) (at : ℕ) → place_of (map view tokens) at ≡ option_map_or (λ (t : declared.Token). t.pos) (slice_get tokens (min at (length tokens - 1))) (record { line = 1; col = 1 })
+place_is tokens at = ap (λ n. option_map_or (λ (x : Token). x.pos) (slice_get (map view tokens) (min at (n - 1))) (record { line = 1; col = 1 })) (length-map tokens view) ∙ place_in tokens (min at (length tokens - 1))
 
 -- a node is read to one less
 pub deeper : (tokens : List Token) (left room before : ℕ) (frame : Frame) (at n : ℕ) → 0 < left → builder tokens left room before frame at (Nonterminal n) ≡ node_built tokens (builder tokens (left - 1)) room before frame at n

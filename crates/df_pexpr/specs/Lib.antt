@@ -1,2 +1,2 @@
-pub mod Reading
-pub mod Construction
+pub mod mirror
+pub mod Position

@@ -4,13 +4,12 @@ ghost use Rattle.std.specs.Prelude.{◌≡◌, ◌∷◌, [], map, IfOk};
 ghost use Rattle.std.specs.Option.{unwrap_or};
 ghost use Rattle.df_tree.specs.Ast.{ast_of, mark_of};
 ghost use Rattle.df_tree.specs.Building as pure;
-ghost use Rattle.df_pexpr.specs.Construction.{frame_of};
+ghost use Rattle.df_pexpr.specs.mirror.Construction.{frame_of};
 ghost use Rattle.df_tree.specs.declared.label.Way.TheVariants as ways;
 ghost use Rattle.df_tok.specs.Token.{view};
 
-use crate::lookup::is_in;
 use df_tok::{Kind, Token};
-use df_tree::{Ast, KEPT, Label, Mark, Span, Way, terminal_of};
+use df_tree::{Ast, KEPT, Label, Mark, Span, Way, is_in, terminal_of};
 use std::alloc::{AllocError, Global};
 
 /// What is to become the inside of a node.

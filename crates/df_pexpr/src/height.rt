@@ -1,7 +1,7 @@
 //! How high trees are, counted while they are read.
 
 ghost use Rattle.std.specs.Prelude.{◌≡◌, max};
-ghost use Rattle.df_pexpr.specs.Construction as pure;
+ghost use Rattle.df_pexpr.specs.mirror.Construction as pure;
 ghost use Rattle.df_tree.specs.Grammar as spec;
 
 use df_tree::Counting;

@@ -5,16 +5,16 @@ ghost use Rattle.df_tok.specs.Token.{view};
 ghost use Rattle.df_tree.specs.Row.{entry_of};
 ghost use Rattle.df_tree.specs.Building as building;
 ghost use Rattle.df_tree.specs.Grammar as spec;
-ghost use Rattle.df_tree.specs.declared.row.Part.TheVariants as parts;
-ghost use Rattle.df_pexpr.specs.Reading as reading;
-ghost use Rattle.df_pexpr.specs.Construction as construction;
-ghost use Rattle.df_pexpr.specs.Construction.{attempt_of, construction_of, frame_of};
+ghost use Rattle.df_tree.specs.declared.production.Part.TheVariants as parts;
+ghost use Rattle.df_pexpr.specs.mirror.Reading as reading;
+ghost use Rattle.df_pexpr.specs.mirror.Construction as construction;
+ghost use Rattle.df_pexpr.specs.mirror.Construction.{attempt_of, construction_of, frame_of};
 
 use crate::building::{Found, Frame, Outcome, enter, keep, leave, opened};
 use crate::height::{counted, height_at, height_before, height_behind, room_inside};
-use crate::lookup::{begins, chosen, row};
+use crate::lookup::{begins, chosen};
 use df_tok::Token;
-use df_tree::{Form, GrammarRow, Part, terminal_of};
+use df_tree::{Form, GrammarRow, Part, row, terminal_of};
 use std::alloc::{AllocError, Global};
 
 /// What comes next in a production.

@@ -1,13 +1,13 @@
 -- A tree begins as the columns of its production say, or has no tokens.
 use Rattle.std.proofs.Common.{◌≡◌, ℕ, zero, suc, ◌==◌, ◌⊎◌, inl, inr, Bool, true, false, not, ◌&&◌, ◌||◌, List, [], ◌∷◌, ◌++◌, length, drop, Some, slice_get, if◌then◌else◌, refl, ap, ◌∙◌, subst, append_assoc, arith}
 use Rattle.std.specs.List.{list_all}
-use Rattle.std.proofs.lemmas.Bool.{and_parts, and_from, or_left}
+use Rattle.std.proofs.lemmas.Bool.{cases_Bool, and_parts, and_from, or_left}
 use Rattle.std.proofs.lemmas.Option.{same_Some}
 use Rattle.df_tok.specs.Token.{Token}
-use Rattle.df_tree.specs.declared.row.Form.{Form}
-use Rattle.df_tree.specs.declared.row.Form.TheVariants.{All, One, Many}
-use Rattle.df_tree.specs.declared.row.Part.{Part}
-use Rattle.df_tree.specs.declared.row.Part.TheVariants.{Terminal, Nonterminal}
+use Rattle.df_tree.specs.declared.production.Form.{Form}
+use Rattle.df_tree.specs.declared.production.Form.TheVariants.{All, One, Many}
+use Rattle.df_tree.specs.declared.production.Part.{Part}
+use Rattle.df_tree.specs.declared.production.Part.TheVariants.{Terminal, Nonterminal}
 use Rattle.df_tree.specs.Terminal.{terminal}
 use Rattle.df_tree.specs.Tree.{Tree, Leaf, Node, Trees, none, more, leaves, leaves_all}
 use Rattle.df_tree.specs.Row.{Row}
@@ -197,13 +197,9 @@ form_cases All = inl refl
 form_cases One = inr (λ e. cc)
 form_cases Many = inr (λ e. cc)
 
-pub flag_cases : (b : Bool) → (b ≡ true) ⊎ (b ≡ false)
-flag_cases true = inl refl
-flag_cases false = inr refl
-
 node_begun : (n : ℕ) (ts : Trees) (behind : List Token) → Are (row n) 0 ts → ((row n).narrow ≡ true → begins (row n) (leaves_all ts ++ behind) ≡ true) → EachBegun ts behind
     → Begun (Nonterminal n) (leaves_all ts) behind
-node_begun n ts behind right narrow begun = elim (flag_cases (row n).narrow) [
+node_begun n ts behind right narrow begun = elim (cases_Bool (row n).narrow) [
   | inl e ↦ inr (narrow e)
   | inr e ↦ elim (form_cases (row n).form) [
     | inl form ↦ list_begun (row n) ts behind form e (row_fine n) right begun

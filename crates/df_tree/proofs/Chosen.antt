@@ -2,17 +2,17 @@
 use Rattle.std.proofs.Common.{◌≡◌, ℕ, zero, suc, ◌<◌, ◌≤◌, ◌==◌, inl, inr, Bool, true, false, not, ◌&&◌, ◌||◌, cond, List, [], ◌∷◌, ◌++◌, length, Option, Some, None, slice_get, if◌then◌else◌, refl, sym, ap, ◌∙◌, subst, append_assoc, length-append, eqb-true, arith}
 use Rattle.std.specs.List.{list_all}
 use Rattle.std.specs.Option.{option_and_then}
-use Rattle.std.proofs.lemmas.Bool.{and_parts, and_from}
+use Rattle.std.proofs.lemmas.Bool.{cases_Bool, and_parts, and_from}
 use Rattle.df_tok.specs.Token.{Token}
-use Rattle.df_tree.specs.declared.row.Form.{Form}
-use Rattle.df_tree.specs.declared.row.Form.TheVariants.{All, One, Many}
-use Rattle.df_tree.specs.declared.row.Part.{Part}
-use Rattle.df_tree.specs.Tree.{Tree, Leaf, Node, Trees, none, more, trees_of, leaves, leaves_all, depth, depth_all}
+use Rattle.df_tree.specs.declared.production.Form.{Form}
+use Rattle.df_tree.specs.declared.production.Form.TheVariants.{All, One, Many}
+use Rattle.df_tree.specs.declared.production.Part.{Part}
+use Rattle.df_tree.specs.Tree.{Tree, Leaf, Node, Trees, none, more, trees_of, leaves, leaves_all}
 use Rattle.df_tree.specs.Row.{Row}
 use Rattle.df_tree.specs.Grammar.{row, kinds_of, part_of, IsAmong, May, MayEnd, IsTree, Are, begins, begins_part, chosen, is_open, IsSettled, AreSettled}
 use Rattle.df_tree.proofs.Classes.{subset, apart, first_apart}
 use Rattle.df_tree.proofs.Fine.{first_of, empty_of, follows, first_of_all, wide, all_fine, choice_fine, stops, fine_by, row_fine}
-use Rattle.df_tree.proofs.Begun.{begins_first, among_fine, Begun, EachBegun, AreOf, are_of, begun, each_begun, empty_or, flag_cases, form_cases, choice_of, among_of, empty_choice, not_empty, same_kind}
+use Rattle.df_tree.proofs.Begun.{begins_first, among_fine, Begun, EachBegun, AreOf, are_of, begun, each_begun, empty_or, form_cases, choice_of, among_of, empty_choice, not_empty, same_kind}
 
 pub all_among : (test : Part → Bool) (parts : List Part) (p : Part) → list_all test parts ≡ true → IsAmong p parts → test p ≡ true
 all_among test [] p all among = elim among [ ]
@@ -26,6 +26,13 @@ all_among test (q ∷ qs) p all among =
 pub found_here : (p : Part) (ps : List Part) (tokens : List Token) → begins_part p tokens ≡ true → chosen (p ∷ ps) tokens ≡ Some p
 found_here p ps tokens e = ap (λ b. cond b (Some p) (chosen ps tokens)) e
 
+pub passed_over : (p : Part) (ps : List Part) (tokens : List Token) → (begins_part p tokens ≡ true → ⊥) → chosen (p ∷ ps) tokens ≡ chosen ps tokens
+passed_over p ps tokens never = pick (begins_part p tokens) never
+  where
+    pick : (b : Bool) → (b ≡ true → ⊥) → cond b (Some p) (chosen ps tokens) ≡ chosen ps tokens
+    pick true h = absurd (h refl)
+    pick false h = refl
+
 pub chosen_is : (behind first : List ℕ) (parts : List Part) (p : Part) (tokens : List Token) → choice_fine behind first parts ≡ true → IsAmong p parts → begins_part p tokens ≡ true → chosen parts tokens ≡ Some p
 chosen_is behind first [] p tokens f among e = elim among [ ]
 chosen_is behind first (q ∷ qs) p tokens f among e =
@@ -37,16 +44,9 @@ chosen_is behind first (q ∷ qs) p tokens f among e =
       | inl same ↦ found_here q qs tokens (subst (λ s. begins_part s tokens ≡ true) (sym same) e) ∙ ap Some same
       | inr later ↦
           (let distinct : apart (first_of q) (first_of p) ≡ true = all_among (λ s. apart (first_of q) (first_of s)) qs p four.0 later in
-          passed q qs p tokens (λ h. first_apart (first_of q) (first_of p) tokens distinct (begins_first q tokens h) (begins_first p tokens e))
-          (chosen_is behind first qs p tokens four.1 later e))
+          passed_over q qs tokens (λ h. first_apart (first_of q) (first_of p) tokens distinct (begins_first q tokens h) (begins_first p tokens e))
+          ∙ chosen_is behind first qs p tokens four.1 later e)
     ]
-  where
-    passed : (q : Part) (qs : List Part) (p : Part) (tokens : List Token) → (begins_part q tokens ≡ true → ⊥) → chosen qs tokens ≡ Some p → chosen (q ∷ qs) tokens ≡ Some p
-    passed q qs p tokens never found = pick (begins_part q tokens) q qs p tokens never found
-      where
-        pick : (b : Bool) (q : Part) (qs : List Part) (p : Part) (tokens : List Token) → (b ≡ true → ⊥) → chosen qs tokens ≡ Some p → cond b (Some q) (chosen qs tokens) ≡ Some p
-        pick true q qs p tokens h e = absurd (h refl)
-        pick false q qs p tokens h e = e
 
 pub begins_choice : (r : Row) (form : Form) (k : ℕ) (p : Part) (own behind : List Token) → (form ≡ All → ⊥) → fine_by form r ≡ true → May form r.parts k p → Begun p own behind → chosen r.parts (own ++ behind) ≡ Some p
 begins_choice r form k p own behind not_all f may b =

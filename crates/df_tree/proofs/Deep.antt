@@ -3,16 +3,30 @@ use Rattle.std.proofs.Common.{◌≡◌, ℕ, zero, suc, ◌+◌, ◌*◌, ◌�
 use Rattle.std.specs.List.{list_all}
 use Rattle.std.proofs.lemmas.Bool.{and_parts, or_cases}
 use Rattle.std.proofs.lemmas.Option.{same_Some}
-use Rattle.df_tree.specs.declared.row.Counting.{Counting}
-use Rattle.df_tree.specs.declared.row.Counting.TheVariants.{Never, Always, IfMore, Each}
-use Rattle.df_tree.specs.declared.row.Form.{Form}
-use Rattle.df_tree.specs.declared.row.Form.TheVariants.{All, One, Many}
-use Rattle.df_tree.specs.declared.row.Part.{Part}
-use Rattle.df_tree.specs.Tree.{Tree, Leaf, Node, Trees, none, more, depth, depth_all}
+use Rattle.df_tree.specs.declared.production.Counting.{Counting}
+use Rattle.df_tree.specs.declared.production.Counting.TheVariants.{Never, Always, IfMore, Each}
+use Rattle.df_tree.specs.declared.production.Form.{Form}
+use Rattle.df_tree.specs.declared.production.Form.TheVariants.{All, One, Many}
+use Rattle.df_tree.specs.declared.production.Part.{Part}
+use Rattle.df_tree.specs.Tree.{Tree, Leaf, Node, Trees, none, more}
 use Rattle.df_tree.specs.Row.{Row}
-use Rattle.df_tree.specs.Grammar.{row, part_of, May, IsTree, Are, height_limit, depth_limit, one_more, has_more, counted, height_over, all_over, each_over, height}
+use Rattle.df_tree.specs.Grammar.{row, part_of, May, IsTree, Are, height_limit, one_more, has_more, counted, height_over, all_over, each_over, height}
 use Rattle.df_tree.proofs.Fine.{rank_of, top_rank, is_word, bound, row_low, row_rank}
 use Rattle.df_tree.proofs.Chosen.{all_among}
+
+-- for each height one of each rank
+abbrev pub deepest : ℕ
+deepest = 10251
+
+abbrev mutual
+  -- how many nodes stand inside one another
+  pub depth : Tree → ℕ
+  depth (Leaf x) = 0
+  depth (Node n ts) = depth_all ts + 1
+
+  pub depth_all : Trees → ℕ
+  depth_all none = 0
+  depth_all (more t ts) = max (depth t) (depth_all ts)
 
 pub one_more_is : (h : ℕ) → one_more h ≤ height_limit → one_more h ≡ h + 1
 one_more_is h le = pick (nat_lt h height_limit) le
@@ -111,7 +125,7 @@ mutual
       let others : depth_all ts ≤ (top_rank + 1) * each_over (one_more here) ts = deep_each (one_more here) r (suc k) ts right.2 low.1 le in
       omega (arith, later, m, first, others)
 
-pub low_is_shallow : (t : Tree) → IsTree t → height t ≤ height_limit → depth t ≤ depth_limit
+pub low_is_shallow : (t : Tree) → IsTree t → height t ≤ height_limit → depth t ≤ deepest
 low_is_shallow t right le = omega (arith, deep 0 t right le, tree_rank t)
   where
     tree_rank : (t : Tree) → rank_of (part_of t) ≤ top_rank

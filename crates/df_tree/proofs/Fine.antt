@@ -1,16 +1,18 @@
 -- What the columns of a production have to be, for those of its parts.
-use Rattle.std.proofs.Common.{◌≡◌, ℕ, zero, suc, ◌+◌, nat_lt, Bool, true, false, not, ◌&&◌, ◌||◌, List, [], ◌∷◌, ◌++◌, length, slice_get, if◌then◌else◌, refl, ltb-true, arith, ◌≤◌, ◌<◌}
+use Rattle.std.proofs.Common.{◌≡◌, ℕ, zero, suc, ◌+◌, nat_lt, Bool, true, false, not, ◌&&◌, ◌||◌, List, [], ◌∷◌, ◌++◌, length, ◌-◌, if◌then◌else◌, refl, ltb-true, arith, ◌≤◌, ◌<◌}
 use Rattle.std.specs.List.{list_all}
-use Rattle.std.specs.Option.{option_map_or}
 use Rattle.std.proofs.lemmas.Bool.{and_parts}
-use Rattle.df_tree.specs.declared.row.Counting.{Counting}
-use Rattle.df_tree.specs.declared.row.Counting.TheVariants.{Never, Always, IfMore, Each}
-use Rattle.df_tree.specs.declared.row.Form.{Form}
-use Rattle.df_tree.specs.declared.row.Form.TheVariants.{All, One, Many}
-use Rattle.df_tree.specs.declared.row.Part.{Part}
-use Rattle.df_tree.specs.declared.row.Part.TheVariants.{Terminal, Nonterminal}
+use Rattle.df_tree.specs.declared.production.Counting.{Counting}
+use Rattle.df_tree.specs.declared.production.Counting.TheVariants.{Never, Always, IfMore, Each}
+use Rattle.df_tree.specs.declared.production.Form.{Form}
+use Rattle.df_tree.specs.declared.production.Form.TheVariants.{All, One, Many}
+use Rattle.df_tree.specs.declared.production.Part.{Part}
+use Rattle.df_tree.specs.declared.production.Part.TheVariants.{Terminal, Nonterminal}
 use Rattle.df_tree.specs.Row.{Row}
-use Rattle.df_tree.specs.Grammar.{grammar, classes, kinds_of, nothing, row, is_nil}
+use Rattle.df_tree.specs.declared.label.Way.{Way}
+use Rattle.df_tree.specs.declared.label.Way.TheVariants.{Pass, Title, Wrap, Make, Close}
+use Rattle.df_tree.specs.declared.table.TheConstants.{KEPT}
+use Rattle.df_tree.specs.Grammar.{declarations, statements, expressions, classes, kinds_of, is_in, nothing, entry_in, row, is_nil}
 use Rattle.df_tree.proofs.Classes.{subset, apart}
 
 abbrev pub first_of : Part → List ℕ
@@ -84,21 +86,80 @@ exact_by All r = subset (kinds_of r.first) (first_of_all r.parts [])
 exact_by One r = subset (kinds_of r.first) (firsts_of r.parts)
 exact_by Many r = subset (kinds_of r.first) (firsts_of r.parts)
 
+-- Its token is not kept.
+abbrev pub is_silent : Part → Bool
+is_silent (Terminal kind) = not (is_in kind (kinds_of KEPT))
+is_silent (Nonterminal n) = false
+
+abbrev pub keeps_by : (Part → Bool) → Way → Row → Bool
+keeps_by keeps Pass r = list_all keeps r.parts
+keeps_by keeps (Title label) r = true
+keeps_by keeps (Wrap label) r = true
+keeps_by keeps (Make label) r = false
+keeps_by keeps Close r = false
+
+-- A frame that closes as one node still does so behind the part.
+abbrev pub keeps : ℕ → Part → Bool
+keeps zero p = false
+keeps (suc k) (Terminal kind) = is_silent (Terminal kind)
+keeps (suc k) (Nonterminal n) = keeps_by (keeps k) (row n).way (row n)
+
+abbrev pub run_gives : (Part → Bool) → (Part → Bool) → List Part → Bool
+run_gives gives keeps [] = false
+run_gives gives keeps (p ∷ ps) = if is_silent p then run_gives gives keeps ps else gives p && list_all keeps ps
+
+abbrev pub form_gives : (Part → Bool) → (Part → Bool) → Form → Row → Bool
+form_gives gives keeps All r = run_gives gives keeps r.parts
+form_gives gives keeps One r = not r.empty && list_all gives r.parts
+form_gives gives keeps Many r = false
+
+abbrev pub gives_by : (Part → Bool) → (Part → Bool) → Way → Row → Bool
+gives_by gives keeps Pass r = form_gives gives keeps r.form r
+gives_by gives keeps (Title label) r = true
+gives_by gives keeps (Wrap label) r = true
+gives_by gives keeps (Make label) r = true
+gives_by gives keeps Close r = true
+
+-- A frame that was empty closes as one node behind the part.
+abbrev pub gives : ℕ → Part → Bool
+gives zero p = false
+gives (suc k) (Terminal kind) = false
+gives (suc k) (Nonterminal n) = gives_by (gives k) (keeps k) (row n).way (row n)
+
+-- A frame that a production closes does so as one node.
+abbrev pub closes_by : Way → Row → Bool
+closes_by Pass r = true
+closes_by (Title label) r = true
+closes_by (Wrap label) r = true
+closes_by (Make label) r = true
+closes_by Close r = form_gives (gives 9) (keeps 9) r.form r
+
 -- It has few parts.
 abbrev short : Row → Bool
 short r = nat_lt (length r.parts) 100
 
+abbrev others : Row → Bool
+others r = low_by r.counting r.rank r.parts && (exact_by r.form r && short r)
+
 abbrev pub fine : Row → Bool
-fine r = fine_by r.form r && (low_by r.counting r.rank r.parts && (exact_by r.form r && short r))
+fine r = fine_by r.form r && (closes_by r.way r && others r)
 
 -- the numbers of the productions whose columns are wrong
 unfit : ℕ → List Row → List ℕ
 unfit n [] = []
 unfit n (r ∷ rows) = if fine r then unfit (n + 1) rows else n ∷ unfit (n + 1) rows
 
-none_is_unfit : unfit 0 grammar ≡ []
-unfolding unfit grammar row kinds_of classes
-none_is_unfit = refl
+no_declaration_unfit : unfit 0 declarations ≡ []
+unfolding unfit declarations statements expressions row kinds_of classes
+no_declaration_unfit = refl
+
+no_statement_unfit : unfit 1000 statements ≡ []
+unfolding unfit declarations statements expressions row kinds_of classes
+no_statement_unfit = refl
+
+no_expression_unfit : unfit 2000 expressions ≡ []
+unfolding unfit declarations statements expressions row kinds_of classes
+no_expression_unfit = refl
 
 all_fit : (n : ℕ) (rows : List Row) → unfit n rows ≡ [] → list_all fine rows ≡ true
 unfolding unfit
@@ -109,40 +170,50 @@ all_fit n (r ∷ rows) e = fits (fine r) e (λ f. all_fit (n + 1) rows f)
     fits true e others = others e
     fits false e others = absurd cc
 
+-- what holds of all entries holds of each production
+entry_has : (test : Row → Bool) (rows : List Row) (n : ℕ) → test nothing ≡ true → list_all test rows ≡ true → test (entry_in rows n) ≡ true
+entry_has test [] n none all = none
+entry_has test (r ∷ rows) zero none all = (and_parts (test r) (list_all test rows) all).0
+entry_has test (r ∷ rows) (suc n) none all = entry_has test rows n none (and_parts (test r) (list_all test rows) all).1
+
+pub row_has : (test : Row → Bool) (n : ℕ) → test nothing ≡ true → list_all test declarations ≡ true → list_all test statements ≡ true → list_all test expressions ≡ true → test (row n) ≡ true
+unfolding row
+row_has test n none d s e = pick (nat_lt n 1000) (nat_lt n 2000)
+  where
+    pick : (b c : Bool) → test (if b then entry_in declarations n else (if c then entry_in statements (n - 1000) else entry_in expressions (n - 2000))) ≡ true
+    pick true c = entry_has test declarations n none d
+    pick false true = entry_has test statements (n - 1000) none s
+    pick false false = entry_has test expressions (n - 2000) none e
+
 nothing_fine : fine nothing ≡ true
 unfolding kinds_of classes
 nothing_fine = refl
 
-entry_fine : (rows : List Row) (n : ℕ) → list_all fine rows ≡ true → fine (option_map_or (λ r. r) (slice_get rows n) nothing) ≡ true
-entry_fine [] n all = nothing_fine
-entry_fine (r ∷ rows) zero all = (and_parts (fine r) (list_all fine rows) all).0
-entry_fine (r ∷ rows) (suc n) all = entry_fine rows n (and_parts (fine r) (list_all fine rows) all).1
-
 both_fine : (n : ℕ) → fine (row n) ≡ true
-unfolding row
-both_fine n = entry_fine grammar n (all_fit 0 grammar none_is_unfit)
+both_fine n =
+    row_has fine n nothing_fine (all_fit 0 declarations no_declaration_unfit) (all_fit 1000 statements no_statement_unfit) (all_fit 2000 expressions no_expression_unfit)
 
 pub row_fine : (n : ℕ) → fine_by (row n).form (row n) ≡ true
-row_fine n = (and_parts (fine_by (row n).form (row n)) (low_by (row n).counting (row n).rank (row n).parts && (exact_by (row n).form (row n) && short (row n))) (both_fine n)).0
+row_fine n = (and_parts (fine_by (row n).form (row n)) (closes_by (row n).way (row n) && others (row n)) (both_fine n)).0
 
-low_parts : (n : ℕ) → low_by (row n).counting (row n).rank (row n).parts ≡ true
-low_parts n =
-    let others = (and_parts (fine_by (row n).form (row n)) (low_by (row n).counting (row n).rank (row n).parts && (exact_by (row n).form (row n) && short (row n))) (both_fine n)).1 in
-    (and_parts (low_by (row n).counting (row n).rank (row n).parts) (exact_by (row n).form (row n) && short (row n)) others).0
+pub row_closes : (n : ℕ) → closes_by (row n).way (row n) ≡ true
+row_closes n = (and_parts (closes_by (row n).way (row n)) (others (row n)) (and_parts (fine_by (row n).form (row n)) (closes_by (row n).way (row n) && others (row n)) (both_fine n)).1).0
+
+row_others : (n : ℕ) → (low_by (row n).counting (row n).rank (row n).parts ≡ true) × ((exact_by (row n).form (row n) && short (row n)) ≡ true)
+row_others n =
+    let rest = (and_parts (fine_by (row n).form (row n)) (closes_by (row n).way (row n) && others (row n)) (both_fine n)).1 in
+    and_parts (low_by (row n).counting (row n).rank (row n).parts) (exact_by (row n).form (row n) && short (row n)) (and_parts (closes_by (row n).way (row n)) (others (row n)) rest).1
 
 pub row_short : (n : ℕ) → length (row n).parts < 100
-row_short n =
-    let others = (and_parts (fine_by (row n).form (row n)) (low_by (row n).counting (row n).rank (row n).parts && (exact_by (row n).form (row n) && short (row n))) (both_fine n)).1 in
-    let last = (and_parts (low_by (row n).counting (row n).rank (row n).parts) (exact_by (row n).form (row n) && short (row n)) others).1 in
-    ltb-true (length (row n).parts) 100 (and_parts (exact_by (row n).form (row n)) (short (row n)) last).1
+row_short n = ltb-true (length (row n).parts) 100 (and_parts (exact_by (row n).form (row n)) (short (row n)) (row_others n).1).1
 
 abbrev pub lower : ℕ → Part → Bool
 lower b p = nat_lt (rank_of p) b || is_word p
 
 pub row_low : (n : ℕ) → list_all (lower (bound (row n).counting (row n).rank)) (row n).parts ≡ true
-row_low n = (and_parts (nat_lt (row n).rank (top_rank + 1)) (list_all (lower (bound (row n).counting (row n).rank)) (row n).parts) (low_parts n)).1
+row_low n = (and_parts (nat_lt (row n).rank (top_rank + 1)) (list_all (lower (bound (row n).counting (row n).rank)) (row n).parts) (row_others n).0).1
 
 pub row_rank : (n : ℕ) → (row n).rank ≤ top_rank
 row_rank n =
-    let e = (and_parts (nat_lt (row n).rank (top_rank + 1)) (list_all (lower (bound (row n).counting (row n).rank)) (row n).parts) (low_parts n)).0 in
+    let e = (and_parts (nat_lt (row n).rank (top_rank + 1)) (list_all (lower (bound (row n).counting (row n).rank)) (row n).parts) (row_others n).0).0 in
     omega (arith, ltb-true (row n).rank (top_rank + 1) e)

@@ -1,18 +1,19 @@
 -- Where the greedy productions stop, all do.
-use Rattle.std.proofs.Common.{◌≡◌, ℕ, suc, inl, inr, Bool, true, false, not, ◌&&◌, ◌||◌, List, [], ◌∷◌, ◌++◌, Some, None, refl, subst, append_assoc, eqb-true, cond, arith}
+use Rattle.std.proofs.Common.{◌≡◌, ℕ, suc, inl, inr, Bool, true, false, not, ◌&&◌, ◌||◌, List, [], ◌∷◌, ◌++◌, Some, None, refl, subst, ◌∙◌, append_assoc, eqb-true, cond, arith}
 use Rattle.std.specs.List.{list_all}
-use Rattle.std.proofs.lemmas.Bool.{and_parts}
+use Rattle.std.proofs.lemmas.Bool.{cases_Bool, and_parts}
 use Rattle.df_tok.specs.Token.{Token}
-use Rattle.df_tree.specs.declared.row.Form.{Form}
-use Rattle.df_tree.specs.declared.row.Form.TheVariants.{All, One, Many}
-use Rattle.df_tree.specs.declared.row.Part.{Part}
-use Rattle.df_tree.specs.declared.row.Part.TheVariants.{Terminal, Nonterminal}
+use Rattle.df_tree.specs.declared.production.Form.{Form}
+use Rattle.df_tree.specs.declared.production.Form.TheVariants.{All, One, Many}
+use Rattle.df_tree.specs.declared.production.Part.{Part}
+use Rattle.df_tree.specs.declared.production.Part.TheVariants.{Terminal, Nonterminal}
 use Rattle.df_tree.specs.Tree.{Tree, Leaf, Node, Trees, none, more, leaves, leaves_all}
 use Rattle.df_tree.specs.Row.{Row}
 use Rattle.df_tree.specs.Grammar.{row, kinds_of, part_of, IsAmong, May, MayEnd, IsTree, Are, first_in, begins_part, chosen, is_open, Stops, IsSettled, AreSettled}
 use Rattle.df_tree.proofs.Classes.{subset, apart, first_subset, first_left, first_right, MayCome, come_subset, come_apart}
 use Rattle.df_tree.proofs.Fine.{first_of, empty_of, follows, first_of_all, wide, all_fine, choice_fine, stops, fine_by, row_fine}
-use Rattle.df_tree.proofs.Begun.{begins_first, among_fine, EachBegun, AreOf, are_of, all_come, each_begun, flag_cases, other_side}
+use Rattle.df_tree.proofs.Begun.{begins_first, among_fine, EachBegun, AreOf, are_of, all_come, each_begun, other_side, not_empty}
+use Rattle.df_tree.proofs.Chosen.{passed_over}
 
 -- what comes behind a tree of the part
 abbrev pub Follows : Part → List Token → Type 0
@@ -22,17 +23,6 @@ Follows (Nonterminal n) behind = MayCome (kinds_of (row n).follow) behind
 abbrev pub EachFollowed : Trees → List Token → Type 0
 EachFollowed none behind = Unit {0}
 EachFollowed (more t ts) behind = Follows (part_of t) (leaves_all ts ++ behind) × EachFollowed ts behind
-
-not_both : (b : Bool) → not b ≡ true → b ≡ true → ⊥
-not_both true e f = let g : false ≡ true = e in cc
-not_both false e f = cc
-
-pub not_found : (p : Part) (ps : List Part) (tokens : List Token) → (begins_part p tokens ≡ true → ⊥) → chosen ps tokens ≡ None → chosen (p ∷ ps) tokens ≡ None
-not_found p ps tokens never e = pick (begins_part p tokens) never
-  where
-    pick : (b : Bool) → (b ≡ true → ⊥) → cond b (Some p) (chosen ps tokens) ≡ None
-    pick true h = absurd (h refl)
-    pick false h = e
 
 follows_come : (p : Part) (kinds : List ℕ) (behind : List Token) → follows kinds p ≡ true → MayCome kinds behind → Follows p behind
 follows_come (Terminal kind) kinds behind f come = tt
@@ -70,7 +60,7 @@ many_come r choices k (more t ts) behind f form right begun come =
     let may : IsAmong (part_of t) r.parts = rw form at right.0 in
     let choice = among_fine choices (kinds_of r.first) r.parts (part_of t) f may in
     elim begun.0 [
-      | inl (own, empty) ↦ absurd (not_both (empty_of (part_of t)) choice.nonempty empty)
+      | inl (own, empty) ↦ absurd (not_empty (empty_of (part_of t)) choice.nonempty empty)
       | inr e ↦ inr (rw (append_assoc (leaves t) (leaves_all ts) behind)
           (first_left (kinds_of r.first) (kinds_of r.follow) _ (first_subset (first_of (part_of t)) (kinds_of r.first) _ choice.begin (begins_first (part_of t) _ e))))
     ]
@@ -108,7 +98,7 @@ none_begins behind first (p ∷ ps) tokens f never =
     let two = and_parts (subset (first_of p) first) (follows behind p && (list_all (λ s. apart (first_of p) (first_of s)) ps && choice_fine behind first ps)) one.1 in
     let three = and_parts (follows behind p) (list_all (λ s. apart (first_of p) (first_of s)) ps && choice_fine behind first ps) two.1 in
     let four = and_parts (list_all (λ s. apart (first_of p) (first_of s)) ps) (choice_fine behind first ps) three.1 in
-    not_found p ps tokens (λ e. never (first_subset (first_of p) first tokens two.0 (begins_first p tokens e))) (none_begins behind first ps tokens four.1 never)
+    passed_over p ps tokens (λ e. never (first_subset (first_of p) first tokens two.0 (begins_first p tokens e))) ∙ none_begins behind first ps tokens four.1 never
 
 -- the two sides where a production that is not greedy may end
 stops_apart : (r : Row) → r.greedy ≡ false → r.empty ≡ true → stops r ≡ true → apart (kinds_of r.first) (kinds_of r.follow) ≡ true
@@ -130,7 +120,7 @@ stop_by Many r k behind lazy f end still come =
     (come_apart (kinds_of r.first) (kinds_of r.follow) behind (stops_apart r lazy three.0 two.0) come)
 
 stop_all : (r : Row) (k : ℕ) (behind : List Token) → fine_by r.form r ≡ true → MayEnd r.form r k → (r.greedy ≡ true → Stops r k behind) → MayCome (kinds_of r.follow) behind → Stops r k behind
-stop_all r k behind f end greedy come = λ still. elim (flag_cases r.greedy) [
+stop_all r k behind f end greedy come = λ still. elim (cases_Bool r.greedy) [
   | inl e ↦ greedy e still
   | inr e ↦ stop_by r.form r k behind e f end still come
 ]

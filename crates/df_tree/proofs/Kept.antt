@@ -1,6 +1,7 @@
 -- Syntax trees keep the tokens that matter, in their order.
 use Rattle.std.proofs.Common.{◌≡◌, ℕ, ◌+◌, Bool, true, false, if◌then◌else◌, List, [], ◌∷◌, ◌++◌, length, Option, Some, None, refl, sym, ap, ◌∙◌, subst, append_assoc, arith}
 use Rattle.std.specs.Option.{unwrap_or}
+use Rattle.std.proofs.lemmas.List.{append-nil}
 use Rattle.df_tok.specs.Token.{Token}
 use Rattle.df_tree.specs.declared.label.Label.{Label}
 use Rattle.df_tree.specs.declared.label.Span.{Span}
@@ -13,10 +14,6 @@ use Rattle.df_tree.specs.Building.{Frame, opened, added, keep, mark_at, closed, 
 
 abbrev kept_in : List Ast → List Mark
 kept_in items = kept (asts_of items)
-
-append_none : (xs : List Mark) → xs ++ [] ≡ xs
-append_none [] = refl
-append_none (x ∷ xs) = ap (λ ys. x ∷ ys) (append_none xs)
 
 kept_joined : (xs ys : List Ast) → kept_in (xs ++ ys) ≡ kept_in xs ++ kept_in ys
 kept_joined [] ys = refl
@@ -36,13 +33,13 @@ matter_joined at (x ∷ xs) ys =
 
 -- one node more, with what its frame has
 node_added : (outer inner : List Ast) (label : Label) (span : Span) → kept_in (outer ++ Made label span (asts_of inner) ∷ []) ≡ kept_in outer ++ kept_in inner
-node_added outer inner label span = kept_joined outer (Made label span (asts_of inner) ∷ []) ∙ ap (λ ts. kept_in outer ++ ts) (append_none (kept_in inner))
+node_added outer inner label span = kept_joined outer (Made label span (asts_of inner) ∷ []) ∙ ap (λ ts. kept_in outer ++ ts) (append-nil (kept_in inner))
 
 left_kept : (way : Way) (frame : Frame) (at after : ℕ) (inner : Frame) (fresh : List Mark) → kept_in inner.items ≡ kept_in (enter way at frame).items ++ fresh
     → kept_in (leave way frame after inner).items ≡ kept_in frame.items ++ fresh
 left_kept Pass frame at after inner fresh e = e
 left_kept (Title label) frame at after inner fresh e = e
-left_kept (Wrap label) frame at after inner fresh e = append_none (kept_in inner.items) ∙ e
+left_kept (Wrap label) frame at after inner fresh e = append-nil (kept_in inner.items) ∙ e
 left_kept (Make label) frame at after inner fresh e = node_added frame.items inner.items (unwrap_or inner.title label) _ ∙ ap (λ ts. kept_in frame.items ++ ts) e
 left_kept Close frame at after inner fresh e = by inner.title ∙ ap (λ ts. kept_in frame.items ++ ts) e
   where
@@ -55,7 +52,7 @@ token_kept at x frame = pick (matters x)
   where
     pick : (b : Bool) → kept_in (if b then added frame (Kept (mark_at at x) ∷ []) else frame).items ≡ kept_in frame.items ++ (if b then mark_at at x ∷ [] else [])
     pick true = kept_joined frame.items (Kept (mark_at at x) ∷ [])
-    pick false = sym (append_none (kept_in frame.items))
+    pick false = sym (append-nil (kept_in frame.items))
 
 mutual
   built_kept : (at : ℕ) (frame : Frame) (t : Tree) → kept_in (built at frame t).items ≡ kept_in frame.items ++ that_matter at (leaves t)
@@ -64,7 +61,7 @@ mutual
       left_kept (row n).way frame at (at + length (leaves_all ts)) (built_all at (enter (row n).way at frame) ts) (that_matter at (leaves_all ts)) (all_kept at (enter (row n).way at frame) ts)
 
   all_kept : (at : ℕ) (frame : Frame) (ts : Trees) → kept_in (built_all at frame ts).items ≡ kept_in frame.items ++ that_matter at (leaves_all ts)
-  all_kept at frame none = sym (append_none (kept_in frame.items))
+  all_kept at frame none = sym (append-nil (kept_in frame.items))
   all_kept at frame (more t ts) =
       all_kept (at + length (leaves t)) (built at frame t) ts ∙ ap (λ xs. xs ++ that_matter (at + length (leaves t)) (leaves_all ts)) (built_kept at frame t)
       ∙ append_assoc (kept_in frame.items) (that_matter at (leaves t)) (that_matter (at + length (leaves t)) (leaves_all ts))

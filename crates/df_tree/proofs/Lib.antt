@@ -5,5 +5,6 @@ pub mod Chosen
 pub mod Followed
 pub mod Deep
 pub mod Furthest
+pub mod Single
 pub mod Kept
 pub mod Lying

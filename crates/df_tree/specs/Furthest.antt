@@ -1,7 +1,7 @@
 -- Where a derivation of the same tokens first differs from the tree of the grammar, it ends and the tree goes on.
 use Rattle.std.specs.Prelude.{◌≡◌, ℕ, ◌⊎◌, false, List, [], ◌++◌, drop}
 use Rattle.df_tok.specs.Token.{Token}
-use Rattle.df_tree.specs.declared.row.Part.TheVariants.{Nonterminal}
+use Rattle.df_tree.specs.declared.production.Part.TheVariants.{Nonterminal}
 use Rattle.df_tree.specs.Tree.{Tree, Leaf, Node, Trees, none, more, leaves}
 use Rattle.df_tree.specs.Grammar.{part_of, IsTree, IsSettled, IsTreeOf, IsPartAt}
 

@@ -5,20 +5,29 @@ use Rattle.std.specs.List.{list_any, find}
 use Rattle.df_tok.specs.Token.{Token}
 use Rattle.df_tree.specs.Terminal.{terminal}
 use Rattle.df_tree.specs.declared.label.Way.TheVariants.{Pass}
-use Rattle.df_tree.specs.declared.row.Counting.{Counting}
-use Rattle.df_tree.specs.declared.row.Counting.TheVariants.{Never, Always, IfMore, Each}
-use Rattle.df_tree.specs.declared.row.Form.{Form}
-use Rattle.df_tree.specs.declared.row.Form.TheVariants.{All, One, Many}
-use Rattle.df_tree.specs.declared.row.Part.{Part}
-use Rattle.df_tree.specs.declared.row.Part.TheVariants.{Terminal, Nonterminal}
-use Rattle.df_tree.specs.declared.table.TheConstants.{WRITTEN, CLASSES, FIRST_CLASS, NONE}
+use Rattle.df_tree.specs.declared.production.Counting.{Counting}
+use Rattle.df_tree.specs.declared.production.Counting.TheVariants.{Never, Always, IfMore, Each}
+use Rattle.df_tree.specs.declared.production.Form.{Form}
+use Rattle.df_tree.specs.declared.production.Form.TheVariants.{All, One, Many}
+use Rattle.df_tree.specs.declared.production.Part.{Part}
+use Rattle.df_tree.specs.declared.production.Part.TheVariants.{Terminal, Nonterminal}
+use Rattle.df_tree.specs.declared.table.TheConstants.{DECLARATION_ROWS, STATEMENT_ROWS, EXPRESSION_ROWS, CLASSES, FIRST_STATEMENT, FIRST_EXPRESSION, FIRST_CLASS, NONE}
 use Rattle.df_tree.specs.Tree.{Tree, Leaf, Node, Trees, none, more, leaves, leaves_all}
 use Rattle.df_tree.specs.Row.{Row, entry}
 
 -- ---- the productions
 
-unfoldable pub grammar : List Row
-grammar = map entry WRITTEN.now
+-- of files, declarations, clauses and types
+unfoldable pub declarations : List Row
+declarations = map entry DECLARATION_ROWS.now
+
+-- of blocks and statements
+unfoldable pub statements : List Row
+statements = map entry STATEMENT_ROWS.now
+
+-- of expressions and patterns
+unfoldable pub expressions : List Row
+expressions = map entry EXPRESSION_ROWS.now
 
 unfoldable pub classes : List (List ℕ)
 classes = map (λ c. c.now) CLASSES.now
@@ -31,9 +40,15 @@ kinds_of c = if nat_lt c FIRST_CLASS then c ∷ [] else option_map_or (λ kinds.
 abbrev pub nothing : Row
 nothing = record { form = One; way = Pass; parts = []; empty = false; greedy = false; narrow = false; first = NONE; second = NONE; follow = NONE; counting = Never; rank = 0 }
 
+abbrev pub entry_in : List Row → ℕ → Row
+entry_in rows number = option_map_or (λ r. r) (slice_get rows number) nothing
+
 -- the production of a number
 unfoldable pub row : ℕ → Row
-row n = option_map_or (λ r. r) (slice_get grammar n) nothing
+row n =
+    if nat_lt n FIRST_STATEMENT then entry_in declarations n
+    else (if nat_lt n FIRST_EXPRESSION then entry_in statements (n - FIRST_STATEMENT)
+    else entry_in expressions (n - FIRST_EXPRESSION))
 
 abbrev pub part_of : Tree → Part
 part_of (Leaf x) = Terminal (terminal x)
@@ -165,10 +180,6 @@ abbrev mutual
 
 abbrev pub height : Tree → ℕ
 height t = height_over 0 t
-
--- the bound of the nodes of such a tree that stand inside one another, by the ranks
-abbrev pub depth_limit : ℕ
-depth_limit = 10251
 
 -- The tree of this production spells the tokens.
 pub record IsTreeOf (n : ℕ) (tokens : List Token) (t : Tree) : Type 0 where

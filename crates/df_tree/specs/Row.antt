@@ -1,11 +1,11 @@
 -- Productions.
 use Rattle.std.specs.Prelude.{ℕ, Bool, List}
 use Rattle.std.specs.Borrow.{Bor}
-use Rattle.df_tree.specs.declared.row.Counting.{Counting}
+use Rattle.df_tree.specs.declared.production.Counting.{Counting}
 use Rattle.df_tree.specs.declared.label.Way.{Way}
-use Rattle.df_tree.specs.declared.row.Form.{Form}
-use Rattle.df_tree.specs.declared.row.Part.{Part}
-use Rattle.df_tree.specs.declared.row.Production.{Production}
+use Rattle.df_tree.specs.declared.production.Form.{Form}
+use Rattle.df_tree.specs.declared.production.Part.{Part}
+use Rattle.df_tree.specs.declared.production.Production.{Production}
 
 -- a production, with the numbers of its classes
 pub record Row : Type 0 where

@@ -1,5 +1,5 @@
 -- Concrete syntax trees.
-use Rattle.std.specs.Prelude.{ℕ, ◌+◌, max, List, [], ◌∷◌, ◌++◌}
+use Rattle.std.specs.Prelude.{ℕ, List, [], ◌∷◌, ◌++◌}
 use Rattle.df_tok.specs.Token.{Token}
 
 mutual
@@ -24,13 +24,3 @@ abbrev mutual
   pub leaves_all : Trees → List Token
   leaves_all none = []
   leaves_all (more t ts) = leaves t ++ leaves_all ts
-
-abbrev mutual
-  -- how many nodes stand inside one another
-  pub depth : Tree → ℕ
-  depth (Leaf x) = 0
-  depth (Node n ts) = depth_all ts + 1
-
-  pub depth_all : Trees → ℕ
-  depth_all none = 0
-  depth_all (more t ts) = max (depth t) (depth_all ts)

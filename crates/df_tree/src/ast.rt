@@ -22,6 +22,6 @@ pub enum Ast {
 /// The syntax tree of a source, and where its tokens stand.
 #[derive(Drop)]
 pub struct Tree {
-    pub items: Vec<Ast>,
+    pub file: Ast,
     pub places: Vec<Pos>,
 }

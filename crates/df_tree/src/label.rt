@@ -86,7 +86,7 @@ pub enum Label {
     Sum,
     /// By `*`, `/` and `%`; it holds to the left.
     Product,
-    /// An operand and the type behind `as`.
+    /// An operand and the types behind `as`, at least one; it holds to the left.
     As,
     /// `-` and its operand; the sign is kept, as it is between operands.
     Negate,

@@ -7,16 +7,14 @@ ghost use Rattle.df_tree.specs.Furthest.{IsFurthest, IsFurthestPart};
 
 mod ast;
 mod label;
-mod row;
+mod production;
 mod table;
 mod terminal;
 
 pub use ast::{Ast, Mark, Tree};
 pub use label::{Label, Span, Way};
-pub use row::{Counting, Form, GrammarRow, Part, Production};
-pub use table::{
-    EXPRESSION, FILE, FIRST_CLASS, KEPT, NONE, NOTHING, PATTERN, TYPE, class_list, rows,
-};
+pub use production::{Counting, Form, GrammarRow, Part, Production};
+pub use table::{EXPRESSION, FILE, KEPT, PATTERN, TYPE, is_anything, is_in, row};
 pub use terminal::terminal_of;
 
 /// Syntax trees keep the tokens that matter, in their order.

@@ -1,15 +1,22 @@
 //! The grammar, a row for each production.
 
-ghost use Rattle.std.specs.Prelude.{◌≡◌, map};
+ghost use Rattle.std.specs.Prelude.{◌≡◌, map, [], slice_get};
+ghost use Rattle.std.specs.Option.{option_map_or};
 ghost use Rattle.df_tree.specs.Row.{entry_of};
-ghost use Rattle.df_tree.specs.Grammar.{grammar, classes};
+ghost use Rattle.df_tree.specs.Grammar as spec;
+ghost use Rattle.df_tree.specs.Grammar.{declarations, statements, expressions, classes};
 
 use crate::label::{Label, Way};
-use crate::row::{Counting, Form, GrammarRow, Part, Production};
+use crate::production::{Counting, Form, GrammarRow, Part, Production};
 use crate::terminal::*;
 
 /// A class of this number or a higher one is in the list; a lower one is a terminal.
 pub const FIRST_CLASS: u8 = 100;
+
+/// The numbers of the productions of statements begin here, and those of expressions.
+pub const FIRST_STATEMENT: u16 = 1000;
+
+pub const FIRST_EXPRESSION: u16 = 2000;
 
 /// No terminal: what is not tested.
 pub const NONE: u8 = 255;
@@ -547,225 +554,225 @@ const BASIC_TYPE: u16 = 33;
 
 const NAMED_TYPE: u16 = 34;
 
-const BLOCK: u16 = 35;
+const BLOCK: u16 = 1000;
 
-const STATEMENTS: u16 = 36;
+const STATEMENTS: u16 = 1001;
 
-const STATEMENT: u16 = 37;
+const STATEMENT: u16 = 1002;
 
-const VAR_STATEMENT: u16 = 38;
+const VAR_STATEMENT: u16 = 1003;
 
-const LOCALS: u16 = 39;
+const LOCALS: u16 = 1004;
 
-const MORE_LOCALS: u16 = 40;
+const MORE_LOCALS: u16 = 1005;
 
-const NEXT_LOCAL: u16 = 41;
+const NEXT_LOCAL: u16 = 1006;
 
-const LOCAL: u16 = 42;
+const LOCAL: u16 = 1007;
 
-const ANNOTATION: u16 = 43;
+const ANNOTATION: u16 = 1008;
 
-const OF_TYPE: u16 = 44;
+const OF_TYPE: u16 = 1009;
 
-const INITIAL: u16 = 45;
+const INITIAL: u16 = 1010;
 
-const INITIAL_VALUES: u16 = 46;
+const INITIAL_VALUES: u16 = 1011;
 
-const PRIMARY_STATEMENT: u16 = 47;
+const PRIMARY_STATEMENT: u16 = 1012;
 
-const PRIMARY_REST: u16 = 48;
+const PRIMARY_REST: u16 = 1013;
 
-const ASSIGNMENT: u16 = 49;
+const ASSIGNMENT: u16 = 1014;
 
-const MORE_TARGETS: u16 = 50;
+const MORE_TARGETS: u16 = 1015;
 
-const NEXT_TARGET: u16 = 51;
+const NEXT_TARGET: u16 = 1016;
 
-const IF_STATEMENT: u16 = 52;
+const IF_STATEMENT: u16 = 1017;
 
-const GUARDED: u16 = 53;
+const GUARDED: u16 = 1018;
 
-const ELSE_IFS: u16 = 54;
+const ELSE_IFS: u16 = 1019;
 
-const ELSE_IF: u16 = 55;
+const ELSE_IF: u16 = 1020;
 
-const OTHERWISE: u16 = 56;
+const OTHERWISE: u16 = 1021;
 
-const ELSE_BLOCK: u16 = 57;
+const ELSE_BLOCK: u16 = 1022;
 
-const WHILE_STATEMENT: u16 = 58;
+const WHILE_STATEMENT: u16 = 1023;
 
-const RETURN_STATEMENT: u16 = 59;
+const RETURN_STATEMENT: u16 = 1024;
 
-const BREAK_STATEMENT: u16 = 60;
+const BREAK_STATEMENT: u16 = 1025;
 
-const ASSERT_STATEMENT: u16 = 61;
+const ASSERT_STATEMENT: u16 = 1026;
 
-const ASSERT_END: u16 = 62;
+const ASSERT_END: u16 = 1027;
 
-const BY_BLOCK: u16 = 63;
+const BY_BLOCK: u16 = 1028;
 
-const PRINT_STATEMENT: u16 = 64;
+const PRINT_STATEMENT: u16 = 1029;
 
-const MORE_OPERANDS: u16 = 65;
+const MORE_OPERANDS: u16 = 1030;
 
-const NEXT_OPERAND: u16 = 66;
+const NEXT_OPERAND: u16 = 1031;
 
-const OPERAND: u16 = 67;
+const OPERAND: u16 = 1032;
 
-const TEXT_OPERAND: u16 = 68;
+const TEXT_OPERAND: u16 = 1033;
 
-const CALC_STATEMENT: u16 = 69;
+const CALC_STATEMENT: u16 = 1034;
 
-const CALC_OPERATOR: u16 = 70;
+const CALC_OPERATOR: u16 = 1035;
 
-const CALC_LINES: u16 = 71;
+const CALC_LINES: u16 = 1036;
 
-const CALC_LINE: u16 = 72;
+const CALC_LINE: u16 = 1037;
 
-const HINTS: u16 = 73;
+const HINTS: u16 = 1038;
 
-const EXPRESSIONS: u16 = 74;
+const EXPRESSIONS: u16 = 2000;
 
-const MORE_EXPRESSIONS: u16 = 75;
+const MORE_EXPRESSIONS: u16 = 2001;
 
-const NEXT_EXPRESSION: u16 = 76;
+const NEXT_EXPRESSION: u16 = 2002;
 
-const SOME_EXPRESSIONS: u16 = 77;
+const SOME_EXPRESSIONS: u16 = 2003;
 
 /// An expression.
-pub const EXPRESSION: u16 = 78;
+pub const EXPRESSION: u16 = 2004;
 
-const EQUIVALENCES: u16 = 79;
+const EQUIVALENCES: u16 = 2005;
 
-const EQUIVALENT: u16 = 80;
+const EQUIVALENT: u16 = 2006;
 
-const IMPLICATION: u16 = 81;
+const IMPLICATION: u16 = 2007;
 
-const IMPLICATION_REST: u16 = 82;
+const IMPLICATION_REST: u16 = 2008;
 
-const CONSEQUENTS: u16 = 83;
+const CONSEQUENTS: u16 = 2009;
 
-const MORE_CONSEQUENTS: u16 = 84;
+const MORE_CONSEQUENTS: u16 = 2010;
 
-const CONSEQUENT: u16 = 85;
+const CONSEQUENT: u16 = 2011;
 
-const ANTECEDENTS: u16 = 86;
+const ANTECEDENTS: u16 = 2012;
 
-const MORE_ANTECEDENTS: u16 = 87;
+const MORE_ANTECEDENTS: u16 = 2013;
 
-const ANTECEDENT: u16 = 88;
+const ANTECEDENT: u16 = 2014;
 
-const JUNCTION: u16 = 89;
+const JUNCTION: u16 = 2015;
 
-const LEADING_CONJUNCTS: u16 = 90;
+const LEADING_CONJUNCTS: u16 = 2016;
 
-const LEADING_DISJUNCTS: u16 = 91;
+const LEADING_DISJUNCTS: u16 = 2017;
 
-const PLAIN: u16 = 92;
+const PLAIN: u16 = 2018;
 
-const JUNCTION_REST: u16 = 93;
+const JUNCTION_REST: u16 = 2019;
 
-const CONJUNCTS: u16 = 94;
+const CONJUNCTS: u16 = 2020;
 
-const MORE_CONJUNCTS: u16 = 95;
+const MORE_CONJUNCTS: u16 = 2021;
 
-const CONJUNCT: u16 = 96;
+const CONJUNCT: u16 = 2022;
 
-const DISJUNCTS: u16 = 97;
+const DISJUNCTS: u16 = 2023;
 
-const MORE_DISJUNCTS: u16 = 98;
+const MORE_DISJUNCTS: u16 = 2024;
 
-const DISJUNCT: u16 = 99;
+const DISJUNCT: u16 = 2025;
 
-const RELATION: u16 = 100;
+const RELATION: u16 = 2026;
 
-const COMPARISONS: u16 = 101;
+const COMPARISONS: u16 = 2027;
 
-const COMPARISON: u16 = 102;
+const COMPARISON: u16 = 2028;
 
-const COMPARING: u16 = 103;
+const COMPARING: u16 = 2029;
 
-const SUM: u16 = 104;
+const SUM: u16 = 2030;
 
-const ADDITIONS: u16 = 105;
+const ADDITIONS: u16 = 2031;
 
-const ADDITION: u16 = 106;
+const ADDITION: u16 = 2032;
 
-const ADDING: u16 = 107;
+const ADDING: u16 = 2033;
 
-const PRODUCT: u16 = 108;
+const PRODUCT: u16 = 2034;
 
-const MULTIPLICATIONS: u16 = 109;
+const MULTIPLICATIONS: u16 = 2035;
 
-const MULTIPLICATION: u16 = 110;
+const MULTIPLICATION: u16 = 2036;
 
-const MULTIPLYING: u16 = 111;
+const MULTIPLYING: u16 = 2037;
 
-const CAST: u16 = 112;
+const CAST: u16 = 2038;
 
-const TARGETS: u16 = 113;
+const TARGETS: u16 = 2039;
 
-const TARGET: u16 = 114;
+const TARGET: u16 = 2040;
 
-const TARGET_TYPE: u16 = 115;
+const TARGET_TYPE: u16 = 2041;
 
-const NUMERIC_TYPE: u16 = 116;
+const NUMERIC_TYPE: u16 = 2042;
 
-const UNARY: u16 = 117;
+const UNARY: u16 = 2043;
 
-const NEGATED: u16 = 118;
+const NEGATED: u16 = 2044;
 
-const DENIED: u16 = 119;
+const DENIED: u16 = 2045;
 
-const PRIMARY: u16 = 120;
+const PRIMARY: u16 = 2046;
 
-const CLOSED: u16 = 121;
+const CLOSED: u16 = 2047;
 
-const SUFFIXES: u16 = 122;
+const SUFFIXES: u16 = 2048;
 
-const APPLICATION: u16 = 123;
+const APPLICATION: u16 = 2049;
 
-const ATOM: u16 = 124;
+const ATOM: u16 = 2050;
 
-const NAME_ATOM: u16 = 125;
+const NAME_ATOM: u16 = 2051;
 
-const PLAIN_NAME: u16 = 126;
+const PLAIN_NAME: u16 = 2052;
 
-const MAYBE_CALL: u16 = 127;
+const MAYBE_CALL: u16 = 2053;
 
-const NAMED_CALL: u16 = 128;
+const NAMED_CALL: u16 = 2054;
 
-const NUMBER_ATOM: u16 = 129;
+const NUMBER_ATOM: u16 = 2055;
 
-const CHARACTER_ATOM: u16 = 130;
+const CHARACTER_ATOM: u16 = 2056;
 
-const TRUTH_ATOM: u16 = 131;
+const TRUTH_ATOM: u16 = 2057;
 
-const PARENTHESES: u16 = 132;
+const PARENTHESES: u16 = 2058;
 
-const CONDITIONAL: u16 = 133;
+const CONDITIONAL: u16 = 2059;
 
-const LET_EXPRESSION: u16 = 134;
+const LET_EXPRESSION: u16 = 2060;
 
-const BINDING: u16 = 135;
+const BINDING: u16 = 2061;
 
 /// A pattern.
-pub const PATTERN: u16 = 136;
+pub const PATTERN: u16 = 2062;
 
-const NAMED_PATTERN: u16 = 137;
+const NAMED_PATTERN: u16 = 2063;
 
-const FIELDS: u16 = 138;
+const FIELDS: u16 = 2064;
 
-const FIELD_LIST: u16 = 139;
+const FIELD_LIST: u16 = 2065;
 
-const SOME_PATTERNS: u16 = 140;
+const SOME_PATTERNS: u16 = 2066;
 
-const PATTERNS: u16 = 141;
+const PATTERNS: u16 = 2067;
 
-const MORE_PATTERNS: u16 = 142;
+const MORE_PATTERNS: u16 = 2068;
 
-const NEXT_PATTERN: u16 = 143;
+const NEXT_PATTERN: u16 = 2069;
 
 // ---- the productions
 
@@ -879,8 +886,8 @@ macro_rules! narrow {
     };
 }
 
-/// All of them, in the order of their numbers.
-const WRITTEN: &[GrammarRow] = &[
+/// Files, declarations, clauses and types, in the order of their numbers.
+const DECLARATION_ROWS: &[GrammarRow] = &[
     // file: { declaration }
     many!(Make File; Never 39; FIRST_OF_FILE => NONE; sub DECLARATION),
     // declaration
@@ -946,11 +953,15 @@ const WRITTEN: &[GrammarRow] = &[
     // decreases_clause
     all!(Make Decreases; Never 33; DECREASES => AFTER_FUNCTION_RESULT; word DECREASES, sub EXPRESSIONS),
     // type: "int" | "nat" | "bool" | "char" | name
-    one!(Pass; Never 1; FIRST_OF_TYPE => AFTER_TYPE; sub BASIC_TYPE, sub NAMED_TYPE),
+    one!(Close; Never 1; FIRST_OF_TYPE => AFTER_TYPE; sub BASIC_TYPE, sub NAMED_TYPE),
     // basic_type
     one!(Make BasicType; Always 0; FIRST_OF_BASIC_TYPE => AFTER_TYPE; word INT, word NAT, word BOOL, word CHAR),
     // named_type
     all!(Make NamedType; Always 0; NAME => AFTER_NAMED_TYPE; word NAME),
+];
+
+/// Blocks and statements.
+const STATEMENT_ROWS: &[GrammarRow] = &[
     // block: "{" { statement } "}"
     all!(Make Block; Always 0; OPEN_BRACE => AFTER_BLOCK; word OPEN_BRACE, sub STATEMENTS, word CLOSE_BRACE),
     // statements
@@ -1029,6 +1040,10 @@ const WRITTEN: &[GrammarRow] = &[
     all!(Make Line; Never 30; FIRST_OF_GUARDED => AFTER_CALC_LINE; sub EXPRESSION, word SEMICOLON, sub CALC_OPERATOR, sub HINTS),
     // hints
     greedy_many!(Pass; Never 1; OPEN_BRACE => AFTER_CALC_LINE; sub BLOCK),
+];
+
+/// Expressions and patterns.
+const EXPRESSION_ROWS: &[GrammarRow] = &[
     // expressions: expression { "," expression }
     all!(Pass; Never 32; FIRST_OF_GUARDED => AFTER_EXPRESSIONS; sub EXPRESSION, sub MORE_EXPRESSIONS),
     // more_expressions
@@ -1110,7 +1125,7 @@ const WRITTEN: &[GrammarRow] = &[
     // targets
     greedy_many!(Pass; Never 3; AS => AFTER_NAMED_TYPE; sub TARGET),
     // target
-    all!(Wrap As; Never 2; AS => AFTER_NAMED_TYPE; word AS, sub TARGET_TYPE),
+    all!(Title As; Never 2; AS => AFTER_NAMED_TYPE; word AS, sub TARGET_TYPE),
     // target_type
     one!(Pass; Never 1; FIRST_OF_TARGET_TYPE => AFTER_NAMED_TYPE; sub NUMERIC_TYPE, sub NAMED_TYPE),
     // numeric_type
@@ -1172,7 +1187,7 @@ const WRITTEN: &[GrammarRow] = &[
 ];
 
 /// What has no tree.
-pub const NOTHING: GrammarRow = Production {
+const NOTHING: GrammarRow = Production {
     form: Form::One,
     way: Way::Pass,
     parts: &[],
@@ -1186,18 +1201,102 @@ pub const NOTHING: GrammarRow = Production {
     rank: 0,
 };
 
-/// The productions.
-#[tactic(auto, unfolding(crate::specs::Grammar::grammar))]
-pub fn rows() -> &'static [GrammarRow]
-    ensures { map entry_of result.now ≡ grammar }
+#[tactic(auto, unfolding(crate::specs::Grammar::declarations))]
+fn declarations() -> &'static [GrammarRow]
+    ensures { map entry_of result.now ≡ declarations }
 {
-    WRITTEN
+    DECLARATION_ROWS
 }
 
-/// The classes.
+#[tactic(auto, unfolding(crate::specs::Grammar::statements))]
+fn statements() -> &'static [GrammarRow]
+    ensures { map entry_of result.now ≡ statements }
+{
+    STATEMENT_ROWS
+}
+
+#[tactic(auto, unfolding(crate::specs::Grammar::expressions))]
+fn expressions() -> &'static [GrammarRow]
+    ensures { map entry_of result.now ≡ expressions }
+{
+    EXPRESSION_ROWS
+}
+
 #[tactic(auto, unfolding(crate::specs::Grammar::classes))]
-pub fn class_list() -> &'static [&'static [u8]]
+fn class_list() -> &'static [&'static [u8]]
     ensures { map (λ c. c.now) result.now ≡ classes }
 {
     CLASSES
+}
+
+fn entry(rows: &[GrammarRow], number: usize) -> GrammarRow
+    ensures { entry_of result ≡ spec.entry_in (map entry_of rows.now) number }
+{
+    match rows.get(number) {
+        Some(row) => *row,
+        None => NOTHING,
+    }
+}
+
+/// The production of a number.
+#[tactic(auto, unfolding(crate::specs::Grammar::row))]
+pub fn row(number: u16) -> GrammarRow
+    ensures { entry_of result ≡ spec.row number }
+{
+    if number < FIRST_STATEMENT {
+        entry(declarations(), number as usize)
+    } else if number < FIRST_EXPRESSION {
+        entry(statements(), (number - FIRST_STATEMENT) as usize)
+    } else {
+        entry(expressions(), (number - FIRST_EXPRESSION) as usize)
+    }
+}
+
+/// The terminals of a class that is not a terminal itself.
+fn listed(number: usize) -> &'static [u8]
+    ensures { result.now ≡ option_map_or (λ kinds. kinds) (slice_get classes number) [] }
+{
+    match class_list().get(number) {
+        Some(terminals) => terminals,
+        None => &[],
+    }
+}
+
+fn is_among(terminal: u8, terminals: &[u8]) -> bool
+    ensures { result ≡ spec.is_in terminal terminals.now }
+{
+    terminals.iter().any(|k| *k == terminal)
+}
+
+/// Whether a terminal is of the class.
+#[tactic(auto, unfolding(crate::specs::Grammar::kinds_of))]
+pub fn is_in(terminal: u8, class: u8) -> bool
+    ensures { result ≡ spec.is_in terminal (spec.kinds_of class) }
+{
+    if class < FIRST_CLASS {
+        class == terminal
+    } else {
+        is_among(terminal, listed((class - FIRST_CLASS) as usize))
+    }
+}
+
+fn is_none(terminals: &[u8]) -> bool
+    ensures { result ≡ spec.is_nil terminals.now }
+{
+    match terminals {
+        [] => true,
+        [_, ..] => false,
+    }
+}
+
+/// Whether a class is of no terminal, so that it is not tested.
+#[tactic(auto, unfolding(crate::specs::Grammar::kinds_of))]
+pub fn is_anything(class: u8) -> bool
+    ensures { result ≡ spec.is_nil (spec.kinds_of class) }
+{
+    if class < FIRST_CLASS {
+        false
+    } else {
+        is_none(listed((class - FIRST_CLASS) as usize))
+    }
 }

@@ -2,8 +2,8 @@ use Rattle.std.proofs.Common.{◌≡◌, ◌+◌, ◌-◌, map, drop, ap, ◌∙
 use Rattle.df_tok.specs.Token.{view}
 use Rattle.df_tree.specs.Row.{Row, entry_of}
 use Rattle.df_tree.specs.Grammar.{row}
-use Rattle.df_pexpr.specs.Reading.{turn_limit}
-use Rattle.df_pexpr.specs.Construction.{Success, Sofar, Builder, grow, builder, finished, height_before, height_behind, room_inside, frame_of, construction_of}
+use Rattle.df_pexpr.specs.mirror.Reading.{turn_limit}
+use Rattle.df_pexpr.specs.mirror.Construction.{Success, Sofar, Builder, grow, builder, finished, height_before, height_behind, room_inside, frame_of, construction_of}
 use Rattle.df_pexpr.proofs.Walk.{is_step, is_low, is_high, it_is_high, it_fails, it_ends, it_lacks, it_goes_on, it_is_full}
 use Rattle.df_pexpr.proofs.reader.+reader.Goals as goal
 

@@ -2,8 +2,8 @@ use Rattle.std.proofs.Common.{◌≡◌, ◌+◌, ◌*◌, ◌-◌, map}
 use Rattle.df_tok.specs.Token.{view}
 use Rattle.df_tree.specs.Grammar.{row}
 use Rattle.df_tree.specs.Building.{outside}
-use Rattle.df_pexpr.specs.Reading.{turn_limit}
-use Rattle.df_pexpr.specs.Construction.{grow, builder, begun, room_inside, frame_of}
+use Rattle.df_pexpr.specs.mirror.Reading.{turn_limit}
+use Rattle.df_pexpr.specs.mirror.Construction.{grow, builder, begun, room_inside, frame_of}
 use Rattle.df_pexpr.proofs.reader.+reader.Given as goal
 
 abbrev pub decreases-read_part : goal.decreases-read_part

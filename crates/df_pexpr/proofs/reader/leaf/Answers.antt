@@ -1,4 +1,4 @@
-use Rattle.df_pexpr.specs.Construction.{frame_of}
+use Rattle.df_pexpr.specs.mirror.Construction.{frame_of}
 use Rattle.df_pexpr.proofs.Walk.{leaf_found}
 use Rattle.df_pexpr.proofs.reader.leaf.Goals as goal
 

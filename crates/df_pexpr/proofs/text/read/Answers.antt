@@ -1,6 +1,6 @@
 use Rattle.std.proofs.Common.{map}
 use Rattle.df_tok.specs.Token.{view}
-use Rattle.df_pexpr.specs.Construction.{frame_of}
+use Rattle.df_pexpr.specs.mirror.Construction.{frame_of}
 use Rattle.df_pexpr.proofs.Spelled.{from_here}
 use Rattle.df_pexpr.proofs.text.read.Goals as goal
 

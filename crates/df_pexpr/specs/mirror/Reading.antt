@@ -2,10 +2,10 @@
 use Rattle.std.specs.Prelude.{ℕ, zero, suc, ◌+◌, ◌==◌, Bool, ◌&&◌, not, List, [], ◌∷◌, ◌++◌, length, Option, Some, None, slice_get, if◌then◌else◌}
 use Rattle.std.specs.Option.{option_and_then}
 use Rattle.df_tok.specs.Token.{Token}
-use Rattle.df_tree.specs.declared.row.Form.{Form}
-use Rattle.df_tree.specs.declared.row.Form.TheVariants.{All, One, Many}
-use Rattle.df_tree.specs.declared.row.Part.{Part}
-use Rattle.df_tree.specs.declared.row.Part.TheVariants.{Terminal, Nonterminal}
+use Rattle.df_tree.specs.declared.production.Form.{Form}
+use Rattle.df_tree.specs.declared.production.Form.TheVariants.{All, One, Many}
+use Rattle.df_tree.specs.declared.production.Part.{Part}
+use Rattle.df_tree.specs.declared.production.Part.TheVariants.{Terminal, Nonterminal}
 use Rattle.df_pexpr.specs.declared.reader.Step.{Step}
 use Rattle.df_pexpr.specs.declared.reader.Step.TheVariants.{Read, Done, Fail}
 use Rattle.df_tree.specs.Terminal.{terminal}
@@ -64,3 +64,7 @@ abbrev pub reader : ℕ → Reader
 reader left (Terminal kind) tokens = leaf kind tokens
 reader zero (Nonterminal n) tokens = None
 reader (suc left) (Nonterminal n) tokens = node (reader left) n tokens
+
+-- how many nodes may stand inside one another
+abbrev pub depth_limit : ℕ
+depth_limit = 10251

@@ -3,12 +3,12 @@ use Rattle.std.specs.Prelude.{ℕ, zero, suc, ◌+◌, ◌-◌, ◌==◌, nat_lt
 use Rattle.df_tok.specs.Token.{Token}
 use Rattle.df_tree.specs.Ast.{ast_of}
 use Rattle.df_tree.specs.Terminal.{terminal}
-use Rattle.df_tree.specs.declared.row.Counting.{Counting}
-use Rattle.df_tree.specs.declared.row.Counting.TheVariants.{Never, Always, IfMore, Each}
-use Rattle.df_tree.specs.declared.row.Part.{Part}
-use Rattle.df_tree.specs.declared.row.Part.TheVariants.{Terminal, Nonterminal}
+use Rattle.df_tree.specs.declared.production.Counting.{Counting}
+use Rattle.df_tree.specs.declared.production.Counting.TheVariants.{Never, Always, IfMore, Each}
+use Rattle.df_tree.specs.declared.production.Part.{Part}
+use Rattle.df_tree.specs.declared.production.Part.TheVariants.{Terminal, Nonterminal}
 use Rattle.df_tree.specs.Row.{Row}
-use Rattle.df_tree.specs.Grammar.{row, begins, counted, one_more, height_limit, depth_limit}
+use Rattle.df_tree.specs.Grammar.{row, begins, counted, one_more, height_limit}
 use Rattle.df_tree.specs.Building.{Frame, opened, keep, enter, outside, leave}
 use Rattle.df_pexpr.specs.declared.building.Frame as declared
 use Rattle.df_pexpr.specs.declared.building.Found as found
@@ -16,7 +16,7 @@ use Rattle.df_pexpr.specs.declared.building.Outcome.{Outcome}
 use Rattle.df_pexpr.specs.declared.building.Outcome.TheVariants.{Built, Stopped}
 use Rattle.df_pexpr.specs.declared.reader.Step.{Step}
 use Rattle.df_pexpr.specs.declared.reader.Step.TheVariants.{Read, Done, Fail}
-use Rattle.df_pexpr.specs.Reading.{step, turn_limit}
+use Rattle.df_pexpr.specs.mirror.Reading.{step, turn_limit, depth_limit}
 
 -- what was built, the number of the token behind it, the height with what stands before it, and whether there is anything
 pub record Construction : Type 0 where
