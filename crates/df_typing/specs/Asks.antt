@@ -18,7 +18,7 @@ use Rattle.df_typing.specs.Form.{Form, form_of, Naming, Role, Owner, Test, Means
 use Rattle.df_typing.specs.Table.{Callable, Signature, Global, TheNewtype, TheCallable, Entry}
 use Rattle.df_typing.specs.Scope as scope
 use Rattle.df_typing.specs.Scope.{Inferred, Known, Use, Meaning, Unknown, TheKnown, TheGlobal, Facts, type_at}
-use Rattle.df_typing.specs.Sights.{Values, One, Results, NotKnown, Sight, only_type, Notes, NoNote, Note, types_of_values}
+use Rattle.df_typing.specs.Sights.{Values, One, Results, NotKnown, Sight, each_value, Notes, NoNote, Note, types_of_values}
 use Rattle.df_typing.specs.Here.{Text, text_of, texts, Here, signature_in, Around, here_of, demands_at}
 use Rattle.df_typing.specs.Expressions.{nowhere, guard_of}
 use Rattle.df_typing.specs.Rules.{Ask, Known as KnownName, New, InRange, Inferred as InferredType, Fits, Operands, Truths, Directed, Counted, Called, Alike, Cast, Assigned, Returned, Leaves, Belongs, Measured, Mixed, Printed, Operator, Arithmetic, Order, Equality, Logic, operator_of, of_operator, keep_direction}
@@ -137,19 +137,9 @@ all_fit here k [] places = []
 all_fit here k (value ∷ values) [] = []
 all_fit here k (value ∷ values) (place ∷ places) = asked_of_part here k (Fits value place) ∷ all_fit here k values places
 
--- of several right sides each gives one value; what gives another number has no type
-abbrev pub type_of_source : Values → Option Ty → Option Ty
-type_of_source One ty = ty
-type_of_source (Results types) ty = only_type types
-type_of_source NotKnown ty = None
-
-abbrev pub each_source : List Sight → List (Option Ty) → List (Option Ty)
-each_source [] types = []
-each_source (sight ∷ sights) types = type_of_source sight.values (first types) ∷ each_source sights (others types)
-
 abbrev pub sources_fit : Here → ℕ → List Sight → (types places : List (Option Ty)) → List Placed
 sources_fit here k (sight ∷ []) types places = all_fit here k (types_of_values sight.values (first types)) places
-sources_fit here k sights types places = each_fits here k (each_source sights types) places
+sources_fit here k sights types places = each_fits here k (each_value sights types) places
 
 abbrev pub gives : ℕ → Values → Bool
 gives wanted One = wanted == 1

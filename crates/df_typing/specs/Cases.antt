@@ -1,5 +1,6 @@
 -- Sources whose trees are told to break what is said of them.
-use Rattle.std.specs.Prelude.{◌≡◌, Bool, true, ℕ, [], ◌∷◌, Option, Some, None}
+use Rattle.std.specs.Prelude.{◌≡◌, Bool, true, ℕ, List, [], ◌∷◌, Option, Some, None}
+use Rattle.std.specs.List.{flat_map}
 use Rattle.df_tok.specs.declared.token.Kind.TheVariants as kinds
 use Rattle.df_tok.specs.declared.word.Word.{Word}
 use Rattle.df_tok.specs.declared.word.Word.TheVariants as words
@@ -7,9 +8,12 @@ use Rattle.df_tok.specs.declared.sign.Sign.{Sign}
 use Rattle.df_tok.specs.declared.sign.Sign.TheVariants as signs
 use Rattle.df_tree.specs.declared.label.Label.TheVariants as labels
 use Rattle.df_typing.specs.Tree.{Ast, Asts, Kept, Made, Nil, Next, Label}
-use Rattle.df_typing.specs.Rules.{Rule, Unknown, Twice, Typing, Uninferred}
+use Rattle.df_typing.specs.Rules.{Rule, Unknown, Twice, Typing, Uninferred, Range}
 use Rattle.df_typing.specs.Least.{Fault}
+use Rattle.df_types.specs.Program.{Program}
 use Rattle.df_types.specs.Typing.{is_program}
+use Rattle.df_types.specs.Faults.{Rule as GhostRule, Breaks, Fault as GhostFault}
+use Rattle.df_types.specs.Flow.{faults_of}
 use Rattle.df_typing.specs.Laws.{fault_in}
 use Rattle.df_typing.specs.Declarations.{program_of}
 
@@ -119,8 +123,31 @@ abbrev pub literals : Asts
 literals = (Next (node labels.File 0 50 (Next (node labels.Newtype 0 12 (Next (named 0 1) (Next (node labels.Binder 3 6 (Next (named 1 3) (Next (node labels.BasicType 5 6 (Next (kept_word words.Int 5) Nil)) Nil))) (Next (node labels.Chain 7 12 (Next (node labels.Number 7 8 (Next (literal 0 7) Nil)) (Next (operator signs.AtMost 8) (Next (node labels.Name 9 10 (Next (named 1 9) Nil)) (Next (operator signs.Less 10) (Next (node labels.Number 11 12 (Next (literal 9 11) Nil)) Nil)))))) Nil)))) (Next (node labels.Method 12 50 (Next (named 2 13) (Next (node labels.Parameters 14 19 (Next (node labels.Parameter 15 18 (Next (named 3 15) (Next (node labels.NamedType 17 18 (Next (named 0 17) Nil)) Nil))) Nil)) (Next (node labels.Block 19 50 (Next (node labels.Var 20 29 (Next (node labels.Local 21 22 (Next (named 4 21) Nil)) (Next (operator signs.Assign 22) (Next (node labels.Sum 23 28 (Next (node labels.Number 23 24 (Next (literal 1 23) Nil)) (Next (operator signs.Plus 24) (Next (node labels.Number 25 26 (Next (literal 2 25) Nil)) (Next (operator signs.Plus 26) (Next (node labels.Name 27 28 (Next (named 3 27) Nil)) Nil)))))) Nil)))) (Next (node labels.Var 29 40 (Next (node labels.Local 30 31 (Next (named 5 30) Nil)) (Next (operator signs.Assign 31) (Next (node labels.Chain 32 39 (Next (node labels.Name 32 33 (Next (named 3 32) Nil)) (Next (operator signs.Less 33) (Next (node labels.Parentheses 34 39 (Next (node labels.Sum 35 38 (Next (node labels.Number 35 36 (Next (literal 1 35) Nil)) (Next (operator signs.Plus 36) (Next (node labels.Number 37 38 (Next (literal 2 37) Nil)) Nil)))) Nil)) Nil)))) Nil)))) (Next (node labels.Var 40 49 (Next (node labels.Local 41 44 (Next (named 6 41) (Next (node labels.NamedType 43 44 (Next (named 0 43) Nil)) Nil))) (Next (operator signs.Assign 44) (Next (node labels.Sum 45 48 (Next (node labels.Number 45 46 (Next (literal 1 45) Nil)) (Next (operator signs.Plus 46) (Next (node labels.Number 47 48 (Next (literal 2 47) Nil)) Nil)))) Nil)))) Nil)))) Nil)))) Nil))) Nil)
 
 -- without positions and names
+abbrev pub meant : Asts → Program
+meant file = program_of (record { positions = []; names = [] }) file
+
 abbrev pub is_well_typed : Asts → Bool
-is_well_typed file = is_program (program_of (record { positions = []; names = [] }) file)
+is_well_typed file = is_program (meant file)
+
+-- `method Main() { ghost var k: int := 0; if k == 0 { return; } }`
+abbrev pub returned : Asts
+returned = (Next (node labels.File 0 22 (Next (node labels.Method 0 22 (Next (named 0 1) (Next (node labels.Parameters 2 4 Nil) (Next (node labels.Block 4 22 (Next (node labels.Var 5 13 (Next (kept_word words.Ghost 5) (Next (node labels.Local 7 10 (Next (named 1 7) (Next (node labels.BasicType 9 10 (Next (kept_word words.Int 9) Nil)) Nil))) (Next (operator signs.Assign 10) (Next (node labels.Number 11 12 (Next (literal 0 11) Nil)) Nil))))) (Next (node labels.If 13 21 (Next (node labels.Guarded 14 21 (Next (node labels.Chain 14 17 (Next (node labels.Name 14 15 (Next (named 1 14) Nil)) (Next (operator signs.Equal 15) (Next (node labels.Number 16 17 (Next (literal 0 16) Nil)) Nil)))) (Next (node labels.Block 17 21 (Next (node labels.Return 18 20 Nil) Nil)) Nil))) Nil)) Nil))) Nil)))) Nil)) Nil)
+
+-- `newtype u = x: int | 1 <= x < 9 witness (var y := 1; y)`
+abbrev pub witness_binds : Asts
+witness_binds = (Next (node labels.File 0 21 (Next (node labels.Newtype 0 21 (Next (named 0 1) (Next (node labels.Binder 3 4 (Next (named 1 3) Nil)) (Next (node labels.Chain 7 12 (Next (node labels.Number 7 8 (Next (literal 1 7) Nil)) (Next (operator signs.AtMost 8) (Next (node labels.Name 9 10 (Next (named 1 9) Nil)) (Next (operator signs.Less 10) (Next (node labels.Number 11 12 (Next (literal 9 11) Nil)) Nil)))))) (Next (node labels.Witness 12 21 (Next (node labels.Parentheses 13 21 (Next (node labels.Let 14 20 (Next (node labels.Var 14 19 (Next (node labels.Local 15 16 (Next (named 2 15) Nil)) (Next (operator signs.Assign 16) (Next (node labels.Number 17 18 (Next (literal 1 17) Nil)) Nil)))) (Next (node labels.Name 19 20 (Next (named 2 19) Nil)) Nil))) Nil)) Nil)) Nil))))) Nil)) Nil)
+
+-- `newtype u = x: int | 1 <= x < 9 witness x`
+abbrev pub witness_sees : Asts
+witness_sees = (Next (node labels.File 0 14 (Next (node labels.Newtype 0 14 (Next (named 0 1) (Next (node labels.Binder 3 4 (Next (named 1 3) Nil)) (Next (node labels.Chain 7 12 (Next (node labels.Number 7 8 (Next (literal 1 7) Nil)) (Next (operator signs.AtMost 8) (Next (node labels.Name 9 10 (Next (named 1 9) Nil)) (Next (operator signs.Less 10) (Next (node labels.Number 11 12 (Next (literal 9 11) Nil)) Nil)))))) (Next (node labels.Witness 12 14 (Next (node labels.Name 13 14 (Next (named 1 13) Nil)) Nil)) Nil))))) Nil)) Nil)
+
+-- what its program breaks first of the ghost rules
+abbrev pub ghost_rule : List GhostFault → Option GhostRule
+ghost_rule [] = None
+ghost_rule (fault ∷ faults) = Some fault.rule
+
+abbrev pub ghost_rule_of : Program → Option GhostRule
+ghost_rule_of p = ghost_rule (flat_map (faults_of p) p.decls)
 
 pub record Cases : Type 0 where
   -- a parameter is assigned
@@ -151,6 +178,13 @@ pub record Cases : Type 0 where
   pub funstmt_told : fault_in funstmt ≡ broken (Typing 15) 14 17 14 0
   -- steps by two operators beside `==`
   pub calc_told : fault_in calc ≡ broken (Typing 26) 20 21 20 0
+  -- a witness sees what it binds itself, and no literal is there
+  pub witness_binds_told : fault_in witness_binds ≡ broken Range 0 21 1 0
+  -- it does not see the variable of the newtype
+  pub witness_sees_told : fault_in witness_sees ≡ broken Unknown 13 14 13 1
+  -- `return` under a guard that mentions a ghost
+  pub returned_told : fault_in returned ≡ None
+  pub returned_ghost : ghost_rule_of (meant returned) ≡ Some (Breaks 5)
   -- nothing is broken
   pub good_told : fault_in good ≡ None
   -- what they mean is well typed
@@ -160,6 +194,9 @@ pub record Cases : Type 0 where
   pub loops_told : fault_in loops ≡ None
   pub calculations_told : fault_in calculations ≡ None
   pub literals_told : fault_in literals ≡ None
+  pub good_typed : is_well_typed good ≡ true
+  pub good_ghost : ghost_rule_of (meant good) ≡ None
+  pub returned_typed : is_well_typed returned ≡ true
   pub late_typed : is_well_typed late ≡ true
   pub inner_let_typed : is_well_typed inner_let ≡ true
   pub calls_typed : is_well_typed calls ≡ true

@@ -30,7 +30,7 @@ use Rattle.df_typing.specs.Marks.{marked_method}
 -- ---- what is seen of a declaration
 
 abbrev pub around_at : (start : ℕ) → scope.Around
-around_at start = record { start = start; is_names = false; role = roles.Variable; from = 0; is_alone = false; sees_results = false; owner = owners.Declaration; is_loop = false }
+around_at start = record { start = start; is_names = false; role = roles.Variable; from = 0; above = 0; sees_results = false; owner = owners.Declaration; is_loop = false }
 
 -- one declaration, seen by itself
 abbrev pub alone : Label → Span → Asts → Asts

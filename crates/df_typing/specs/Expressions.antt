@@ -20,7 +20,7 @@ use Rattle.df_typing.specs.Types.{Ty, Int, Boolean, same_type, fits, common, fir
 use Rattle.df_typing.specs.Form.{form_of, Demand, Means, Naming}
 use Rattle.df_typing.specs.Table.{Entry}
 use Rattle.df_typing.specs.Scope.{Meaning, Unknown, TheKnown, TheGlobal, Facts, is_bound}
-use Rattle.df_typing.specs.Sights.{Sight, settled, sight_of, is_truth, sight_at, Notes, NoNote, Note}
+use Rattle.df_typing.specs.Sights.{Sight, each_expects, settled, sight_of, is_truth, sight_at, Notes, NoNote, Note}
 use Rattle.df_typing.specs.Here.{Around, Here, here_of, demands_at, nothing_before}
 
 -- where the tokens of a text stand
@@ -46,14 +46,10 @@ converted at (Some source) (Some target) e = if same_type source target then e e
 converted at source target e = e
 
 -- the types that the parts go to: operands to that which they have in common, branches too, others to their places
-abbrev pub all_to : Option Ty → List Sight → List (Option Ty)
-all_to ty [] = []
-all_to ty (sight ∷ sights) = ty ∷ all_to ty sights
-
 abbrev pub goes_to : Demand → (own : Option Ty) → (types places : List (Option Ty)) → List Sight → List (Option Ty)
 goes_to demands.Nothing own types places parts = []
-goes_to demands.Neighbours own types places parts = all_to own parts
-goes_to (demands.Branches k) own types places parts = nothing_before k (all_to own parts)
+goes_to demands.Neighbours own types places parts = each_expects own parts
+goes_to (demands.Branches k) own types places parts = nothing_before k (each_expects own parts)
 goes_to (demands.Passed k) own types places parts = []
 goes_to demands.Given own types places parts = places
 
@@ -90,9 +86,6 @@ tail_exprs (expr e es) = es
 abbrev pub last_expr : Expr → Exprs → Expr
 last_expr e no_expr = e
 last_expr e (expr next es) = last_expr next es
-
-abbrev pub strict : Op → Pos → Exprs → Expr
-strict op at es = Apply op at es
 
 -- from the left
 abbrev pub operate : List Pos → Ty → Expr → List Signed → Exprs → Expr

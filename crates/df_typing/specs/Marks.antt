@@ -6,6 +6,7 @@ use Rattle.df_types.specs.Program.{Program, Variable, Method}
 use Rattle.df_types.specs.Faults.{Watch, ghostly, mentions_ghost}
 use Rattle.df_types.specs.Ghosts.{watch_of, is_ghost_stmt, proof_watch}
 use Rattle.df_types.specs.Sites.{is_in}
+use Rattle.df_typing.specs.Statements.{in_front}
 
 -- statements, and which locals are ghosts behind them
 pub record Marked : Type 0 where
@@ -31,10 +32,6 @@ pub record MarkedBranches : Type 0 where
   pub locals : List Bool
   -- a guard mentions a ghost, or all stands in ghost code
   pub is_ghost : Bool
-
-abbrev pub in_front : Stmts → Stmts → Stmts
-in_front done behind = behind
-in_front (next stmt others) behind = next stmt (in_front others behind)
 
 -- the next guard mentions a ghost
 abbrev pub next_is_ghost : Watch → Branches → Bool

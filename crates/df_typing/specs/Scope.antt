@@ -51,7 +51,7 @@ is_bound roles.Result = false
 
 -- it is known at a token
 abbrev pub is_seen : Around → ℕ → Known → Bool
-is_seen around place known = not around.is_alone && nat_le known.from place && (around.sees_results || not (is_result known.role))
+is_seen around place known = nat_le around.above known.index && nat_le known.from place && (around.sees_results || not (is_result known.role))
 
 -- the innermost of the name that is known there
 abbrev pub latest : Around → ℕ → ℕ → List Known → Option Known
@@ -105,7 +105,7 @@ means naming table around env named = Unknown
 abbrev pub around_in : Within → Around → Around
 around_in withins.Same around = around
 around_in withins.Names around = record around { is_names = true; role = roles.Bound }
-around_in withins.Alone around = record around { is_alone = true }
+around_in withins.Alone around = around
 around_in (withins.Declaring role) around = record around { role = role; from = 0 }
 around_in withins.Body around = record around { role = roles.Variable; from = 0; sees_results = true }
 around_in withins.Promise around = record around { sees_results = true }
@@ -164,8 +164,19 @@ abbrev pub hidden : Bool → Span → Around → Around
 hidden true span around = record around { from = span.after }
 hidden false span around = around
 
-abbrev pub around_parts : Form → Span → Around → Around
-around_parts form span around = hidden form.hides span (around_in form.within around)
+-- nothing that is declared so far is seen inside
+abbrev pub alone : Within → Env → Around → Around
+alone withins.Alone env around = record around { above = length env.types }
+alone withins.Same env around = around
+alone withins.Names env around = around
+alone (withins.Declaring role) env around = around
+alone withins.Body env around = around
+alone withins.Promise env around = around
+alone withins.Loop env around = around
+alone withins.Proof env around = around
+
+abbrev pub around_parts : Form → Span → Env → Around → Around
+around_parts form span env around = alone form.within env (hidden form.hides span (around_in form.within around))
 
 abbrev pub repeated : ℕ → Use → List Use → List Use
 repeated zero usage rest = rest

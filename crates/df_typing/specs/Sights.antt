@@ -86,14 +86,14 @@ abbrev pub nothing_for : {A : Type 0} → List A → List (Option Ty)
 nothing_for [] = []
 nothing_for (x ∷ xs) = None ∷ nothing_for xs
 
-abbrev pub expected_of_all : Option Ty → List Sight → List (Option Ty)
-expected_of_all expected [] = []
-expected_of_all expected (sight ∷ sights) = expected ∷ expected_of_all expected sights
+abbrev pub each_expects : Option Ty → List Sight → List (Option Ty)
+each_expects expected [] = []
+each_expects expected (sight ∷ sights) = expected ∷ each_expects expected sights
 
 -- what is expected of branches: that of the whole, else what a neighbour has
 abbrev pub of_branches : Option Ty → List Sight → List (Option Ty)
 of_branches None sights = neighbours None None sights
-of_branches (Some expected) sights = expected_of_all (Some expected) sights
+of_branches (Some expected) sights = each_expects (Some expected) sights
 
 -- an operator hands on what is expected where all its operands are open
 abbrev pub if_all_open : List Sight → Option Ty → Option Ty
@@ -301,7 +301,7 @@ look table around uses env (Next (Kept x) rest) = look table around uses env res
 look table around uses env (Next (Made label span inside) rest) =
     let form = form_of label in
     let facts = facts_of table form around (first_use uses) env inside in
-    let found = look table (around_parts form span around) (uses_of form.uses around.role facts.before (count inside)) (entered form.is_scope env) inside in
+    let found = look table (around_parts form span env around) (uses_of form.uses around.role facts.before (count inside)) (entered form.is_scope env) inside in
     let more = look table around (other_uses uses) (behind form facts env found) rest in
     record {
       parts = sight_of form.own table facts form.is_call found.parts ∷ more.parts;

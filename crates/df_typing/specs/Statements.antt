@@ -21,7 +21,7 @@ use Rattle.df_typing.specs.Table.{Callable, Signature, Entry, TheNewtype, TheCal
 use Rattle.df_typing.specs.Scope.{Meaning, Unknown, TheKnown, TheGlobal, Facts, type_at}
 use Rattle.df_typing.specs.Sights.{Notes, NoNote, Note}
 use Rattle.df_typing.specs.Here.{Around, Text, Here, here_of}
-use Rattle.df_typing.specs.Asks.{operators, sign_or, inner_texts}
+use Rattle.df_typing.specs.Asks.{operators, sign_or, inner_texts, is_measure}
 use Rattle.df_typing.specs.Rules.{Operator, Logic, operator_of}
 use Rattle.df_typing.specs.Expressions.{pos_at, known, conversion, converted, comparison_of, head_expr, nothing, inner}
 
@@ -102,10 +102,6 @@ abbrev pub source_by : Setting → Here → (places : List (Option Ty)) → Expr
 source_by g here places value None = Single (known (first places)) value
 source_by g here places value (Some callee) = Results (call_of g here callee.0) (conversions callee.1.results places)
 
-abbrev pub is_last : Notes → Bool
-is_last NoNote = true
-is_last (Note label span facts parts inside rest) = false
-
 -- one right side gives its values to all places, of several each gives one to its own
 abbrev pub first_places : Bool → List (Option Ty) → List (Option Ty)
 first_places true places = places
@@ -130,10 +126,6 @@ exprs_behind (suc n) (expr e es) = exprs_behind n es
 
 abbrev pub right_sides : Setting → Here → List Source
 right_sides g here = sources g (length (drop here.facts.before here.parts) == 1) (drop here.facts.before here.places) (exprs_behind here.facts.before (parts_of g here)) (notes_behind here.facts.before here.inside)
-
-abbrev pub is_none : {A : Type 0} → List A → Bool
-is_none [] = true
-is_none (x ∷ xs) = false
 
 -- an assignment, where there are right sides
 abbrev pub assigned : List Target → List Source → Option Update
@@ -179,10 +171,6 @@ is_postcondition means = false
 abbrev pub is_invariant : Means → Bool
 is_invariant meanings.Invariant = true
 is_invariant means = false
-
-abbrev pub is_measure : Means → Bool
-is_measure meanings.Measure = true
-is_measure means = false
 
 abbrev pub first_text : Text → Notes → Text
 first_text whole NoNote = whole
@@ -232,9 +220,9 @@ abbrev pub numbers_from : ℕ → ℕ → List ℕ
 numbers_from from zero = []
 numbers_from from (suc n) = from ∷ numbers_from (suc from) n
 
-abbrev pub joined : Stmts → Stmts → Stmts
-joined done behind = behind
-joined (next stmt others) behind = next stmt (joined others behind)
+abbrev pub in_front : Stmts → Stmts → Stmts
+in_front done behind = behind
+in_front (next stmt others) behind = next stmt (in_front others behind)
 
 abbrev pub arms_with : Means → Exprs → Stmts → Branches → Branches
 arms_with meanings.Arm es body rest = branch (head_expr es) body rest
@@ -265,7 +253,7 @@ pub record Inside : Type 0 where
 
 -- what a node means, in front of what stands behind it
 abbrev pub statement : Setting → Here → Inside → Stmts → Means → Stmts
-statement g here inside behind meanings.Sequence = joined inside.body behind
+statement g here inside behind meanings.Sequence = in_front inside.body behind
 statement g here inside behind meanings.Declaration =
     next (Declare (numbers_from here.facts.local here.facts.before)) (assign (assigned (targets g here.facts.before here.inside) (right_sides g here)) behind)
 statement g here inside behind meanings.Assignment = assign (assigned (targets g here.facts.before here.inside) (right_sides g here)) behind

@@ -23,7 +23,7 @@ pub enum Within {
     Same,
     /// Nothing but the meaning of names is asked.
     Names,
-    /// No local is seen.
+    /// Nothing that is declared around is seen.
     Alone,
     /// What is declared has this role.
     Declaring(Role),

@@ -36,8 +36,8 @@ pub struct Around {
     pub role: Role,
     /// The token from which on it is known.
     pub from: usize,
-    /// No local is seen.
-    pub is_alone: bool,
+    /// Names of lower indices are not seen.
+    pub above: usize,
     pub sees_results: bool,
     pub owner: Owner,
     pub is_loop: bool,
