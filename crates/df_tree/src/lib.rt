@@ -1,5 +1,12 @@
 //! Syntax trees of sources, and their grammar: a table of productions. A tree of the productions spells tokens; from it
 //! the syntax tree follows, a node for each construct.
+//!
+//! Of several trees the one that reaches furthest is told by what stands at each place: a further member, suffix, clause or
+//! branch is there wherever what follows can begin one; the height is not looked at there. An atom that ends in an
+//! expression takes no suffix, and stops where its last part cannot go on; the level around it continues, so that
+//! `if c then x else a && b || d` is a `||` whose first member is the conditional. An operator behind the last line of a
+//! `calc`, and hints behind it, belong to no step. Patterns have productions before `match` does: none of a file leads to
+//! them yet.
 #![tactic(auto)]
 
 ghost use Rattle.df_tree.specs.Spelling.{KeepsAll, LiesInText};
