@@ -14,3 +14,4 @@ pub mod Agreeing
 pub mod ReadingInside
 pub mod Printed
 mod Samples
+mod RowSamples
