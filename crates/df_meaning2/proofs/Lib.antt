@@ -10,5 +10,8 @@ pub mod ExprTypes
 pub mod StmtTypes
 pub mod Declared
 pub mod WholeTypes
+pub mod Agreeing
+pub mod ReadingInside
 pub mod Printed
 mod Samples
+mod RowSamples

@@ -14,3 +14,4 @@ pub mod Correct
 pub mod Growing
 pub mod Typed
 pub mod Texts
+pub mod Agreeing

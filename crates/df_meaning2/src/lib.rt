@@ -4,6 +4,7 @@
 
 ghost use Rattle.df_meaning2.specs.Growing.{ExpressionsGrow, StatementsGrow, WholesGrow, MethodsGrow};
 ghost use Rattle.df_meaning2.specs.Typed.{RowsAreTyped, ExpressionsAreTyped, StatementsAreTyped, WholesAreTyped, ModularRunsAreTyped};
+ghost use Rattle.df_meaning2.specs.Agreeing.{ExpressionsAgree, WholesAgree, ExpressionsReadInside, WholesReadInside};
 ghost use Rattle.df_meaning2.specs.Texts.{StatementsKeepText, MethodsKeepText};
 
 /// What expressions evaluate to over a meaning that says less, they do over one that says more.
@@ -49,6 +50,26 @@ pub fn wholes_are_typed()
 /// And modular runs, whatever is handed in.
 pub fn modular_runs_are_typed()
     ensures { ModularRunsAreTyped }
+{}
+
+/// An expression comes to the same in states that agree on what it reads.
+pub fn expressions_agree()
+    ensures { ExpressionsAgree }
+{}
+
+/// Functions see nothing of a state but its heap and what may be read of it.
+pub fn wholes_agree()
+    ensures { WholesAgree }
+{}
+
+/// What an expression gives, reading inside a set, it gives in each heap that has the same objects there.
+pub fn expressions_read_inside()
+    ensures { ExpressionsReadInside }
+{}
+
+/// And so do functions, at each depth.
+pub fn wholes_read_inside()
+    ensures { WholesReadInside }
 {}
 
 /// A whole run of a statement keeps in front what was printed before it.

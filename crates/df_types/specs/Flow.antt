@@ -112,9 +112,16 @@ faults_of_sources w targets [] = []
 faults_of_sources w targets (source ∷ others) =
     faults_of_source (ghostly w (is_ghost_source w.program w.locals (take (arity source) targets) source)) source ++ faults_of_sources w (drop (arity source) targets) others
 
-abbrev pub faults_of_update : Watch → Option Update → List Fault
-faults_of_update w None = []
-faults_of_update w (Some update) = faults_of_targets w (flat_map (value_marks w.program) update.sources) update.targets ++ faults_of_sources w update.targets update.sources
+abbrev pub faults_of_places : Watch → Update → List Fault
+faults_of_places w update = faults_of_targets w (flat_map (value_marks w.program) update.sources) update.targets
+
+abbrev pub faults_of_update : Watch → Update → List Fault
+faults_of_update w update = faults_of_places w update ++ faults_of_sources w update.targets update.sources
+
+-- a `return` is the place of its results, and ends behind its values
+abbrev pub faults_of_return : Watch → Option Update → List Fault
+faults_of_return w None = []
+faults_of_return w (Some update) = faults_of_sources w update.targets update.sources ++ faults_of_places w update
 
 -- a chosen variable is a ghost
 abbrev pub chosen_fault : Watch → Target → List Fault
@@ -172,7 +179,7 @@ in_proof g ranges = record { head = g.head; watch = proof_watch (ghostly g.watch
 abbrev mutual
   pub flow : Around → Assigned → Stmt → Flowing
   flow g before (Declare locals) = goes_to (declare before locals) []
-  flow g before (Assign update) = goes_to (assign before update.targets) (faults_of_update (watching g before) (Some update))
+  flow g before (Assign update) = goes_to (assign before update.targets) (faults_of_update (watching g before) update)
   flow g before (Choose site at targets ranges condition) =
       goes_to (assign before targets) (faults_of_chosen (watching g before) targets ++ (faults_in (proof_watch (ghost_watching g before) ranges) condition ++ faults_in_ranges (ghost_watching g before) ranges))
   flow g before (Branch branches otherwise) = flow_branches g before branches (flow_all g before otherwise)
@@ -184,7 +191,7 @@ abbrev mutual
       ++ (all_inserted (faults_in_each (ghost_watching g before) (of_demands invariants)) (faults_in_each (ghost_watching g before) (of_optional decreases)) ++ turn.faults))
   flow g before (Break at) = record { behind = Unreached; breaks = before; faults = fault_if (g.watch.is_ghost && not g.in_ghost_loop) at (Breaks 5) }
   flow g before (Return at update) =
-      goes_to Unreached (faults_of_update (watching g before) update ++ (fault_if g.watch.is_ghost at (Breaks 5) ++ missing g.head (assign_all before update) at (numbers_of g.head.results)))
+      goes_to Unreached (faults_of_return (watching g before) update ++ (fault_if g.watch.is_ghost at (Breaks 5) ++ missing g.head (assign_all before update) at (numbers_of g.head.results)))
   flow g before (Check demand) = goes_to before (faults_in (ghost_watching g before) demand.condition)
   -- what is assigned in a proof is dropped
   flow g before (Prove site at aim body) =

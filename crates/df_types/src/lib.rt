@@ -11,6 +11,8 @@
 //!   that ghosts can go.
 //! - What is known behind a proof isn't stored: it is what the proof was for.
 //! - A frame is a set of objects, which an operation makes of its members.
+//! - A ghost that a guard names only in an argument at a ghost parameter is no mention of a ghost: the argument isn't
+//!   compiled.
 //! - Left open until type parameters have a source: whether compiled calls may take type arguments that don't compile.
 #![tactic(auto)]
 
