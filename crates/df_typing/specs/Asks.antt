@@ -21,7 +21,9 @@ use Rattle.df_typing.specs.Scope.{Inferred, Known, Use, Meaning, Unknown, TheKno
 use Rattle.df_typing.specs.Sights.{Values, One, Results, NotKnown, Sight, each_value, Notes, NoNote, Note, types_of_values}
 use Rattle.df_typing.specs.Here.{Text, text_of, texts, Here, signature_in, Around, here_of, demands_at}
 use Rattle.df_typing.specs.Expressions.{nowhere, guard_of}
-use Rattle.df_typing.specs.Rules.{Ask, Known as KnownName, New, InRange, Inferred as InferredType, Fits, Operands, Truths, Directed, Counted, Called, Alike, Cast, Assigned, Returned, Leaves, Belongs, Measured, Mixed, Printed, Operator, Arithmetic, Order, Equality, Logic, operator_of, of_operator, keep_direction}
+use Rattle.df_typing.specs.declared.rule.Operator.{Operator}
+use Rattle.df_typing.specs.declared.rule.Operator.TheVariants as operator
+use Rattle.df_typing.specs.Rules.{Ask, Known as KnownName, New, InRange, Inferred as InferredType, Fits, Operands, Truths, Directed, Counted, Called, Alike, Cast, Assigned, Returned, Leaves, Belongs, Measured, Mixed, Printed, operator_of, of_operator, keep_direction}
 
 -- ---- where it is told
 
@@ -165,10 +167,12 @@ from whole part place = record { span = record { start = part.span.start; after 
 
 -- what stands on the left of the next sign: the sum or the product so far, the last member of a chain, or a truth
 abbrev pub left_of_next : Operator → Option Ty → Option Ty → Option Ty
-left_of_next Arithmetic left right = arithmetic left right
-left_of_next Order left right = right
-left_of_next Equality left right = right
-left_of_next Logic left right = Some Boolean
+left_of_next (operator.Arithmetic operation) left right = arithmetic left right
+left_of_next (operator.Order comparison) left right = right
+left_of_next (operator.Equality comparison) left right = right
+left_of_next operator.Equivalence left right = Some Boolean
+left_of_next operator.Logic left right = Some Boolean
+left_of_next operator.Nothing left right = None
 
 -- A sign that holds to the left is told from the beginning to behind its operand.
 abbrev pub each_sign : Here → ℕ → Option Ty → List Signed → List (Option Ty) → List Placed

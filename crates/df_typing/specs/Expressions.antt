@@ -4,7 +4,6 @@ use Rattle.std.specs.Prelude.{ℕ, ℤ, suc, pos as positive, neg_ℤ, ◌-◌, 
 use Rattle.std.specs.Option.{option_or}
 use Rattle.df_base.specs.declared.pos.Pos.{Pos}
 use Rattle.df_tok.specs.declared.sign.Sign.{Sign}
-use Rattle.df_tok.specs.declared.sign.Sign.TheVariants as signs
 use Rattle.df_types.specs.declared.op.Comparison.{Comparison}
 use Rattle.df_types.specs.declared.op.Comparison.TheVariants as comparisons
 use Rattle.df_types.specs.declared.expr.Connective.{Connective}
@@ -15,6 +14,11 @@ use Rattle.df_types.specs.Expr.{Binder, Expr, Local, Bound, Apply, Junction, Cha
 use Rattle.df_typing.specs.declared.form.Demand.TheVariants as demands
 use Rattle.df_typing.specs.declared.form.Means.TheVariants as meanings
 use Rattle.df_typing.specs.declared.form.Naming.TheVariants as namings
+use Rattle.df_typing.specs.declared.rule.Operation.{Operation}
+use Rattle.df_typing.specs.declared.rule.Operation.TheVariants as operations
+use Rattle.df_typing.specs.declared.rule.Operator.{Operator}
+use Rattle.df_typing.specs.declared.rule.Operator.TheVariants as operators
+use Rattle.df_typing.specs.Rules.{operator_of}
 use Rattle.df_typing.specs.Tree.{Named, Signed, name_in, signs_in, number_in, character_in, truth_in, text_in}
 use Rattle.df_typing.specs.Types.{Ty, Int, Boolean, same_type, fits, common, first, others}
 use Rattle.df_typing.specs.Form.{form_of, Demand, Means, Naming}
@@ -55,22 +59,24 @@ goes_to demands.Given own types places parts = places
 
 -- ---- words
 
-abbrev pub comparison_of : Sign → Comparison
-comparison_of signs.Equal = comparisons.Equal
-comparison_of signs.NotEqual = comparisons.NotEqual
-comparison_of signs.Less = comparisons.Less
-comparison_of signs.AtMost = comparisons.AtMost
-comparison_of signs.Greater = comparisons.Greater
-comparison_of signs.AtLeast = comparisons.AtLeast
-comparison_of sign = comparisons.Equal
+-- of a sign that compares
+abbrev pub comparison_by : Operator → Comparison
+comparison_by (operators.Order comparison) = comparison
+comparison_by (operators.Equality comparison) = comparison
+comparison_by (operators.Arithmetic operation) = comparisons.Equal
+comparison_by operators.Equivalence = comparisons.Equal
+comparison_by operators.Logic = comparisons.Equal
+comparison_by operators.Nothing = comparisons.Equal
 
-abbrev pub arithmetic_op : Sign → Ty → Op
-arithmetic_op signs.Plus ty = Op.Add ty
-arithmetic_op signs.Minus ty = Op.Subtract ty
-arithmetic_op signs.Times ty = Op.Multiply ty
-arithmetic_op signs.Divide ty = Op.Divide ty
-arithmetic_op signs.Modulo ty = Op.Modulo ty
-arithmetic_op sign ty = Op.Add ty
+abbrev pub comparison_of : Sign → Comparison
+comparison_of sign = comparison_by (operator_of sign)
+
+abbrev pub arithmetic_op : Operation → Ty → Op
+arithmetic_op operations.Add ty = Op.Add ty
+arithmetic_op operations.Subtract ty = Op.Subtract ty
+arithmetic_op operations.Multiply ty = Op.Multiply ty
+arithmetic_op operations.Divide ty = Op.Divide ty
+arithmetic_op operations.Modulo ty = Op.Modulo ty
 
 abbrev pub nothing : Expr
 nothing = Apply (Op.TruthOf true) nowhere no_expr
@@ -87,12 +93,20 @@ abbrev pub last_expr : Expr → Exprs → Expr
 last_expr e no_expr = e
 last_expr e (expr next es) = last_expr next es
 
+abbrev pub operated : Ty → Operator → Pos → Expr → Expr → Expr
+operated ty (operators.Arithmetic operation) at left right = Apply (arithmetic_op operation ty) at (expr left (expr right no_expr))
+operated ty (operators.Order comparison) at left right = left
+operated ty (operators.Equality comparison) at left right = left
+operated ty operators.Equivalence at left right = left
+operated ty operators.Logic at left right = left
+operated ty operators.Nothing at left right = left
+
 -- from the left
 abbrev pub operate : List Pos → Ty → Expr → List Signed → Exprs → Expr
 operate positions ty left [] es = left
 operate positions ty left (one ∷ rest) no_expr = left
 operate positions ty left (one ∷ rest) (expr right es) =
-    operate positions ty (Apply (arithmetic_op one.sign ty) (pos_at positions one.place) (expr left (expr right no_expr))) rest es
+    operate positions ty (operated ty (operator_of one.sign) (pos_at positions one.place) left right) rest es
 
 -- equality of truths, from the left
 abbrev pub equate : List Pos → Expr → List Signed → Exprs → Expr

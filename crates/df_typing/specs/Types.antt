@@ -26,7 +26,7 @@ are_one_number left right = is_number left && (is_number right && same_type (cou
 abbrev pub are_ordered : Ty → Ty → Bool
 are_ordered left right = is_ordered left && (is_ordered right && same_type (counted left) (counted right))
 
--- no datatypes are printed yet
+-- no datatypes are printed yet, so none is asked for
 abbrev pub is_printed : Ty → Bool
 is_printed ty = has_text (λ decl. false) false ty
 
