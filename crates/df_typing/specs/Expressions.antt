@@ -25,7 +25,7 @@ use Rattle.df_typing.specs.Form.{form_of, Demand, Means, Naming}
 use Rattle.df_typing.specs.Table.{Entry}
 use Rattle.df_typing.specs.Scope.{Meaning, Unknown, TheKnown, TheGlobal, Facts, is_bound}
 use Rattle.df_typing.specs.Sights.{Sight, each_expects, settled, sight_of, is_truth, sight_at, Notes, NoNote, Note}
-use Rattle.df_typing.specs.Here.{Around, Here, here_of, demands_at, nothing_before}
+use Rattle.df_typing.specs.Here.{Enclosing, Here, here_of, demands_at, nothing_before}
 
 -- where the tokens of a text stand
 abbrev pub nowhere : Pos
@@ -132,9 +132,9 @@ cast at e source [] = e
 cast at e source (target ∷ targets) = cast at (Apply (Op.As source (known target)) at (expr e no_expr)) (known target) targets
 
 -- there may be one alone
-abbrev pub joined : Connective → Exprs → Expr
-joined connective no_expr = nothing
-joined connective (expr e es) = Junction connective e es
+abbrev pub junction : Connective → Exprs → Expr
+junction connective no_expr = nothing
+junction connective (expr e es) = Junction connective e es
 
 abbrev pub reversed : Exprs → Exprs → Exprs
 reversed no_expr behind = behind
@@ -218,10 +218,10 @@ meaning positions here own es = by (form_of here.label).means where
   by meanings.Arithmetic = operate positions (known own) (head_expr es) all (tail_exprs es)
   by meanings.Comparison = compare positions (known (common here.types)) all es
   by meanings.Equivalence = equate positions (head_expr es) all (tail_exprs es)
-  by meanings.Conjunction = joined connectives.And es
-  by meanings.Disjunction = joined connectives.Or es
-  by meanings.Implication = joined connectives.Implies es
-  by meanings.Explication = joined connectives.Explies (reversed es no_expr)
+  by meanings.Conjunction = junction connectives.And es
+  by meanings.Disjunction = junction connectives.Or es
+  by meanings.Implication = junction connectives.Implies es
+  by meanings.Explication = junction connectives.Explies (reversed es no_expr)
   by meanings.Conversion = cast at (head_expr es) (known (first here.types)) (others here.types)
   by meanings.Call = calling at es here.facts.meaning
   by meanings.Choice = branch (known own) es
@@ -252,7 +252,7 @@ abbrev pub own_at : List Entry → Here → (expected : Option Ty) → Option Ty
 own_at table here expected = settled (sight_of (form_of here.label).own table here.facts (form_of here.label).is_call here.parts) expected
 
 -- what the nodes mean, of which these types are expected, and which go to these places
-abbrev pub expressions : List Pos → List Entry → Around → (expected places : List (Option Ty)) → Notes → Exprs
+abbrev pub expressions : List Pos → List Entry → Enclosing → (expected places : List (Option Ty)) → Notes → Exprs
 expressions positions table around expected places NoNote = no_expr
 expressions positions table around expected places (Note label span facts parts inside rest) =
     let here = here_of around label span facts parts (first expected) inside in
@@ -263,9 +263,9 @@ expressions positions table around expected places (Note label span facts parts 
     (expressions positions table around (others expected) (others places) rest)
 
 -- what the parts of a node mean
-abbrev pub inner : List Pos → List Entry → Around → Here → Exprs
+abbrev pub inner : List Pos → List Entry → Enclosing → Here → Exprs
 inner positions table around here =
     expressions positions table around (demands_at around here.label here.facts here.parts None here.inside) (places_at here None) here.inside
 
-abbrev pub guard_of : List Entry → Around → Here → Expr
+abbrev pub guard_of : List Entry → Enclosing → Here → Expr
 guard_of table around here = head_expr (inner [] table around here)

@@ -3,7 +3,8 @@ use Rattle.std.specs.Prelude.{ℕ, ◌==◌, Bool, true, false, ◌||◌, List, 
 use Rattle.std.specs.List.{list_all}
 use Rattle.df_tok.specs.declared.sign.Sign.{Sign}
 use Rattle.df_tok.specs.declared.sign.Sign.TheVariants as signs
-use Rattle.df_typing.specs.Types.{Ty, Boolean, same_type, casts, fits_or_narrows, one_fits, are_alike, are_one_number, are_ordered, is_printed, if_known, if_both}
+use Rattle.df_types.specs.Types.{casts, converts}
+use Rattle.df_typing.specs.Types.{Ty, Boolean, same_type, one_fits, are_alike, are_one_number, are_ordered, is_printed, if_known, if_both}
 pub use Rattle.df_typing.specs.declared.rule.Rule.{Rule}
 pub use Rattle.df_typing.specs.declared.rule.Operator.{Operator}
 use Rattle.df_typing.specs.declared.rule.Operator.TheVariants as operators
@@ -67,7 +68,7 @@ holds (InRange is) = is
 -- something fixes the type before it is asked for
 holds (Inferred is) = is
 -- what is assigned, passed, returned or given fits or narrows to the type of its place
-holds (Fits value place) = if_both fits_or_narrows value place
+holds (Fits value place) = if_both converts value place
 -- operands of arithmetic are of one integer type, where `nat` counts as `int`
 holds (Operands left right) = if_both are_one_number left right
 -- so are those of comparisons by order, or they are characters

@@ -21,7 +21,7 @@ use Rattle.df_typing.specs.Form.{form_of, Means, Naming}
 use Rattle.df_typing.specs.Table.{Callable, Signature, Entry, TheNewtype, TheCallable}
 use Rattle.df_typing.specs.Scope.{Meaning, Unknown, TheKnown, TheGlobal, Facts, type_at}
 use Rattle.df_typing.specs.Sights.{Notes, NoNote, Note}
-use Rattle.df_typing.specs.Here.{Around, Text, Here, here_of}
+use Rattle.df_typing.specs.Here.{Enclosing, Text, Here, here_of}
 use Rattle.df_typing.specs.Asks.{operators, sign_or, inner_texts, is_measure}
 use Rattle.df_typing.specs.declared.rule.Operator.{Operator}
 use Rattle.df_typing.specs.declared.rule.Operator.TheVariants as operator
@@ -38,7 +38,7 @@ pub record Output : Type 0 where
 pub record Setting : Type 0 where
   pub positions : List Pos
   pub table : List Entry
-  pub around : Around
+  pub around : Enclosing
   pub outputs : List Output
 
 abbrev pub parts_of : Setting → Here → Exprs
