@@ -10,7 +10,7 @@ use Rattle.df_typing.specs.Table.{Entry, table_of}
 use Rattle.df_typing.specs.Scope as scope
 use Rattle.df_typing.specs.Scope.{Env, Inferred}
 use Rattle.df_typing.specs.Sights.{Look, look, settle, Notes}
-use Rattle.df_typing.specs.Here.{Around, texts, Text}
+use Rattle.df_typing.specs.Here.{Enclosing, texts, Text}
 use Rattle.df_typing.specs.Asks.{Placed, asked, asked_in}
 use Rattle.df_typing.specs.Rules.{Fits}
 use Rattle.df_typing.specs.Expressions.{pos_at, head_expr, expressions}
@@ -58,7 +58,7 @@ abbrev pub seen_at : Standing → Ast → Look
 seen_at at e = look at.table at.around [] at.env (Next e Nil)
 
 -- what it declares itself has its types behind it
-abbrev pub around_at : Standing → Ast → Around
+abbrev pub around_at : Standing → Ast → Enclosing
 around_at at e = record { types = (seen_at at e).behind.types; results = [] }
 
 abbrev pub asked_of_place : Option Ty → List (Option Ty) → List Text → List Placed

@@ -19,9 +19,11 @@ use Rattle.df_typing.specs.Table.{Callable, Signature, Global, TheNewtype, TheCa
 use Rattle.df_typing.specs.Scope as scope
 use Rattle.df_typing.specs.Scope.{Inferred, Known, Use, Meaning, Unknown, TheKnown, TheGlobal, Facts, type_at}
 use Rattle.df_typing.specs.Sights.{Values, One, Results, NotKnown, Sight, each_value, Notes, NoNote, Note, types_of_values}
-use Rattle.df_typing.specs.Here.{Text, text_of, texts, Here, signature_in, Around, here_of, demands_at}
+use Rattle.df_typing.specs.Here.{Text, text_of, texts, Here, signature_in, Enclosing, here_of, demands_at}
 use Rattle.df_typing.specs.Expressions.{nowhere, guard_of}
-use Rattle.df_typing.specs.Rules.{Ask, Known as KnownName, New, InRange, Inferred as InferredType, Fits, Operands, Truths, Directed, Counted, Called, Alike, Cast, Assigned, Returned, Leaves, Belongs, Measured, Mixed, Printed, Operator, Arithmetic, Order, Equality, Logic, operator_of, of_operator, keep_direction}
+use Rattle.df_typing.specs.declared.rule.Operator.{Operator}
+use Rattle.df_typing.specs.declared.rule.Operator.TheVariants as operator
+use Rattle.df_typing.specs.Rules.{Ask, Known as KnownName, New, InRange, Inferred as InferredType, Fits, Operands, Truths, Directed, Counted, Called, Alike, Cast, Assigned, Returned, Leaves, Belongs, Measured, Mixed, Printed, operator_of, of_operator, keep_direction}
 
 -- ---- where it is told
 
@@ -165,10 +167,12 @@ from whole part place = record { span = record { start = part.span.start; after 
 
 -- what stands on the left of the next sign: the sum or the product so far, the last member of a chain, or a truth
 abbrev pub left_of_next : Operator → Option Ty → Option Ty → Option Ty
-left_of_next Arithmetic left right = arithmetic left right
-left_of_next Order left right = right
-left_of_next Equality left right = right
-left_of_next Logic left right = Some Boolean
+left_of_next (operator.Arithmetic operation) left right = arithmetic left right
+left_of_next (operator.Order comparison) left right = right
+left_of_next (operator.Equality comparison) left right = right
+left_of_next operator.Equivalence left right = Some Boolean
+left_of_next operator.Logic left right = Some Boolean
+left_of_next operator.Nothing left right = None
 
 -- A sign that holds to the left is told from the beginning to behind its operand.
 abbrev pub each_sign : Here → ℕ → Option Ty → List Signed → List (Option Ty) → List Placed
@@ -270,7 +274,7 @@ abbrev pub each_printed : Here → ℕ → List (Option Ty) → List Placed
 each_printed here k [] = []
 each_printed here k (ty ∷ types) = asked_of_part here k (Printed ty) ∷ each_printed here (suc k) types
 
-abbrev pub asks_of : List Entry → Around → Here → Test → List Placed
+abbrev pub asks_of : List Entry → Enclosing → Here → Test → List Placed
 asks_of table around here tests.IsInferred = record { text = here.text; name = 0; ask = InferredType (is_settled_at around.types here.facts.index) } ∷ []
 asks_of table around here tests.IsRange = asked (option_map_or (λ (named : Named). record { span = here.text.span; place = named.place }) (name_in here.facts.marks) here.text) (InRange (is_some here.facts.bounds)) ∷ []
 asks_of table around here tests.PartsFit = each_fits here 0 here.types here.places
@@ -294,19 +298,19 @@ asks_of table around here tests.IsMeasured = asked here.text (Measured (has_meas
 asks_of table around here tests.Steps = each_step (inner_texts here.inside) None (operators (sign_or signs.Equal (signs_in here.facts.marks)) here.inside) here.types
 asks_of table around here tests.IsPrinted = each_printed here 0 here.types
 
-abbrev pub all_asks : List Entry → Around → Here → List Test → List Placed
+abbrev pub all_asks : List Entry → Enclosing → Here → List Test → List Placed
 all_asks table around here [] = []
 all_asks table around here (test ∷ rest) = asks_of table around here test ++ all_asks table around here rest
 
 -- in a newtype nothing but the meaning of names is asked
-abbrev pub asked_at : List Entry → Around → Here → List Placed
+abbrev pub asked_at : List Entry → Enclosing → Here → List Placed
 asked_at table around here =
     asked_of_name (form_at here).naming here.facts (name_in here.facts.marks)
     ++ (if here.facts.around.is_names then [] else asked_of_use here.facts.used here ++ all_asks table around here (form_at here).tests)
 
 -- ---- trees
 
-abbrev pub asked_in : List Entry → Around → (demands : List (Option Ty)) → Notes → List Placed
+abbrev pub asked_in : List Entry → Enclosing → (demands : List (Option Ty)) → Notes → List Placed
 asked_in table around demands NoNote = []
 asked_in table around demands (Note label span facts parts inside rest) =
     asked_in table around (demands_at around label facts parts (first demands) inside) inside

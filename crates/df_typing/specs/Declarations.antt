@@ -20,7 +20,7 @@ use Rattle.df_typing.specs.Newtypes.{Bounds}
 use Rattle.df_typing.specs.Scope as scope
 use Rattle.df_typing.specs.Scope.{Inferred, Facts, nothing_known, type_at, is_bound}
 use Rattle.df_typing.specs.Sights.{Sight, Look, look, Notes, NoNote, Note}
-use Rattle.df_typing.specs.Here.{Around, Here, here_of}
+use Rattle.df_typing.specs.Here.{Enclosing, Here, here_of}
 use Rattle.df_typing.specs.Expressions.{pos_at, known, last_expr, nothing}
 use Rattle.df_typing.specs.Asks.{Placed, at_token, asked_in}
 use Rattle.df_typing.specs.Rules.{New}
@@ -43,7 +43,7 @@ abbrev pub results_of : Option Signature → List (Option Ty)
 results_of None = []
 results_of (Some signature) = signature.results
 
-abbrev pub around_of : List Entry → Label → Span → Asts → Around
+abbrev pub around_of : List Entry → Label → Span → Asts → Enclosing
 around_of table label span inside = record {
   types = (look_at table label span inside).behind.types;
   results = results_of (signature_of (form_of label).declares table inside);
@@ -202,7 +202,7 @@ method_decl source seen = MethodDecl (record {
   body = statements seen.setting seen.here.inside done;
 })
 
-abbrev pub seen_of : Source → List Entry → Declares → Named → Around → Label → Span → Facts → List Sight → Notes → Seen
+abbrev pub seen_of : Source → List Entry → Declares → Named → Enclosing → Label → Span → Facts → List Sight → Notes → Seen
 seen_of source table declared named around label span facts parts inside =
     let is_ghost = is_ghost_declaration declared facts.marks in
     let locals = with_result declared source named is_ghost (locals_in source named around.types is_ghost inside) in
@@ -215,7 +215,7 @@ seen_of source table declared named around label span facts parts inside =
       here = here_of around label span facts parts None inside;
     }
 
-abbrev pub decl_by : Declares → Source → List Entry → Named → Around → Label → Span → Facts → List Sight → Notes → List Decl
+abbrev pub decl_by : Declares → Source → List Entry → Named → Enclosing → Label → Span → Facts → List Sight → Notes → List Decl
 decl_by declares.Nothing source table named around label span facts parts inside = []
 decl_by declares.Newtype source table named around label span facts parts inside = newtype_decl source named facts.bounds ∷ []
 decl_by declares.Function source table named around label span facts parts inside = function_decl source (seen_of source table declares.Function named around label span facts parts inside) ∷ []
@@ -223,7 +223,7 @@ decl_by declares.Predicate source table named around label span facts parts insi
 decl_by declares.Method source table named around label span facts parts inside = method_decl source (seen_of source table declares.Method named around label span facts parts inside) ∷ []
 decl_by declares.Lemma source table named around label span facts parts inside = method_decl source (seen_of source table declares.Lemma named around label span facts parts inside) ∷ []
 
-abbrev pub decl_of : Source → List Entry → Around → Notes → List Decl
+abbrev pub decl_of : Source → List Entry → Enclosing → Notes → List Decl
 decl_of source table around NoNote = []
 decl_of source table around (Note label span facts parts inside rest) =
     decl_by (form_of label).declares source table (unwrap_or (name_in facts.marks) (record { name = 0; place = span.start })) around label span facts parts inside

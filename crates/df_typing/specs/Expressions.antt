@@ -4,7 +4,6 @@ use Rattle.std.specs.Prelude.{ℕ, ℤ, suc, pos as positive, neg_ℤ, ◌-◌, 
 use Rattle.std.specs.Option.{option_or}
 use Rattle.df_base.specs.declared.pos.Pos.{Pos}
 use Rattle.df_tok.specs.declared.sign.Sign.{Sign}
-use Rattle.df_tok.specs.declared.sign.Sign.TheVariants as signs
 use Rattle.df_types.specs.declared.op.Comparison.{Comparison}
 use Rattle.df_types.specs.declared.op.Comparison.TheVariants as comparisons
 use Rattle.df_types.specs.declared.expr.Connective.{Connective}
@@ -15,13 +14,18 @@ use Rattle.df_types.specs.Expr.{Binder, Expr, Local, Bound, Apply, Junction, Cha
 use Rattle.df_typing.specs.declared.form.Demand.TheVariants as demands
 use Rattle.df_typing.specs.declared.form.Means.TheVariants as meanings
 use Rattle.df_typing.specs.declared.form.Naming.TheVariants as namings
+use Rattle.df_typing.specs.declared.rule.Operation.{Operation}
+use Rattle.df_typing.specs.declared.rule.Operation.TheVariants as operations
+use Rattle.df_typing.specs.declared.rule.Operator.{Operator}
+use Rattle.df_typing.specs.declared.rule.Operator.TheVariants as operators
+use Rattle.df_typing.specs.Rules.{operator_of}
 use Rattle.df_typing.specs.Tree.{Named, Signed, name_in, signs_in, number_in, character_in, truth_in, text_in}
 use Rattle.df_typing.specs.Types.{Ty, Int, Boolean, same_type, fits, common, first, others}
 use Rattle.df_typing.specs.Form.{form_of, Demand, Means, Naming}
 use Rattle.df_typing.specs.Table.{Entry}
 use Rattle.df_typing.specs.Scope.{Meaning, Unknown, TheKnown, TheGlobal, Facts, is_bound}
 use Rattle.df_typing.specs.Sights.{Sight, each_expects, settled, sight_of, is_truth, sight_at, Notes, NoNote, Note}
-use Rattle.df_typing.specs.Here.{Around, Here, here_of, demands_at, nothing_before}
+use Rattle.df_typing.specs.Here.{Enclosing, Here, here_of, demands_at, nothing_before}
 
 -- where the tokens of a text stand
 abbrev pub nowhere : Pos
@@ -55,22 +59,24 @@ goes_to demands.Given own types places parts = places
 
 -- ---- words
 
-abbrev pub comparison_of : Sign → Comparison
-comparison_of signs.Equal = comparisons.Equal
-comparison_of signs.NotEqual = comparisons.NotEqual
-comparison_of signs.Less = comparisons.Less
-comparison_of signs.AtMost = comparisons.AtMost
-comparison_of signs.Greater = comparisons.Greater
-comparison_of signs.AtLeast = comparisons.AtLeast
-comparison_of sign = comparisons.Equal
+-- of a sign that compares
+abbrev pub comparison_by : Operator → Comparison
+comparison_by (operators.Order comparison) = comparison
+comparison_by (operators.Equality comparison) = comparison
+comparison_by (operators.Arithmetic operation) = comparisons.Equal
+comparison_by operators.Equivalence = comparisons.Equal
+comparison_by operators.Logic = comparisons.Equal
+comparison_by operators.Nothing = comparisons.Equal
 
-abbrev pub arithmetic_op : Sign → Ty → Op
-arithmetic_op signs.Plus ty = Op.Add ty
-arithmetic_op signs.Minus ty = Op.Subtract ty
-arithmetic_op signs.Times ty = Op.Multiply ty
-arithmetic_op signs.Divide ty = Op.Divide ty
-arithmetic_op signs.Modulo ty = Op.Modulo ty
-arithmetic_op sign ty = Op.Add ty
+abbrev pub comparison_of : Sign → Comparison
+comparison_of sign = comparison_by (operator_of sign)
+
+abbrev pub arithmetic_op : Operation → Ty → Op
+arithmetic_op operations.Add ty = Op.Add ty
+arithmetic_op operations.Subtract ty = Op.Subtract ty
+arithmetic_op operations.Multiply ty = Op.Multiply ty
+arithmetic_op operations.Divide ty = Op.Divide ty
+arithmetic_op operations.Modulo ty = Op.Modulo ty
 
 abbrev pub nothing : Expr
 nothing = Apply (Op.TruthOf true) nowhere no_expr
@@ -87,12 +93,20 @@ abbrev pub last_expr : Expr → Exprs → Expr
 last_expr e no_expr = e
 last_expr e (expr next es) = last_expr next es
 
+abbrev pub operated : Ty → Operator → Pos → Expr → Expr → Expr
+operated ty (operators.Arithmetic operation) at left right = Apply (arithmetic_op operation ty) at (expr left (expr right no_expr))
+operated ty (operators.Order comparison) at left right = left
+operated ty (operators.Equality comparison) at left right = left
+operated ty operators.Equivalence at left right = left
+operated ty operators.Logic at left right = left
+operated ty operators.Nothing at left right = left
+
 -- from the left
 abbrev pub operate : List Pos → Ty → Expr → List Signed → Exprs → Expr
 operate positions ty left [] es = left
 operate positions ty left (one ∷ rest) no_expr = left
 operate positions ty left (one ∷ rest) (expr right es) =
-    operate positions ty (Apply (arithmetic_op one.sign ty) (pos_at positions one.place) (expr left (expr right no_expr))) rest es
+    operate positions ty (operated ty (operator_of one.sign) (pos_at positions one.place) left right) rest es
 
 -- equality of truths, from the left
 abbrev pub equate : List Pos → Expr → List Signed → Exprs → Expr
@@ -118,9 +132,9 @@ cast at e source [] = e
 cast at e source (target ∷ targets) = cast at (Apply (Op.As source (known target)) at (expr e no_expr)) (known target) targets
 
 -- there may be one alone
-abbrev pub joined : Connective → Exprs → Expr
-joined connective no_expr = nothing
-joined connective (expr e es) = Junction connective e es
+abbrev pub junction : Connective → Exprs → Expr
+junction connective no_expr = nothing
+junction connective (expr e es) = Junction connective e es
 
 abbrev pub reversed : Exprs → Exprs → Exprs
 reversed no_expr behind = behind
@@ -204,10 +218,10 @@ meaning positions here own es = by (form_of here.label).means where
   by meanings.Arithmetic = operate positions (known own) (head_expr es) all (tail_exprs es)
   by meanings.Comparison = compare positions (known (common here.types)) all es
   by meanings.Equivalence = equate positions (head_expr es) all (tail_exprs es)
-  by meanings.Conjunction = joined connectives.And es
-  by meanings.Disjunction = joined connectives.Or es
-  by meanings.Implication = joined connectives.Implies es
-  by meanings.Explication = joined connectives.Explies (reversed es no_expr)
+  by meanings.Conjunction = junction connectives.And es
+  by meanings.Disjunction = junction connectives.Or es
+  by meanings.Implication = junction connectives.Implies es
+  by meanings.Explication = junction connectives.Explies (reversed es no_expr)
   by meanings.Conversion = cast at (head_expr es) (known (first here.types)) (others here.types)
   by meanings.Call = calling at es here.facts.meaning
   by meanings.Choice = branch (known own) es
@@ -238,7 +252,7 @@ abbrev pub own_at : List Entry → Here → (expected : Option Ty) → Option Ty
 own_at table here expected = settled (sight_of (form_of here.label).own table here.facts (form_of here.label).is_call here.parts) expected
 
 -- what the nodes mean, of which these types are expected, and which go to these places
-abbrev pub expressions : List Pos → List Entry → Around → (expected places : List (Option Ty)) → Notes → Exprs
+abbrev pub expressions : List Pos → List Entry → Enclosing → (expected places : List (Option Ty)) → Notes → Exprs
 expressions positions table around expected places NoNote = no_expr
 expressions positions table around expected places (Note label span facts parts inside rest) =
     let here = here_of around label span facts parts (first expected) inside in
@@ -249,9 +263,9 @@ expressions positions table around expected places (Note label span facts parts 
     (expressions positions table around (others expected) (others places) rest)
 
 -- what the parts of a node mean
-abbrev pub inner : List Pos → List Entry → Around → Here → Exprs
+abbrev pub inner : List Pos → List Entry → Enclosing → Here → Exprs
 inner positions table around here =
     expressions positions table around (demands_at around here.label here.facts here.parts None here.inside) (places_at here None) here.inside
 
-abbrev pub guard_of : List Entry → Around → Here → Expr
+abbrev pub guard_of : List Entry → Enclosing → Here → Expr
 guard_of table around here = head_expr (inner [] table around here)

@@ -78,11 +78,11 @@ places_of places.Results types results facts parts inside = results
 places_of places.Body types results facts parts inside = nothing_before (parts - 1) results
 
 -- what the folds know of the declaration around: the types of all that it declares, and those of its results
-pub record Around : Type 0 where
+pub record Enclosing : Type 0 where
   pub types : List Inferred
   pub results : List (Option Ty)
 
-abbrev pub here_of : Around → Label → Span → Facts → List Sight → (expected : Option Ty) → Notes → Here
+abbrev pub here_of : Enclosing → Label → Span → Facts → List Sight → (expected : Option Ty) → Notes → Here
 here_of around label span facts parts expected inside =
     let places = places_of (form_of label).places around.types around.results facts (length parts) inside in
     record {
@@ -95,5 +95,5 @@ here_of around label span facts parts expected inside =
       inside = inside;
     }
 
-abbrev pub demands_at : Around → Label → Facts → List Sight → (expected : Option Ty) → Notes → List (Option Ty)
+abbrev pub demands_at : Enclosing → Label → Facts → List Sight → (expected : Option Ty) → Notes → List (Option Ty)
 demands_at around label facts parts expected inside = part_demands (form_of label) expected (places_of (form_of label).places around.types around.results facts (length parts) inside) parts

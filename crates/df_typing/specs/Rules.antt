@@ -3,8 +3,13 @@ use Rattle.std.specs.Prelude.{ℕ, ◌==◌, Bool, true, false, ◌||◌, List, 
 use Rattle.std.specs.List.{list_all}
 use Rattle.df_tok.specs.declared.sign.Sign.{Sign}
 use Rattle.df_tok.specs.declared.sign.Sign.TheVariants as signs
-use Rattle.df_typing.specs.Types.{Ty, Boolean, same_type, casts, fits_or_narrows, one_fits, are_alike, are_one_number, are_ordered, is_printed, if_known, if_both}
+use Rattle.df_types.specs.Types.{casts, converts}
+use Rattle.df_typing.specs.Types.{Ty, Boolean, same_type, one_fits, are_alike, are_one_number, are_ordered, is_printed, if_known, if_both}
 pub use Rattle.df_typing.specs.declared.rule.Rule.{Rule}
+pub use Rattle.df_typing.specs.declared.rule.Operator.{Operator}
+use Rattle.df_typing.specs.declared.rule.Operator.TheVariants as operators
+use Rattle.df_typing.specs.declared.rule.Operation.TheVariants as operations
+use Rattle.df_types.specs.declared.op.Comparison.TheVariants as comparisons
 pub use Rattle.df_typing.specs.declared.rule.Rule.TheVariants.{Unknown, Twice, Typing, Uninferred, Range}
 
 pub data Ask : Type 0 where
@@ -63,7 +68,7 @@ holds (InRange is) = is
 -- something fixes the type before it is asked for
 holds (Inferred is) = is
 -- what is assigned, passed, returned or given fits or narrows to the type of its place
-holds (Fits value place) = if_both fits_or_narrows value place
+holds (Fits value place) = if_both converts value place
 -- operands of arithmetic are of one integer type, where `nat` counts as `int`
 holds (Operands left right) = if_both are_one_number left right
 -- so are those of comparisons by order, or they are characters
@@ -99,31 +104,54 @@ holds (Printed ty) = if_known is_printed ty
 
 -- ---- operators
 
-pub data Operator : Type 0 where
-  Arithmetic : Operator
-  Order : Operator
-  Equality : Operator
-  Logic : Operator
-
+-- what each sign does with two operands
 abbrev pub operator_of : Sign → Operator
-operator_of signs.Plus = Arithmetic
-operator_of signs.Minus = Arithmetic
-operator_of signs.Times = Arithmetic
-operator_of signs.Divide = Arithmetic
-operator_of signs.Modulo = Arithmetic
-operator_of signs.Less = Order
-operator_of signs.AtMost = Order
-operator_of signs.Greater = Order
-operator_of signs.AtLeast = Order
-operator_of signs.Equal = Equality
-operator_of signs.NotEqual = Equality
-operator_of sign = Logic
+operator_of signs.Iff = operators.Equivalence
+operator_of signs.Implies = operators.Logic
+operator_of signs.Explies = operators.Logic
+operator_of signs.And = operators.Logic
+operator_of signs.Or = operators.Logic
+operator_of signs.Equal = operators.Equality comparisons.Equal
+operator_of signs.NotEqual = operators.Equality comparisons.NotEqual
+operator_of signs.AtMost = operators.Order comparisons.AtMost
+operator_of signs.AtLeast = operators.Order comparisons.AtLeast
+operator_of signs.Less = operators.Order comparisons.Less
+operator_of signs.Greater = operators.Order comparisons.Greater
+operator_of signs.NotIn = operators.Nothing
+operator_of signs.Disjoint = operators.Nothing
+operator_of signs.Not = operators.Nothing
+operator_of signs.Plus = operators.Arithmetic operations.Add
+operator_of signs.Minus = operators.Arithmetic operations.Subtract
+operator_of signs.Times = operators.Arithmetic operations.Multiply
+operator_of signs.Divide = operators.Arithmetic operations.Divide
+operator_of signs.Modulo = operators.Arithmetic operations.Modulo
+operator_of signs.Assign = operators.Nothing
+operator_of signs.SuchThat = operators.Nothing
+operator_of signs.DoubleColon = operators.Nothing
+operator_of signs.Colon = operators.Nothing
+operator_of signs.Semicolon = operators.Nothing
+operator_of signs.Comma = operators.Nothing
+operator_of signs.DotDot = operators.Nothing
+operator_of signs.Dot = operators.Nothing
+operator_of signs.OpenParenthesis = operators.Nothing
+operator_of signs.CloseParenthesis = operators.Nothing
+operator_of signs.OpenBracket = operators.Nothing
+operator_of signs.CloseBracket = operators.Nothing
+operator_of signs.OpenAttribute = operators.Nothing
+operator_of signs.OpenBrace = operators.Nothing
+operator_of signs.CloseBrace = operators.Nothing
+operator_of signs.Bar = operators.Nothing
+operator_of signs.Arrow = operators.Nothing
+operator_of signs.Define = operators.Nothing
 
+-- what is asked of them: what no sign does is of no operands
 abbrev pub of_operator : Operator → Option Ty → Option Ty → Ask
-of_operator Arithmetic left right = Operands left right
-of_operator Order left right = Ordered left right
-of_operator Equality left right = Equated left right
-of_operator Logic left right = Truths (left ∷ right ∷ [])
+of_operator (operators.Arithmetic operation) left right = Operands left right
+of_operator (operators.Order comparison) left right = Ordered left right
+of_operator (operators.Equality comparison) left right = Equated left right
+of_operator operators.Equivalence left right = Truths (left ∷ right ∷ [])
+of_operator operators.Logic left right = Truths (left ∷ right ∷ [])
+of_operator operators.Nothing left right = Directed false
 
 -- ---- directions
 

@@ -267,6 +267,6 @@ declare facts inferred env = record {
 }
 
 -- names that were declared inside are unknown behind it
-abbrev pub left : Bool → Env → Env → Env
-left true before env = record env { names = take (length before.names) env.names; outer = before.outer; depth = before.depth }
-left false before env = env
+abbrev pub behind_scope : Bool → Env → Env → Env
+behind_scope true before env = record env { names = take (length before.names) env.names; outer = before.outer; depth = before.depth }
+behind_scope false before env = env

@@ -11,7 +11,7 @@ use Rattle.df_typing.specs.Tree.{Asts, Kept, Made, Nil, Next, Label, Span, count
 use Rattle.df_typing.specs.Types.{Ty, Int, Boolean, Char, Seq, counted, arithmetic, arithmetic_all, common, first, others, literal_type}
 use Rattle.df_typing.specs.Form.{Form, form_of, Demand, Own, Places, Naming}
 use Rattle.df_typing.specs.Table.{Entry, Signature, Global, TheNewtype, TheCallable, type_by}
-use Rattle.df_typing.specs.Scope.{Inferred, Open, Fixed, Env, Around, Use, Meaning, Unknown, TheKnown, TheGlobal, Facts, facts_of, around_parts, uses_of, first_use, other_uses, entered, with_use, fix, declare, left, deepened, is_bound}
+use Rattle.df_typing.specs.Scope.{Inferred, Open, Fixed, Env, Around, Use, Meaning, Unknown, TheKnown, TheGlobal, Facts, facts_of, around_parts, uses_of, first_use, other_uses, entered, with_use, fix, declare, behind_scope, deepened, is_bound}
 
 -- ---- how the type of a part depends on what is expected
 
@@ -291,7 +291,7 @@ with_naming namings.Type facts parts env = env
 
 abbrev pub behind : Form → Facts → Env → Look → Env
 behind form facts before found =
-    left form.is_scope before (deepened (form.hides && is_bound facts.around.role) facts.before (with_naming form.naming facts found.parts (with_targets form.places facts found)))
+    behind_scope form.is_scope before (deepened (form.hides && is_bound facts.around.role) facts.before (with_naming form.naming facts found.parts (with_targets form.places facts found)))
 
 -- ---- trees
 

@@ -6,6 +6,7 @@ use Rattle.df_tok.specs.declared.sign.Sign.TheVariants as signs
 use Rattle.df_types.specs.declared.kind.Kind.{Kind}
 use Rattle.df_types.specs.declared.kind.Kind.TheVariants as kinds
 use Rattle.df_types.specs.declared.expr.Connective.TheVariants as connectives
+use Rattle.df_types.specs.declared.op.Comparison.{Comparison}
 use Rattle.df_types.specs.declared.op.Comparison.TheVariants as comparisons
 use Rattle.df_types.specs.Op.{Op}
 use Rattle.df_types.specs.Ty.{no_ty}
@@ -20,10 +21,12 @@ use Rattle.df_typing.specs.Form.{form_of, Means, Naming}
 use Rattle.df_typing.specs.Table.{Callable, Signature, Entry, TheNewtype, TheCallable}
 use Rattle.df_typing.specs.Scope.{Meaning, Unknown, TheKnown, TheGlobal, Facts, type_at}
 use Rattle.df_typing.specs.Sights.{Notes, NoNote, Note}
-use Rattle.df_typing.specs.Here.{Around, Text, Here, here_of}
+use Rattle.df_typing.specs.Here.{Enclosing, Text, Here, here_of}
 use Rattle.df_typing.specs.Asks.{operators, sign_or, inner_texts, is_measure}
-use Rattle.df_typing.specs.Rules.{Operator, Logic, operator_of}
-use Rattle.df_typing.specs.Expressions.{pos_at, known, conversion, converted, comparison_of, head_expr, nothing, inner}
+use Rattle.df_typing.specs.declared.rule.Operator.{Operator}
+use Rattle.df_typing.specs.declared.rule.Operator.TheVariants as operator
+use Rattle.df_typing.specs.Rules.{operator_of}
+use Rattle.df_typing.specs.Expressions.{pos_at, known, conversion, converted, head_expr, nothing, inner}
 
 -- a result of the declaration: a local by its number
 pub record Output : Type 0 where
@@ -35,7 +38,7 @@ pub record Output : Type 0 where
 pub record Setting : Type 0 where
   pub positions : List Pos
   pub table : List Entry
-  pub around : Around
+  pub around : Enclosing
   pub outputs : List Output
 
 abbrev pub parts_of : Setting → Here → Exprs
@@ -206,13 +209,17 @@ decreases g notes = if_any (measures g notes)
 abbrev pub aim : Demand → Aim
 aim claim = record { ranges = []; given = None; claims = claim ∷ [] }
 
+abbrev pub compared : Comparison → Pos → (ty left right : Option Ty) → Expr → Expr → Expr
+compared comparison at ty left right a b = Apply (Op.Compare comparison (known ty)) at (expr (converted at left ty a) (expr (converted at right ty b) no_expr))
+
 -- two lines by an operator, at the type that they have in common
-abbrev pub relation : Operator → Sign → Pos → (left right : Option Ty) → Expr → Expr → Expr
-relation Logic signs.Iff at left right a b = Apply (Op.Compare comparisons.Equal Boolean) at (expr a (expr b no_expr))
-relation Logic sign at left right a b = Junction connectives.Implies a (expr b no_expr)
-relation operator sign at left right a b =
-    let ty = common (left ∷ right ∷ []) in
-    Apply (Op.Compare (comparison_of sign) (known ty)) at (expr (converted at left ty a) (expr (converted at right ty b) no_expr))
+abbrev pub relation : Operator → Pos → (left right : Option Ty) → Expr → Expr → Expr
+relation operator.Equivalence at left right a b = Apply (Op.Compare comparisons.Equal Boolean) at (expr a (expr b no_expr))
+relation operator.Logic at left right a b = Junction connectives.Implies a (expr b no_expr)
+relation (operator.Order comparison) at left right a b = compared comparison at (common (left ∷ right ∷ [])) left right a b
+relation (operator.Equality comparison) at left right a b = compared comparison at (common (left ∷ right ∷ [])) left right a b
+relation (operator.Arithmetic operation) at left right a b = nothing
+relation operator.Nothing at left right a b = nothing
 
 -- ---- statements
 
@@ -237,7 +244,7 @@ assertion g here condition body behind =
 abbrev pub step : Setting → Facts → Sign → (one other : Text) → (left right : Option Ty) → Expr → Expr → Stmts → Stmts → Stmts
 step g facts sign one other left right a b hints behind =
     let at = pos_at g.positions one.span.start in
-    next (Prove (site_at facts other.span.start) at (aim (demand kinds.Calc at (relation (operator_of sign) sign at left right a b))) hints) behind
+    next (Prove (site_at facts other.span.start) at (aim (demand kinds.Calc at (relation (operator_of sign) at left right a b))) hints) behind
 
 -- each line with the one behind it, under the hints between them
 abbrev pub steps : Setting → Facts → List Sign → List Text → List (Option Ty) → Exprs → (hints : List Stmts) → Stmts → Stmts

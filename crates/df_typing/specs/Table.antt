@@ -46,11 +46,61 @@ newtype_of (Some entry) = by entry.is where
   by (TheCallable signature) = None
 
 abbrev pub type_of_word : Word → Option Ty
-type_of_word words.Int = Some Int
-type_of_word words.Nat = Some Nat
+type_of_word words.Array = None
+type_of_word words.ArrayOrNull = None
+type_of_word words.As = None
+type_of_word words.Assert = None
 type_of_word words.Bool = Some Boolean
+type_of_word words.Break = None
+type_of_word words.By = None
+type_of_word words.Calc = None
+type_of_word words.Case = None
 type_of_word words.Char = Some Char
-type_of_word word = None
+type_of_word words.Class = None
+type_of_word words.Constructor = None
+type_of_word words.Datatype = None
+type_of_word words.Decreases = None
+type_of_word words.Else = None
+type_of_word words.Ensures = None
+type_of_word words.Exists = None
+type_of_word words.False = None
+type_of_word words.Forall = None
+type_of_word words.Fresh = None
+type_of_word words.Function = None
+type_of_word words.Ghost = None
+type_of_word words.If = None
+type_of_word words.Import = None
+type_of_word words.In = None
+type_of_word words.Int = Some Int
+type_of_word words.Invariant = None
+type_of_word words.Lemma = None
+type_of_word words.Match = None
+type_of_word words.Method = None
+type_of_word words.Modifies = None
+type_of_word words.Module = None
+type_of_word words.Nat = Some Nat
+type_of_word words.New = None
+type_of_word words.Newtype = None
+type_of_word words.Null = None
+type_of_word words.Object = None
+type_of_word words.ObjectOrNull = None
+type_of_word words.Old = None
+type_of_word words.Opened = None
+type_of_word words.Predicate = None
+type_of_word words.Print = None
+type_of_word words.Reads = None
+type_of_word words.Requires = None
+type_of_word words.Return = None
+type_of_word words.Returns = None
+type_of_word words.Seq = None
+type_of_word words.Set = None
+type_of_word words.String = None
+type_of_word words.Then = None
+type_of_word words.This = None
+type_of_word words.True = None
+type_of_word words.Var = None
+type_of_word words.While = None
+type_of_word words.Witness = None
 
 -- the type that is written by these tokens; names of locals are not looked at
 abbrev pub type_by : List Entry → List Mark → Option Ty
@@ -67,7 +117,7 @@ type_if namings.Nameless table tokens = []
 type_if namings.Declared table tokens = []
 type_if namings.Value table tokens = []
 
--- the types that are written in trees, in order
+-- The types that are written in trees, in order: one for each node, since no type stands in another one yet.
 abbrev pub types_in : List Entry → Asts → List (Option Ty)
 types_in table Nil = []
 types_in table (Next (Kept x) rest) = types_in table rest

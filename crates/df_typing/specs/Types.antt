@@ -3,15 +3,12 @@ use Rattle.std.specs.Prelude.{ℕ, Bool, true, false, ◌&&◌, ◌||◌, if◌t
 use Rattle.std.specs.Option.{option_flatten}
 pub use Rattle.df_types.specs.Ty.{Ty, Newtype, Int, Nat, Boolean, Char, Seq, same_type}
 use Rattle.df_types.specs.Printed.{has_text}
-pub use Rattle.df_types.specs.Types.{is_number, is_ordered, fits, narrows, casts}
+pub use Rattle.df_types.specs.Types.{is_number, is_ordered, fits, converts, casts}
 
 -- where operands meet, `nat` counts as `int`
 abbrev pub counted : Ty → Ty
 counted Nat = Int
 counted ty = ty
-
-abbrev pub fits_or_narrows : Ty → Ty → Bool
-fits_or_narrows source target = fits source target || narrows source target
 
 abbrev pub one_fits : Ty → Ty → Bool
 one_fits left right = fits left right || fits right left
@@ -26,7 +23,7 @@ are_one_number left right = is_number left && (is_number right && same_type (cou
 abbrev pub are_ordered : Ty → Ty → Bool
 are_ordered left right = is_ordered left && (is_ordered right && same_type (counted left) (counted right))
 
--- no datatypes are printed yet
+-- no datatypes are printed yet, so none is asked for
 abbrev pub is_printed : Ty → Bool
 is_printed ty = has_text (λ decl. false) false ty
 

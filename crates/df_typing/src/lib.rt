@@ -1,4 +1,7 @@
 //! Names and typing: one row for each construct, and folds that read it.
+//!
+//! A line of a `calc`, and hints, that belong to no step are typed, and no run, ghost rule or rule of assignment sees them.
+//! An argument for a ghost parameter is ghost code, so a guard does not mention a ghost by it.
 #![tactic(auto)]
 
 ghost use Rattle.df_typing.specs.Cases.{Cases};
@@ -14,7 +17,7 @@ pub use form::{
     Declares, Demand, Form, Head, Means, Naming, Own, Owner, Places, Role, Row, Test, Uses, Within,
     form_of,
 };
-pub use rule::{Fault, Rule};
+pub use rule::{Fault, Operation, Operator, Rule};
 pub use scope::{Around, Known, Use};
 pub use table::Kind;
 pub use tree::{Named, Signed};
