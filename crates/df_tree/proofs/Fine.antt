@@ -11,7 +11,7 @@ use Rattle.df_tree.specs.declared.production.Part.TheVariants.{Terminal, Nonterm
 use Rattle.df_tree.specs.Row.{Row}
 use Rattle.df_tree.specs.declared.label.Way.{Way}
 use Rattle.df_tree.specs.declared.label.Way.TheVariants.{Pass, Title, Wrap, Make, Close}
-use Rattle.df_tree.specs.declared.table.TheConstants.{KEPT}
+use Rattle.df_tree.specs.declared.class.TheConstants.{KEPT}
 use Rattle.df_tree.specs.Grammar.{declarations, statements, expressions, classes, kinds_of, is_in, nothing, entry_in, row, is_nil}
 use Rattle.df_tree.proofs.Classes.{subset, apart}
 

@@ -5,7 +5,7 @@ use Rattle.df_tok.specs.Token.{Token}
 use Rattle.df_tree.specs.declared.label.Way.{Way}
 use Rattle.df_tree.specs.declared.label.Way.TheVariants.{Pass, Title, Wrap, Make, Close}
 use Rattle.df_tree.specs.Tree.{Tree, Leaf, Node, Trees, none, more, leaves, leaves_all}
-use Rattle.df_tree.specs.declared.table.TheConstants.{KEPT}
+use Rattle.df_tree.specs.declared.class.TheConstants.{KEPT}
 use Rattle.df_tok.specs.declared.token.Kind.{Kind}
 use Rattle.df_tok.specs.declared.token.Kind.TheVariants as kinds
 use Rattle.df_tree.specs.Terminal.{terminal}

@@ -11,7 +11,8 @@ use Rattle.df_tree.specs.declared.production.Form.{Form}
 use Rattle.df_tree.specs.declared.production.Form.TheVariants.{All, One, Many}
 use Rattle.df_tree.specs.declared.production.Part.{Part}
 use Rattle.df_tree.specs.declared.production.Part.TheVariants.{Terminal, Nonterminal}
-use Rattle.df_tree.specs.declared.table.TheConstants.{DECLARATION_ROWS, STATEMENT_ROWS, EXPRESSION_ROWS, CLASSES, FIRST_STATEMENT, FIRST_EXPRESSION, FIRST_CLASS, NONE}
+use Rattle.df_tree.specs.declared.table.TheConstants.{DECLARATION_ROWS, STATEMENT_ROWS, EXPRESSION_ROWS, FIRST_STATEMENT, FIRST_EXPRESSION}
+use Rattle.df_tree.specs.declared.class.TheConstants.{CLASSES, FIRST_CLASS, NONE}
 use Rattle.df_tree.specs.Tree.{Tree, Leaf, Node, Trees, none, more, leaves, leaves_all}
 use Rattle.df_tree.specs.Row.{Row, entry}
 

@@ -13,15 +13,17 @@ ghost use Rattle.df_tree.specs.Spelling.{KeepsAll, LiesInText};
 ghost use Rattle.df_tree.specs.Furthest.{IsFurthest, IsFurthestPart};
 
 mod ast;
+mod class;
 mod label;
 mod production;
 mod table;
 mod terminal;
 
 pub use ast::{Ast, Mark, Tree};
+pub use class::{KEPT, is_anything, is_in};
 pub use label::{Label, Span, Way};
 pub use production::{Counting, Form, GrammarRow, Part, Production};
-pub use table::{EXPRESSION, FILE, KEPT, PATTERN, TYPE, is_anything, is_in, row};
+pub use table::{EXPRESSION, FILE, PATTERN, TYPE, row};
 pub use terminal::terminal_of;
 
 /// Syntax trees keep the tokens that matter, in their order.
