@@ -15,3 +15,4 @@ pub mod ReadingInside
 pub mod Printed
 mod Samples
 mod RowSamples
+mod StatementSamples

@@ -1,12 +1,11 @@
 -- Each operation with a value and with each of its faults, by computation.
-use Rattle.std.proofs.Common.{◌≡◌, ℕ, suc, ℤ, pos, negsuc, Bool, true, false, List, [], ◌∷◌, map, Option, None, Some, codes, refl}
+use Rattle.std.proofs.Common.{◌≡◌, ℕ, pos, negsuc, true, false, List, [], ◌∷◌, map, None, codes, refl}
 use Rattle.df_base.specs.declared.pos.Pos.{Pos}
 use Rattle.df_types.specs.declared.kind.Kind.{Kind}
 use Rattle.df_types.specs.declared.kind.Kind.TheVariants.{Index, Null, Divisor, Range, Match}
 use Rattle.df_types.specs.declared.op.Comparison.TheVariants.{Equal, NotEqual, Less, AtMost, Greater, AtLeast}
-use Rattle.df_types.specs.Ty.{Ty, Newtype, Int, Nat, Boolean, Char, AnyObject, Class, Seq, Set, Data, no_ty, and_ty}
+use Rattle.df_types.specs.Ty.{Ty, Newtype, Int, Nat, Char, AnyObject, Class, Seq, Set, Data, no_ty, and_ty}
 use Rattle.df_types.specs.Op.{Op}
-use Rattle.df_types.specs.Program as programs
 use Rattle.df_types.specs.Program.{Declared, Variable, Program, NewtypeDecl, DatatypeDecl, ClassDecl}
 use Rattle.df_meaning2.specs.Value.{Value, NullReference, Truth, Character, Number, Reference, Made, Sequence, Collection, values_of, no_object}
 use Rattle.df_meaning2.specs.Outcome.{Outcome, Gives, Wrong}
@@ -24,14 +23,16 @@ part t = record { declared = named (codes "p"); ty = t; is_ghost = false; is_wri
 
 -- newtype small = x: int | -3 <= x <= 1; datatype list = Nil | Cons(int, list); class Cell
 abbrev program : Program
-program = record { decls =
-    NewtypeDecl (record { declared = named (codes "small"); low = negsuc 2; high = pos 1; default = pos 0 })
-    ∷ DatatypeDecl (record {
-      declared = named (codes "list");
-      type_parameters = [];
-      constructors = record { declared = named (codes "list.Nil"); parts = [] } ∷ record { declared = named (codes "list.Cons"); parts = part Int ∷ part (Data 1 no_ty) ∷ [] } ∷ [];
-    })
-    ∷ ClassDecl (record { declared = named (codes "Cell"); fields = part Int ∷ [] }) ∷ [] }
+program = record {
+  decls =
+      NewtypeDecl (record { declared = named (codes "small"); low = negsuc 2; high = pos 1; default = pos 0 })
+      ∷ DatatypeDecl (record {
+        declared = named (codes "list");
+        type_parameters = [];
+        constructors = record { declared = named (codes "list.Nil"); parts = [] } ∷ record { declared = named (codes "list.Cons"); parts = part Int ∷ part (Data 1 no_ty) ∷ [] } ∷ [];
+      })
+      ∷ ClassDecl (record { declared = named (codes "Cell"); fields = part Int ∷ [] }) ∷ [];
+}
 
 abbrev view : View
 view = record { program = program; types = no_ty; heap = no_object; entry = no_object; readable = None; changeable = Collection (values_of []) }
